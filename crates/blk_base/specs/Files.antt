@@ -1,0 +1,49 @@
+-- The files of a store, and its record of the devices that it has opened.
+use Rattle.std.specs.Prelude.{ℕ, Bool, ◌&&◌, if◌then◌else◌, List, [], ◌∷◌, bytes_eq, Option, Some, None, is_none}
+use Rattle.std.specs.List.{list_any}
+
+-- a file: its name, its bytes, the highest end that a write to it may have, and whether all of it was flushed
+pub record File : Type 0 where
+  pub name : List ℕ
+  pub bytes : List ℕ
+  pub capacity : ℕ
+  pub is_flushed : Bool
+
+-- the file of that name
+abbrev pub file_at : List ℕ → List File → Option File
+file_at name [] = None
+file_at name (f ∷ files) = if bytes_eq name f.name then Some f else file_at name files
+
+-- the files with this one in the place of the one of its name, or at the end
+abbrev pub put_file : File → List File → List File
+put_file file [] = file ∷ []
+put_file file (f ∷ files) = if bytes_eq file.name f.name then file ∷ files else f ∷ put_file file files
+
+-- the files but the one of that name
+abbrev pub other_files : List ℕ → List File → List File
+other_files name [] = []
+other_files name (f ∷ files) = if bytes_eq name f.name then files else f ∷ other_files name files
+
+-- an opening: whose file, the device's count of faults then, and its count once it was given back
+pub record Opened : Type 0 where
+  pub name : List ℕ
+  pub count : ℕ
+  pub returned : Option ℕ
+
+-- the device of that opening is out, under that name
+abbrev pub is_out_as : List ℕ → Opened → Bool
+is_out_as name o = bytes_eq name o.name && is_none o.returned
+
+-- a device of that name is out
+abbrev pub is_out : List ℕ → List Opened → Bool
+is_out name opened = list_any (is_out_as name) opened
+
+-- the record once the device of that name is back with this count
+abbrev pub given_back : List ℕ → ℕ → List Opened → List Opened
+given_back name count [] = []
+given_back name count (o ∷ opened) = if is_out_as name o then record o { returned = Some count } ∷ opened else o ∷ given_back name count opened
+
+-- a fact about what is told; nothing is asked of what is not
+abbrev pub IfTold : {A : Type 0} → Option A → (A → Type 0) → Type 0
+IfTold None P = Unit {0}
+IfTold (Some told) P = P told
