@@ -1,7 +1,9 @@
 -- Why the calls of a store answer as they do. Want of memory alone has no cause.
 use Rattle.std.specs.Prelude.{◌≡◌, ℕ, ◌<◌, ◌≤◌, IsTrue, List, length, Option, Some, None, Result, Ok, Err}
 use Rattle.blk_base.specs.Counts.{Rose}
-use Rattle.blk_base.specs.Files.{File, file_at, Opened, is_out, IfTold}
+use Rattle.blk_base.specs.Files.{file_at, is_out, IfTold}
+use Rattle.blk_base.specs.declared.file.File.{File}
+use Rattle.blk_base.specs.declared.file.Opened.{Opened}
 use Rattle.blk_base.specs.declared.store.StoreStop.{StoreStop}
 use Rattle.blk_base.specs.declared.store.StoreStop.TheVariants.{Absent, InUse, TooLong, Failed, NoMemory}
 

@@ -1,13 +1,8 @@
 -- The files of a store, and its record of the devices that it has opened.
 use Rattle.std.specs.Prelude.{ℕ, Bool, ◌&&◌, if◌then◌else◌, List, [], ◌∷◌, bytes_eq, Option, Some, None, is_none}
 use Rattle.std.specs.List.{list_any}
-
--- a file: its name, its bytes, the highest end that a write to it may have, and whether all of it was flushed
-pub record File : Type 0 where
-  pub name : List ℕ
-  pub bytes : List ℕ
-  pub capacity : ℕ
-  pub is_flushed : Bool
+use Rattle.blk_base.specs.declared.file.File.{File}
+use Rattle.blk_base.specs.declared.file.Opened.{Opened}
 
 -- the file of that name
 abbrev pub file_at : List ℕ → List File → Option File
@@ -23,12 +18,6 @@ put_file file (f ∷ files) = if bytes_eq file.name f.name then file ∷ files e
 abbrev pub other_files : List ℕ → List File → List File
 other_files name [] = []
 other_files name (f ∷ files) = if bytes_eq name f.name then files else f ∷ other_files name files
-
--- an opening: whose file, the device's count of faults then, and its count once it was given back
-pub record Opened : Type 0 where
-  pub name : List ℕ
-  pub count : ℕ
-  pub returned : Option ℕ
 
 -- the device of that opening is out, under that name
 abbrev pub is_out_as : List ℕ → Opened → Bool

@@ -1,6 +1,7 @@
 -- What a store's calls do to its files.
 use Rattle.std.specs.Prelude.{◌≡◌, ℕ, Bool, List, Option, Some, None}
-use Rattle.blk_base.specs.Files.{File, file_at, put_file, other_files, IfTold}
+use Rattle.blk_base.specs.Files.{file_at, put_file, other_files, IfTold}
+use Rattle.blk_base.specs.declared.file.File.{File}
 
 -- the device has the file's bytes, its capacity, and its word on whether it is flushed
 abbrev pub IsDeviceOf : Option (List File) → List ℕ → Option (List ℕ) → ℕ → Option Bool → Type 0

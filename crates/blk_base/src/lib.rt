@@ -4,6 +4,7 @@
 
 mod device;
 mod fault;
+mod file;
 mod memory;
 mod names;
 mod sink;
@@ -13,6 +14,7 @@ mod text;
 
 pub use device::{DevFault, Device, Stop, WriteStop};
 pub use fault::{DevNo, DevStop, Fault, FaultAt, FaultFrom, Outcome};
+pub use file::{File, Opened};
 pub use memory::{NoMemory, Room};
 pub use names::Names1;
 pub use sink::{Sink, SinkFault};

@@ -1,6 +1,8 @@
 //! Files by name: what is asked of whatever keeps them.
 ghost use Rattle.std.specs.Prelude.{◌≡◌, ◌≢◌, ℕ, ◌≤◌, true, [], ◌∷◌, ◌++◌, List, length, replicate, Option, None, option_map, IsTrue, IfOk, IfErr, OnOk, OnErr, MatchResult};
-ghost use Rattle.blk_base.specs.Files.{File, put_file, Opened, is_out, given_back, IfTold};
+ghost use Rattle.blk_base.specs.Files.{put_file, is_out, given_back, IfTold};
+ghost use Rattle.blk_base.specs.declared.file.File.{File};
+ghost use Rattle.blk_base.specs.declared.file.Opened.{Opened};
 ghost use Rattle.blk_base.specs.Answers.{OpenAnswers, CreateAnswers, ReadAnswers};
 ghost use Rattle.blk_base.specs.Stored.{IsDeviceOf, HoldsBytes, LeavesOthers, files_with_returned};
 
@@ -40,7 +42,7 @@ pub trait Store {
     fn open_file(&mut self, name: &str) -> Result<Self::Dev, StoreStop>
         ensures device { IfOk result (λ dev. IsDeviceOf (files self.old) name.now (Self.Dev.content dev) (Self.Dev.capacity dev) (Self.Dev.is_flushed dev)) }
         ensures opened { MatchResult result
-            (λ dev. opened self.new ≡ opened self.old ++ record { name = name.now; count = Self.Dev.faults dev; returned = None } ∷ [])
+            (λ dev. opened self.new ≡ opened self.old ++ record { name = name.now; faults = Self.Dev.faults dev; returned = None } ∷ [])
             (λ _. opened self.new ≡ opened self.old) }
         ensures cause { OpenAnswers name.now (files self.old) (opened self.old) (faults self.old) (faults self.new) result }
         ensures files { files self.new ≡ files self.old }

@@ -1,0 +1,24 @@
+//! What contracts say of a store's files and openings. No value of these types is ever made.
+
+use std::collections::LinkedList;
+
+/// A file as a store tells it.
+#[derive(Drop)]
+pub struct File {
+    pub name: LinkedList<u8>,
+    pub bytes: LinkedList<u8>,
+    /// The highest end that a write to it may have.
+    pub capacity: u64,
+    /// Nothing was written since its last flush.
+    pub is_flushed: bool,
+}
+
+/// One opening of a file.
+#[derive(Drop)]
+pub struct Opened {
+    pub name: LinkedList<u8>,
+    /// The device's count of faults at the opening.
+    pub faults: u64,
+    /// Its count once it was given back.
+    pub returned: Option<u64>,
+}
