@@ -85,9 +85,17 @@ impl Text {
         ensures room { OnOk result (more ≤ self.new.spare) }
         ensures kept { self.old.spare ≤ self.new.spare }
         ensures only_where_needed { OnErr result (self.old.spare < more) }
+        ensures err { OnErr result (self.new ≡ self.old) }
     {
         self.text.reserve(more)?;
         Ok(())
+    }
+
+    /// How many more bytes go in without taking memory.
+    pub fn spare(&self) -> usize
+        ensures { result ≡ self.now.spare }
+    {
+        self.text.capacity() - self.text.len()
     }
 
     /// Takes every byte out, and keeps the room.
