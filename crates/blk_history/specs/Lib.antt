@@ -1,0 +1,7 @@
+pub mod Fold
+pub mod Disk
+pub mod Machine
+pub mod Legal
+pub mod Owned
+pub mod Licence
+pub mod Transcript

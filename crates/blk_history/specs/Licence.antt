@@ -1,0 +1,41 @@
+-- The causes of faults: each one named is a rise of that device's count, and no rise is named twice.
+use Rattle.std.specs.Prelude.{ℕ, List, set, get_or, Option, Some, None}
+use Rattle.blk_base.specs.Counts.{Rose}
+use Rattle.blk_base.specs.declared.fault.Outcome.{Outcome}
+use Rattle.blk_base.specs.declared.fault.Outcome.TheVariants.{Good, Torn, Io, NoSpace}
+use Rattle.blk_history.specs.Fold.{run, Each}
+use Rattle.blk_history.specs.declared.event.Event.{Event}
+use Rattle.blk_history.specs.declared.event.Event.TheVariants.{Admit, Refuse, Piece, Retire}
+
+-- a device and its count of faults, as an entry names them
+pub record Named : Type 0 where
+  pub dev : ℕ
+  pub count : ℕ
+
+abbrev pub named_by : Outcome → Option Named
+named_by Good = None
+named_by (Torn done dev count) = Some (record { dev = dev.0; count = count })
+named_by (Io dev count) = Some (record { dev = dev.0; count = count })
+named_by (NoSpace dev) = None
+
+abbrev pub named_in : Event → Option Named
+named_in (Admit g r op) = None
+named_in (Refuse g r op why) = None
+named_in (Piece g r k outcome got) = named_by outcome
+named_in (Retire g r) = None
+
+-- for each device the count that was named last, at first that of its opening
+abbrev pub last_named : List ℕ → Option Named → List ℕ
+last_named counts None = counts
+last_named counts (Some n) = set counts n.dev n.count
+
+abbrev pub RoseSince : List ℕ → Option Named → Type 0
+RoseSince counts None = Unit {0}
+RoseSince counts (Some n) = Rose (get_or counts n.dev 0) n.count
+
+-- each fault's count lies above the one named before it, so no two name the same
+abbrev pub counted : List ℕ → List Event → List ℕ
+counted = run (λ counts e. last_named counts (named_in e))
+
+abbrev pub HaveRisen : List ℕ → List Event → Type 0
+HaveRisen = Each (λ counts e. last_named counts (named_in e)) (λ counts e. RoseSince counts (named_in e))
