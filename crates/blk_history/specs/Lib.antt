@@ -5,3 +5,5 @@ pub mod Legal
 pub mod Owned
 pub mod Licence
 pub mod Transcript
+pub mod Recorded
+pub mod Line

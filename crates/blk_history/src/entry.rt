@@ -1,7 +1,9 @@
 //! Entries of a history: one for each thing that happened.
 
+ghost use Rattle.std.specs.Prelude.{◌≡◌, ◌+◌, ◌<◌, ◌≤◌, [], ◌∷◌, ◌++◌, length, vec_len, vec_capacity};
+
+use crate::Asked;
 use blk_base::{Outcome, Span};
-use trace_codec::Op;
 
 /// Why a request was refused at its admission.
 #[derive(Clone, Copy, Debug, PartialEq, Eq)]
@@ -19,12 +21,12 @@ pub enum Entry {
     Admit {
         guest: u32,
         request: u32,
-        op: Op,
+        op: Asked,
     },
     Refuse {
         guest: u32,
         request: u32,
-        op: Op,
+        op: Asked,
         why: Refused,
     },
     Piece {
@@ -38,4 +40,24 @@ pub enum Entry {
         guest: u32,
         request: u32,
     },
+}
+
+/// Adds an entry to those before it, without taking memory.
+pub(crate) fn push_entry(entries: &mut Vec<Entry>, entry: Entry)
+    requires { vec_len entries.old < vec_capacity entries.old }
+    ensures items { entries.new.items ≡ entries.old.items ++ entry ∷ [] }
+    ensures len { vec_len entries.new ≡ vec_len entries.old + 1 }
+    ensures capacity { vec_capacity entries.new ≡ vec_capacity entries.old }
+{
+    entries.push_reserved(entry);
+}
+
+/// Adds bytes to those before them, without taking memory.
+pub(crate) fn push_bytes(bytes: &mut Vec<u8>, more: &[u8])
+    requires { vec_len bytes.old + length more.now ≤ vec_capacity bytes.old }
+    ensures items { bytes.new.items ≡ bytes.old.items ++ more.now }
+    ensures len { vec_len bytes.new ≡ vec_len bytes.old + length more.now }
+    ensures capacity { vec_capacity bytes.old ≤ vec_capacity bytes.new }
+{
+    bytes.extend_from_slice(more).unwrap();
 }

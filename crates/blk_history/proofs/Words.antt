@@ -1,0 +1,7 @@
+-- A number of 64 bits has at most 20 digits.
+use Rattle.std.proofs.Common.{ℕ, ◌<◌, ◌≤◌, ◌^◌, length, arith}
+use Rattle.std.specs.Prelude.{decimal}
+use Rattle.std.proofs.lemmas.Fmt.{length-decimal-le}
+
+pub short_decimal : (n : ℕ) → n < 2 ^ 64 → length (decimal n) ≤ 20
+short_decimal n small = length-decimal-le 20 n (omega arith) (omega arith) small

@@ -1,0 +1,33 @@
+-- What contracts see of a history: its events, the bytes that its reads gave, and the room that is left.
+use Rattle.std.specs.Prelude.{ℕ, ◌≤◌, List, [], ◌∷◌, slice_range}
+use Rattle.blk_base.specs.Pieces.{end_of}
+use Rattle.blk_history.specs.declared.entry.Entry.{Entry}
+use Rattle.blk_history.specs.declared.entry.Entry.TheVariants as entries
+use Rattle.blk_history.specs.declared.event.Event.{Event}
+use Rattle.blk_history.specs.declared.event.Event.TheVariants as events
+
+pub record Recorded : Type 0 where
+  pub events : List Event
+  pub bytes : List ℕ
+  -- so many more entries and bytes go in without taking memory
+  pub room : ℕ
+  pub byte_room : ℕ
+
+-- an entry with the bytes that it points to
+abbrev pub event_of : List ℕ → Entry → Event
+event_of bytes (entries.Admit g r op) = events.Admit g r op
+event_of bytes (entries.Refuse g r op why) = events.Refuse g r op why
+event_of bytes (entries.Piece g r k outcome got) = events.Piece g r k outcome (slice_range bytes got.start (end_of got))
+event_of bytes (entries.Retire g r) = events.Retire g r
+
+-- the bytes that an entry points to are among so many
+abbrev pub PointsWithin : ℕ → Entry → Type 0
+PointsWithin n (entries.Admit g r op) = Unit {0}
+PointsWithin n (entries.Refuse g r op why) = Unit {0}
+PointsWithin n (entries.Piece g r k outcome got) = end_of got ≤ n
+PointsWithin n (entries.Retire g r) = Unit {0}
+
+-- each entry does
+abbrev pub AllPointWithin : ℕ → List Entry → Type 0
+AllPointWithin n [] = Unit {0}
+AllPointWithin n (e ∷ es) = PointsWithin n e × AllPointWithin n es

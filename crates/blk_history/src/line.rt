@@ -1,0 +1,192 @@
+//! The transcript's line of an entry.
+ghost use Rattle.std.specs.Prelude.{◌≡◌, ◌+◌, ◌*◌, ◌^◌, ◌<◌, ◌≤◌, [], ◌∷◌, ◌++◌, length, codes, decimal, get_or, slice_range, SomeIff, IsOk, OnOk, OnErr};
+ghost use Rattle.blk_base.specs.Pieces.{end_of};
+ghost use Rattle.blk_history.specs.Transcript.{op_words, refused_word, dev_word, good_words, outcome_words, line_of};
+ghost use Rattle.blk_history.specs.Recorded.{event_of, PointsWithin};
+ghost use Rattle.blk_history.specs.Line.{blanked, HasName, line_room, Appends};
+
+use crate::{Entry, Refused, Rows};
+use blk_base::{DevNo, NoMemory, Outcome, Text};
+use blk_runs::push_runs;
+use trace_codec::Op;
+
+/// Puts a blank and a word at the end.
+fn push_word(out: &mut Text, word: &str)
+    requires { length word.now + 1 ≤ out.old.spare }
+    ensures { Appends out.old out.new (32 ∷ word.now) (length word.now + 1) }
+{
+    out.push_ascii(b' ');
+    out.push_str(word);
+}
+
+/// Puts a blank and a number at the end.
+#[tactic(auto, using(crate::proofs::Words::short_decimal, std::proofs::lemmas::List::append_assoc))]
+fn push_count(out: &mut Text, n: u64)
+    requires { 21 ≤ out.old.spare }
+    ensures { Appends out.old out.new (32 ∷ decimal n) 21 }
+{
+    out.push_ascii(b' ');
+    out.push_number(n);
+}
+
+/// Puts a blank and a device's name at the end.
+#[tactic(auto, using(crate::proofs::Words::short_decimal, std::proofs::lemmas::List::append_assoc))]
+fn push_dev(out: &mut Text, dev: DevNo)
+    requires { 24 ≤ out.old.spare }
+    ensures { Appends out.old out.new (32 ∷ dev_word dev) 24 }
+{
+    push_word(out, "dev");
+    out.push_number(u64::from(dev.0));
+}
+
+fn push_op(out: &mut Text, op: &Op)
+    requires { 48 ≤ out.old.spare }
+    ensures { Appends out.old out.new (blanked (op_words op.now)) 48 }
+{
+    let span = match op {
+        Op::Read(span) => {
+            push_word(out, "read");
+            span
+        }
+        Op::Write(span, _) => {
+            push_word(out, "write");
+            span
+        }
+    };
+    push_count(out, span.start);
+    push_count(out, span.len);
+}
+
+fn push_refused(out: &mut Text, why: Refused)
+    requires { 9 ≤ out.old.spare }
+    ensures { Appends out.old out.new (32 ∷ refused_word why) 9 }
+{
+    match why {
+        Refused::Range => push_word(out, "range"),
+        Refused::ReadOnly => push_word(out, "readonly"),
+    }
+}
+
+/// Puts the words of a good piece at the end: what it read, where it read something.
+fn push_good(out: &mut Text, got: &[u8])
+    requires { 4 + 5 * length got.now ≤ out.old.spare }
+    ensures { Appends out.old out.new (blanked (good_words got.now)) (4 + 5 * length got.now) }
+{
+    push_word(out, "ok");
+    if !got.is_empty() {
+        out.push_ascii(b' ');
+        push_runs(out, got).unwrap();
+    }
+}
+
+fn push_outcome(out: &mut Text, outcome: Outcome, got: &[u8])
+    requires { 80 + 5 * length got.now ≤ out.old.spare }
+    ensures { Appends out.old out.new (blanked (outcome_words outcome got.now)) (80 + 5 * length got.now) }
+{
+    match outcome {
+        Outcome::Good => push_good(out, got),
+        Outcome::Torn { done, dev, count } => {
+            push_word(out, "torn");
+            push_count(out, done);
+            push_dev(out, dev);
+            push_count(out, count);
+        }
+        Outcome::Io { dev, count } => {
+            push_word(out, "io");
+            push_dev(out, dev);
+            push_count(out, count);
+        }
+        Outcome::NoSpace { dev } => {
+            push_word(out, "nospace");
+            push_dev(out, dev);
+        }
+    }
+}
+
+/// How much room the line of an entry is given, where that is a number of 64 bits.
+fn needed(entry: &Entry, bytes: &[u8], names: &Rows) -> Option<usize>
+    requires within { PointsWithin (length bytes.now) entry.now }
+    requires named { HasName names.now (event_of bytes.now entry.now) }
+    ensures { SomeIff result (line_room names.now (event_of bytes.now entry.now) < 2 ^ 64) (line_room names.now (event_of bytes.now entry.now)) }
+{
+    let (guest, shown) = match entry {
+        Entry::Admit { guest, .. } | Entry::Refuse { guest, .. } | Entry::Retire { guest, .. } => {
+            (*guest, 0)
+        }
+        Entry::Piece { guest, got, .. } => (*guest, got.len as usize),
+    };
+    let name = names.guest(guest).len();
+    shown.checked_mul(5)?.checked_add(256)?.checked_add(name)
+}
+
+/// Puts the line of an entry at the end.
+fn push_line(out: &mut Text, entry: &Entry, bytes: &[u8], names: &Rows)
+    requires within { PointsWithin (length bytes.now) entry.now }
+    requires named { HasName names.now (event_of bytes.now entry.now) }
+    requires room { line_room names.now (event_of bytes.now entry.now) ≤ out.old.spare }
+    ensures { Appends out.old out.new (line_of names.now (event_of bytes.now entry.now)) (line_room names.now (event_of bytes.now entry.now)) }
+{
+    match entry {
+        Entry::Admit { guest, request, op } => {
+            out.push_str("admit");
+            push_word(out, names.guest(*guest));
+            push_count(out, u64::from(*request));
+            push_op(out, op.op());
+        }
+        Entry::Refuse {
+            guest,
+            request,
+            op,
+            why,
+        } => {
+            out.push_str("refuse");
+            push_word(out, names.guest(*guest));
+            push_count(out, u64::from(*request));
+            push_op(out, op.op());
+            push_refused(out, *why);
+        }
+        Entry::Piece {
+            guest,
+            request,
+            k,
+            outcome,
+            got,
+        } => {
+            out.push_str("piece");
+            push_word(out, names.guest(*guest));
+            push_count(out, u64::from(*request));
+            push_count(out, u64::from(*k));
+            let from = got.start as usize;
+            let to = from + got.len as usize;
+            push_outcome(out, *outcome, &bytes[from..to]);
+        }
+        Entry::Retire { guest, request } => {
+            out.push_str("retire");
+            push_word(out, names.guest(*guest));
+            push_count(out, u64::from(*request));
+        }
+    }
+    out.push_ascii(b'\n');
+}
+
+/// Makes room for the line of an entry where there is less, and puts it at the end.
+pub(crate) fn write_line(
+    out: &mut Text,
+    entry: &Entry,
+    bytes: &[u8],
+    names: &Rows,
+) -> Result<(), NoMemory>
+    requires within { PointsWithin (length bytes.now) entry.now }
+    requires named { HasName names.now (event_of bytes.now entry.now) }
+    ensures ok { OnOk result (Appends out.old out.new (line_of names.now (event_of bytes.now entry.now)) (line_room names.now (event_of bytes.now entry.now))) }
+    ensures err { OnErr result (out.new ≡ out.old) }
+    ensures room { line_room names.now (event_of bytes.now entry.now) ≤ out.old.spare → IsOk result }
+{
+    let spare = out.spare();
+    let room = needed(entry, bytes, names).ok_or(NoMemory)?;
+    if spare < room {
+        out.reserve(room)?;
+    }
+    push_line(out, entry, bytes, names);
+    Ok(())
+}
