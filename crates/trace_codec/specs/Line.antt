@@ -1,0 +1,70 @@
+-- What a line of a trace says.
+use Rattle.std.specs.Prelude.{ℕ, ◌^◌, List, [], ◌∷◌, codes, nat_le, ◌==◌, ◌&&◌, if◌then◌else◌, Option, Some, None}
+use Rattle.std.specs.Option.{option_map}
+use Rattle.std.specs.List.{slice_split}
+use Rattle.std.specs.Str.{bytes_eq}
+use Rattle.blk_base.specs.Pieces.{Extent}
+use Rattle.trace_codec.specs.declared.op.Op.{Op}
+use Rattle.trace_codec.specs.declared.op.Op.TheVariants.{Read, Write}
+use Rattle.trace_codec.specs.declared.op.Payload.TheVariants.{Fill}
+use Rattle.trace_codec.specs.declared.line.Line.{Line}
+use Rattle.trace_codec.specs.declared.line.Line.TheVariants.{Passed, Asks, Bad}
+use Rattle.trace_codec.specs.Number.{◌>>=◌, number_of, below}
+
+-- The words of a line, parted by single spaces. A space at an end, or two in a row, leave an empty word, which no rule takes.
+abbrev pub words_of : List ℕ → List (List ℕ)
+words_of line = slice_split (λ b. b == 32) line
+
+-- where a request begins
+abbrev pub offset_of : List ℕ → Option ℕ
+offset_of word = below (2 ^ 62) (number_of word)
+
+-- a request has from 1 byte to 2 MiB
+abbrev pub length_of : List ℕ → Option ℕ
+length_of word = do
+  n ← below 2097153 (number_of word)
+  if n == 0 then None else Some n
+
+-- `OFF LEN`
+abbrev pub span_in : List (List ℕ) → Option Extent
+span_in (offset ∷ n ∷ []) = do
+  start ← offset_of offset
+  len ← length_of n
+  Some (record { start = start; len = len })
+span_in _ = None
+
+-- `read OFF LEN`, behind the first word
+abbrev pub read_in : List (List ℕ) → Option Op
+read_in words = do
+  span ← span_in words
+  Some (Read span)
+
+-- `write -P BYTE OFF LEN`, behind the second word
+abbrev pub fill_in : List (List ℕ) → Option Op
+fill_in [] = None
+fill_in (byte ∷ words) = do
+  value ← below 256 (number_of byte)
+  span ← span_in words
+  Some (Write span (Fill value))
+
+-- the kinds of writes, by their flag
+abbrev pub write_in : List (List ℕ) → Option Op
+write_in [] = None
+write_in (flag ∷ words) = if bytes_eq flag (codes "-P") then fill_in words else None
+
+-- the request that some words make, by the first of them
+abbrev pub request_in : List (List ℕ) → Option Op
+request_in [] = None
+request_in (name ∷ words) =
+    if bytes_eq name (codes "read") then read_in words
+    else if bytes_eq name (codes "write") then write_in words
+    else None
+
+abbrev pub asked : Option Op → Line
+asked None = Bad
+asked (Some op) = Asks op
+
+-- An empty line and one that begins with `#` are passed over. Every other line asks for something, or is bad.
+abbrev pub line_of : List ℕ → Line
+line_of [] = Passed
+line_of (b ∷ bytes) = if b == 35 then Passed else asked (request_in (words_of (b ∷ bytes)))

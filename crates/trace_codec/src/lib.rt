@@ -1,0 +1,18 @@
+//! Traces: what a guest asks for, line by line.
+#![tactic(auto)]
+
+mod cut;
+mod line;
+mod number;
+mod op;
+mod ops;
+mod reading;
+mod stop;
+mod totals;
+mod trace;
+
+pub use op::{Op, Payload};
+pub use ops::Ops;
+pub use stop::TraceStop;
+pub use totals::Totals;
+pub use trace::{read_trace, read_trace_after};

@@ -1,0 +1,50 @@
+//! Reading a whole trace.
+
+ghost use Rattle.std.specs.Prelude.{◌≡◌, ◌⊎◌, [], Ok, Err, IfOk, IfErr, OnErr};
+ghost use Rattle.trace_codec.specs.Trace.{after_lines, lines_of, trace_of, ops_of};
+
+use crate::cut::cut;
+use crate::ops::Ops;
+use crate::reading::Reading;
+use crate::stop::TraceStop;
+use crate::totals::Totals;
+use std::alloc::Global;
+
+/// Reads a trace before which there is none. Each of its lines, parted by line feeds, is empty, a comment that begins
+/// with `#`, `read OFF LEN` or `write -P BYTE OFF LEN`, its words parted by single spaces.
+pub fn read_trace(alloc: Global, text: &str) -> Result<Ops, TraceStop>
+    ensures ok { IfOk result (λ ops. ops_of text.now ≡ Ok ops) }
+    ensures refused { IfErr result (λ stop. (stop ≡ TraceStop.NoMemory) ⊎ (ops_of text.now ≡ Err stop)) }
+{
+    let mut asked = Totals::new();
+    read_trace_after(alloc, &mut asked, text)
+}
+
+/// Reads a trace behind others of the same run, which ask for so much, and counts what it asks for. A refusal
+/// leaves the count as it was.
+#[tactic(auto, unfolding(crate::specs::Trace::trace_of))]
+pub fn read_trace_after(alloc: Global, asked: &mut Totals, text: &str) -> Result<Ops, TraceStop>
+    ensures ok { IfOk result (λ ops. trace_of asked.old text.now ≡ Ok (ops, asked.new)) }
+    ensures refused { IfErr result (λ stop. (stop ≡ TraceStop.NoMemory) ⊎ (trace_of asked.old text.now ≡ Err stop)) }
+    ensures err { OnErr result (asked.new ≡ asked.old) }
+{
+    let reading = read_lines(alloc, *asked, text.as_bytes())?;
+    let (ops, total) = reading.finish();
+    *asked = total;
+    Ok(ops)
+}
+
+/// Reads line by line, up to the first refusal.
+fn read_lines(alloc: Global, asked: Totals, text: &[u8]) -> Result<Reading, TraceStop>
+    ensures ok { IfOk result (λ reading. after_lines (record { line = 1; ops = []; asked = asked }) (lines_of text.now) ≡ Ok reading) }
+    ensures refused { IfErr result (λ stop. (stop ≡ TraceStop.NoMemory) ⊎ (after_lines (record { line = 1; ops = []; asked = asked }) (lines_of text.now) ≡ Err stop)) }
+{
+    let mut reading = Reading::new(alloc, asked);
+    let mut rest = Some(text);
+    while let Some(lines) = rest {
+        let (line, after) = cut(lines, b'\n');
+        reading.take(line)?;
+        rest = after;
+    }
+    Ok(reading)
+}
