@@ -1,10 +1,10 @@
 -- A flat disk is a list of bytes, changed by writes alone; and the pieces of a request.
 use Rattle.std.specs.Prelude.{ℕ, Bool, true, false, List, [], take, replicate}
-use Rattle.blk_base.specs.Pieces.{Extent, count_of_pieces, piece_of}
+use Rattle.blk_base.specs.Pieces.{Extent, piece_of}
 use Rattle.blk_base.specs.Content.{with_bytes, bytes_at}
-use Rattle.trace_codec.specs.declared.Op.{Op}
-use Rattle.trace_codec.specs.declared.Op.TheVariants.{Read, Write}
-use Rattle.trace_codec.specs.declared.Payload.TheVariants.{Fill}
+use Rattle.trace_codec.specs.declared.op.Op.{Op}
+use Rattle.trace_codec.specs.declared.op.Op.TheVariants.{Read, Write}
+use Rattle.trace_codec.specs.declared.op.Payload.TheVariants.{Fill}
 
 -- the bytes that a request speaks of
 abbrev pub span_of : Op → Extent
@@ -16,10 +16,7 @@ abbrev pub is_write : Op → Bool
 is_write (Read span) = false
 is_write (Write span payload) = true
 
--- how many pieces it has, and piece k
-abbrev pub pieces : Op → ℕ
-pieces op = count_of_pieces (span_of op)
-
+-- its piece k
 abbrev pub piece : Op → ℕ → Extent
 piece op k = piece_of (span_of op) k
 

@@ -3,9 +3,10 @@ use Rattle.std.specs.Prelude.{◌≡◌, ◌⊎◌, ℕ, ◌<◌, ◌≤◌, ◌
 use Rattle.blk_base.specs.Pieces.{Extent, end_of}
 use Rattle.blk_base.specs.declared.fault.Outcome.{Outcome}
 use Rattle.blk_base.specs.declared.fault.Outcome.TheVariants.{Good, Torn, Io, NoSpace}
-use Rattle.trace_codec.specs.declared.Op.{Op}
+use Rattle.trace_codec.specs.declared.op.Op.{Op}
+use Rattle.trace_codec.specs.Request.{pieces_of}
 use Rattle.blk_history.specs.Fold.{Each, With}
-use Rattle.blk_history.specs.Disk.{span_of, is_write, pieces, piece, shown_in}
+use Rattle.blk_history.specs.Disk.{span_of, is_write, piece, shown_in}
 use Rattle.blk_history.specs.Machine.{Node, Flight, Guest, State, guest_at, node_at, disk_in, after}
 use Rattle.blk_history.specs.declared.entry.Refused.{Refused}
 use Rattle.blk_history.specs.declared.entry.Refused.TheVariants.{Range, ReadOnly}
@@ -45,12 +46,12 @@ Tells (NoSpace dev) op part disk got = got ≡ []
 pub record IsNextPiece (f : Flight) (k : ℕ) (outcome : Outcome) (disk : Option (List ℕ)) (got : List ℕ) : Type 0 where
   pub running : f.is_stopped ≡ false
   pub next : k ≡ f.next
-  pub within : k < pieces f.op
+  pub within : k < pieces_of f.op
   pub told : Tells outcome f.op (piece f.op k) disk got
 
 -- all pieces are done, or the last wasn't good
 abbrev pub IsOver : Flight → Type 0
-IsOver f = (f.next ≡ pieces f.op) ⊎ (f.is_stopped ≡ true)
+IsOver f = (f.next ≡ pieces_of f.op) ⊎ (f.is_stopped ≡ true)
 
 -- the entry fits the state before it
 abbrev pub Fits : State → Event → Type 0

@@ -1,7 +1,7 @@
 -- What a line of a transcript needs.
 use Rattle.std.specs.Prelude.{◌≡◌, ℕ, ◌+◌, ◌*◌, ◌<◌, ◌≤◌, List, [], ◌∷◌, ◌++◌, length, get_or, flat_map, slice_get, Option, Some, None}
 use Rattle.blk_base.specs.Written.{Written}
-use Rattle.trace_codec.specs.declared.Op.{Op}
+use Rattle.trace_codec.specs.declared.op.Op.{Op}
 use Rattle.blk_history.specs.Transcript.{RowNames}
 use Rattle.blk_history.specs.declared.event.Event.{Event}
 use Rattle.blk_history.specs.declared.event.Event.TheVariants.{Admit, Refuse, Piece, Retire}

@@ -3,7 +3,7 @@ use Rattle.std.specs.Prelude.{ℕ, ◌+◌, ◌==◌, if◌then◌else◌, Bool,
 use Rattle.blk_base.specs.Pieces.{Extent}
 use Rattle.blk_base.specs.declared.fault.Outcome.{Outcome}
 use Rattle.blk_base.specs.declared.fault.Outcome.TheVariants.{Good, Torn, Io, NoSpace}
-use Rattle.trace_codec.specs.declared.Op.{Op}
+use Rattle.trace_codec.specs.declared.op.Op.{Op}
 use Rattle.blk_history.specs.Fold.{run, change}
 use Rattle.blk_history.specs.Disk.{piece, done_in}
 use Rattle.blk_history.specs.declared.event.Event.{Event}

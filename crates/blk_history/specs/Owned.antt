@@ -1,6 +1,6 @@
 -- A guest's own requests in a history, and histories in which all are done.
 use Rattle.std.specs.Prelude.{◌≡◌, ℕ, ◌==◌, if◌then◌else◌, List, [], ◌∷◌, None, All}
-use Rattle.trace_codec.specs.declared.Op.{Op}
+use Rattle.trace_codec.specs.declared.op.Op.{Op}
 use Rattle.blk_history.specs.Machine.{State, replay}
 use Rattle.blk_history.specs.declared.event.Event.{Event}
 use Rattle.blk_history.specs.declared.event.Event.TheVariants.{Admit, Refuse, Piece, Retire}

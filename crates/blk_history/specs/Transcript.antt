@@ -4,8 +4,8 @@ use Rattle.blk_base.specs.declared.fault.DevNo.{DevNo}
 use Rattle.blk_base.specs.declared.fault.Outcome.{Outcome}
 use Rattle.blk_base.specs.declared.fault.Outcome.TheVariants.{Good, Torn, Io, NoSpace}
 use Rattle.blk_runs.specs.Runs.{runs_text}
-use Rattle.trace_codec.specs.declared.Op.{Op}
-use Rattle.trace_codec.specs.declared.Op.TheVariants.{Read, Write}
+use Rattle.trace_codec.specs.declared.op.Op.{Op}
+use Rattle.trace_codec.specs.declared.op.Op.TheVariants.{Read, Write}
 use Rattle.blk_history.specs.declared.entry.Refused.{Refused}
 use Rattle.blk_history.specs.declared.entry.Refused.TheVariants.{Range, ReadOnly}
 use Rattle.blk_history.specs.declared.event.Event.{Event}

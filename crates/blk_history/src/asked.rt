@@ -11,7 +11,7 @@ pub struct Asked {
 }
 
 impl Model for Asked {
-    ghost use Rattle.trace_codec.specs.declared.Op.{Op};
+    ghost use Rattle.trace_codec.specs.declared.op.Op.{Op};
 
     ghost Value = { Op };
 
