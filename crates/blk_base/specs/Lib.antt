@@ -5,3 +5,4 @@ pub mod Content
 pub mod Files
 pub mod Answers
 pub mod Stored
+pub mod Outcomes

@@ -33,6 +33,18 @@ pub enum Outcome {
     NoSpace { dev: DevNo },
 }
 
+impl Outcome {
+    ghost use Rattle.std.specs.Prelude.{◌≡◌};
+    ghost use Rattle.blk_base.specs.Outcomes.{is_good};
+
+    /// All of the piece was done.
+    pub fn is_good(self) -> bool
+        ensures { result ≡ is_good self }
+    {
+        matches!(self, Outcome::Good)
+    }
+}
+
 /// Whose count of faults rose.
 #[derive(Clone, Copy, Debug, PartialEq, Eq)]
 pub enum FaultFrom {

@@ -3,6 +3,7 @@ use Rattle.std.specs.Prelude.{ℕ, ◌+◌, ◌==◌, if◌then◌else◌, Bool,
 use Rattle.blk_base.specs.Pieces.{Extent}
 use Rattle.blk_base.specs.declared.fault.Outcome.{Outcome}
 use Rattle.blk_base.specs.declared.fault.Outcome.TheVariants.{Good, Torn, Io, NoSpace}
+use Rattle.blk_base.specs.Outcomes.{is_good}
 use Rattle.trace_codec.specs.declared.op.Op.{Op}
 use Rattle.blk_history.specs.Fold.{run, change}
 use Rattle.blk_history.specs.Disk.{piece, done_in}
@@ -61,12 +62,6 @@ disk_changed n f d = if d.node == n then record d { bytes = option_map f d.bytes
 
 abbrev pub with_disk : ℕ → (List ℕ → List ℕ) → State → State
 with_disk n f s = record s { disks = map (disk_changed n f) s.disks }
-
-abbrev pub is_good : Outcome → Bool
-is_good Good = true
-is_good (Torn done dev count) = false
-is_good (Io dev count) = false
-is_good (NoSpace dev) = false
 
 -- how many of a piece's bytes were done
 abbrev pub done_by : Outcome → Extent → ℕ

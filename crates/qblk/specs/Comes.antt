@@ -1,0 +1,50 @@
+-- What a run of a trace keeps, from its opening on.
+use Rattle.std.specs.Prelude.{◌≡◌, ℕ, ◌<◌, ◌≤◌, List, [], ◌∷◌, Option, Some, IsSome}
+use Rattle.blk_base.specs.Pieces.{end_of}
+use Rattle.blk_base.specs.declared.fault.Outcome.{Outcome}
+use Rattle.blk_base.specs.declared.fault.Outcome.TheVariants.{Good, Torn, Io, NoSpace}
+use Rattle.blk_history.specs.Fold.{Each, With}
+use Rattle.blk_history.specs.Disk.{piece}
+use Rattle.blk_history.specs.Machine.{State, guest_at, after, replay}
+use Rattle.blk_history.specs.Legal.{Legal}
+use Rattle.blk_history.specs.Licence.{counted, HaveRisen}
+use Rattle.blk_history.specs.declared.event.Event.{Event}
+use Rattle.blk_history.specs.declared.event.Event.TheVariants.{Admit, Refuse, Piece, Retire}
+use Rattle.qblk.specs.Face.{Face, state_with, state_of, new_guest}
+
+-- the image as it was opened
+pub record Opening : Type 0 where
+  pub disk : Option (List ℕ)
+  pub faults : ℕ
+  pub capacity : ℕ
+  pub size : ℕ
+
+-- the machine before the first request
+abbrev pub opening_state : Opening → State
+opening_state o = state_with o.size new_guest o.disk
+
+-- a piece found no space exactly where it would have ended above the capacity
+abbrev pub HadNoSpace : ℕ → State → Event → Type 0
+HadNoSpace capacity s (Admit g r op) = Unit {0}
+HadNoSpace capacity s (Refuse g r op why) = Unit {0}
+HadNoSpace capacity s (Retire g r) = Unit {0}
+HadNoSpace capacity s (Piece g r k Good got) = Unit {0}
+HadNoSpace capacity s (Piece g r k (Torn done dev count) got) = Unit {0}
+HadNoSpace capacity s (Piece g r k (Io dev count) got) = Unit {0}
+HadNoSpace capacity s (Piece g r k (NoSpace dev) got) = With (guest_at s g) (λ row. With row.flight (λ f. capacity < end_of (piece f.op k)))
+
+-- the faults that the history names are rises of the device's count, each named once
+pub record AreLicensed (o : Opening) (w : Face) : Type 0 where
+  pub risen : HaveRisen (o.faults ∷ []) w.log.events
+  pub last : (count : ℕ) × (counted (o.faults ∷ []) w.log.events ≡ count ∷ []) × (count ≤ w.faults)
+  pub space : Each after (HadNoSpace o.capacity) (opening_state o) w.log.events
+
+-- the run so far is a history from this opening, and the machine after it is what is seen
+pub record Comes (o : Opening) (w : Face) : Type 0 where
+  pub size : w.size ≡ o.size
+  pub capacity : w.capacity ≡ o.capacity
+  pub licensed : AreLicensed o w
+  pub replay : replay (opening_state o) w.log.events ≡ state_of w
+  -- where the device tells its bytes
+  pub told : (bytes : List ℕ) → o.disk ≡ Some bytes → IsSome w.disk
+  pub legal : (bytes : List ℕ) → o.disk ≡ Some bytes → Legal (opening_state o) w.log.events

@@ -1,0 +1,118 @@
+-- What each step of a run leaves.
+use Rattle.std.specs.Prelude.{◌≡◌, ℕ, ◌+◌, ◌-◌, ◌^◌, ◌<◌, ◌≤◌, List, [], ◌∷◌, ◌++◌, length, Option, Some, None, option_map, Result, Ok, Err, Bool, false, replicate}
+use Rattle.blk_base.specs.Pieces.{Extent, end_of}
+use Rattle.blk_base.specs.Counts.{Rose}
+use Rattle.blk_base.specs.declared.fault.DevNo.{DevNo}
+use Rattle.blk_base.specs.declared.fault.Outcome.{Outcome}
+use Rattle.blk_base.specs.declared.fault.Outcome.TheVariants.{Good, Torn, Io, NoSpace}
+use Rattle.trace_codec.specs.declared.op.Op.{Op}
+use Rattle.trace_codec.specs.declared.op.Op.TheVariants.{Read, Write}
+use Rattle.trace_codec.specs.declared.op.Payload.{Payload}
+use Rattle.trace_codec.specs.declared.op.Payload.TheVariants.{Fill}
+use Rattle.blk_base.specs.Content.{bytes_at}
+use Rattle.trace_codec.specs.Request.{pieces_of}
+use Rattle.blk_history.specs.Disk.{piece, done_in}
+use Rattle.blk_history.specs.Machine.{Flight, Guest, done_by, admitted, finished, past_piece}
+use Rattle.blk_history.specs.Legal.{IsInside, IsRefusedFor, Tells}
+use Rattle.blk_history.specs.Recorded.{Recorded}
+use Rattle.blk_history.specs.declared.entry.Refused.{Refused}
+use Rattle.blk_history.specs.declared.event.Event.{Event}
+use Rattle.blk_history.specs.declared.event.Event.TheVariants as events
+use Rattle.qblk.specs.Face.{Face, node_of}
+
+-- the history with one more entry, and with bytes that it shows
+abbrev pub log_with : Recorded → Event → List ℕ → Recorded
+log_with log e got = record {
+  events = log.events ++ e ∷ [];
+  bytes = log.bytes ++ got;
+  room = log.room - 1;
+  byte_room = log.byte_room - length got;
+}
+
+-- the history with an entry that shows nothing
+abbrev pub log_of : Recorded → Event → Recorded
+log_of log e = record log { events = log.events ++ e ∷ []; room = log.room - 1 }
+
+-- a request was admitted, or refused for its cause
+abbrev pub after_admission : Face → Op → Option Refused → Face
+after_admission w op None = record w { guest = admitted op w.guest; log = log_of w.log (events.Admit 0 w.guest.done op) }
+after_admission w op (Some why) = record w { guest = finished w.guest; log = log_of w.log (events.Refuse 0 w.guest.done op why) }
+
+abbrev pub IsJudged : Face → Op → Option Refused → Type 0
+IsJudged w op None = IsInside op (node_of w.size)
+IsJudged w op (Some why) = IsRefusedFor op w.guest (node_of w.size) why
+
+-- a request is over
+abbrev pub after_retirement : Face → Face
+after_retirement w = record w { guest = finished w.guest; log = log_of w.log (events.Retire 0 w.guest.done) }
+
+-- Why a piece went so, from the count of faults before and after, and the capacity: a fault is a rise of the count, and
+-- want of space a write that ends above the capacity.
+abbrev pub HasCause : ℕ → ℕ → ℕ → Extent → Outcome → Type 0
+HasCause before now capacity part Good = Unit {0}
+HasCause before now capacity part (Torn done dev count) = (dev.0 ≡ 0) × Rose before count × (count ≡ now)
+HasCause before now capacity part (Io dev count) = (dev.0 ≡ 0) × Rose before count × (count ≡ now)
+HasCause before now capacity part (NoSpace dev) = (dev.0 ≡ 0) × (capacity < end_of part)
+
+-- what a piece shows, of what its read left in the buffer
+abbrev pub shown_of : Op → Outcome → List ℕ → List ℕ
+shown_of (Read span) Good buffer = buffer
+shown_of (Read span) (Torn done dev count) buffer = []
+shown_of (Read span) (Io dev count) buffer = []
+shown_of (Read span) (NoSpace dev) buffer = []
+shown_of (Write span payload) outcome buffer = []
+
+-- how many of n bytes a piece may show
+abbrev pub shows_in : Op → ℕ → ℕ
+shows_in (Read span) n = n
+shows_in (Write span payload) n = 0
+
+-- the next piece can be made: there is one, and the history has room for what it adds
+pub record CanPiece (log : Recorded) (f : Flight) : Type 0 where
+  pub running : f.is_stopped ≡ false
+  pub next : f.next < pieces_of f.op
+  pub numbered : pieces_of f.op < 2 ^ 32
+  pub room : 0 < log.room
+  pub byte_room : shows_in f.op (piece f.op f.next).len ≤ log.byte_room
+
+-- the device of a run: the bytes that it tells, its count of faults, its capacity
+pub record Side : Type 0 where
+  pub disk : Option (List ℕ)
+  pub faults : ℕ
+  pub capacity : ℕ
+
+-- the next piece of a request in flight was made, with this outcome, and showed these bytes
+pub record MakesPiece (old new : Side) (before now : Recorded) (request : ℕ) (f : Flight) (outcome : Outcome) (got : List ℕ) : Type 0 where
+  pub tells : (disk : List ℕ) → old.disk ≡ Some disk → Tells outcome f.op (piece f.op f.next) (Some disk) got
+  pub disk : new.disk ≡ option_map (done_in f.op (piece f.op f.next) (done_by outcome (piece f.op f.next))) old.disk
+  pub cause : HasCause old.faults new.faults old.capacity (piece f.op f.next) outcome
+  pub faults : old.faults ≤ new.faults
+  pub capacity : new.capacity ≡ old.capacity
+  pub log : now ≡ log_with before (events.Piece 0 request f.next outcome got) got
+
+abbrev pub side_of : Face → Side
+side_of w = record { disk = w.disk; faults = w.faults; capacity = w.capacity }
+
+-- so it was, and the guest's row is one piece further
+pub record PutsPiece (old new : Face) (f : Flight) (outcome : Outcome) (got : List ℕ) : Type 0 where
+  pub made : MakesPiece (side_of old) (side_of new) old.log new.log old.guest.done f outcome got
+  pub guest : new.guest ≡ past_piece outcome old.guest
+  pub size : new.size ≡ old.size
+
+-- so many bytes of a payload
+abbrev pub payload_bytes : Payload → ℕ → List ℕ
+payload_bytes (Fill byte) n = replicate n byte
+
+-- a read was good and left the disk's bytes in the buffer, or it was none
+abbrev pub IsRead : Outcome → List ℕ → Extent → List ℕ → Type 0
+IsRead Good disk part buffer = buffer ≡ bytes_at disk part.start part.len
+IsRead (Torn done dev count) disk part buffer = ⊥
+IsRead (Io dev count) disk part buffer = Unit {0}
+IsRead (NoSpace dev) disk part buffer = ⊥
+
+-- a write that is torn did some of its bytes, and neither none nor all
+abbrev pub IsWritten : Outcome → Extent → Type 0
+IsWritten Good part = Unit {0}
+IsWritten (Torn done dev count) part = (0 < done) × (done < part.len)
+IsWritten (Io dev count) part = Unit {0}
+IsWritten (NoSpace dev) part = Unit {0}

@@ -1,0 +1,17 @@
+//! qblk
+#![tactic(auto)]
+
+mod engine;
+mod flight;
+mod transfer;
+
+use std::io;
+
+fn main(rt: HostRuntime) -> io::Result<()> {
+    let f = flight::InFlight {
+        place: 0,
+        next: 0,
+        is_stopped: false,
+    };
+    println!(rt; "{f:?}")
+}

@@ -1,0 +1,125 @@
+//! One piece on a device.
+ghost use Rattle.std.specs.Prelude.{◌≡◌, ◌+◌, ◌<◌, ◌≤◌, List, ℕ, [], length, take, Option, Some, option_map, IsTrue};
+ghost use Rattle.blk_base.specs.Pieces.{count_of_pieces, piece_of};
+ghost use Rattle.trace_codec.specs.Request.{pieces_of};
+ghost use Rattle.blk_base.specs.Content.{bytes_at, with_bytes};
+ghost use Rattle.blk_history.specs.Disk.{span_of, piece, done_in};
+ghost use Rattle.blk_history.specs.Machine.{done_by};
+ghost use Rattle.blk_history.specs.Legal.{Tells};
+ghost use Rattle.qblk.specs.Steps.{HasCause, shown_of, IsRead, IsWritten, payload_bytes, shows_in};
+
+use blk_base::{DevNo, Device, Outcome, Span, Stop, piece_at};
+use trace_codec::{Op, Payload};
+
+/// The only device of this run.
+const DEVICE: DevNo = DevNo(0);
+
+/// The bytes that a request speaks of.
+pub(crate) fn request_span(op: &Op) -> Span
+    ensures { result ≡ span_of op.now }
+{
+    match op {
+        Op::Read(span) | Op::Write(span, _) => *span,
+    }
+}
+
+/// Piece `k` of a request.
+pub(crate) fn request_piece(op: &Op, k: u64) -> Span
+    requires { k < pieces_of op.now }
+    ensures cut { result ≡ piece op.now k }
+    ensures small { result.len ≤ 65536 }
+{
+    match op {
+        Op::Read(span) | Op::Write(span, _) => small_piece(*span, k),
+    }
+}
+
+/// Piece `k` of a span. It lies in one block.
+#[tactic(auto, unfolding(blk_base::specs::Pieces::piece_of))]
+fn small_piece(span: Span, k: u64) -> Span
+    requires { k < count_of_pieces span }
+    ensures cut { result ≡ piece_of span k }
+    ensures small { result.len ≤ 65536 }
+{
+    piece_at(span, k)
+}
+
+/// What a piece shows, of what its read left in the buffer.
+pub(crate) fn shown_part<'a>(op: &Op, outcome: Outcome, buffer: &'a [u8]) -> &'a [u8]
+    ensures shown { result.now ≡ shown_of op.now outcome buffer.now }
+    ensures bound { length result.now ≤ shows_in op.now (length buffer.now) }
+{
+    match (op, outcome) {
+        (Op::Read(_), Outcome::Good) => buffer,
+        _ => &[],
+    }
+}
+
+/// Puts what a write puts into a part of its span into the buffer.
+fn load_payload(payload: &Payload, buffer: &mut [u8])
+    ensures { buffer.new ≡ payload_bytes payload.now (length buffer.old) }
+{
+    match payload {
+        Payload::Fill(byte) => buffer.fill(*byte),
+    }
+}
+
+/// Reads a part of the disk.
+fn read_part<D: Device>(device: &mut D, part: Span, buffer: &mut [u8]) -> Outcome
+    requires { length buffer.old ≡ part.len }
+    ensures read { (disk : List ℕ) → D.content device.old ≡ Some disk → IsRead result disk part buffer.new }
+    ensures content { D.content device.new ≡ D.content device.old }
+    ensures cause { HasCause (D.faults device.old) (D.faults device.new) (D.capacity device.old) part result }
+    ensures faults { D.faults device.old ≤ D.faults device.new }
+    ensures capacity { D.capacity device.new ≡ D.capacity device.old }
+{
+    match device.read_at(part.start, buffer) {
+        Ok(()) => Outcome::Good,
+        Err(_) => Outcome::Io {
+            dev: DEVICE,
+            count: device.faults(),
+        },
+    }
+}
+
+/// Writes a part of the disk.
+fn write_part<D: Device>(device: &mut D, part: Span, bytes: &[u8]) -> Outcome
+    requires { length bytes.now ≡ part.len }
+    ensures written { IsWritten result part }
+    ensures content { D.content device.new ≡ option_map (λ disk. with_bytes disk part.start (take (done_by result part) bytes.now)) (D.content device.old) }
+    ensures cause { HasCause (D.faults device.old) (D.faults device.new) (D.capacity device.old) part result }
+    ensures faults { D.faults device.old ≤ D.faults device.new }
+    ensures capacity { D.capacity device.new ≡ D.capacity device.old }
+{
+    let Err(stop) = device.write_at(part.start, bytes) else {
+        return Outcome::Good;
+    };
+    let count = device.faults();
+    match stop.why {
+        Stop::NoSpace => Outcome::NoSpace { dev: DEVICE },
+        Stop::Failed if stop.done == 0 => Outcome::Io { dev: DEVICE, count },
+        Stop::Failed => Outcome::Torn {
+            done: stop.done,
+            dev: DEVICE,
+            count,
+        },
+    }
+}
+
+/// Makes one piece of a request. A good read leaves its bytes in the buffer.
+pub(crate) fn transfer<D: Device>(device: &mut D, op: &Op, part: Span, buffer: &mut [u8]) -> Outcome
+    requires { length buffer.old ≡ part.len }
+    ensures tells { (disk : List ℕ) → D.content device.old ≡ Some disk → Tells result op.now part (Some disk) (shown_of op.now result buffer.new) }
+    ensures content { D.content device.new ≡ option_map (done_in op.now part (done_by result part)) (D.content device.old) }
+    ensures cause { HasCause (D.faults device.old) (D.faults device.new) (D.capacity device.old) part result }
+    ensures faults { D.faults device.old ≤ D.faults device.new }
+    ensures capacity { D.capacity device.new ≡ D.capacity device.old }
+{
+    match op {
+        Op::Read(_) => read_part(device, part, buffer),
+        Op::Write(_, payload) => {
+            load_payload(payload, buffer);
+            write_part(device, part, buffer)
+        }
+    }
+}
