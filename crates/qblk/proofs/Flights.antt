@@ -1,11 +1,11 @@
 -- Where a request in flight stands in the history.
-use Rattle.std.proofs.Common.{◌≡◌, ℕ, ◌<◌, zero, suc, List, [], ◌∷◌, ◌++◌, length, refl, ap, sym, ◌∙◌, arith, Option, Some, None}
-use Rattle.std.specs.Prelude.{slice_get, option_map, option_and_then}
+use Rattle.std.proofs.Common.{◌≡◌, ℕ, zero, suc, List, [], ◌∷◌, ◌++◌, length, refl, ap, arith, Option, Some, None}
+use Rattle.std.specs.Prelude.{slice_get, option_and_then}
 use Rattle.trace_codec.specs.declared.op.Op.{Op}
 use Rattle.blk_history.specs.declared.event.Event.{Event}
 use Rattle.blk_history.specs.declared.event.Event.TheVariants.{Admit}
 use Rattle.blk_history.specs.Line.{admitted_by}
-use Rattle.qblk.specs.Face.{request_at, flight_with, flight_of, row_of, WasAdmitted}
+use Rattle.qblk.specs.Face.{request_at, row_of, WasAdmitted}
 use Rattle.qblk.specs.declared.flight.InFlight.{InFlight}
 
 get-push : (es : List Event) (e : Event) (n : ℕ) → n ≡ length es → slice_get (es ++ e ∷ []) n ≡ Some e

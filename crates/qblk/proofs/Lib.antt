@@ -1,2 +1,4 @@
 pub mod Transfers
 pub mod Flights
+pub mod Kept
+pub mod Progress

@@ -1,9 +1,8 @@
 -- Pieces on a disk.
-use Rattle.std.proofs.Common.{◌≡◌, ℕ, ◌<◌, List, [], length, take, refl, ap, Option, Some, None, zero, suc}
+use Rattle.std.proofs.Common.{◌≡◌, ℕ, List, [], take, refl, Option, Some, None, zero, suc}
 use Rattle.std.specs.Prelude.{option_map}
 use Rattle.blk_base.specs.Pieces.{Extent}
-use Rattle.trace_codec.specs.declared.op.Op.{Op}
-use Rattle.trace_codec.specs.declared.op.Op.TheVariants.{Read, Write}
+use Rattle.trace_codec.specs.declared.op.Op.TheVariants.{Read}
 use Rattle.blk_history.specs.Disk.{done_in}
 use Rattle.blk_base.specs.declared.fault.Outcome.{Outcome}
 use Rattle.blk_base.specs.declared.fault.Outcome.TheVariants.{Good, Torn, Io, NoSpace}

@@ -1,8 +1,8 @@
 -- What a run of a trace keeps, from its opening on.
-use Rattle.std.specs.Prelude.{◌≡◌, ℕ, ◌<◌, ◌≤◌, List, [], ◌∷◌, Option, Some, IsSome}
+use Rattle.std.specs.Prelude.{◌≡◌, ℕ, ◌<◌, ◌≤◌, false, length, List, [], ◌∷◌, Option, Some, IsSome}
 use Rattle.blk_base.specs.Pieces.{end_of}
-use Rattle.blk_base.specs.declared.fault.Outcome.{Outcome}
 use Rattle.blk_base.specs.declared.fault.Outcome.TheVariants.{Good, Torn, Io, NoSpace}
+use Rattle.blk_history.specs.Line.{guest_of, shown_by}
 use Rattle.blk_history.specs.Fold.{Each, With}
 use Rattle.blk_history.specs.Disk.{piece}
 use Rattle.blk_history.specs.Machine.{State, guest_at, after, replay}
@@ -39,11 +39,24 @@ pub record AreLicensed (o : Opening) (w : Face) : Type 0 where
   pub last : (count : ℕ) × (counted (o.faults ∷ []) w.log.events ≡ count ∷ []) × (count ≤ w.faults)
   pub space : Each after (HadNoSpace o.capacity) (opening_state o) w.log.events
 
+-- an entry is the guest's, and shows at most one block
+pub record HasLine (e : Event) : Type 0 where
+  pub whose : guest_of e ≡ 0
+  pub shown : length (shown_by e) ≤ 65536
+
+abbrev pub HaveLines : List Event → Type 0
+HaveLines [] = Unit {0}
+HaveLines (e ∷ es) = HasLine e × HaveLines es
+
 -- the run so far is a history from this opening, and the machine after it is what is seen
 pub record Comes (o : Opening) (w : Face) : Type 0 where
   pub size : w.size ≡ o.size
   pub capacity : w.capacity ≡ o.capacity
+  -- the guest is on the image's node, and may write
+  pub on_image : w.guest.node ≡ 1
+  pub may_write : w.guest.is_read_only ≡ false
   pub licensed : AreLicensed o w
+  pub lines : HaveLines w.log.events
   pub replay : replay (opening_state o) w.log.events ≡ state_of w
   -- where the device tells its bytes
   pub told : (bytes : List ℕ) → o.disk ≡ Some bytes → IsSome w.disk

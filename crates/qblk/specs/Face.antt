@@ -1,7 +1,7 @@
 -- What is seen of one disk and its guest while a trace is run on them.
-use Rattle.std.specs.Prelude.{◌≡◌, ℕ, ◌<◌, Bool, false, List, [], ◌∷◌, slice_get, length, Option, Some, None, option_map, option_and_then}
+use Rattle.std.specs.Prelude.{◌≡◌, ℕ, false, List, [], ◌∷◌, slice_get, Option, Some, None, option_map, option_and_then}
 use Rattle.trace_codec.specs.declared.op.Op.{Op}
-use Rattle.blk_history.specs.Machine.{Node, Flight, Guest, Disk, State}
+use Rattle.blk_history.specs.Machine.{Node, Flight, Guest, State}
 use Rattle.blk_history.specs.Recorded.{Recorded}
 use Rattle.blk_history.specs.Line.{admitted_by}
 use Rattle.blk_history.specs.declared.event.Event.{Event}

@@ -1,3 +1,4 @@
 pub mod Face
 pub mod Steps
 pub mod Comes
+pub mod Requests

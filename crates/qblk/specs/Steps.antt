@@ -1,8 +1,7 @@
 -- What each step of a run leaves.
-use Rattle.std.specs.Prelude.{◌≡◌, ℕ, ◌+◌, ◌-◌, ◌^◌, ◌<◌, ◌≤◌, List, [], ◌∷◌, ◌++◌, length, Option, Some, None, option_map, Result, Ok, Err, Bool, false, replicate}
+use Rattle.std.specs.Prelude.{◌≡◌, ℕ, ◌-◌, ◌^◌, ◌<◌, ◌≤◌, List, [], ◌∷◌, ◌++◌, length, Option, Some, None, option_map, false, replicate}
 use Rattle.blk_base.specs.Pieces.{Extent, end_of}
 use Rattle.blk_base.specs.Counts.{Rose}
-use Rattle.blk_base.specs.declared.fault.DevNo.{DevNo}
 use Rattle.blk_base.specs.declared.fault.Outcome.{Outcome}
 use Rattle.blk_base.specs.declared.fault.Outcome.TheVariants.{Good, Torn, Io, NoSpace}
 use Rattle.trace_codec.specs.declared.op.Op.{Op}
@@ -12,7 +11,7 @@ use Rattle.trace_codec.specs.declared.op.Payload.TheVariants.{Fill}
 use Rattle.blk_base.specs.Content.{bytes_at}
 use Rattle.trace_codec.specs.Request.{pieces_of}
 use Rattle.blk_history.specs.Disk.{piece, done_in}
-use Rattle.blk_history.specs.Machine.{Flight, Guest, done_by, admitted, finished, past_piece}
+use Rattle.blk_history.specs.Machine.{Flight, done_by, admitted, finished, past_piece}
 use Rattle.blk_history.specs.Legal.{IsInside, IsRefusedFor, Tells}
 use Rattle.blk_history.specs.Recorded.{Recorded}
 use Rattle.blk_history.specs.declared.entry.Refused.{Refused}
@@ -88,6 +87,8 @@ pub record MakesPiece (old new : Side) (before now : Recorded) (request : ℕ) (
   pub cause : HasCause old.faults new.faults old.capacity (piece f.op f.next) outcome
   pub faults : old.faults ≤ new.faults
   pub capacity : new.capacity ≡ old.capacity
+  pub bound : length got ≤ shows_in f.op (piece f.op f.next).len
+  pub small : length got ≤ 65536
   pub log : now ≡ log_with before (events.Piece 0 request f.next outcome got) got
 
 abbrev pub side_of : Face → Side

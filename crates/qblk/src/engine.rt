@@ -133,6 +133,7 @@ impl<D: Device> Engine<D> {
     ghost use Rattle.qblk.specs.Steps.{after_admission, IsJudged, after_retirement, PutsPiece, CanPiece};
     ghost use Rattle.blk_history.specs.Fold.{With};
     ghost use Rattle.blk_history.specs.Legal.{IsOver};
+    ghost use Rattle.qblk.specs.Comes.{Opening, Comes};
 
     /// Admits the guest's next request, or refuses it for the cause that is told.
     fn put_admission(&mut self, op: Op) -> Option<Refused>
@@ -190,5 +191,37 @@ impl<D: Device> Engine<D> {
         note_retirement(&mut self.history, self.done);
         self.flight = None;
         self.done += 1;
+    }
+
+    /// Admits the guest's next request, or refuses it.
+    pub(crate) fn admit(&mut self, op: Op) -> Option<Refused>
+        requires idle { self.old.guest.flight ≡ None }
+        requires room { 0 < self.old.log.room }
+        requires numbered { self.old.guest.done + 1 < 2 ^ 32 }
+        ensures judged { IsJudged self.old op result }
+        ensures kept { self.new ≡ after_admission self.old op result }
+        ensures comes { (o : Opening) → Comes o self.old → Comes o self.new }
+    {
+        self.put_admission(op)
+    }
+
+    /// Makes the next piece of the request in flight.
+    pub(crate) fn piece(&mut self) -> Outcome
+        requires { With self.old.guest.flight (CanPiece self.old.log) }
+        ensures put { With self.old.guest.flight (λ f. (got : List ℕ) × PutsPiece self.old self.new f result got) }
+        ensures comes { (o : Opening) → Comes o self.old → Comes o self.new }
+    {
+        self.put_piece()
+    }
+
+    /// Ends the request in flight.
+    pub(crate) fn retire(&mut self)
+        requires over { With self.old.guest.flight IsOver }
+        requires room { 0 < self.old.log.room }
+        requires numbered { self.old.guest.done + 1 < 2 ^ 32 }
+        ensures kept { self.new ≡ after_retirement self.old }
+        ensures comes { (o : Opening) → Comes o self.old → Comes o self.new }
+    {
+        self.put_retirement();
     }
 }

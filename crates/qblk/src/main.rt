@@ -3,6 +3,7 @@
 
 mod engine;
 mod flight;
+mod requests;
 mod transfer;
 
 use std::io;

@@ -1,7 +1,4 @@
-use Rattle.std.proofs.Common.{◌≡◌, ℕ, ◌++◌, ◌∷◌, [], length, refl, ap, Option, Some}
-use Rattle.blk_history.specs.Recorded.{Recorded}
-use Rattle.blk_history.specs.declared.event.Event.TheVariants.{Admit}
-use Rattle.qblk.specs.Face.{request_at}
+use Rattle.std.proofs.Common.{refl}
 use Rattle.qblk.proofs.Flights.{request-push}
 use Rattle.qblk.proofs.engine.Engine.put_admission.Goals as goal
 

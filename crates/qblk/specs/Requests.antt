@@ -1,0 +1,61 @@
+-- How far a run of requests is.
+use Rattle.std.specs.Prelude.{◌≡◌, ℕ, ◌+◌, ◌-◌, ◌*◌, ◌/◌, ◌^◌, ◌<◌, ◌≤◌, min, max, false, [], ◌∷◌, ◌++◌, Some, None}
+use Rattle.blk_base.specs.Pieces.{end_of}
+use Rattle.trace_codec.specs.declared.op.Op.{Op}
+use Rattle.trace_codec.specs.declared.op.Op.TheVariants.{Read, Write}
+use Rattle.trace_codec.specs.Request.{pieces_of, read_bytes_of}
+use Rattle.blk_history.specs.Fold.{With}
+use Rattle.blk_history.specs.Machine.{Flight}
+use Rattle.blk_history.specs.Legal.{IsOver}
+use Rattle.blk_history.specs.Owned.{asked_by}
+use Rattle.qblk.specs.Face.{Face}
+use Rattle.qblk.specs.Comes.{Opening, Comes}
+
+-- how many bytes the first k pieces of a read show
+abbrev pub shown_before : Op → ℕ → ℕ
+shown_before (Read span) k = min (max span.start ((span.start / 65536 + k) * 65536)) (end_of span) - span.start
+shown_before (Write span payload) k = 0
+
+-- a request that was admitted, before its first piece, and room for what its pieces add and one entry more
+pub record CanRun (w : Face) (pieces : ℕ) (f : Flight) : Type 0 where
+  pub first : f.next ≡ 0
+  pub running : f.is_stopped ≡ false
+  pub count : pieces ≡ pieces_of f.op
+  pub numbered : pieces_of f.op < 2 ^ 32
+  pub room : pieces_of f.op < w.log.room
+  pub byte_room : read_bytes_of f.op ≤ w.log.byte_room
+
+-- k of its pieces were good
+pub record AtPiece (old now : Face) (k : ℕ) (f : Flight) : Type 0 where
+  pub flight : now.guest.flight ≡ Some (record f { next = k })
+  pub done : now.guest.done ≡ old.guest.done
+  pub asked : asked_by 0 now.log.events ≡ asked_by 0 old.log.events
+  pub room : old.log.room ≤ now.log.room + k
+  pub byte_room : old.log.byte_room ≤ now.log.byte_room + shown_before f.op k
+  pub comes : (o : Opening) → Comes o old → Comes o now
+
+-- all its pieces are done, or the last wasn't good
+pub record PiecesDone (old new : Face) (f : Flight) : Type 0 where
+  pub over : With new.guest.flight IsOver
+  pub done : new.guest.done ≡ old.guest.done
+  pub asked : asked_by 0 new.log.events ≡ asked_by 0 old.log.events
+  pub room : old.log.room ≤ new.log.room + pieces_of f.op
+  pub byte_room : old.log.byte_room ≤ new.log.byte_room + read_bytes_of f.op
+  pub comes : (o : Opening) → Comes o old → Comes o new
+
+-- room for a request
+pub record HasRoom (w : Face) (op : Op) : Type 0 where
+  pub idle : w.guest.flight ≡ None
+  pub numbered : w.guest.done + 1 < 2 ^ 32
+  pub pieces : pieces_of op < 2 ^ 32
+  pub room : pieces_of op + 2 ≤ w.log.room
+  pub byte_room : read_bytes_of op ≤ w.log.byte_room
+
+-- a request was admitted and retired, or refused
+pub record RequestDone (old new : Face) (op : Op) : Type 0 where
+  pub idle : new.guest.flight ≡ None
+  pub done : new.guest.done ≡ old.guest.done + 1
+  pub asked : asked_by 0 new.log.events ≡ asked_by 0 old.log.events ++ op ∷ []
+  pub room : old.log.room ≤ new.log.room + (pieces_of op + 2)
+  pub byte_room : old.log.byte_room ≤ new.log.byte_room + read_bytes_of op
+  pub comes : (o : Opening) → Comes o old → Comes o new
