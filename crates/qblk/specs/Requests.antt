@@ -1,6 +1,7 @@
 -- How far a run of requests is.
-use Rattle.std.specs.Prelude.{◌≡◌, ℕ, ◌+◌, ◌-◌, ◌*◌, ◌/◌, ◌^◌, ◌<◌, ◌≤◌, min, max, false, [], ◌∷◌, ◌++◌, Some, None}
+use Rattle.std.specs.Prelude.{◌≡◌, ℕ, ◌+◌, ◌-◌, ◌*◌, ◌/◌, ◌^◌, ◌<◌, ◌≤◌, min, max, false, [], ◌∷◌, ◌++◌, Some, None, List, length, Option}
 use Rattle.blk_base.specs.Pieces.{end_of}
+use Rattle.blk_base.specs.declared.memory.Room.{Room}
 use Rattle.trace_codec.specs.declared.op.Op.{Op}
 use Rattle.trace_codec.specs.declared.op.Op.TheVariants.{Read, Write}
 use Rattle.trace_codec.specs.Request.{pieces_of, read_bytes_of}
@@ -59,3 +60,44 @@ pub record RequestDone (old new : Face) (op : Op) : Type 0 where
   pub room : old.log.room ≤ new.log.room + (pieces_of op + 2)
   pub byte_room : old.log.byte_room ≤ new.log.byte_room + read_bytes_of op
   pub comes : (o : Opening) → Comes o old → Comes o new
+
+-- the entries and the bytes that some requests may add
+abbrev pub entries_for : List Op → ℕ
+entries_for [] = 0
+entries_for (op ∷ ops) = (pieces_of op + 2) + entries_for ops
+
+abbrev pub bytes_for : List Op → ℕ
+bytes_for [] = 0
+bytes_for (op ∷ ops) = read_bytes_of op + bytes_for ops
+
+-- their pieces have numbers
+abbrev pub HaveNumbers : List Op → Type 0
+HaveNumbers [] = Unit {0}
+HaveNumbers (op ∷ ops) = (pieces_of op < 2 ^ 32) × HaveNumbers ops
+
+-- room for requests
+pub record HasRoomFor (w : Face) (ops : List Op) : Type 0 where
+  pub idle : w.guest.flight ≡ None
+  pub numbered : w.guest.done + length ops < 2 ^ 32
+  pub pieces : HaveNumbers ops
+  pub room : entries_for ops ≤ w.log.room
+  pub byte_room : bytes_for ops ≤ w.log.byte_room
+
+-- requests were made, in order
+pub record RequestsDone (old new : Face) (ops : List Op) : Type 0 where
+  pub idle : new.guest.flight ≡ None
+  pub asked : asked_by 0 new.log.events ≡ asked_by 0 old.log.events ++ ops
+  pub comes : (o : Opening) → Comes o old → Comes o new
+
+-- all but some of them were made
+pub record AtRequests (old now : Face) (ops rest : List Op) : Type 0 where
+  pub has : HasRoomFor now rest
+  pub asked : asked_by 0 now.log.events ++ rest ≡ asked_by 0 old.log.events ++ ops
+  pub comes : (o : Opening) → Comes o old → Comes o now
+
+-- the room that some requests need
+pub record IsRoomFor (ops : List Op) (room : Room) : Type 0 where
+  pub entries : room.entries ≡ entries_for ops
+  pub bytes : room.bytes ≡ bytes_for ops
+  pub pieces : HaveNumbers ops
+  pub count : length ops < 2 ^ 32
