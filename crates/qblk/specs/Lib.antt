@@ -2,3 +2,4 @@ pub mod Face
 pub mod Steps
 pub mod Comes
 pub mod Requests
+pub mod Run

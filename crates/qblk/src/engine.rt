@@ -1,13 +1,14 @@
 //! One guest on one image, on one thread: each call is one event.
-ghost use Rattle.std.specs.Prelude.{◌≡◌, ◌<◌, ◌≤◌, length, List, ℕ, Some};
+ghost use Rattle.std.specs.Prelude.{◌≡◌, ◌<◌, ◌≤◌, length, List, ℕ, Some, true, MatchOption, option_map};
+ghost use Rattle.blk_base.specs.Counts.{Rose};
 ghost use Rattle.qblk.specs.Steps.{log_of, log_with, CanPiece, MakesPiece};
 ghost use Rattle.qblk.specs.Face.{request_at, flight_of, WasAdmitted};
 ghost use Rattle.blk_history.specs.Fold.{With};
 ghost use Rattle.blk_history.specs.declared.event.Event.{Event};
 
 use crate::flight::InFlight;
-use crate::transfer::{request_piece, request_span, shown_part, transfer};
-use blk_base::{Device, Outcome, Span};
+use crate::transfer::{DEVICE, request_piece, request_span, shown_part, transfer};
+use blk_base::{Device, FaultAt, FaultFrom, Outcome};
 use blk_history::{Asked, Entry, History, Refused};
 use std::marker::Model;
 use trace_codec::Op;
@@ -41,6 +42,24 @@ impl<D: Device> Model for Engine<D> {
     } };
 
     ghost invariant = { λ a. WasAdmitted a.history.events a.flight × (length a.buffer.items ≡ 65536) };
+}
+
+/// Flushes a device, and tells the fault where that failed.
+fn last_flush<D: Device>(device: &mut D) -> Option<FaultAt>
+    ensures content { D.content device.new ≡ D.content device.old }
+    ensures capacity { D.capacity device.new ≡ D.capacity device.old }
+    ensures faults { D.faults device.old ≤ D.faults device.new }
+    ensures flushed { MatchOption result
+        (D.is_flushed device.new ≡ option_map (λ _. true) (D.is_flushed device.old))
+        (λ fault. (fault.from ≡ FaultFrom.Dev (record { 0 = 0 })) × Rose (D.faults device.old) fault.count × (fault.count ≡ D.faults device.new)) }
+{
+    match device.flush() {
+        Ok(()) => None,
+        Err(_) => Some(FaultAt {
+            from: FaultFrom::Dev(DEVICE),
+            count: device.faults(),
+        }),
+    }
 }
 
 /// Adds the entry of an admitted request, and says where it stands.
@@ -128,12 +147,54 @@ fn make_piece<D: Device>(
 }
 
 impl<D: Device> Engine<D> {
+    ghost use Rattle.std.specs.Prelude.{true, is_some, Some, MatchOption};
+    ghost use Rattle.blk_base.specs.Counts.{Rose};
+    ghost use Rattle.qblk.specs.Face.{new_guest};
     ghost use Rattle.std.specs.Prelude.{◌≡◌, ◌+◌, ◌<◌, ◌≤◌, ◌^◌, ℕ, List, None};
     ghost use Rattle.qblk.specs.Face.{Face};
     ghost use Rattle.qblk.specs.Steps.{after_admission, IsJudged, after_retirement, PutsPiece, CanPiece};
     ghost use Rattle.blk_history.specs.Fold.{With};
     ghost use Rattle.blk_history.specs.Legal.{IsOver};
     ghost use Rattle.qblk.specs.Comes.{Opening, Comes};
+
+    /// A guest that has asked for nothing yet, on a device that was opened.
+    pub(crate) fn new(device: D, size: u64, history: History, buffer: Vec<u8>) -> Self
+        requires block { length buffer.items ≡ 65536 }
+        ensures { result ≡ record { disk = D.content device; faults = D.faults device; capacity = D.capacity device; size = size;
+            guest = new_guest; log = history } }
+    {
+        Engine {
+            device,
+            size,
+            done: 0,
+            flight: None,
+            history,
+            buffer,
+        }
+    }
+
+    /// Flushes the device, and gives it back with the history, and with the fault where the flush failed.
+    pub(crate) fn finish(self) -> (D, History, Option<FaultAt>)
+        ensures disk { D.content result.0 ≡ self.disk }
+        ensures capacity { D.capacity result.0 ≡ self.capacity }
+        ensures faults { self.faults ≤ D.faults result.0 }
+        ensures history { result.1 ≡ self.log }
+        ensures flushed { MatchOption result.2
+            ((bytes : List ℕ) → self.disk ≡ Some bytes → D.is_flushed result.0 ≡ Some true)
+            (λ fault. (fault.from ≡ FaultFrom.Dev (record { 0 = 0 })) × Rose self.faults fault.count × (fault.count ≡ D.faults result.0)) }
+        ensures tells { (bytes : List ℕ) → self.disk ≡ Some bytes → is_some (D.is_flushed result.0) ≡ true }
+    {
+        let Engine {
+            mut device,
+            size: _,
+            done: _,
+            flight: _,
+            history,
+            buffer: _,
+        } = self;
+        let fault = last_flush(&mut device);
+        (device, history, fault)
+    }
 
     /// Admits the guest's next request, or refuses it for the cause that is told.
     fn put_admission(&mut self, op: Op) -> Option<Refused>

@@ -4,6 +4,7 @@
 mod engine;
 mod flight;
 mod requests;
+mod status;
 mod transfer;
 
 use std::io;

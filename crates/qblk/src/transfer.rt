@@ -12,7 +12,7 @@ use blk_base::{DevNo, Device, Outcome, Span, Stop, piece_at};
 use trace_codec::{Op, Payload};
 
 /// The only device of this run.
-const DEVICE: DevNo = DevNo(0);
+pub(crate) const DEVICE: DevNo = DevNo(0);
 
 /// The bytes that a request speaks of.
 pub(crate) fn request_span(op: &Op) -> Span

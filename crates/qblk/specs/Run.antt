@@ -1,0 +1,127 @@
+-- What a run of a trace on one image is, seen from outside.
+use Rattle.std.specs.Prelude.{◌≡◌, ◌⊎◌, ℕ, ◌+◌, ◌<◌, ◌≤◌, Bool, true, false, List, [], ◌∷◌, ◌++◌, length, take, IsUtf8, Option, Some, None, option_map, Ok, Err}
+use Rattle.blk_base.specs.Counts.{Rose}
+use Rattle.blk_base.specs.Files.{file_at, put_file, IfTold}
+use Rattle.blk_base.specs.Answers.{HasFile, LacksFile}
+use Rattle.blk_base.specs.declared.file.File.{File}
+use Rattle.blk_base.specs.declared.file.Opened.{Opened}
+use Rattle.blk_base.specs.declared.fault.DevNo.{DevNo}
+use Rattle.blk_base.specs.declared.fault.FaultFrom.{FaultFrom}
+use Rattle.blk_base.specs.declared.fault.FaultFrom.TheVariants.{Store, Dev, Sink}
+use Rattle.trace_codec.specs.Trace.{ops_of}
+use Rattle.trace_codec.specs.declared.op.Op.{Op}
+use Rattle.trace_codec.specs.declared.stop.TraceStop.TheVariants as stops
+use Rattle.blk_history.specs.Fold.{Each}
+use Rattle.blk_history.specs.Machine.{State, disk_in, after, replay}
+use Rattle.blk_history.specs.Legal.{Legal}
+use Rattle.blk_history.specs.Owned.{asked_by, IsIdle}
+use Rattle.blk_history.specs.Licence.{counted, HaveRisen}
+use Rattle.blk_history.specs.Transcript.{RowNames, transcript}
+use Rattle.blk_history.specs.declared.event.Event.{Event}
+use Rattle.qblk.specs.Face.{state_with, new_guest}
+use Rattle.qblk.specs.Comes.{HadNoSpace}
+use Rattle.qblk.specs.declared.status.InputWhy.{InputWhy}
+use Rattle.qblk.specs.declared.status.InputWhy.TheVariants.{Absent, NotUtf8, TooLong, BadLine, TooMany, TooLarge}
+use Rattle.qblk.specs.declared.status.Status.{Status}
+use Rattle.qblk.specs.declared.status.Status.TheVariants.{Done, Usage, Input, Fault, NoMemory}
+
+-- what is seen of a store and a sink
+pub record Outside : Type 0 where
+  pub files : Option (List File)
+  pub opened : List Opened
+  pub store_faults : ℕ
+  pub sent : Option (List ℕ)
+  pub sink_faults : ℕ
+
+-- the machine of an image that holds these bytes, before the first request
+abbrev pub machine_of : List ℕ → State
+machine_of bytes = state_with (length bytes) new_guest (Some bytes)
+
+-- the one guest is called `disk`
+abbrev pub guest_names : RowNames
+guest_names = record { guests = (100 ∷ 105 ∷ 115 ∷ 107 ∷ []) ∷ [] }
+
+-- the image's file at the end holds the flat disk of a legal history, and all else is as it was
+pub record TellsDisk (image : List ℕ) (h : List Event) (flushed : Bool) (files : List File) (new : Option (List File)) (f : File) : Type 0 where
+  pub file : file_at image files ≡ Some f
+  pub legal : Legal (machine_of f.bytes) h
+  pub retired : IsIdle (replay (machine_of f.bytes) h)
+  -- a piece had no space only where it would have ended above the file's capacity
+  pub space : Each after (HadNoSpace f.capacity) (machine_of f.bytes) h
+  pub disk : (bytes : List ℕ) × (disk_in (replay (machine_of f.bytes) h).disks 1 ≡ Some bytes)
+    × (fl : Bool) × (flushed ≡ true → fl ≡ true) × (new ≡ Some (put_file (record { name = image; bytes = bytes; capacity = f.capacity; is_flushed = fl }) files))
+
+-- A history of these requests on that image: each stands once, in order, and the faults it names are rises of the
+-- device's count, each named once.
+pub record IsRun (image : List ℕ) (ops : List Op) (flushed : Bool) (old new : Outside) (h : List Event) (before now : ℕ) : Type 0 where
+  pub asked : asked_by 0 h ≡ ops
+  pub opened : new.opened ≡ old.opened ++ record { name = image; faults = before; returned = Some now } ∷ []
+  pub risen : HaveRisen (before ∷ []) h
+  pub last : (count : ℕ) × (counted (before ∷ []) h ≡ count ∷ []) × (count ≤ now)
+  pub told : IfTold old.files (λ files. (f : File) × TellsDisk image h flushed files new.files f)
+
+-- the image is there and not too large
+abbrev pub HasImage : List ℕ → List File → Type 0
+HasImage image files = HasFile image (λ f. length f.bytes ≤ 274877906944) files
+
+-- the trace is there, and asks for this
+abbrev pub HasTrace : List ℕ → List Op → List File → Type 0
+HasTrace trace ops files = HasFile trace (λ f. (length f.bytes ≤ 67108864) × IsUtf8 f.bytes × (ops_of f.bytes ≡ Ok ops)) files
+
+-- why a trace's bytes are refused, and at which line
+abbrev pub IsBadTrace : InputWhy → ℕ → List ℕ → Type 0
+IsBadTrace Absent line bytes = ⊥
+IsBadTrace TooLarge line bytes = ⊥
+IsBadTrace TooLong line bytes = (line ≡ 0) × (67108864 < length bytes)
+IsBadTrace NotUtf8 line bytes = (line ≡ 0) × (length bytes ≤ 67108864) × (IsUtf8 bytes → ⊥)
+IsBadTrace BadLine line bytes = (length bytes ≤ 67108864) × IsUtf8 bytes × (ops_of bytes ≡ Err (stops.BadLine line))
+IsBadTrace TooMany line bytes = (length bytes ≤ 67108864) × IsUtf8 bytes × (ops_of bytes ≡ Err (stops.TooMany line))
+
+abbrev pub IsBadImage : InputWhy → List ℕ → List File → Type 0
+IsBadImage Absent image files = LacksFile image files
+IsBadImage TooLarge image files = HasFile image (λ f. 274877906944 < length f.bytes) files
+IsBadImage TooLong image files = ⊥
+IsBadImage NotUtf8 image files = ⊥
+IsBadImage BadLine image files = ⊥
+IsBadImage TooMany image files = ⊥
+
+abbrev pub IsRefusedTrace : InputWhy → ℕ → List ℕ → List File → Type 0
+IsRefusedTrace Absent line trace files = (line ≡ 0) × LacksFile trace files
+IsRefusedTrace why line trace files = HasFile trace (λ f. IsBadTrace why line f.bytes) files
+
+-- why an input is refused: the image before the trace
+abbrev pub IsRefusedInput : List ℕ → List ℕ → List ℕ → ℕ → InputWhy → List File → Type 0
+IsRefusedInput image trace name line why files =
+    ((name ≡ image) × (line ≡ 0) × IsBadImage why image files)
+    ⊎ ((name ≡ trace) × HasImage image files × IsRefusedTrace why line trace files)
+
+-- nothing was written: neither to a file nor to the sink
+pub record NothingWritten (old new : Outside) : Type 0 where
+  pub files : new.files ≡ old.files
+  pub sent : new.sent ≡ old.sent
+
+-- the requests were made, and of the transcript the first n bytes went out
+pub record WasRun (image trace : List ℕ) (flushed : Bool) (old new : Outside) (ops : List Op) (h : List Event) (before now n : ℕ) : Type 0 where
+  pub inputs : IfTold old.files (λ files. HasImage image files × HasTrace trace ops files)
+  pub run : IsRun image ops flushed old new h before now
+  pub sent : new.sent ≡ option_map (λ s. s ++ take n (transcript guest_names h)) old.sent
+
+-- all of it went out
+abbrev pub IsDone : List ℕ → List ℕ → Outside → Outside → Type 0
+IsDone image trace old new = (ops : List Op) × (h : List Event) × (before : ℕ) × (now : ℕ) × WasRun image trace true old new ops h before now (length (transcript guest_names h))
+
+-- the first fault: while the inputs were read, in the last flush, or while the transcript went out
+abbrev pub IsFaulty : List ℕ → List ℕ → Outside → Outside → FaultFrom → ℕ → Type 0
+IsFaulty image trace old new Store count = NothingWritten old new × Rose old.store_faults count × (count ≡ new.store_faults)
+IsFaulty image trace old new (Dev dev) count = (dev.0 ≡ 0) × (ops : List Op) × (h : List Event) × (before : ℕ) × (n : ℕ)
+    × WasRun image trace false old new ops h before count n × Rose before count
+IsFaulty image trace old new Sink count = (ops : List Op) × (h : List Event) × (before : ℕ) × (now : ℕ) × (n : ℕ)
+    × WasRun image trace true old new ops h before now n × Rose old.sink_faults count × (count ≡ new.sink_faults)
+
+-- why a run on an image ended so
+abbrev pub Answers : List ℕ → List ℕ → Outside → Outside → Status → Type 0
+Answers image trace old new Done = IsDone image trace old new
+Answers image trace old new Usage = ⊥
+Answers image trace old new (Input name line why) = NothingWritten old new × IfTold old.files (IsRefusedInput image trace name.bytes line why)
+Answers image trace old new (Fault from count) = IsFaulty image trace old new from count
+Answers image trace old new NoMemory = NothingWritten old new
