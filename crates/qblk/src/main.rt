@@ -3,6 +3,7 @@
 
 mod engine;
 mod flight;
+mod input;
 mod requests;
 mod status;
 mod transfer;

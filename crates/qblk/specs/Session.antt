@@ -1,0 +1,83 @@
+-- The parts of a run on an image, from its inputs to the transcript.
+use Rattle.std.specs.Prelude.{◌≡◌, ℕ, ◌+◌, ◌*◌, ◌^◌, ◌<◌, ◌≤◌, Bool, true, List, [], length, IsUtf8, IsSome, Option, Some, None, MatchOption, is_some, Ok, Err, Result}
+use Rattle.blk_base.specs.Counts.{Rose}
+use Rattle.blk_base.specs.Files.{file_at, IfTold, is_out}
+use Rattle.blk_base.specs.Answers.{HasFile, LacksFile}
+use Rattle.blk_base.specs.declared.file.File.{File}
+use Rattle.blk_base.specs.declared.file.Opened.{Opened}
+use Rattle.blk_base.specs.declared.fault.DevNo.{DevNo}
+use Rattle.blk_base.specs.declared.fault.FaultAt.{FaultAt}
+use Rattle.blk_base.specs.declared.fault.FaultFrom.{FaultFrom}
+use Rattle.blk_base.specs.declared.fault.FaultFrom.TheVariants.{Store, Dev, Sink}
+use Rattle.trace_codec.specs.Trace.{ops_of}
+use Rattle.trace_codec.specs.declared.op.Op.{Op}
+use Rattle.blk_history.specs.Owned.{asked_by}
+use Rattle.qblk.specs.Face.{Face}
+use Rattle.qblk.specs.Comes.{Opening, Comes, HaveLines}
+use Rattle.qblk.specs.Run.{guest_names, IsBadTrace, IsRefusedTrace}
+use Rattle.qblk.specs.Inputs.{IsRefusal}
+use Rattle.qblk.specs.declared.input.TraceRead.{TraceRead}
+use Rattle.qblk.specs.declared.input.TraceRead.TheVariants as reads
+use Rattle.qblk.specs.declared.status.InputWhy.{InputWhy}
+use Rattle.qblk.specs.declared.status.InputWhy.TheVariants.{Absent, TooLong, TooLarge}
+use Rattle.qblk.specs.declared.status.Status.{Status}
+use Rattle.qblk.specs.declared.status.Status.TheVariants.{Done, Usage, Input, Fault, NoMemory}
+
+-- no device is out
+abbrev pub NoneOut : List Opened → Type 0
+NoneOut opened = (name : List ℕ) → is_out name opened ≡ true → ⊥
+
+-- what reading the trace's file gave
+abbrev pub IsReadOf : List ℕ → TraceRead → List File → Type 0
+IsReadOf trace (reads.Whole bytes) files = HasFile trace (λ f. (length f.bytes ≤ 67108864) × (bytes ≡ f.bytes)) files
+IsReadOf trace reads.Absent files = LacksFile trace files
+IsReadOf trace reads.TooLong files = HasFile trace (λ f. 67108864 < length f.bytes) files
+
+-- a call of the store failed, or memory wasn't had
+abbrev pub IsStoreStop : ℕ → ℕ → Status → Type 0
+IsStoreStop before now Done = ⊥
+IsStoreStop before now Usage = ⊥
+IsStoreStop before now (Input name line why) = ⊥
+IsStoreStop before now (Fault (Dev dev) count) = ⊥
+IsStoreStop before now (Fault Sink count) = ⊥
+IsStoreStop before now (Fault Store count) = Rose before count × (count ≡ now)
+IsStoreStop before now NoMemory = Unit {0}
+
+-- why an image isn't opened
+abbrev pub IsOpenStop : List ℕ → Option (List File) → ℕ → ℕ → Status → Type 0
+IsOpenStop image files before now Done = ⊥
+IsOpenStop image files before now Usage = ⊥
+IsOpenStop image files before now (Input name line why) = (name.bytes ≡ image) × (line ≡ 0) × (why ≡ Absent) × IfTold files (LacksFile image)
+IsOpenStop image files before now (Fault (Dev dev) count) = ⊥
+IsOpenStop image files before now (Fault Sink count) = ⊥
+IsOpenStop image files before now (Fault Store count) = Rose before count × (count ≡ now)
+IsOpenStop image files before now NoMemory = Unit {0}
+
+-- what a device shows
+pub record Seen : Type 0 where
+  pub content : Option (List ℕ)
+  pub is_flushed : Option Bool
+  pub faults : ℕ
+  pub capacity : ℕ
+  pub size : ℕ
+
+abbrev pub opening_of : Seen → Opening
+opening_of d = record { disk = d.content; faults = d.faults; capacity = d.capacity; size = d.size }
+
+-- the last flush was good, or its fault is told
+abbrev pub IsFlushed : Seen → ℕ → Option FaultAt → Type 0
+IsFlushed now faults None = (bytes : List ℕ) → now.content ≡ Some bytes → now.is_flushed ≡ Some true
+IsFlushed now faults (Some fault) = (fault.from ≡ Dev (record { 0 = 0 })) × Rose faults fault.count × (fault.count ≡ now.faults)
+
+-- the requests of a trace were made on a device
+pub record IsMade (bytes : List ℕ) (before now : Seen) (w : Face) (fault : Option FaultAt) : Type 0 where
+  pub fits : before.size ≤ 274877906944
+  pub text : IsUtf8 bytes
+  pub ops : ops_of bytes ≡ Ok (asked_by 0 w.log.events)
+  pub comes : Comes (opening_of before) w
+  pub idle : w.guest.flight ≡ None
+  pub content : now.content ≡ w.disk
+  pub capacity : now.capacity ≡ w.capacity
+  pub faults : w.faults ≤ now.faults
+  pub tells : (disk : List ℕ) → w.disk ≡ Some disk → is_some now.is_flushed ≡ true
+  pub flushed : IsFlushed now w.faults fault
