@@ -1,5 +1,5 @@
 -- The parts of a run on an image, from its inputs to the transcript.
-use Rattle.std.specs.Prelude.{◌≡◌, ℕ, ◌+◌, ◌*◌, ◌^◌, ◌<◌, ◌≤◌, Bool, true, List, [], length, IsUtf8, IsSome, Option, Some, None, MatchOption, is_some, Ok, Err, Result}
+use Rattle.std.specs.Prelude.{◌≡◌, ◌⊎◌, ℕ, ◌+◌, ◌*◌, ◌^◌, ◌<◌, ◌≤◌, Bool, true, List, [], length, IsUtf8, IsSome, Option, Some, None, MatchOption, is_some, Ok, Err, Result}
 use Rattle.blk_base.specs.Counts.{Rose}
 use Rattle.blk_base.specs.Files.{file_at, IfTold, is_out}
 use Rattle.blk_base.specs.Answers.{HasFile, LacksFile}
@@ -81,3 +81,27 @@ pub record IsMade (bytes : List ℕ) (before now : Seen) (w : Face) (fault : Opt
   pub faults : w.faults ≤ now.faults
   pub tells : (disk : List ℕ) → w.disk ≡ Some disk → is_some now.is_flushed ≡ true
   pub flushed : IsFlushed now w.faults fault
+
+-- why what was read of a trace is refused
+abbrev pub IsRefusedRead : TraceRead → InputWhy → ℕ → Type 0
+IsRefusedRead (reads.Whole bytes) why line = IsBadTrace why line bytes
+IsRefusedRead reads.Absent why line = (line ≡ 0) × (why ≡ Absent)
+IsRefusedRead reads.TooLong why line = (line ≡ 0) × (why ≡ TooLong)
+
+-- the trace is refused, or memory wasn't had
+abbrev pub IsTraceStop : List ℕ → TraceRead → Status → Type 0
+IsTraceStop trace read Done = ⊥
+IsTraceStop trace read Usage = ⊥
+IsTraceStop trace read (Input name line why) = (name.bytes ≡ trace) × IsRefusedRead read why line
+IsTraceStop trace read (Fault from count) = ⊥
+IsTraceStop trace read NoMemory = Unit {0}
+
+-- so is the image, which is judged before it
+abbrev pub IsRunStop : List ℕ → List ℕ → TraceRead → ℕ → Status → Type 0
+IsRunStop image trace read size Done = ⊥
+IsRunStop image trace read size Usage = ⊥
+IsRunStop image trace read size (Input name line why) =
+    ((name.bytes ≡ image) × (line ≡ 0) × (why ≡ TooLarge) × (274877906944 < size))
+    ⊎ ((size ≤ 274877906944) × (name.bytes ≡ trace) × IsRefusedRead read why line)
+IsRunStop image trace read size (Fault from count) = ⊥
+IsRunStop image trace read size NoMemory = Unit {0}

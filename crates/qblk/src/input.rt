@@ -1,9 +1,10 @@
 //! Inputs of a run: the trace that was read, and what is taken before the first request.
-ghost use Rattle.std.specs.Prelude.{◌≡◌, ◌≤◌, length, IfOk, IfErr, IfSome, IsUtf8, Ok};
+ghost use Rattle.std.specs.Prelude.{◌≡◌, ◌≤◌, List, ℕ, length, IfOk, IfErr, IfSome, IsUtf8, Ok};
 ghost use Rattle.trace_codec.specs.Trace.{ops_of};
 ghost use Rattle.qblk.specs.Run.{IsBadTrace, guest_names};
 ghost use Rattle.qblk.specs.Inputs.{IsRefusal};
 ghost use Rattle.qblk.specs.Ready.{IsReady};
+ghost use Rattle.qblk.specs.Session.{IsTraceStop};
 
 use crate::engine::BLOCK;
 use crate::requests::room_for;
@@ -23,6 +24,7 @@ pub(crate) const CHUNK: usize = 65536;
 const LINE: usize = 256 + 4 + 5 * BLOCK;
 
 /// What reading the file of a trace gave.
+#[derive(Drop)]
 pub(crate) enum TraceRead {
     Whole(Bytes),
     Absent,
@@ -93,4 +95,25 @@ fn take_memory(alloc: Global, ops: Vec<Op>) -> Result<Prepared, NoMemory>
         names: guest_row(alloc)?,
         line: Text::with_room(alloc, CHUNK + LINE)?,
     })
+}
+
+/// The requests of a trace with all the memory that a run of them takes, or its refusal.
+pub(crate) fn judge(alloc: Global, trace: &str, read: TraceRead) -> Result<Prepared, Status>
+    ensures ok { IfOk result (λ p. (bytes : List ℕ) × (read ≡ TraceRead.Whole bytes) × IsUtf8 bytes × (ops_of bytes ≡ Ok p.ops.items)
+        × IsReady p.ops.items p.history p.buffer.items p.names p.line) }
+    ensures err { IfErr result (IsTraceStop trace.now read) }
+{
+    let bytes = match read {
+        TraceRead::Whole(bytes) => bytes,
+        TraceRead::Absent => return Err(refused(alloc, trace, 0, InputWhy::Absent)),
+        TraceRead::TooLong => return Err(refused(alloc, trace, 0, InputWhy::TooLong)),
+    };
+    if bytes.len() as u64 > MAX_TRACE {
+        return Err(refused(alloc, trace, 0, InputWhy::TooLong));
+    }
+    match requests_in(alloc, bytes.as_slice()) {
+        Ok(ops) => take_memory(alloc, ops).map_err(|_| Status::NoMemory),
+        Err(Some((line, why))) => Err(refused(alloc, trace, line, why)),
+        Err(None) => Err(Status::NoMemory),
+    }
 }

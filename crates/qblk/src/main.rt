@@ -5,6 +5,7 @@ mod engine;
 mod flight;
 mod input;
 mod requests;
+mod session;
 mod status;
 mod transfer;
 
