@@ -17,7 +17,7 @@ use Rattle.blk_history.specs.declared.entry.Refused.{Refused}
 use Rattle.blk_history.specs.declared.event.Event.{Event}
 use Rattle.blk_history.specs.declared.event.Event.TheVariants.{Admit, Refuse, Piece, Retire}
 use Rattle.blk_history.proofs.Folds.{run-push, each-push}
-use Rattle.qblk.specs.Face.{Face, state_of}
+use Rattle.qblk.specs.Face.{Face, new_guest, state_of}
 use Rattle.qblk.specs.Steps.{after_admission, IsJudged, after_retirement, CanPiece, PutsPiece, HasCause}
 use Rattle.qblk.specs.Comes.{Opening, opening_state, HadNoSpace, AreLicensed, HasLine, HaveLines, Comes}
 
@@ -198,3 +198,13 @@ piece-of w v outcome (Some f) is can puts = piece-kept w v f outcome puts.0 is c
 
 pub piece-made : (w v : Face) (outcome : Outcome) → With w.guest.flight (CanPiece w.log) → With w.guest.flight (λ f. (got : List ℕ) × PutsPiece w v f outcome got) → (o : Opening) → Comes o w → Comes o v
 piece-made w v outcome can puts = piece-of w v outcome w.guest.flight refl can puts
+
+-- a run begins at its opening
+pub comes-start : (o : Opening) (log : Recorded) → log.events ≡ [] → Comes o (record { disk = o.disk; faults = o.faults; capacity = o.capacity; size = o.size; guest = new_guest; log = log })
+comes-start o log empty = record {
+  size = refl; capacity = refl; on_image = refl; may_write = refl;
+  licensed = record { risen = rw empty tt; last = (o.faults, rw empty refl, omega arith); space = rw empty tt };
+  lines = rw empty tt;
+  replay = rw empty refl;
+  told = λ bytes is. rw is refl;
+  legal = λ bytes is. rw empty tt }

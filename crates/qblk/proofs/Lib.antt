@@ -2,3 +2,4 @@ pub mod Transfers
 pub mod Flights
 pub mod Kept
 pub mod Progress
+pub mod Sessions

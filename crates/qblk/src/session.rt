@@ -1,14 +1,30 @@
 //! A run of a trace on one image, from its inputs to the transcript.
-ghost use Rattle.std.specs.Prelude.{◌≡◌, ◌≤◌, MatchResult, IfOk, IfErr, None, [], ◌∷◌, ◌++◌};
+ghost use Rattle.std.specs.Prelude.{◌≡◌, ◌≤◌, List, ℕ, MatchResult, IfOk, IfErr, OnErr, None, [], ◌∷◌, ◌++◌};
 ghost use Rattle.blk_base.specs.Files.{IfTold};
 ghost use Rattle.blk_base.specs.Stored.{IsDeviceOf};
 ghost use Rattle.blk_base.specs.declared.file.Opened.{Opened};
-ghost use Rattle.qblk.specs.Session.{NoneOut, IsReadOf, IsStoreStop, IsOpenStop};
+ghost use Rattle.qblk.specs.Session.{NoneOut, IsReadOf, IsStoreStop, IsOpenStop, IsMade, IsRunStop};
+ghost use Rattle.qblk.specs.Face.{Face};
+ghost use Rattle.qblk.specs.Run.{guest_names};
 
-use crate::input::{MAX_TRACE, TraceRead, refused};
+use crate::engine::Engine;
+use crate::input::{MAX_TRACE, Prepared, TraceRead, judge, refused};
+use crate::requests::run_requests;
 use crate::status::{InputWhy, Status};
-use blk_base::{FaultFrom, Store, StoreStop};
+use blk_base::{Device, FaultAt, FaultFrom, Store, StoreStop, Text};
+use blk_history::{History, Rows};
 use std::alloc::Global;
+
+/// How many bytes an image may have: 256 GiB.
+const MAX_DISK: u64 = 256 << 30;
+
+/// The history of a run, what its transcript is written with, and the fault of the last flush.
+struct Made {
+    history: History,
+    names: Rows,
+    line: Text,
+    fault: Option<FaultAt>,
+}
 
 /// The fault of a store's call that failed.
 fn store_fault<S: Store>(store: &S) -> Status
@@ -57,4 +73,45 @@ fn open_image<S: Store>(alloc: Global, store: &mut S, name: &str) -> Result<S::D
         Err(StoreStop::NoMemory) => Err(Status::NoMemory),
         Err(StoreStop::InUse | StoreStop::TooLong) => unreachable!(),
     }
+}
+
+/// Makes the requests of a trace on an image, and flushes it. A refused input leaves the device untouched.
+fn make_run<D: Device>(
+    alloc: Global,
+    image: &str,
+    trace: &str,
+    read: TraceRead,
+    device: D,
+) -> (Result<Made, Status>, D)
+    ensures made { IfOk result.0 (λ made. (bytes : List ℕ) × (w : Face) × (read ≡ TraceRead.Whole bytes)
+        × IsMade bytes (record { content = D.content device; is_flushed = D.is_flushed device; faults = D.faults device; capacity = D.capacity device; size = D.size device })
+            (record { content = D.content result.1; is_flushed = D.is_flushed result.1; faults = D.faults result.1; capacity = D.capacity result.1; size = D.size result.1 }) w made.fault
+        × (made.history ≡ w.log) × (made.names ≡ guest_names) × (made.line.bytes ≡ []) × (393476 ≤ made.line.spare)) }
+    ensures stop { IfErr result.0 (IsRunStop image.now trace.now read (D.size device)) }
+    ensures untouched { OnErr result.0 (result.1 ≡ device) }
+{
+    let size = device.length();
+    if size > MAX_DISK {
+        return (Err(refused(alloc, image, 0, InputWhy::TooLarge)), device);
+    }
+    let Prepared {
+        ops,
+        history,
+        buffer,
+        names,
+        line,
+    } = match judge(alloc, trace, read) {
+        Ok(prepared) => prepared,
+        Err(status) => return (Err(status), device),
+    };
+    let mut engine = Engine::new(device, size, history, buffer);
+    run_requests(&mut engine, ops);
+    let (device, history, fault) = engine.finish();
+    let made = Made {
+        history,
+        names,
+        line,
+        fault,
+    };
+    (Ok(made), device)
 }
