@@ -21,6 +21,8 @@ impl Model for Text {
 }
 
 impl Text {
+    ghost use Rattle.blk_base.specs.Written.{memory_of};
+
     /// The empty text.
     pub fn new(alloc: Global) -> Self
         ensures { result.bytes ≡ [] }
@@ -111,6 +113,7 @@ impl Text {
         requires { length text.now ≤ self.old.spare }
         ensures bytes { self.new.bytes ≡ self.old.bytes ++ text.now }
         ensures room { self.old.spare ≤ self.new.spare + length text.now }
+        ensures memory { memory_of self.old ≤ memory_of self.new }
     {
         self.text.push_str(text).unwrap();
     }
@@ -121,6 +124,7 @@ impl Text {
         requires room { 0 < self.old.spare }
         ensures bytes { self.new.bytes ≡ self.old.bytes ++ byte ∷ [] }
         ensures room { self.old.spare ≤ self.new.spare + 1 }
+        ensures memory { memory_of self.old ≤ memory_of self.new }
     {
         self.text.push(char::from(byte)).unwrap();
     }
@@ -130,6 +134,7 @@ impl Text {
         requires { length (decimal n) ≤ self.old.spare }
         ensures bytes { self.new.bytes ≡ self.old.bytes ++ decimal n }
         ensures room { self.old.spare ≤ self.new.spare + length (decimal n) }
+        ensures memory { memory_of self.old ≤ memory_of self.new }
     {
         let mut buffer = itoa::Buffer::new();
         self.push_str(buffer.format(n));

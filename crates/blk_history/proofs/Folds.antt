@@ -18,10 +18,12 @@ each-push step P s (x ∷ es) e all one = (all.0, each-push step P (step s x) es
 pub asked-push : (g : ℕ) (es : List Event) (e : Event) → asked_by g (es ++ e ∷ []) ≡ asked_by g es ++ asked_by g (e ∷ [])
 asked-push g [] e = refl
 asked-push g (Admit h r op ∷ es) e = elim (h == g) as (λ b. cond b (op ∷ asked_by g (es ++ e ∷ [])) (asked_by g (es ++ e ∷ [])) ≡ cond b (op ∷ asked_by g es) (asked_by g es) ++ asked_by g (e ∷ [])) [
-    true ↦ ap (λ ops. op ∷ ops) (asked-push g es e)
-  | false ↦ asked-push g es e ]
+  | true ↦ ap (λ ops. op ∷ ops) (asked-push g es e)
+  | false ↦ asked-push g es e
+]
 asked-push g (Refuse h r op why ∷ es) e = elim (h == g) as (λ b. cond b (op ∷ asked_by g (es ++ e ∷ [])) (asked_by g (es ++ e ∷ [])) ≡ cond b (op ∷ asked_by g es) (asked_by g es) ++ asked_by g (e ∷ [])) [
-    true ↦ ap (λ ops. op ∷ ops) (asked-push g es e)
-  | false ↦ asked-push g es e ]
+  | true ↦ ap (λ ops. op ∷ ops) (asked-push g es e)
+  | false ↦ asked-push g es e
+]
 asked-push g (Piece h r k outcome got ∷ es) e = asked-push g es e
 asked-push g (Retire h r ∷ es) e = asked-push g es e

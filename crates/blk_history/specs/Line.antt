@@ -1,6 +1,6 @@
 -- What a line of a transcript needs.
 use Rattle.std.specs.Prelude.{◌≡◌, ℕ, ◌+◌, ◌*◌, ◌<◌, ◌≤◌, List, [], ◌∷◌, ◌++◌, length, get_or, flat_map, slice_get, Option, Some, None}
-use Rattle.blk_base.specs.Written.{Written}
+use Rattle.blk_base.specs.Written.{Written, memory_of}
 use Rattle.trace_codec.specs.declared.op.Op.{Op}
 use Rattle.blk_history.specs.Transcript.{RowNames}
 use Rattle.blk_history.specs.declared.event.Event.{Event}
@@ -36,6 +36,7 @@ line_room names e = 256 + length (get_or names.guests (guest_of e) []) + 5 * len
 pub record Appends (old new : Written) (more : List ℕ) (taken : ℕ) : Type 0 where
   pub bytes : new.bytes ≡ old.bytes ++ more
   pub room : old.spare ≤ new.spare + taken
+  pub memory : memory_of old ≤ memory_of new
 
 -- the request that an entry admits
 abbrev pub admitted_by : Event → Option Op

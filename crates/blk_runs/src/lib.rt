@@ -3,6 +3,7 @@
 
 ghost use Rattle.std.specs.Prelude.{◌≡◌, ◌+◌, ◌*◌, ◌<◌, ◌≤◌, ◌↔◌, ◌++◌, ◌∷◌, ℕ, List, IsTrue, IsOk, OnOk, OnErr, All, length, false};
 ghost use Rattle.std.specs.Fmt.{digit_glyph};
+ghost use Rattle.blk_base.specs.Written.{memory_of};
 ghost use Rattle.blk_runs.specs.Runs.{Run, IsFront, AreLongest, runs_of, bytes_of, run_text, runs_text};
 
 #[cfg(test)]
@@ -24,6 +25,7 @@ pub fn push_runs(out: &mut Text, bytes: &[u8]) -> Result<(), NoMemory>
     ensures err { OnErr result (out.new ≡ out.old) }
     ensures room { 5 * length bytes.now ≤ out.old.spare → IsOk result }
     ensures spare { OnOk result (out.old.spare ≤ out.new.spare + 5 * length bytes.now) }
+    ensures memory { memory_of out.old ≤ memory_of out.new }
 {
     if out.spare() / 5 < bytes.len() {
         let room = bytes.len().checked_mul(5).ok_or(NoMemory)?;
@@ -41,6 +43,7 @@ fn push_first<'a>(out: &mut Text, byte: u8, after: &'a [u8]) -> &'a [u8]
     requires { 5 * length (byte ∷ after.now) ≤ out.old.spare }
     ensures written { out.new.bytes ++ runs_text result.now ≡ out.old.bytes ++ runs_text (byte ∷ after.now) }
     ensures room { out.old.spare + 5 * length result.now ≤ out.new.spare + 5 * length (byte ∷ after.now) }
+    ensures memory { memory_of out.old ≤ memory_of out.new }
     ensures fewer { length result.now ≤ length after.now }
 {
     let more = front_count(after, byte);
@@ -64,6 +67,7 @@ fn push_run(out: &mut Text, byte: u8, count: u64)
     requires { length (run_text (record { byte = byte; count = count })) ≤ out.old.spare }
     ensures written { out.new.bytes ≡ out.old.bytes ++ run_text (record { byte = byte; count = count }) }
     ensures room { out.old.spare ≤ out.new.spare + length (run_text (record { byte = byte; count = count })) }
+    ensures memory { memory_of out.old ≤ memory_of out.new }
 {
     out.push_ascii(hex_digit(byte / 16));
     out.push_ascii(hex_digit(byte % 16));

@@ -3,3 +3,4 @@ pub mod Flights
 pub mod Kept
 pub mod Progress
 pub mod Sessions
+pub mod Sending

@@ -6,3 +6,4 @@ pub mod Run
 pub mod Inputs
 pub mod Ready
 pub mod Session
+pub mod Output

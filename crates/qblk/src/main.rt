@@ -4,6 +4,7 @@
 mod engine;
 mod flight;
 mod input;
+mod output;
 mod requests;
 mod session;
 mod status;

@@ -1,0 +1,57 @@
+-- Parts of a transcript, one after another.
+use Rattle.std.proofs.Common.{◌≡◌, ℕ, ◌+◌, ◌<◌, ◌≤◌, min, List, [], ◌∷◌, ◌++◌, length, take, drop, refl, sym, ◌∙◌, ap, arith, append_assoc, zero, suc, subst, lit<, Option, Some, None, Result, Ok, Err, OnOk, OnErr}
+use Rattle.std.specs.Prelude.{option_map, slice_get}
+use Rattle.std.proofs.lemmas.List.{append-nil, take-append-drop}
+use Rattle.blk_base.specs.Counts.{Rose}
+use Rattle.blk_base.specs.Written.{Written}
+use Rattle.blk_history.specs.Line.{guest_of, line_room}
+use Rattle.blk_history.specs.Transcript.{RowNames}
+use Rattle.blk_history.specs.declared.event.Event.{Event}
+use Rattle.qblk.specs.Comes.{HasLine, HaveLines}
+use Rattle.qblk.specs.Run.{guest_names}
+use Rattle.qblk.specs.Output.{IsBuffer, SendsPart, SendsFront}
+
+-- a put that failed sent a front
+pub front-sent : (old new : Option (List ℕ)) (bytes : List ℕ) (n before now : ℕ) → new ≡ option_map (λ s. s ++ take n bytes) old → Rose before now → SendsFront old new bytes before now
+front-sent old new bytes n before now sent rose = record { part = (take n bytes, drop n bytes, take-append-drop n bytes, sent); rose = rose }
+
+-- one part after another
+pub sent-after : (old mid new : Option (List ℕ)) (p q : List ℕ) → mid ≡ option_map (λ s. s ++ p) old → new ≡ option_map (λ s. s ++ q) mid → new ≡ option_map (λ s. s ++ (p ++ q)) old
+sent-after None mid new p q first then = then ∙ ap (option_map (λ s. s ++ q)) first
+sent-after (Some s) mid new p q first then = then ∙ ap (option_map (λ s. s ++ q)) first ∙ ap (λ (t : List ℕ). Some t) append_assoc
+
+pub nothing-sent : (old : Option (List ℕ)) → old ≡ option_map (λ s. s ++ []) old
+nothing-sent None = refl
+nothing-sent (Some s) = ap (λ (t : List ℕ). Some t) (sym (append-nil s))
+
+-- what holds at a good end, and at a bad one
+pub on-ok : {T E : Type 0} (r : Result T E) (P Q R S : Type 0) → OnOk r P → OnOk r Q → OnOk r R → (P → Q → R → S) → OnOk r S
+on-ok (Ok x) P Q R S p q r f = f p q r
+on-ok (Err e) P Q R S p q r f = tt
+
+pub on-err : {T E : Type 0} (r : Result T E) (P Q : Type 0) → OnErr r P → (P → Q) → OnErr r Q
+on-err (Ok x) P Q p f = tt
+on-err (Err e) P Q p f = f p
+
+-- the entry at a place, and its line
+pub have-line : (es : List Event) (at : ℕ) (e : Event) → HaveLines es → slice_get es at ≡ Some e → HasLine e
+have-line [] at e all is = let bad : ⊥ = cc is in absurd bad
+have-line (x ∷ es) zero e all is = let same : x ≡ e = cc is in subst HasLine same all.0
+have-line (x ∷ es) (suc at) e all is = have-line es at e all.1 is
+
+pub get-below : (es : List Event) (at : ℕ) → at < length es → (e : Event) × (slice_get es at ≡ Some e)
+get-below [] at below = absurd (omega arith)
+get-below (x ∷ es) zero below = (x, refl)
+get-below (x ∷ es) (suc at) below = get-below es at (omega arith)
+
+pub room-of : (names : RowNames) (e : Event) → names ≡ guest_names → HasLine e → line_room names e ≤ 327940
+room-of names e named line = rw (named, line.whose) (let shown = line.shown in omega arith)
+
+pub named-by : (names : RowNames) (e : Event) → names ≡ guest_names → HasLine e → guest_of e < length names.guests
+named-by names e named line = rw (named, line.whose) (lit< tt)
+
+-- a line in the text
+pub part-kept : (old : Option (List ℕ)) (before now : Written) (more : List ℕ) (room : ℕ) → IsBuffer before → now.bytes ≡ before.bytes ++ more → before.spare ≤ now.spare + room → room ≤ 327940 → length now.bytes < 65536 → length now.bytes ≡ length before.bytes + length more → SendsPart old old (before.bytes ++ more) now
+part-kept old before now more room buffer bytes spare bound short len = record {
+  part = ([], bytes, nothing-sent old);
+  buffer = record { short = short; room = ? } }
