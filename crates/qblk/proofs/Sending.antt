@@ -3,9 +3,9 @@ use Rattle.std.proofs.Common.{◌≡◌, ℕ, ◌+◌, ◌<◌, ◌≤◌, min, 
 use Rattle.std.specs.Prelude.{option_map, slice_get}
 use Rattle.std.proofs.lemmas.List.{append-nil, take-append-drop}
 use Rattle.blk_base.specs.Counts.{Rose}
-use Rattle.blk_base.specs.Written.{Written}
-use Rattle.blk_history.specs.Line.{guest_of, line_room}
-use Rattle.blk_history.specs.Transcript.{RowNames}
+use Rattle.blk_base.specs.Written.{Written, memory_of}
+use Rattle.blk_history.specs.Line.{guest_of, line_room, Appends}
+use Rattle.blk_history.specs.Transcript.{RowNames, line_of}
 use Rattle.blk_history.specs.declared.event.Event.{Event}
 use Rattle.qblk.specs.Comes.{HasLine, HaveLines}
 use Rattle.qblk.specs.Run.{guest_names}
@@ -18,7 +18,7 @@ front-sent old new bytes n before now sent rose = record { part = (take n bytes,
 -- one part after another
 pub sent-after : (old mid new : Option (List ℕ)) (p q : List ℕ) → mid ≡ option_map (λ s. s ++ p) old → new ≡ option_map (λ s. s ++ q) mid → new ≡ option_map (λ s. s ++ (p ++ q)) old
 sent-after None mid new p q first then = then ∙ ap (option_map (λ s. s ++ q)) first
-sent-after (Some s) mid new p q first then = then ∙ ap (option_map (λ s. s ++ q)) first ∙ ap (λ (t : List ℕ). Some t) append_assoc
+sent-after (Some s) mid new p q first then = then ∙ ap (option_map (λ s. s ++ q)) first ∙ ap (λ (t : List ℕ). Some t) (append_assoc s p q)
 
 pub nothing-sent : (old : Option (List ℕ)) → old ≡ option_map (λ s. s ++ []) old
 nothing-sent None = refl
@@ -50,8 +50,29 @@ room-of names e named line = rw (named, line.whose) (let shown = line.shown in o
 pub named-by : (names : RowNames) (e : Event) → names ≡ guest_names → HasLine e → guest_of e < length names.guests
 named-by names e named line = rw (named, line.whose) (lit< tt)
 
--- a line in the text
-pub part-kept : (old : Option (List ℕ)) (before now : Written) (more : List ℕ) (room : ℕ) → IsBuffer before → now.bytes ≡ before.bytes ++ more → before.spare ≤ now.spare + room → room ≤ 327940 → length now.bytes < 65536 → length now.bytes ≡ length before.bytes + length more → SendsPart old old (before.bytes ++ more) now
-part-kept old before now more room buffer bytes spare bound short len = record {
-  part = ([], bytes, nothing-sent old);
-  buffer = record { short = short; room = ? } }
+-- a line that stays in the text
+pub line-kept : (old : Option (List ℕ)) (before now : Written) (more : List ℕ) (room : ℕ) → IsBuffer before → Appends before now more room → length now.bytes < 65536 → SendsPart old old (before.bytes ++ more) now
+line-kept old before now more room buffer appends short = record {
+  part = ([], appends.bytes, nothing-sent old);
+  buffer = record { short = short; room = let had = buffer.room in let memory = appends.memory in omega arith } }
+
+-- and one that goes out
+pub line-sent : (old new : Option (List ℕ)) (before mid now : Written) (more : List ℕ) (room : ℕ) → IsBuffer before → Appends before mid more room
+    → new ≡ option_map (λ s. s ++ mid.bytes) old → now.bytes ≡ [] → memory_of now ≡ memory_of mid → SendsPart old new (before.bytes ++ more) now
+line-sent old new before mid now more room buffer appends sent empty same = record {
+  part = (mid.bytes, ap (λ bs. mid.bytes ++ bs) empty ∙ append-nil mid.bytes ∙ appends.bytes, sent);
+  buffer = record { short = rw empty (lit< tt); room = let had = buffer.room in let memory = appends.memory in omega arith } }
+
+pub line-front : (old new : Option (List ℕ)) (before mid : Written) (more : List ℕ) (room b n : ℕ) → Appends before mid more room
+    → SendsFront old new mid.bytes b n → SendsFront old new (before.bytes ++ more) b n
+line-front old new before mid more room b n appends front = record {
+  part = (front.part.0, front.part.1, front.part.2 ∙ appends.bytes, front.part.3);
+  rose = front.rose }
+
+pub at-ok : {T E : Type 0} (r : Result T E) (x : T) (P : Type 0) → r ≡ Ok x → OnOk r P → P
+at-ok (Ok y) x P is p = p
+at-ok (Err e) x P is p = let bad : ⊥ = cc is in absurd bad
+
+-- the line of an entry, by the guest's name
+pub appended : (names : RowNames) (e : Event) (before now : Written) → names ≡ guest_names → Appends before now (line_of names e) (line_room names e) → Appends before now (line_of guest_names e) (line_room guest_names e)
+appended names e before now named appends = let P : RowNames → Type 0 = λ n. Appends before now (line_of n e) (line_room n e) in subst P named appends

@@ -1,12 +1,12 @@
 -- A transcript that goes out in parts.
 use Rattle.std.specs.Prelude.{◌≡◌, ℕ, ◌+◌, ◌<◌, ◌≤◌, List, ◌++◌, length, Option, option_map}
 use Rattle.blk_base.specs.Counts.{Rose}
-use Rattle.blk_base.specs.Written.{Written}
+use Rattle.blk_base.specs.Written.{Written, memory_of}
 
 -- the text has less than 64 KiB, and room for the longest line
 pub record IsBuffer (line : Written) : Type 0 where
   pub short : length line.bytes < 65536
-  pub room : 393476 ≤ line.spare + length line.bytes
+  pub room : 393476 ≤ memory_of line
 
 -- a part of these bytes went out, and the rest stands in the text
 pub record SendsPart (old new : Option (List ℕ)) (whole : List ℕ) (line : Written) : Type 0 where

@@ -1,9 +1,10 @@
 //! The transcript goes out.
-ghost use Rattle.std.specs.Prelude.{◌≡◌, ◌+◌, ◌<◌, ◌≤◌, ◌++◌, [], length, OnOk, OnErr, option_map};
+ghost use Rattle.std.specs.Prelude.{◌≡◌, ◌<◌, ◌≤◌, ◌++◌, [], length, OnOk, OnErr, option_map};
 ghost use Rattle.blk_history.specs.Line.{At};
 ghost use Rattle.blk_history.specs.Transcript.{line_of, transcript};
 ghost use Rattle.qblk.specs.Comes.{HaveLines};
 ghost use Rattle.qblk.specs.Run.{guest_names};
+ghost use Rattle.blk_base.specs.Written.{memory_of};
 ghost use Rattle.qblk.specs.Output.{IsBuffer, SendsPart, SendsFront};
 
 use crate::input::CHUNK;
@@ -14,7 +15,7 @@ use blk_history::{History, Rows};
 fn send<K: Sink>(line: &mut Text, out: &mut K) -> Result<(), SinkFault>
     ensures sent { OnOk result (K.sent out.new ≡ option_map (λ s. s ++ line.old.bytes) (K.sent out.old)) }
     ensures empty { OnOk result (line.new.bytes ≡ []) }
-    ensures room { OnOk result (line.new.spare ≡ line.old.spare + length line.old.bytes) }
+    ensures memory { OnOk result (memory_of line.new ≡ memory_of line.old) }
     ensures failed { OnErr result (SendsFront (K.sent out.old) (K.sent out.new) line.old.bytes (K.faults out.old) (K.faults out.new)) }
     ensures faults { K.faults out.old ≤ K.faults out.new }
 {
