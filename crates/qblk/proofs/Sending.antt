@@ -1,11 +1,11 @@
 -- Parts of a transcript, one after another.
 use Rattle.std.proofs.Common.{◌≡◌, ℕ, ◌+◌, ◌<◌, ◌≤◌, min, List, [], ◌∷◌, ◌++◌, length, take, drop, refl, sym, ◌∙◌, ap, arith, append_assoc, zero, suc, subst, lit<, Option, Some, None, Result, Ok, Err, OnOk, OnErr}
-use Rattle.std.specs.Prelude.{option_map, slice_get}
-use Rattle.std.proofs.lemmas.List.{append-nil, take-append-drop}
+use Rattle.std.specs.Prelude.{option_map, slice_get, flat_map}
+use Rattle.std.proofs.lemmas.List.{append-nil, take-append-drop, take_all}
 use Rattle.blk_base.specs.Counts.{Rose}
 use Rattle.blk_base.specs.Written.{Written, memory_of}
 use Rattle.blk_history.specs.Line.{guest_of, line_room, Appends}
-use Rattle.blk_history.specs.Transcript.{RowNames, line_of}
+use Rattle.blk_history.specs.Transcript.{RowNames, line_of, transcript}
 use Rattle.blk_history.specs.declared.event.Event.{Event}
 use Rattle.qblk.specs.Comes.{HasLine, HaveLines}
 use Rattle.qblk.specs.Run.{guest_names}
@@ -76,3 +76,74 @@ at-ok (Err e) x P is p = let bad : ⊥ = cc is in absurd bad
 -- the line of an entry, by the guest's name
 pub appended : (names : RowNames) (e : Event) (before now : Written) → names ≡ guest_names → Appends before now (line_of names e) (line_room names e) → Appends before now (line_of guest_names e) (line_room guest_names e)
 appended names e before now named appends = let P : RowNames → Type 0 = λ n. Appends before now (line_of n e) (line_room n e) in subst P named appends
+
+abbrev lines : List Event → List ℕ
+lines es = flat_map (line_of guest_names) es
+
+-- one line more
+pub lines-next : (es : List Event) (at : ℕ) (e : Event) → slice_get es at ≡ Some e → lines (take (at + 1) es) ≡ lines (take at es) ++ line_of guest_names e
+lines-next [] at e is = let bad : ⊥ = cc is in absurd bad
+lines-next (x ∷ es) zero e is = let same : x ≡ e = cc is in append-nil (line_of guest_names x) ∙ ap (line_of guest_names) same
+lines-next (x ∷ es) (suc at) e is = let next : suc at + 1 ≡ suc (at + 1) = omega arith in rw next (ap (λ bs. line_of guest_names x ++ bs) (lines-next es at e is) ∙ sym (append_assoc (line_of guest_names x) (lines (take at es)) (line_of guest_names e)))
+
+-- all lines are the first, and the rest
+lines-all : (es : List Event) (n : ℕ) → lines (take n es) ++ lines (drop n es) ≡ lines es
+lines-all [] zero = refl
+lines-all [] (suc n) = refl
+lines-all (x ∷ es) zero = refl
+lines-all (x ∷ es) (suc n) = append_assoc (line_of guest_names x) (lines (take n es)) (lines (drop n es)) ∙ ap (λ bs. line_of guest_names x ++ bs) (lines-all es n)
+
+-- one part after another
+pub part-next : (old mid new : Option (List ℕ)) (whole more : List ℕ) (before now : Written) → SendsPart old mid whole before → SendsPart mid new (before.bytes ++ more) now → SendsPart old new (whole ++ more) now
+part-next old mid new whole more before now first then = record {
+  part = (first.part.0 ++ then.part.0,
+    append_assoc first.part.0 then.part.0 now.bytes ∙ ap (λ bs. first.part.0 ++ bs) then.part.1 ∙ sym (append_assoc first.part.0 before.bytes more) ∙ ap (λ bs. bs ++ more) first.part.1,
+    sent-after old mid new first.part.0 then.part.0 first.part.2 then.part.2);
+  buffer = then.buffer }
+
+-- a part, and then a front of what follows
+pub part-front : (old mid new : Option (List ℕ)) (whole more : List ℕ) (before : Written) (a b c : ℕ) → SendsPart old mid whole before → SendsFront mid new (before.bytes ++ more) b c → a ≤ b → SendsFront old new (whole ++ more) a c
+part-front old mid new whole more before a b c first then le = record {
+  part = (first.part.0 ++ then.part.0, then.part.1,
+    append_assoc first.part.0 then.part.0 then.part.1 ∙ ap (λ bs. first.part.0 ++ bs) then.part.2 ∙ sym (append_assoc first.part.0 before.bytes more) ∙ ap (λ bs. bs ++ more) first.part.1,
+    sent-after old mid new first.part.0 then.part.0 first.part.2 then.part.3);
+  rose = let r = then.rose in omega arith }
+
+front-more : (old new : Option (List ℕ)) (whole more : List ℕ) (a b : ℕ) → SendsFront old new whole a b → SendsFront old new (whole ++ more) a b
+front-more old new whole more a b front = record {
+  part = (front.part.0, front.part.1 ++ more, sym (append_assoc front.part.0 front.part.1 more) ∙ ap (λ bs. bs ++ more) front.part.2, front.part.3);
+  rose = front.rose }
+
+-- at a line that failed, a front of the whole transcript is out
+pub line-failed : (es : List Event) (at : ℕ) (e : Event) (old mid new : Option (List ℕ)) (before : Written) (a b c : ℕ) → slice_get es at ≡ Some e → SendsPart old mid (lines (take at es)) before
+    → SendsFront mid new (before.bytes ++ line_of guest_names e) b c → a ≤ b → SendsFront old new (transcript guest_names es) a c
+unfolding transcript
+line-failed es at e old mid new before a b c is part front le =
+    let here = part-front old mid new (lines (take at es)) (line_of guest_names e) before a b c part front le in
+    let whole : (lines (take at es) ++ line_of guest_names e) ++ lines (drop (at + 1) es) ≡ lines es = ap (λ bs. bs ++ lines (drop (at + 1) es)) (sym (lines-next es at e is)) ∙ lines-all es (at + 1) in
+    let P : List ℕ → Type 0 = λ w. SendsFront old new w a c in
+    subst P whole (front-more old new _ (lines (drop (at + 1) es)) a c here)
+
+take-every : (es : List Event) (n : ℕ) → n ≡ length es → lines (take n es) ≡ lines es
+take-every es n is = ap lines (take_all n es (omega arith))
+
+-- where the text is empty, all of it is out
+pub all-sent : (es : List Event) (n : ℕ) (old new : Option (List ℕ)) (line : Written) → n ≡ length es → SendsPart old new (lines (take n es)) line → line.bytes ≡ [] → new ≡ option_map (λ s. s ++ transcript guest_names es) old
+unfolding transcript
+all-sent es n old new line is part empty =
+    let whole : part.part.0 ≡ lines es = sym (append-nil part.part.0) ∙ ap (λ bs. part.part.0 ++ bs) (sym empty) ∙ part.part.1 ∙ take-every es n is in
+    part.part.2 ∙ ap (λ (bs : List ℕ). option_map (λ s. s ++ bs) old) whole
+
+-- where it holds the rest, and that goes out
+pub rest-sent : (es : List Event) (n : ℕ) (old mid new : Option (List ℕ)) (line : Written) → n ≡ length es → SendsPart old mid (lines (take n es)) line → new ≡ option_map (λ s. s ++ line.bytes) mid → new ≡ option_map (λ s. s ++ transcript guest_names es) old
+unfolding transcript
+rest-sent es n old mid new line is part sent =
+    sent-after old mid new part.part.0 line.bytes part.part.2 sent ∙ ap (λ (bs : List ℕ). option_map (λ s. s ++ bs) old) (part.part.1 ∙ take-every es n is)
+
+pub rest-failed : (es : List Event) (n : ℕ) (old mid new : Option (List ℕ)) (line : Written) (a b c : ℕ) → n ≡ length es → SendsPart old mid (lines (take n es)) line → SendsFront mid new line.bytes b c → a ≤ b → SendsFront old new (transcript guest_names es) a c
+unfolding transcript
+rest-failed es n old mid new line a b c is part front le =
+    let here : SendsFront mid new (line.bytes ++ []) b c = rw (append-nil line.bytes) front in
+    let all = part-front old mid new (lines (take n es)) [] line a b c part here le in
+    let P : List ℕ → Type 0 = λ w. SendsFront old new w a c in
+    subst P (append-nil (lines (take n es)) ∙ take-every es n is) all

@@ -67,7 +67,9 @@ pub(crate) fn send_transcript<K: Sink>(
     ensures faults { K.faults out.old ≤ K.faults out.new }
 {
     for at in 0..history.len() {
-        send_line(history, at, names, line, out)?;
+        if let Err(fault) = send_line(history, at, names, line, out) {
+            return Err(fault);
+        }
     }
     if line.is_empty() {
         return Ok(());
