@@ -1,5 +1,5 @@
 -- Cutting at the first separator.
-use Rattle.std.proofs.Common.{◌≡◌, ◌≢◌, ℕ, ◌+◌, ◌-◌, ◌<◌, ◌≤◌, List, [], ◌∷◌, ◌++◌, true, false, eqb, Bool, Option, Some, None, is_some, length, get_or, take, drop, refl, ap, sym, ◌∙◌, arith, length-take, get_or-take, take-append-drop, eq-eqb, ne_eqb}
+use Rattle.std.proofs.Common.{◌≡◌, ◌≢◌, ℕ, ◌+◌, ◌-◌, ◌<◌, List, [], ◌∷◌, ◌++◌, true, false, eqb, Bool, Option, Some, None, is_some, length, get_or, take, drop, refl, ap, sym, ◌∙◌, arith, length-take, get_or-take, take-append-drop, eq-eqb, ne_eqb}
 use Rattle.std.specs.List.{slice_split, All}
 use Rattle.std.proofs.lemmas.List.{drop_more, take_rest, get_or_default}
 use Rattle.std.proofs.lemmas.List.Splits.{slice_split_at, slice_split_none, length-slice_split}

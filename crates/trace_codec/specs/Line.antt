@@ -1,6 +1,5 @@
 -- What a line of a trace says.
-use Rattle.std.specs.Prelude.{ℕ, ◌^◌, List, [], ◌∷◌, codes, nat_le, ◌==◌, ◌&&◌, if◌then◌else◌, Option, Some, None}
-use Rattle.std.specs.Option.{option_map}
+use Rattle.std.specs.Prelude.{ℕ, ◌^◌, List, [], ◌∷◌, codes, ◌==◌, if◌then◌else◌, Option, Some, None}
 use Rattle.std.specs.List.{slice_split}
 use Rattle.std.specs.Str.{bytes_eq}
 use Rattle.blk_base.specs.Pieces.{Extent}

@@ -8,6 +8,8 @@ mod op;
 mod ops;
 mod reading;
 mod stop;
+#[cfg(test)]
+mod tests;
 mod totals;
 mod trace;
 

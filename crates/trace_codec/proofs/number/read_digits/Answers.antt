@@ -1,5 +1,4 @@
-use Rattle.std.proofs.Common.{◌≡◌, ◌<◌, sym, ◌∙◌, arith, get_or}
-use Rattle.std.specs.Char.{digit_value}
+use Rattle.std.proofs.Common.{◌≡◌, sym, arith, get_or}
 use Rattle.trace_codec.proofs.Numerals.{refused}
 use Rattle.trace_codec.proofs.number.read_digits.Goals as goal
 

@@ -1,4 +1,4 @@
-use Rattle.std.proofs.Common.{◌≡◌, ◌+◌, ◌<◌, drop}
+use Rattle.std.proofs.Common.{◌≡◌, ◌<◌, drop}
 use Rattle.trace_codec.specs.Number.{digits_after}
 use Rattle.trace_codec.proofs.number.read_digits.Given as goal
 
