@@ -5,3 +5,4 @@ pub mod Amounts
 pub mod Request
 pub mod Reading
 pub mod Trace
+pub mod Causes

@@ -8,10 +8,10 @@ use crate::op::Op;
 use std::marker::Model;
 
 /// The most pieces that all traces of a run have.
-pub const MAX_PIECES: u64 = 1_000_000;
+const MAX_PIECES: u64 = 1_000_000;
 
 /// The most bytes that all traces of a run read.
-pub const MAX_READ_BYTES: u64 = 256 * 1024 * 1024;
+const MAX_READ_BYTES: u64 = 256 * 1024 * 1024;
 
 /// How many pieces the traces so far have, and how many bytes they read: no more than a run takes.
 #[derive(Clone, Copy, Debug, PartialEq, Eq)]

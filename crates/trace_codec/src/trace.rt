@@ -1,6 +1,8 @@
 //! Reading a whole trace.
 
-ghost use Rattle.std.specs.Prelude.{◌≡◌, ◌⊎◌, [], Ok, Err, IfOk, IfErr, OnErr};
+ghost use Rattle.std.specs.Prelude.{◌≡◌, ◌⊎◌, [], Ok, Err, IfOk, IfErr, OnOk, OnErr};
+ghost use Rattle.trace_codec.specs.Amounts.{nothing};
+ghost use Rattle.trace_codec.specs.Causes.{AreTaken, StopsAt, requests_of};
 ghost use Rattle.trace_codec.specs.Trace.{after_lines, lines_of, trace_of, ops_of};
 
 use crate::cut::cut;
@@ -15,6 +17,11 @@ use std::alloc::Global;
 pub fn read_trace(alloc: Global, text: &str) -> Result<Ops, TraceStop>
     ensures ok { IfOk result (λ ops. ops_of text.now ≡ Ok ops) }
     ensures refused { IfErr result (λ stop. (stop ≡ TraceStop.NoMemory) ⊎ (ops_of text.now ≡ Err stop)) }
+
+    // In other words: all lines are taken and these are their requests, or the first line with a cause is named.
+    ensures taken { OnOk result (AreTaken nothing (lines_of text.now)) }
+    ensures requests { IfOk result (λ ops. ops ≡ requests_of (lines_of text.now)) }
+    ensures cause { IfErr result (λ stop. (stop ≡ TraceStop.NoMemory) ⊎ StopsAt nothing (lines_of text.now) stop) }
 {
     let mut asked = Totals::new();
     read_trace_after(alloc, &mut asked, text)
@@ -28,8 +35,7 @@ pub fn read_trace_after(alloc: Global, asked: &mut Totals, text: &str) -> Result
     ensures refused { IfErr result (λ stop. (stop ≡ TraceStop.NoMemory) ⊎ (trace_of asked.old text.now ≡ Err stop)) }
     ensures err { OnErr result (asked.new ≡ asked.old) }
 {
-    let reading = read_lines(alloc, *asked, text.as_bytes())?;
-    let (ops, total) = reading.finish();
+    let (ops, total) = read_lines(alloc, *asked, text.as_bytes())?.finish();
     *asked = total;
     Ok(ops)
 }

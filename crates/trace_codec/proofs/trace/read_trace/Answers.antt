@@ -1,0 +1,13 @@
+use Rattle.trace_codec.proofs.CauseLemmas.{all_taken, all_requests, first_cause}
+use Rattle.trace_codec.proofs.trace.read_trace.Goals as goal
+
+pub returns-clause-taken : goal.returns-clause-taken
+returns-clause-taken c =
+    all_taken c.new-asked.result c.args.text.now c.read_trace_after.new.asked c.read_trace_after.result c.new-asked.ensures c.read_trace_after.ensures.ok
+
+pub returns-clause-requests : goal.returns-clause-requests
+returns-clause-requests c =
+    all_requests c.new-asked.result c.args.text.now c.read_trace_after.new.asked c.read_trace_after.result c.new-asked.ensures c.read_trace_after.ensures.ok
+
+pub returns-clause-cause : goal.returns-clause-cause
+returns-clause-cause c = first_cause c.new-asked.result c.args.text.now c.read_trace_after.result c.new-asked.ensures c.read_trace_after.ensures.refused
