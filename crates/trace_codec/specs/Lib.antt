@@ -6,3 +6,4 @@ pub mod Request
 pub mod Reading
 pub mod Trace
 pub mod Causes
+pub mod Stop

@@ -20,6 +20,11 @@ pub enum TraceStop {
 }
 
 impl fmt::Display for TraceStop {
+    ghost use Rattle.std.specs.Prelude.{Some};
+    ghost use Rattle.trace_codec.specs.Stop.{stop_text};
+
+    ghost output = { λ stop. Some (stop_text stop) };
+
     fn fmt<W: fmt::Write>(&self, f: &mut fmt::Formatter<W>) -> fmt::Result {
         match self {
             TraceStop::BadLine(line) => write!(f, "BadLine({line})"),
