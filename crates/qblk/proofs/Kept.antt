@@ -71,6 +71,7 @@ comes-push : (o : Opening) (w v : Face) (e : Event) → Comes o w → Adds w v e
 comes-push o w v e comes adds = record {
   size = adds.size ∙ comes.size;
   capacity = adds.capacity ∙ comes.capacity;
+  faults = let before = comes.faults in let more = adds.faults in omega arith;
   on_image = adds.on_image ∙ comes.on_image;
   may_write = adds.may_write ∙ comes.may_write;
   licensed = licensed-push o w v e comes adds;
@@ -202,7 +203,7 @@ piece-made w v outcome can puts = piece-of w v outcome w.guest.flight refl can p
 -- a run begins at its opening
 pub comes-start : (o : Opening) (log : Recorded) → log.events ≡ [] → Comes o (record { disk = o.disk; faults = o.faults; capacity = o.capacity; size = o.size; guest = new_guest; log = log })
 comes-start o log empty = record {
-  size = refl; capacity = refl; on_image = refl; may_write = refl;
+  size = refl; capacity = refl; faults = omega arith; on_image = refl; may_write = refl;
   licensed = record { risen = rw empty tt; last = (o.faults, rw empty refl, omega arith); space = rw empty tt };
   lines = rw empty tt;
   replay = rw empty refl;

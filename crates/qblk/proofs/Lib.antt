@@ -4,3 +4,4 @@ pub mod Kept
 pub mod Progress
 pub mod Sessions
 pub mod Sending
+pub mod Whole

@@ -9,6 +9,8 @@ use Rattle.blk_history.specs.Transcript.{RowNames, line_of, transcript}
 use Rattle.blk_history.specs.declared.event.Event.{Event}
 use Rattle.qblk.specs.Comes.{HasLine, HaveLines}
 use Rattle.qblk.specs.Run.{guest_names}
+use Rattle.blk_base.specs.declared.fault.FaultAt.{FaultAt}
+use Rattle.qblk.specs.Session.{EndsAs, ended_as, failed_as}
 use Rattle.qblk.specs.Output.{IsBuffer, SendsPart, SendsFront}
 
 -- a put that failed sent a front
@@ -147,3 +149,12 @@ rest-failed es n old mid new line a b c is part front le =
     let all = part-front old mid new (lines (take n es)) [] line a b c part here le in
     let P : List ℕ → Type 0 = λ w. SendsFront old new w a c in
     subst P (append-nil (lines (take n es)) ∙ take-every es n is) all
+
+-- the status tells how it ended
+pub ends-well : (fault : Option FaultAt) (old new : Option (List ℕ)) (whole : List ℕ) (before now : ℕ) → new ≡ option_map (λ s. s ++ whole) old → EndsAs fault old new whole before now (ended_as fault)
+ends-well None old new whole before now sent = sent
+ends-well (Some fault) old new whole before now sent = (refl, refl, whole, [], append-nil whole, sent)
+
+pub ends-badly : (fault : Option FaultAt) (old new : Option (List ℕ)) (whole : List ℕ) (before now : ℕ) → SendsFront old new whole before now → EndsAs fault old new whole before now (failed_as fault now)
+ends-badly None old new whole before now front = (refl, front, refl)
+ends-badly (Some fault) old new whole before now front = (refl, refl, front.part.0, front.part.1, front.part.2, front.part.3)

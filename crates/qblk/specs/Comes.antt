@@ -52,6 +52,7 @@ HaveLines (e ∷ es) = HasLine e × HaveLines es
 pub record Comes (o : Opening) (w : Face) : Type 0 where
   pub size : w.size ≡ o.size
   pub capacity : w.capacity ≡ o.capacity
+  pub faults : o.faults ≤ w.faults
   -- the guest is on the image's node, and may write
   pub on_image : w.guest.node ≡ 1
   pub may_write : w.guest.is_read_only ≡ false

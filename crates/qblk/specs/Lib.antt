@@ -5,5 +5,5 @@ pub mod Requests
 pub mod Run
 pub mod Inputs
 pub mod Ready
-pub mod Session
 pub mod Output
+pub mod Session

@@ -1,5 +1,5 @@
 -- The parts of a run on an image, from its inputs to the transcript.
-use Rattle.std.specs.Prelude.{◌≡◌, ◌⊎◌, ℕ, ◌+◌, ◌*◌, ◌^◌, ◌<◌, ◌≤◌, Bool, true, List, [], length, IsUtf8, IsSome, Option, Some, None, MatchOption, is_some, Ok, Err, Result}
+use Rattle.std.specs.Prelude.{◌≡◌, ◌⊎◌, ℕ, ◌+◌, ◌*◌, ◌^◌, ◌<◌, ◌≤◌, Bool, true, List, [], length, IsUtf8, IsSome, Option, Some, None, MatchOption, is_some, Ok, Err, Result, ◌++◌, option_map}
 use Rattle.blk_base.specs.Counts.{Rose}
 use Rattle.blk_base.specs.Files.{file_at, IfTold, is_out}
 use Rattle.blk_base.specs.Answers.{HasFile, LacksFile}
@@ -15,7 +15,7 @@ use Rattle.blk_history.specs.Owned.{asked_by}
 use Rattle.qblk.specs.Face.{Face}
 use Rattle.qblk.specs.Comes.{Opening, Comes, HaveLines}
 use Rattle.qblk.specs.Run.{guest_names, IsBadTrace, IsRefusedTrace}
-use Rattle.qblk.specs.Inputs.{IsRefusal}
+use Rattle.qblk.specs.Output.{SendsFront}
 use Rattle.qblk.specs.declared.input.TraceRead.{TraceRead}
 use Rattle.qblk.specs.declared.input.TraceRead.TheVariants as reads
 use Rattle.qblk.specs.declared.status.InputWhy.{InputWhy}
@@ -105,3 +105,19 @@ IsRunStop image trace read size (Input name line why) =
     ⊎ ((size ≤ 274877906944) × (name.bytes ≡ trace) × IsRefusedRead read why line)
 IsRunStop image trace read size (Fault from count) = ⊥
 IsRunStop image trace read size NoMemory = Unit {0}
+
+-- A transcript went out whole, or a front of it did, and a put failed. The fault of the last flush is named before that.
+abbrev pub EndsAs : Option FaultAt → Option (List ℕ) → Option (List ℕ) → List ℕ → ℕ → ℕ → Status → Type 0
+EndsAs None old new whole before now Done = new ≡ option_map (λ s. s ++ whole) old
+EndsAs None old new whole before now (Fault from count) = (from ≡ Sink) × SendsFront old new whole before now × (count ≡ now)
+EndsAs (Some fault) old new whole before now (Fault from count) = (from ≡ fault.from) × (count ≡ fault.count)
+    × (front : List ℕ) × (rest : List ℕ) × (front ++ rest ≡ whole) × (new ≡ option_map (λ s. s ++ front) old)
+EndsAs fault old new whole before now status = ⊥
+
+abbrev pub ended_as : Option FaultAt → Status
+ended_as None = Done
+ended_as (Some fault) = Fault fault.from fault.count
+
+abbrev pub failed_as : Option FaultAt → ℕ → Status
+failed_as None count = Fault Sink count
+failed_as (Some fault) count = Fault fault.from fault.count

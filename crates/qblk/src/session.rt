@@ -3,15 +3,18 @@ ghost use Rattle.std.specs.Prelude.{◌≡◌, ◌≤◌, List, ℕ, MatchResult
 ghost use Rattle.blk_base.specs.Files.{IfTold};
 ghost use Rattle.blk_base.specs.Stored.{IsDeviceOf};
 ghost use Rattle.blk_base.specs.declared.file.Opened.{Opened};
-ghost use Rattle.qblk.specs.Session.{NoneOut, IsReadOf, IsStoreStop, IsOpenStop, IsMade, IsRunStop};
+ghost use Rattle.qblk.specs.Session.{NoneOut, IsReadOf, IsStoreStop, IsOpenStop, IsMade, IsRunStop, EndsAs, ended_as, failed_as};
+ghost use Rattle.blk_history.specs.Transcript.{transcript};
+ghost use Rattle.qblk.specs.Comes.{HaveLines};
 ghost use Rattle.qblk.specs.Face.{Face};
-ghost use Rattle.qblk.specs.Run.{guest_names};
+ghost use Rattle.qblk.specs.Run.{guest_names, Answers};
 
 use crate::engine::Engine;
 use crate::input::{MAX_TRACE, Prepared, TraceRead, judge, refused};
+use crate::output::send_transcript;
 use crate::requests::run_requests;
 use crate::status::{InputWhy, Status};
-use blk_base::{Device, FaultAt, FaultFrom, Store, StoreStop, Text};
+use blk_base::{Device, FaultAt, FaultFrom, Sink, Store, StoreStop, Text};
 use blk_history::{History, Rows};
 use std::alloc::Global;
 
@@ -114,4 +117,77 @@ fn make_run<D: Device>(
         fault,
     };
     (Ok(made), device)
+}
+
+/// Puts the transcript, and tells how the run ended: by its first fault, where one came.
+fn write_out<K: Sink>(made: Made, out: &mut K) -> Status
+    requires lines { HaveLines made.history.events }
+    requires named { made.names ≡ guest_names }
+    requires empty { made.line.bytes ≡ [] }
+    requires room { 393476 ≤ made.line.spare }
+    ensures { EndsAs made.fault (K.sent out.old) (K.sent out.new) (transcript guest_names made.history.events) (K.faults out.old) (K.faults out.new) result }
+{
+    let Made {
+        history,
+        names,
+        mut line,
+        fault,
+    } = made;
+    match send_transcript(&history, &names, &mut line, out) {
+        Ok(()) => ended(fault),
+        Err(_) => failed(fault, out.faults()),
+    }
+}
+
+/// How a run ended whose transcript is out.
+fn ended(fault: Option<FaultAt>) -> Status
+    ensures { result ≡ ended_as fault }
+{
+    match fault {
+        None => Status::Done,
+        Some(FaultAt { from, count }) => Status::Fault { from, count },
+    }
+}
+
+/// How a run ended at which a put failed.
+fn failed(fault: Option<FaultAt>, count: u64) -> Status
+    ensures { result ≡ failed_as fault count }
+{
+    match fault {
+        None => Status::Fault {
+            from: FaultFrom::Sink,
+            count,
+        },
+        Some(FaultAt { from, count }) => Status::Fault { from, count },
+    }
+}
+
+/// Runs a trace on an image: reads the trace, opens the image, makes the requests, flushes and gives the image back, and
+/// puts the transcript.
+pub(crate) fn run_on<S: Store, K: Sink>(
+    alloc: Global,
+    image: &str,
+    trace: &str,
+    store: &mut S,
+    out: &mut K,
+) -> Status
+    requires { NoneOut (S.opened store.old) }
+    ensures { Answers image.now trace.now
+        (record { files = S.files store.old; opened = S.opened store.old; store_faults = S.faults store.old; sent = K.sent out.old; sink_faults = K.faults out.old })
+        (record { files = S.files store.new; opened = S.opened store.new; store_faults = S.faults store.new; sent = K.sent out.new; sink_faults = K.faults out.new }) result }
+{
+    let read = match read_trace_file(store, trace) {
+        Ok(read) => read,
+        Err(status) => return status,
+    };
+    let device = match open_image(alloc, store, image) {
+        Ok(device) => device,
+        Err(status) => return status,
+    };
+    let (made, device) = make_run(alloc, image, trace, read, device);
+    store.give_back(image, device);
+    match made {
+        Ok(made) => write_out(made, out),
+        Err(status) => status,
+    }
 }
