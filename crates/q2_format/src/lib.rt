@@ -1,0 +1,12 @@
+//! The header, the extensions and the table entries of qcow2 images, version 3.
+#![tactic(auto)]
+
+mod entries;
+mod extensions;
+mod header;
+
+pub use entries::L2Entry;
+pub use header::{
+    Header, HeaderStop, MAX_DISK_SIZE, MAX_FILE_CLUSTERS, MAX_GUEST_CLUSTERS, MAX_L1_SIZE,
+    MAX_NAME_LENGTH, MAX_REFCOUNT_TABLE_CLUSTERS, MIN_HEADER_LENGTH, Place,
+};
