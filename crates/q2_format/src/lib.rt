@@ -4,6 +4,7 @@
 mod entries;
 mod extensions;
 mod header;
+mod numbers;
 
 pub use entries::L2Entry;
 pub use header::{
