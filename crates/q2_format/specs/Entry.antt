@@ -1,5 +1,5 @@
 -- The entries of the three kinds of tables: words of 64 bits whose bits are counted from the least.
-use Rattle.std.specs.Prelude.{ℕ, ◌+◌, ◌*◌, ◌/◌, ◌%◌, ◌^◌, Bool, true, false, not, ◌==◌, ◌||◌, if◌then◌else◌}
+use Rattle.std.specs.Prelude.{◌≡◌, ℕ, ◌+◌, ◌*◌, ◌/◌, ◌%◌, ◌^◌, ◌<◌, Bool, true, false, not, ◌==◌, ◌||◌, if◌then◌else◌, IsTrue, ⊤}
 use Rattle.q2_format.specs.declared.entries.L2Entry.{L2Entry}
 use Rattle.q2_format.specs.declared.entries.L2Entry.TheVariants.{Unallocated, Zero, Host, Compressed, Reserved}
 
@@ -47,3 +47,39 @@ l2_entry word =
     else (if reads_as_zeros word then Zero (host_offset word)
     else (if host_offset word == 0 then Unallocated
     else Host (host_offset word))))
+
+-- Writing an L2 entry.
+
+-- a host offset that an entry has room for: a multiple of 512 below 2 ^ 56
+abbrev pub IsHostOffset : ℕ → Type 0
+IsHostOffset host = (host % 512 ≡ 0) × (host < 2 ^ 56)
+
+-- an entry that is written: one that isn't compressed and has no reserved bit
+abbrev pub IsWritable : L2Entry → Type 0
+IsWritable Unallocated = ⊤
+IsWritable (Zero host) = IsHostOffset host
+IsWritable (Host host) = IsHostOffset host × (0 < host)
+IsWritable Compressed = ⊥
+IsWritable Reserved = ⊥
+
+-- only an entry with a host offset can say that its refcount is one
+abbrev pub host_of : L2Entry → ℕ
+host_of Unallocated = 0
+host_of (Zero host) = host
+host_of (Host host) = host
+host_of Compressed = 0
+host_of Reserved = 0
+
+abbrev pub CanBeSingle : L2Entry → Bool → Type 0
+CanBeSingle entry single = IsTrue single → 0 < host_of entry
+
+abbrev pub zero_flag : L2Entry → ℕ
+zero_flag Unallocated = 0
+zero_flag (Zero host) = 1
+zero_flag (Host host) = 0
+zero_flag Compressed = 0
+zero_flag Reserved = 0
+
+-- the word of an entry: its host offset, bit 0 where it reads as zeros, and bit 63 where its refcount is one
+abbrev pub l2_spelling : L2Entry → Bool → ℕ
+l2_spelling entry single = host_of entry + zero_flag entry + (if single then 2 ^ 63 else 0)

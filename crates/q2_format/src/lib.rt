@@ -6,7 +6,7 @@ mod extensions;
 mod header;
 mod numbers;
 
-pub use entries::L2Entry;
+pub use entries::{L2Entry, l2_word, read_l2};
 pub use header::{
     Header, HeaderStop, MAX_DISK_SIZE, MAX_FILE_CLUSTERS, MAX_GUEST_CLUSTERS, MAX_L1_SIZE,
     MAX_NAME_LENGTH, MAX_REFCOUNT_TABLE_CLUSTERS, MIN_HEADER_LENGTH, Place,
