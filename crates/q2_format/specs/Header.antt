@@ -94,8 +94,7 @@ format_after file at format =
     then Some (record { at = at + 8; len = extension_length file at })
     else format
 
--- The list from a place on, in an area that ends at `end`, where `format` was found before. Each extension
--- takes 8 bytes or more, so as many steps as the area has bytes are enough.
+-- the list from a place on, in an area that ends at `end`, where `format` was found before
 unfoldable pub extension_list : ℕ → List ℕ → ℕ → ℕ → Option Place → ExtensionList
 extension_list zero file at end format = record { overruns = false; format = format; end = min at end; ended = false }
 extension_list (suc steps) file at end format =
@@ -107,13 +106,17 @@ extension_list (suc steps) file at end format =
     then record { overruns = false; format = format; end = at + 8; ended = true }
     else extension_list steps file (extension_after file at) end (format_after file at format)))
 
+-- Each extension takes 8 bytes or more, so as many steps as the area has bytes are enough.
+unfoldable pub extensions_from : List ℕ → ℕ → ℕ → Option Place → ExtensionList
+extensions_from file at end format = extension_list end file at end format
+
 -- the area ends at the backing name where one is present, and else with the header's cluster
 abbrev pub area_end : List ℕ → ℕ
 area_end file = option_map_or (λ (name : Place). name.at) (name_of file) (cluster_size (cluster_bits_of file))
 
 -- the extensions of a file
 unfoldable pub extensions_of : List ℕ → ExtensionList
-extensions_of file = extension_list (area_end file) file (header_length_of file) (area_end file) None
+extensions_of file = extensions_from file (header_length_of file) (area_end file) None
 
 -- the whole header
 unfoldable pub header_of : List ℕ → Header
