@@ -1,3 +1,4 @@
-pub mod Reading
+pub mod ByPlace
 pub mod Words
 pub mod Extending
+pub mod Texts

@@ -1,5 +1,6 @@
 -- A created image: nothing is mapped, and each of its clusters has refcount 1.
 use Rattle.std.specs.Prelude.{◌≡◌, ℕ, ◌+◌, ◌-◌, ◌*◌, ◌/◌, ◌<◌, ◌≤◌, min, max, ◌==◌, nat_lt, if◌then◌else◌, List, length, slice_index, Option, IfSome, is_some}
+use Rattle.std.specs.Int.{div_ceil}
 use Rattle.std.specs.Option.{option_map_or}
 use Rattle.q2_format.specs.Bytes.{number_at, bytes_at, words_at}
 use Rattle.q2_format.specs.Sizes.{cluster_size, clusters_for, entries_in_cluster, refcount_bytes, block_entries, l1_entries_for}
@@ -26,7 +27,7 @@ abbrev pub created_table_clusters : Creation → ℕ
 created_table_clusters new =
     let c = created_cluster_size new in
     let in_one = entries_in_cluster c * block_entries c new.refcount_order in
-    min 16 ((2 * (clusters_for c new.size + created_l1_size new + 64) + (in_one - 1)) / in_one)
+    min 16 (div_ceil (2 * (clusters_for c new.size + created_l1_size new + 64)) in_one)
 
 -- the clusters of the L1 table
 abbrev pub created_l1_clusters : Creation → ℕ

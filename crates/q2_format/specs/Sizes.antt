@@ -1,5 +1,6 @@
 -- The sizes that follow from a header's cluster_bits and refcount_order. A cluster's size is written c.
-use Rattle.std.specs.Prelude.{ℕ, ◌+◌, ◌-◌, ◌*◌, ◌/◌, ◌^◌}
+use Rattle.std.specs.Prelude.{ℕ, ◌*◌, ◌/◌, ◌^◌}
+use Rattle.std.specs.Int.{div_ceil}
 
 -- the bytes of a cluster
 abbrev pub cluster_size : ℕ → ℕ
@@ -7,7 +8,7 @@ cluster_size cluster_bits = 2 ^ cluster_bits
 
 -- how many clusters n bytes take, the last one in part
 abbrev pub clusters_for : ℕ → ℕ → ℕ
-clusters_for c n = (n + (c - 1)) / c
+clusters_for c n = div_ceil n c
 
 -- the 8-byte entries of a cluster: of an L2 table, or of one cluster of the refcount table
 abbrev pub entries_in_cluster : ℕ → ℕ
@@ -23,5 +24,4 @@ block_entries c refcount_order = c * 8 / 2 ^ refcount_order
 
 -- the L1 entries that a disk of this many bytes needs
 abbrev pub l1_entries_for : ℕ → ℕ → ℕ
-l1_entries_for c size = let clusters = clusters_for c size in
-    (clusters + (entries_in_cluster c - 1)) / entries_in_cluster c
+l1_entries_for c size = div_ceil (clusters_for c size) (entries_in_cluster c)

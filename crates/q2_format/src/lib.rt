@@ -5,6 +5,7 @@ mod entries;
 mod extensions;
 mod header;
 mod numbers;
+mod reading;
 
 pub use entries::{L2Entry, l2_word, read_l2};
 pub use header::{
