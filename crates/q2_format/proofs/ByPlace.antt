@@ -1,6 +1,8 @@
 -- What is read from a file by place: it reads the same where the bytes do, and what was written reads back.
-use Rattle.std.proofs.Common.{◌≡◌, ℕ, zero, suc, ◌+◌, ◌-◌, ◌*◌, ◌/◌, ◌%◌, ◌^◌, ◌<◌, ◌≤◌, ◌⊎◌, inl, inr, List, [], ◌∷◌, ◌++◌, length, map, replicate, get_or, slice_index, refl, sym, ap, ◌∙◌, arith, add-one, add-zero}
-use Rattle.std.proofs.lemmas.List.{ext_get_or}
+use Rattle.std.proofs.Common.{◌≡◌, ℕ, zero, suc, ◌+◌, ◌-◌, ◌*◌, ◌/◌, ◌%◌, ◌^◌, ◌<◌, ◌≤◌, ◌⊎◌, inl, inr, List, [], ◌∷◌, ◌++◌, length, take, drop, map, replicate, get_or, slice_index, ⊎_elim, refl, sym, ap, ◌∙◌, subst, arith, add-zero}
+use Rattle.std.proofs.lemmas.List.{ext_get_or, get_or-append-add, get_or-take, get_or-drop, length-take, length-append}
+use Rattle.std.proofs.Math.ListN.{get_or-append}
+use Rattle.std.proofs.Math.Seq.{get_or-append_right}
 use Rattle.std.proofs.lemmas.List.FromFn.{get_or-map-range_with_len, length-map-range_with_len}
 use Rattle.std.specs.List.{range_with_len}
 use Rattle.byteorder.specs.Endian.{big_from, big_bytes}
@@ -51,3 +53,68 @@ get_or-words_at file at n k h = get_or-map-range_with_len (λ j. number_at file 
 pub length-words_at : (file : List ℕ) (at n : ℕ) → length (words_at file at n) ≡ n
 unfolding words_at
 length-words_at file at n = length-map-range_with_len (λ j. number_at file (at + 8 * j) 8) 0 n
+
+-- Writes. What is written at a place is read back there, and all else reads as before.
+
+-- a list with bytes put in
+module _ (old bytes : List ℕ) (at : ℕ) (fits : at + length bytes ≤ length old) where
+  front_length : length (take at old) ≡ at
+  front_length = rw length-take (omega arith)
+
+  head_length : length (take at old ++ bytes) ≡ at + length bytes
+  head_length = rw (length-append, front_length) refl
+
+  put_inside : (i : ℕ) → i < length bytes → slice_index ((take at old ++ bytes) ++ drop (at + length bytes) old) (at + i) ≡ slice_index bytes i
+  put_inside i h =
+      let head = get_or-append (take at old ++ bytes) (drop (at + length bytes) old) 0 (at + i) (omega (arith, head_length)) in
+      let tail = get_or-append-add (take at old) bytes i 0 in
+      let moved = rw front_length at tail in
+      head ∙ moved
+
+  put_before : (i : ℕ) → i < at → slice_index ((take at old ++ bytes) ++ drop (at + length bytes) old) i ≡ slice_index old i
+  put_before i h =
+      get_or-append (take at old ++ bytes) (drop (at + length bytes) old) 0 i (omega (arith, head_length))
+      ∙ get_or-append (take at old) bytes 0 i (omega (arith, front_length))
+      ∙ get_or-take at old i 0 h
+
+  put_behind : (i : ℕ) → at + length bytes ≤ i → slice_index ((take at old ++ bytes) ++ drop (at + length bytes) old) i ≡ slice_index old i
+  put_behind i h =
+      let place : at + length bytes + (i - length (take at old ++ bytes)) ≡ i = omega (arith, head_length) in
+      get_or-append_right (take at old ++ bytes) (drop (at + length bytes) old) i 0 (omega (arith, head_length))
+      ∙ get_or-drop (at + length bytes) old (i - length (take at old ++ bytes)) 0
+      ∙ ap (λ (j : ℕ). get_or old j 0) place
+
+pub written_by_list : (old new bytes : List ℕ) (at : ℕ) → at + length bytes ≤ length old
+    → new ≡ (take at old ++ bytes) ++ drop (at + length bytes) old → IsWritten old new at bytes
+written_by_list old new bytes at fits is =
+    let put : IsWritten old ((take at old ++ bytes) ++ drop (at + length bytes) old) at bytes = record {
+      inside = put_inside old bytes at fits;
+      outside = λ i side. ⊎_elim (λ h. put_before old bytes at fits i h) (λ h. put_behind old bytes at fits i h) side;
+    } in
+    subst (λ (xs : List ℕ). IsWritten old xs at bytes) (sym is) put
+
+-- numbers on either side of a write
+pub number_at-before : (old new : List ℕ) (at : ℕ) (bytes : List ℕ) → IsWritten old new at bytes → (i n : ℕ) → i + n ≤ at → number_at new i n ≡ number_at old i n
+number_at-before old new at bytes w i n h = number_at-alike old new i n (record { same = λ j low high. w.outside j (inl (omega arith)) })
+
+pub number_at-behind : (old new : List ℕ) (at : ℕ) (bytes : List ℕ) → IsWritten old new at bytes → (i n : ℕ) → at + length bytes ≤ i → number_at new i n ≡ number_at old i n
+number_at-behind old new at bytes w i n h = number_at-alike old new i n (record { same = λ j low high. w.outside j (inr (omega arith)) })
+
+-- a number moves with its bytes
+big_from-moved : (n i j : ℕ) (xs ys : List ℕ) → ((k : ℕ) → k < n → slice_index xs (i + k) ≡ slice_index ys (j + k)) → big_from i n xs ≡ big_from j n ys
+big_from-moved zero i j xs ys same = refl
+big_from-moved (suc n) i j xs ys same =
+    let here : slice_index xs i ≡ slice_index ys j = let first = same 0 (omega arith) in simp add-zero at first in
+    let rest = big_from-moved n (suc i) (suc j) xs ys (λ k h. let next = same (suc k) (omega arith) in
+        let left : suc i + k ≡ i + suc k = omega arith in
+        let right : suc j + k ≡ j + suc k = omega arith in
+        rw (left, right) next) in
+    rw (here, rest) refl
+
+-- the number that was written
+pub number_at-written : (old new : List ℕ) (at n value : ℕ) (rest bytes : List ℕ) → IsWritten old new at bytes
+    → bytes ≡ big_bytes n value ++ rest → length bytes ≡ n → value < 256 ^ n → number_at new at n ≡ value
+unfolding number_at
+number_at-written old new at n value rest bytes w is len fits =
+    let moved = big_from-moved n at 0 new bytes (λ k h. let inside = w.inside k (omega arith) in let place : 0 + k ≡ k = omega arith in rw place inside) in
+    moved ∙ rw is (big_number-reads_back n value rest fits)
