@@ -118,3 +118,15 @@ unfolding number_at
 number_at-written old new at n value rest bytes w is len fits =
     let moved = big_from-moved n at 0 new bytes (λ k h. let inside = w.inside k (omega arith) in let place : 0 + k ≡ k = omega arith in rw place inside) in
     moved ∙ rw is (big_number-reads_back n value rest fits)
+
+-- bytes that are 0 make the number 0
+big_from-zeros : (n at : ℕ) (file : List ℕ) → ((i : ℕ) → at ≤ i → i < at + n → slice_index file i ≡ 0) → big_from at n file ≡ 0
+big_from-zeros zero at file zeros_there = refl
+big_from-zeros (suc n) at file zeros_there =
+    let here = zeros_there at (omega arith) (omega arith) in
+    let rest = big_from-zeros n (suc at) file (λ i low high. zeros_there i (omega arith) (omega arith)) in
+    rw (here, rest) (omega arith)
+
+pub number_at-zeros : (file : List ℕ) (at n : ℕ) → ((i : ℕ) → at ≤ i → i < at + n → slice_index file i ≡ 0) → number_at file at n ≡ 0
+unfolding number_at
+number_at-zeros file at n zeros_there = big_from-zeros n at file zeros_there

@@ -2,3 +2,4 @@ pub mod ByPlace
 pub mod Words
 pub mod Extending
 pub mod Texts
+pub mod Creating

@@ -16,6 +16,10 @@ pub record Creation : Type 0 where
   pub name : Option (List ℕ)
   pub format : Option (List ℕ)
 
+-- in the shape that is supported: clusters of 64 KiB and refcounts of 16 bits
+abbrev pub creation_of : ℕ → Option (List ℕ) → Option (List ℕ) → Creation
+creation_of size name format = record { cluster_bits = 16; refcount_order = 4; size = size; name = name; format = format }
+
 abbrev pub created_cluster_size : Creation → ℕ
 created_cluster_size new = cluster_size new.cluster_bits
 
@@ -62,8 +66,10 @@ pub record IsFormatExtension (file format : List ℕ) : Type 0 where
   pub text : bytes_at file 120 (length format) ≡ format
   pub padding : AreZeros file (120 + length format) (120 + (length format + 7) / 8 * 8)
 
--- a file begins with the header cluster of a created image, each byte of it
-pub record HasCreatedHeader (new : Creation) (file : List ℕ) : Type 0 where
+-- The header cluster of a created image, each byte of it: its fields up to 112, its extensions up to the
+-- middle of the cluster, and its backing name.
+
+pub record HasCreatedFields (new : Creation) (file : List ℕ) : Type 0 where
   pub magic : magic_of file ≡ 0x514649fb
   pub version : version_of file ≡ 3
   pub name_offset : name_offset_of file ≡ (if is_some new.name then created_name_offset new else 0)
@@ -84,11 +90,20 @@ pub record HasCreatedHeader (new : Creation) (file : List ℕ) : Type 0 where
   pub header_length : header_length_of file ≡ 112
   -- the compression type, which is 0 for deflate, and its padding
   pub compression_type : AreZeros file 104 112
+
+pub record HasCreatedExtensions (new : Creation) (file : List ℕ) : Type 0 where
   pub format : IfSome new.format (IsFormatExtension file)
-  -- the ending extension, and what lies before the name
-  pub to_the_name : AreZeros file (created_end_extension new) (created_name_offset new)
-  pub name : IfSome new.name (λ name. bytes_at file (created_name_offset new) (length name) ≡ name)
-  pub behind_the_name : AreZeros file (created_name_offset new + option_map_or length new.name 0) (created_cluster_size new)
+  -- the ending extension, and what lies between it and the name
+  pub ending : AreZeros file (created_end_extension new) (created_name_offset new)
+
+pub record HasCreatedName (new : Creation) (file : List ℕ) : Type 0 where
+  pub text : IfSome new.name (λ name. bytes_at file (created_name_offset new) (length name) ≡ name)
+  pub behind : AreZeros file (created_name_offset new + option_map_or length new.name 0) (created_cluster_size new)
+
+pub record HasCreatedHeader (new : Creation) (file : List ℕ) : Type 0 where
+  pub fields : HasCreatedFields new file
+  pub extensions : HasCreatedExtensions new file
+  pub name : HasCreatedName new file
 
 -- the whole file
 pub record IsCreated (new : Creation) (file : List ℕ) : Type 0 where

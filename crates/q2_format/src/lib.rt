@@ -6,6 +6,7 @@ mod extensions;
 mod header;
 mod numbers;
 mod reading;
+mod writing;
 
 pub use entries::{L2Entry, l2_word, read_l2};
 pub use reading::read_header;

@@ -62,6 +62,8 @@ pub(crate) fn put_u32(out: &mut [u8], at: usize, value: u32)
     ensures put { number_at out.new at 4 ≡ value }
     ensures before { (i n : ℕ) → i + n ≤ at → number_at out.new i n ≡ number_at out.old i n }
     ensures behind { (i n : ℕ) → at + 4 ≤ i → number_at out.new i n ≡ number_at out.old i n }
+    ensures bytes_before { (i : ℕ) → i < at → slice_index out.new i ≡ slice_index out.old i }
+    ensures bytes_behind { (i : ℕ) → at + 4 ≤ i → slice_index out.new i ≡ slice_index out.old i }
 {
     let mut field = [0; 4];
     BigEndian::write_u32(&mut field, value);
@@ -74,6 +76,8 @@ pub(crate) fn put_u64(out: &mut [u8], at: usize, value: u64)
     ensures put { number_at out.new at 8 ≡ value }
     ensures before { (i n : ℕ) → i + n ≤ at → number_at out.new i n ≡ number_at out.old i n }
     ensures behind { (i n : ℕ) → at + 8 ≤ i → number_at out.new i n ≡ number_at out.old i n }
+    ensures bytes_before { (i : ℕ) → i < at → slice_index out.new i ≡ slice_index out.old i }
+    ensures bytes_behind { (i : ℕ) → at + 8 ≤ i → slice_index out.new i ≡ slice_index out.old i }
 {
     let mut field = [0; 8];
     BigEndian::write_u64(&mut field, value);

@@ -1,5 +1,5 @@
 -- The bytes of the number were put at the place, and nothing else.
-use Rattle.std.proofs.Common.{◌≡◌, ◌<◌, ◌++◌, ◌^◌, [], length, drop, replicate, arith, refl}
+use Rattle.std.proofs.Common.{◌≡◌, ◌<◌, ◌++◌, ◌^◌, [], length, drop, replicate, arith, inl, inr}
 use Rattle.byteorder.specs.Endian.{big_bytes}
 use Rattle.q2_format.proofs.ByPlace.{number_at-written, number_at-before, number_at-behind}
 use Rattle.q2_format.proofs.numbers.put_u64.Goals as goal
@@ -15,3 +15,9 @@ returns-clause-before c i n h = number_at-before c.args.out.now c.put_bytes.new.
 pub returns-clause-behind : goal.returns-clause-behind
 returns-clause-behind c i n h =
     number_at-behind c.args.out.now c.put_bytes.new.out c.args.at c.write_u64.new.buf c.put_bytes.ensures.written i n (omega (arith, c.write_u64.auto.buf))
+
+pub returns-clause-bytes_before : goal.returns-clause-bytes_before
+returns-clause-bytes_before c i h = c.put_bytes.ensures.written.outside i (inl h)
+
+pub returns-clause-bytes_behind : goal.returns-clause-bytes_behind
+returns-clause-bytes_behind c i h = c.put_bytes.ensures.written.outside i (inr (omega (arith, c.write_u64.auto.buf)))

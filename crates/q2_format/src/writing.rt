@@ -1,0 +1,58 @@
+//! Writing the header cluster of a created image.
+
+ghost use Rattle.std.specs.Prelude.{◌≡◌, ◌+◌, ◌*◌, ◌/◌, ◌^◌, ◌<◌, ◌≤◌, ℕ, length, slice_index, None, Some};
+ghost use Rattle.std.specs.Option.{ForSome, option_copied};
+ghost use Rattle.q2_format.specs.Bytes.{number_at, bytes_at};
+ghost use Rattle.q2_format.specs.Sizes.{l1_entries_for};
+ghost use Rattle.q2_format.specs.Created.{creation_of, created_table_clusters, created_l1_offset, AreZeros, IsFormatExtension, HasCreatedFields, HasCreatedHeader};
+
+use crate::extensions::BACKING_FORMAT;
+use crate::header::MAX_DISK_SIZE;
+use crate::numbers::{put_bytes, put_u32, put_u64};
+use crate::reading::{CLUSTER_BITS, MAGIC, REFCOUNT_ORDER, VERSION};
+
+/// The bytes of a cluster.
+const CLUSTER_SIZE: u64 = 1 << CLUSTER_BITS;
+
+/// The entries of an L2 table.
+const L2_ENTRIES: u64 = CLUSTER_SIZE / 8;
+
+/// The header's length, behind which the extensions begin.
+const HEADER_LENGTH: u32 = 112;
+
+/// Where a created image's refcount table stands, in one cluster.
+const REFCOUNT_TABLE_OFFSET: u64 = CLUSTER_SIZE;
+
+/// Where its L1 table stands, behind the refcount table and one refcount block.
+const L1_OFFSET: u64 = 3 * CLUSTER_SIZE;
+
+/// Where its backing name stands.
+const NAME_OFFSET: u64 = CLUSTER_SIZE / 2;
+
+/// The L1 entries that a disk needs.
+fn l1_entries(size: u64) -> u32
+    requires { size ≤ MAX_DISK_SIZE }
+    ensures { result ≡ l1_entries_for 65536 size }
+{
+    size.div_ceil(CLUSTER_SIZE).div_ceil(L2_ENTRIES) as u32
+}
+
+/// Puts the fields of an image without a backing name into bytes that are 0.
+fn put_fields(out: &mut [u8], size: u64)
+    requires whole { length out.old ≡ 65536 }
+    requires zeros { AreZeros out.old 0 112 }
+    requires size { size ≤ MAX_DISK_SIZE }
+    ensures fields { HasCreatedFields (creation_of size None None) out.new }
+    ensures behind { (i : ℕ) → 112 ≤ i → slice_index out.new i ≡ slice_index out.old i }
+{
+    put_u32(out, 0, MAGIC);
+    put_u32(out, 4, VERSION);
+    put_u32(out, 20, CLUSTER_BITS);
+    put_u64(out, 24, size);
+    put_u32(out, 36, l1_entries(size));
+    put_u64(out, 40, L1_OFFSET);
+    put_u64(out, 48, REFCOUNT_TABLE_OFFSET);
+    put_u32(out, 56, 1);
+    put_u32(out, 96, REFCOUNT_ORDER);
+    put_u32(out, 100, HEADER_LENGTH);
+}
