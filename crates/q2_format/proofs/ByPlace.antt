@@ -30,6 +30,13 @@ number_at-alike old new at n alike = big_from-alike n at old new alike.same
 pub eight_from_halves : (file : List ℕ) (at high low : ℕ) → high ≡ number_at file at 4 → low ≡ number_at file (at + 4) 4 → number_at file at 8 ≡ high * 4294967296 + low
 eight_from_halves file at high low h l = rw (h, l) (number_at-halves file at)
 
+-- files that read alike over a part read alike within it
+pub alike_within : (old new : List ℕ) (from len at n : ℕ) → ReadsAlike old new from len → from ≤ at → at + n ≤ from + len → ReadsAlike old new at n
+alike_within old new from len at n alike low high = record { same = λ i above below. alike.same i (omega arith) (omega arith) }
+
+pub number_at-within : (old new : List ℕ) (from len at n : ℕ) → ReadsAlike old new from len → from ≤ at → at + n ≤ from + len → number_at new at n ≡ number_at old at n
+number_at-within old new from len at n alike low high = number_at-alike old new at n (alike_within old new from len at n alike low high)
+
 -- bytes by their places
 pub get_or-bytes_at : (file : List ℕ) (at n i : ℕ) → i < n → get_or (bytes_at file at n) i 0 ≡ slice_index file (at + i)
 unfolding bytes_at
@@ -44,6 +51,20 @@ pub bytes_from_places : (file xs : List ℕ) (at : ℕ) → ((k : ℕ) → k < l
 bytes_from_places file xs at same =
     ext_get_or 0 xs (bytes_at file at (length xs)) (sym (length-bytes_at file at (length xs)))
     (λ i h. same i h ∙ sym (get_or-bytes_at file at (length xs) i h))
+
+pub bytes_at-alike : (old new : List ℕ) (at n : ℕ) → ReadsAlike old new at n → bytes_at new at n ≡ bytes_at old at n
+bytes_at-alike old new at n alike =
+    let len_new = length-bytes_at new at n in
+    let len_old = length-bytes_at old at n in
+    ext_get_or 0 (bytes_at new at n) (bytes_at old at n) (len_new ∙ sym len_old)
+    (λ i h. get_or-bytes_at new at n i (omega (arith, len_new)) ∙ alike.same (at + i) (omega arith) (omega (arith, len_new)) ∙ sym (get_or-bytes_at old at n i (omega (arith, len_new))))
+
+pub bytes_at-within : (old new : List ℕ) (from len at n : ℕ) → ReadsAlike old new from len → from ≤ at → at + n ≤ from + len → bytes_at new at n ≡ bytes_at old at n
+bytes_at-within old new from len at n alike low high = bytes_at-alike old new at n (alike_within old new from len at n alike low high)
+
+-- the bytes that were written
+pub bytes_at-written : (old new : List ℕ) (at : ℕ) (bytes : List ℕ) → IsWritten old new at bytes → bytes_at new at (length bytes) ≡ bytes
+bytes_at-written old new at bytes w = sym (bytes_from_places new bytes at (λ k h. sym (w.inside k h)))
 
 -- words by their places
 pub get_or-words_at : (file : List ℕ) (at n k : ℕ) → k < n → get_or (words_at file at n) k 0 ≡ number_at file (at + 8 * k) 8

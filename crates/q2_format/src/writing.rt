@@ -1,10 +1,10 @@
 //! Writing the header cluster of a created image.
 
-ghost use Rattle.std.specs.Prelude.{◌≡◌, ◌+◌, ◌*◌, ◌/◌, ◌^◌, ◌<◌, ◌≤◌, ℕ, length, slice_index, None, Some};
+ghost use Rattle.std.specs.Prelude.{◌≡◌, ◌+◌, ◌*◌, ◌/◌, ◌^◌, ◌<◌, ◌≤◌, ℕ, List, Option, length, slice_index, None, Some};
 ghost use Rattle.std.specs.Option.{ForSome, option_copied};
 ghost use Rattle.q2_format.specs.Bytes.{number_at, bytes_at};
 ghost use Rattle.q2_format.specs.Sizes.{l1_entries_for};
-ghost use Rattle.q2_format.specs.Created.{creation_of, created_table_clusters, created_l1_offset, AreZeros, IsFormatExtension, HasCreatedFields, HasCreatedHeader};
+ghost use Rattle.q2_format.specs.Created.{creation_of, created_table_clusters, created_l1_offset, AreZeros, IsFormatExtension, HasCreatedFields, HasCreatedName, HasCreatedExtensions, HasCreatedHeader};
 
 use crate::extensions::BACKING_FORMAT;
 use crate::header::MAX_DISK_SIZE;
@@ -42,7 +42,7 @@ fn put_fields(out: &mut [u8], size: u64)
     requires whole { length out.old ≡ 65536 }
     requires zeros { AreZeros out.old 0 112 }
     requires size { size ≤ MAX_DISK_SIZE }
-    ensures fields { HasCreatedFields (creation_of size None None) out.new }
+    ensures fields { (format : Option (List ℕ)) → HasCreatedFields (creation_of size None format) out.new }
     ensures behind { (i : ℕ) → 112 ≤ i → slice_index out.new i ≡ slice_index out.old i }
 {
     put_u32(out, 0, MAGIC);
@@ -55,4 +55,42 @@ fn put_fields(out: &mut [u8], size: u64)
     put_u32(out, 56, 1);
     put_u32(out, 96, REFCOUNT_ORDER);
     put_u32(out, 100, HEADER_LENGTH);
+}
+
+/// Makes all bytes 0.
+fn clear(out: &mut [u8])
+    ensures { (i : ℕ) → slice_index out.new i ≡ 0 }
+{
+    out.fill(0);
+}
+
+/// Puts a name of 1 byte or more, and the fields that say where it stands.
+fn put_name(out: &mut [u8], name: &[u8])
+    requires whole { length out.old ≡ 65536 }
+    requires some { 1 ≤ length name.now }
+    requires short { length name.now ≤ 1023 }
+    requires zeros { AreZeros out.old 32768 65536 }
+    ensures fields { (size : ℕ) (format : Option (List ℕ)) → HasCreatedFields (creation_of size None format) out.old
+        → HasCreatedFields (creation_of size (Some name.now) format) out.new }
+    ensures name { (size : ℕ) (format : Option (List ℕ)) → HasCreatedName (creation_of size (Some name.now) format) out.new }
+    ensures between { (i : ℕ) → 112 ≤ i → i < 32768 → slice_index out.new i ≡ slice_index out.old i }
+{
+    put_u64(out, 8, NAME_OFFSET);
+    put_u32(out, 16, name.len() as u32);
+    put_bytes(out, NAME_OFFSET as usize, name);
+}
+
+/// Puts the extension that names a backing format.
+fn put_format(out: &mut [u8], format: &[u8])
+    requires whole { length out.old ≡ 65536 }
+    requires short { length format.now ≤ 8 }
+    requires zeros { AreZeros out.old 112 32768 }
+    ensures extension { IsFormatExtension out.new format.now }
+    ensures ending { AreZeros out.new (120 + (length format.now + 7) / 8 * 8) 32768 }
+    ensures before { (i : ℕ) → i < 112 → slice_index out.new i ≡ slice_index out.old i }
+    ensures behind { (i : ℕ) → 32768 ≤ i → slice_index out.new i ≡ slice_index out.old i }
+{
+    put_u32(out, HEADER_LENGTH as usize, BACKING_FORMAT);
+    put_u32(out, HEADER_LENGTH as usize + 4, format.len() as u32);
+    put_bytes(out, HEADER_LENGTH as usize + 8, format);
 }

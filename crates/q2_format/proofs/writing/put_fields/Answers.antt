@@ -5,7 +5,7 @@ use Rattle.q2_format.proofs.Creating.{zero_number, one_table_cluster, l1_table_b
 use Rattle.q2_format.proofs.writing.put_fields.Goals as goal
 
 pub returns-clause-fields : goal.returns-clause-fields
-returns-clause-fields c = record {
+returns-clause-fields c format = record {
   magic = grind arith;
   version = grind arith;
   name_offset =
@@ -22,11 +22,11 @@ returns-clause-fields c = record {
   l1_size = grind arith;
   l1_offset =
       let put : number_at c.put_u32-7.new.out 40 8 ≡ 196608 = grind arith in
-      put ∙ sym (l1_table_behind c.args.size None None c.requires.size);
+      put ∙ sym (l1_table_behind c.args.size None format c.requires.size);
   refcount_table_offset = grind arith;
   refcount_table_clusters =
       let put : number_at c.put_u32-7.new.out 56 4 ≡ 1 = grind arith in
-      put ∙ sym (one_table_cluster c.args.size None None c.requires.size);
+      put ∙ sym (one_table_cluster c.args.size None format c.requires.size);
   nb_snapshots =
       let was = zero_number c.args.out.now 0 112 60 4 c.requires.zeros (omega arith) (omega arith) in
       grind (arith, was);
