@@ -1,7 +1,8 @@
 -- What a created image's sizes come to, and what its bytes of 0 read as.
-use Rattle.std.proofs.Common.{◌≡◌, ℕ, ◌+◌, ◌*◌, ◌/◌, ◌%◌, ◌<◌, ◌≤◌, min, List, Option, None, Some, length, slice_index, sym, ◌∙◌, arith}
+use Rattle.std.proofs.Common.{◌≡◌, ℕ, ◌+◌, ◌*◌, ◌/◌, ◌%◌, ◌<◌, ◌≤◌, min, List, Option, None, Some, length, slice_index, Bor, refl, sym, ◌∙◌, arith}
+use Rattle.std.specs.Option.{ForSome, option_copied}
 use Rattle.q2_format.specs.Bytes.{number_at, bytes_at, ReadsAlike}
-use Rattle.q2_format.specs.Created.{Creation, creation_of, created_table_clusters, created_l1_offset, AreZeros, HasCreatedFields, HasCreatedName}
+use Rattle.q2_format.specs.Created.{Creation, creation_of, created_table_clusters, created_l1_offset, AreZeros, HasCreatedFields, HasCreatedName, IsNewName}
 use Rattle.q2_format.proofs.ByPlace.{number_at-zeros, number_at-within, bytes_at-within}
 
 -- a number among bytes that are 0
@@ -79,3 +80,10 @@ name_alike size name format old file short named alike = record {
   text = bytes_at-within old file 32768 32768 32768 (length name) alike (omega arith) (omega arith) ∙ named.text;
   behind = λ i low high. alike.same i (omega arith) (omega arith) ∙ named.behind i low high;
 }
+
+-- the same for a name that may be absent
+pub given_name_alike : (size : ℕ) (name : Option (Bor (List ℕ))) (format : Option (List ℕ)) (old file : List ℕ)
+    → ForSome name (λ name. IsNewName name.now) → HasCreatedName (creation_of size (option_copied name) format) old
+    → ReadsAlike old file 32768 32768 → HasCreatedName (creation_of size (option_copied name) format) file
+given_name_alike size None format old file short named alike = no_name_alike size format old file named alike
+given_name_alike size (Some name) format old file short named alike = name_alike size name.now format old file (short name refl).1 named alike

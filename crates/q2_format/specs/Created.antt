@@ -5,7 +5,7 @@ use Rattle.std.specs.Option.{option_map_or}
 use Rattle.q2_format.specs.Bytes.{number_at, bytes_at, words_at}
 use Rattle.q2_format.specs.Sizes.{cluster_size, clusters_for, entries_in_cluster, refcount_bytes, block_entries, l1_entries_for}
 use Rattle.q2_format.specs.Header.{magic_of, version_of, name_offset_of, name_length_of, cluster_bits_of, size_of, crypt_method_of, l1_size_of, l1_offset_of, refcount_table_offset_of, refcount_table_clusters_of, nb_snapshots_of, snapshots_offset_of, incompatible_of, compatible_of, autoclear_of, refcount_order_of, header_length_of, extension_type, extension_length}
-use Rattle.q2_format.specs.declared.header.Place.{Place}
+use Rattle.q2_format.specs.declared.header.TheConstants.{MAX_NAME_LENGTH}
 use Rattle.q2_format.specs.declared.extensions.TheConstants.{BACKING_FORMAT}
 
 -- what a created image is made from; the texts are bytes
@@ -15,6 +15,13 @@ pub record Creation : Type 0 where
   pub size : ℕ
   pub name : Option (List ℕ)
   pub format : Option (List ℕ)
+
+-- a backing name that a new image may have, and a format
+abbrev pub IsNewName : List ℕ → Type 0
+IsNewName name = (1 ≤ length name) × (length name ≤ MAX_NAME_LENGTH)
+
+abbrev pub IsNewFormat : List ℕ → Type 0
+IsNewFormat format = (1 ≤ length format) × (length format ≤ 8)
 
 -- in the shape that is supported: clusters of 64 KiB and refcounts of 16 bits
 abbrev pub creation_of : ℕ → Option (List ℕ) → Option (List ℕ) → Creation

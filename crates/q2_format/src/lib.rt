@@ -10,6 +10,7 @@ mod writing;
 
 pub use entries::{L2Entry, l2_word, read_l2};
 pub use reading::read_header;
+pub use writing::write_header;
 pub use header::{
     Header, HeaderStop, MAX_DISK_SIZE, MAX_FILE_CLUSTERS, MAX_GUEST_CLUSTERS, MAX_L1_SIZE,
     MAX_NAME_LENGTH, MAX_REFCOUNT_TABLE_CLUSTERS, MIN_HEADER_LENGTH, Place,

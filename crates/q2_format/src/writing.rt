@@ -4,7 +4,7 @@ ghost use Rattle.std.specs.Prelude.{◌≡◌, ◌+◌, ◌*◌, ◌/◌, ◌^�
 ghost use Rattle.std.specs.Option.{ForSome, option_copied};
 ghost use Rattle.q2_format.specs.Bytes.{number_at, bytes_at};
 ghost use Rattle.q2_format.specs.Sizes.{l1_entries_for};
-ghost use Rattle.q2_format.specs.Created.{creation_of, created_table_clusters, created_l1_offset, AreZeros, IsFormatExtension, HasCreatedFields, HasCreatedName, HasCreatedExtensions, HasCreatedHeader};
+ghost use Rattle.q2_format.specs.Created.{creation_of, created_table_clusters, created_l1_offset, AreZeros, IsFormatExtension, HasCreatedFields, HasCreatedName, HasCreatedExtensions, HasCreatedHeader, IsNewName, IsNewFormat};
 
 use crate::extensions::BACKING_FORMAT;
 use crate::header::MAX_DISK_SIZE;
@@ -93,4 +93,50 @@ fn put_format(out: &mut [u8], format: &[u8])
     put_u32(out, HEADER_LENGTH as usize, BACKING_FORMAT);
     put_u32(out, HEADER_LENGTH as usize + 4, format.len() as u32);
     put_bytes(out, HEADER_LENGTH as usize + 8, format);
+}
+
+/// Puts the backing name, where there is one.
+fn put_backing_name(out: &mut [u8], name: Option<&str>)
+    requires whole { length out.old ≡ 65536 }
+    requires name { ForSome name (λ name. IsNewName name.now) }
+    requires zeros { AreZeros out.old 32768 65536 }
+    ensures fields { (size : ℕ) (format : Option (List ℕ)) → HasCreatedFields (creation_of size None format) out.old
+        → HasCreatedFields (creation_of size (option_copied name.entry) format) out.new }
+    ensures name { (size : ℕ) (format : Option (List ℕ)) → HasCreatedName (creation_of size (option_copied name.entry) format) out.new }
+    ensures between { (i : ℕ) → 112 ≤ i → i < 32768 → slice_index out.new i ≡ slice_index out.old i }
+{
+    if let Some(name) = name {
+        put_name(out, name.as_bytes());
+    }
+}
+
+/// Puts the extensions: that of the backing format, where there is one, and the ending one, whose bytes
+/// are 0.
+fn put_extensions(out: &mut [u8], format: Option<&str>)
+    requires whole { length out.old ≡ 65536 }
+    requires format { ForSome format (λ format. IsNewFormat format.now) }
+    requires zeros { AreZeros out.old 112 32768 }
+    ensures extensions { (size : ℕ) (name : Option (List ℕ)) → HasCreatedExtensions (creation_of size name (option_copied format.entry)) out.new }
+    ensures before { (i : ℕ) → i < 112 → slice_index out.new i ≡ slice_index out.old i }
+    ensures behind { (i : ℕ) → 32768 ≤ i → slice_index out.new i ≡ slice_index out.old i }
+{
+    if let Some(format) = format {
+        put_format(out, format.as_bytes());
+    }
+}
+
+/// Writes the header cluster of a created image of `size` bytes: clusters of 64 KiB, refcounts of 16 bits,
+/// and where they are given the name of its backing file and that file's format. The refcount table is in
+/// cluster 1, its one block in cluster 2, and the L1 table from cluster 3 on.
+pub fn write_header(size: u64, name: Option<&str>, format: Option<&str>, out: &mut [u8])
+    requires whole { length out.old ≡ 65536 }
+    requires size { size ≤ MAX_DISK_SIZE }
+    requires name { ForSome name (λ name. IsNewName name.now) }
+    requires format { ForSome format (λ format. IsNewFormat format.now) }
+    ensures { HasCreatedHeader (creation_of size (option_copied name.entry) (option_copied format.entry)) out.new }
+{
+    clear(out);
+    put_fields(out, size);
+    put_backing_name(out, name);
+    put_extensions(out, format);
 }
