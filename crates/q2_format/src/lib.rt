@@ -6,6 +6,8 @@ mod extensions;
 mod header;
 mod numbers;
 mod reading;
+#[cfg(test)]
+mod tests;
 mod writing;
 
 pub use entries::{L2Entry, l2_word, read_l2};
