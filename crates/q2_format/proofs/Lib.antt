@@ -3,3 +3,4 @@ pub mod Words
 pub mod Extending
 pub mod Texts
 pub mod Creating
+pub mod Unmapped

@@ -23,7 +23,7 @@ const CREATED: [u8; 128] = [
 
 /// What `qemu-img create -f qcow2 ov.qcow2 -b base.qcow2 -F qcow2 1M` (7.2) writes beside the fields of
 /// `CREATED`: the runs of bytes that aren't 0, each with its offset.
-const QEMU_OVERLAY: [(usize, &[u8]); 13] = [
+const QEMU_OVERLAY: [(usize, &[u8]); 14] = [
     (14, &[0x02, 0x10]),
     (19, &[10]),
     (112, &[0xe2, 0x79, 0x2a, 0xca, 0, 0, 0, 5]),
@@ -36,6 +36,7 @@ const QEMU_OVERLAY: [(usize, &[u8]); 13] = [
     (329, b"\x04extended L2 entries"),
     (376, b"\x01\x00lazy refcounts"),
     (424, b"\x02\x00bitmaps"),
+    (472, b"\x02\x01raw external data"),
     (528, b"base.qcow2"),
 ];
 
@@ -165,13 +166,13 @@ fn writes_a_created_header(rt: HostRuntime) -> Result<(), Fail> {
 #[test]
 fn reads_and_writes_l2_entries(rt: HostRuntime) {
     let rows = [
-        (0, L2Entry::Unallocated, false),
-        (1, L2Entry::Zero { host: 0 }, false),
-        (0x8000_0000_0005_0000, L2Entry::Host { host: 0x50000 }, true),
-        (0x8000_0000_0005_0001, L2Entry::Zero { host: 0x50000 }, true),
-        (0x0000_0000_0005_0000, L2Entry::Host { host: 0x50000 }, false),
+        (0, L2Entry::Unallocated),
+        (1, L2Entry::Zero { host: 0 }),
+        (0x8000_0000_0005_0000, L2Entry::Host { host: 0x50000 }),
+        (0x8000_0000_0005_0001, L2Entry::Zero { host: 0x50000 }),
+        (0x0000_0000_0005_0000, L2Entry::Host { host: 0x50000 }),
     ];
-    for (word, entry, _) in rows {
+    for (word, entry) in rows {
         assert_eq!(rt; read_l2(word), entry);
     }
     assert_eq!(rt; l2_word(L2Entry::Unallocated, false), 0);
