@@ -4,3 +4,5 @@ pub mod Extending
 pub mod Texts
 pub mod Creating
 pub mod Unmapped
+pub mod Firsts
+pub mod Consistent

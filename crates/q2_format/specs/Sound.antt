@@ -100,13 +100,12 @@ is_header_full h =
     nat_lt (cluster_size h.cluster_bits / 2) h.ext_end
     || (is_some h.name && not h.ended && nat_lt 504 h.ext_end)
 
--- what is refused behind the header
-unfoldable pub tables_refusal : List ℕ → Header → ℕ → Option Refusal
-tables_refusal file h len =
+-- the refusals behind the header, in their order
+unfoldable pub table_refusals : List ℕ → Header → ℕ → List (Option Refusal)
+table_refusals file h len =
     let c = cluster_size h.cluster_bits in
     let table = refcount_table file h in
     let tree = active_tree file h in
-    first (
     option_map Offset (bad_refcount_table h len)
     ∷ option_map Offset (bad_l1_table h len)
     ∷ option_map Offset (bad_block c len table)
@@ -119,13 +118,13 @@ tables_refusal file h len =
     ∷ option_map Overlap (overlap file h len)
     ∷ option_map Refcount (uncounted file h len)
     ∷ refused_where (is_header_full h) HeaderFull
-    ∷ [])
+    ∷ []
 
 -- the first refusal of an image
 unfoldable pub image_refusal : List ℕ → Option Refusal
 image_refusal file = first (
     option_map InHeader (header_refusal file (length file))
-    ∷ tables_refusal file (header_of file) (length file)
+    ∷ first (table_refusals file (header_of file) (length file))
     ∷ [])
 
 -- nothing refuses the image
