@@ -6,3 +6,4 @@ pub mod Creating
 pub mod Unmapped
 pub mod Firsts
 pub mod Consistent
+pub mod Trees
