@@ -15,7 +15,7 @@ use Rattle.q2_format.specs.declared.header.HeaderStop.TheVariants.{Short}
 use Rattle.q2_format.specs.Tables
 use Rattle.q2_format.specs.Tables.{Tree, tree_at, active_tree, l2_table, l2_word_of, refcount_table, refcount_of}
 use Rattle.q2_format.specs.References.{names_cluster, in_run, own_offset, structure_uses, tree_uses, uses, cluster_bound}
-use Rattle.q2_format.specs.Sound.{Refusal, InHeader, Offset, Reserved, Compressed, Overlap, Refcount, HeaderFull, is_misplaced, bad_refcount_table, bad_l1_table, bad_block, bad_l2_table, bad_host, guest_clusters, reserved_in_l1, reserved_in_refcount_table, reserved_in_l2, compressed_cluster, overlap, uncounted, is_header_full, table_refusals, image_refusal, IsSound, lowest}
+use Rattle.q2_format.specs.Sound.{Refusal, InHeader, Offset, Reserved, Compressed, Overlap, Refcount, HeaderFull, is_misplaced, bad_refcount_table, bad_l1_table, bad_block, bad_l2_table, bad_host, guest_clusters, reserved_in_l1, reserved_in_refcount_table, reserved_in_l2, compressed_cluster, overlap, uncounted, is_header_full, table_refusals, image_refusal, IsSound, IsConsistent, lowest}
 use Rattle.q2_format.specs.declared.header.Header.{Header}
 use Rattle.q2_format.proofs.Trees.{l2_word_of-at, length_l1, length_l2, length_of_l2}
 use Rattle.q2_format.proofs.Firsts.{first-none, first-cons-none, option_map-none, refused_where-none, lowest-none}
@@ -191,11 +191,7 @@ module _ (file : List ℕ) (h : Header) (len : ℕ) (some : 0 < cluster_size h.c
   unfolding uses
   no_uses = omega (arith, no_structure, no_tree)
 
--- what a sound image's uses and refcounts are
-
-pub record IsConsistent (file : List ℕ) (h : Header) : Type 0 where
-  pub once : (cluster : ℕ) → uses file h cluster ≤ 1
-  pub counted : (cluster : ℕ) → uses file h cluster ≤ refcount_of file h cluster
+-- Uses and refcounts.
 
 at_most_once : (n : ℕ) → ltb 1 n ≡ false → n ≤ 1
 at_most_once n h = ltb-false 1 n h
@@ -212,13 +208,14 @@ no_uncounted : (file : List ℕ) (h : Header) (len cluster : ℕ) → uncounted 
 unfolding uncounted
 no_uncounted file h len cluster none below = lowest-none (λ k. not (eqb (uses file h k) 0) && eqb (refcount_of file h k) 0) (cluster_bound h len) none cluster below
 
-consistent_parts : (file : List ℕ) (h : Header) (len : ℕ) → 0 < cluster_size h.cluster_bits → 0 < len → FindsNothing file h len → IsConsistent file h
+consistent_parts : (file : List ℕ) (h : Header) (len : ℕ) → 0 < cluster_size h.cluster_bits → 0 < len → FindsNothing file h len → IsConsistent file h len
 consistent_parts file h len some long nothing =
     let once : (cluster : ℕ) → uses file h cluster ≤ 1 = λ cluster. elim (cases_lt cluster (cluster_bound h len)) [
       | inl below ↦ no_overlap file h len cluster nothing.overlaps below
       | inr behind ↦ omega (arith, no_uses file h len some long nothing cluster behind)
     ] in
     record {
+  within = λ cluster behind. no_uses file h len some long nothing cluster behind;
   once = once;
   counted = λ cluster. elim (cases_lt cluster (cluster_bound h len)) [
     | inl below ↦ covered (uses file h cluster) (refcount_of file h cluster) (once cluster) (no_uncounted file h len cluster nothing.counts below)
@@ -233,7 +230,7 @@ header_there file len none =
     let each = first-cons-none (refused_where (ltb len 104) Short) (format_refusal file len ∷ profile_refusal file ∷ name_refusal file ∷ extension_refusal file ∷ size_refusal file len ∷ []) none in
     ltb-false len 104 (refused_where-none (ltb len 104) Short each.0)
 
-pub sound_is_consistent : (file : List ℕ) → IsSound file → IsConsistent file (header_of file)
+pub sound_is_consistent : (file : List ℕ) → IsSound file → IsConsistent file (header_of file) (length file)
 sound_is_consistent file sound =
     let long = header_there file (length file) (sound_header file sound) in
     let some : 0 < cluster_size (header_of file).cluster_bits = let p = one-le-pow (header_of file).cluster_bits 2 (omega arith) in omega (arith, p) in

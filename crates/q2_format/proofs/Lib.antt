@@ -7,3 +7,4 @@ pub mod Unmapped
 pub mod Firsts
 pub mod Consistent
 pub mod Trees
+pub mod ReadBack

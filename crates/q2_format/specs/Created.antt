@@ -1,11 +1,14 @@
 -- A created image: nothing is mapped, and each of its clusters has refcount 1.
-use Rattle.std.specs.Prelude.{◌≡◌, ℕ, ◌+◌, ◌-◌, ◌*◌, ◌/◌, ◌<◌, ◌≤◌, min, max, ◌==◌, nat_lt, if◌then◌else◌, List, length, slice_index, Option, IfSome, is_some}
+use Rattle.std.specs.Prelude.{◌≡◌, ℕ, ◌+◌, ◌-◌, ◌*◌, ◌/◌, ◌<◌, ◌≤◌, min, max, ◌==◌, nat_lt, if◌then◌else◌, Bool, true, List, length, slice_index, Option, IfSome, is_some}
 use Rattle.std.specs.Int.{div_ceil}
-use Rattle.std.specs.Option.{option_map_or}
+use Rattle.std.specs.Option.{option_map, option_map_or, ForSome}
+use Rattle.std.specs.Str.{IsUtf8}
 use Rattle.q2_format.specs.Bytes.{number_at, bytes_at, words_at}
 use Rattle.q2_format.specs.Sizes.{cluster_size, clusters_for, entries_in_cluster, refcount_bytes, block_entries, l1_entries_for}
 use Rattle.q2_format.specs.Header.{magic_of, version_of, name_offset_of, name_length_of, cluster_bits_of, size_of, crypt_method_of, l1_size_of, l1_offset_of, refcount_table_offset_of, refcount_table_clusters_of, nb_snapshots_of, snapshots_offset_of, incompatible_of, compatible_of, autoclear_of, refcount_order_of, header_length_of, extension_type, extension_length}
-use Rattle.q2_format.specs.declared.header.TheConstants.{MAX_NAME_LENGTH}
+use Rattle.q2_format.specs.declared.header.Header.{Header}
+use Rattle.q2_format.specs.declared.header.Place.{Place}
+use Rattle.q2_format.specs.declared.header.TheConstants.{MAX_DISK_SIZE, MAX_NAME_LENGTH}
 use Rattle.q2_format.specs.declared.extensions.TheConstants.{BACKING_FORMAT}
 
 -- what a created image is made from; the texts are bytes
@@ -22,6 +25,13 @@ IsNewName name = (1 ≤ length name) × (length name ≤ MAX_NAME_LENGTH)
 
 abbrev pub IsNewFormat : List ℕ → Type 0
 IsNewFormat format = (1 ≤ length format) × (length format ≤ 8)
+
+-- what an image may be created from, in the shape that is supported
+pub record CanBeCreated (size : ℕ) (name format : Option (List ℕ)) : Type 0 where
+  pub small : size ≤ MAX_DISK_SIZE
+  pub name_fits : ForSome name IsNewName
+  pub name_is_text : ForSome name IsUtf8
+  pub format_fits : ForSome format IsNewFormat
 
 -- in the shape that is supported: clusters of 64 KiB and refcounts of 16 bits
 abbrev pub creation_of : ℕ → Option (List ℕ) → Option (List ℕ) → Creation
@@ -111,6 +121,27 @@ pub record HasCreatedHeader (new : Creation) (file : List ℕ) : Type 0 where
   pub fields : HasCreatedFields new file
   pub extensions : HasCreatedExtensions new file
   pub name : HasCreatedName new file
+
+-- what such a header says
+abbrev pub created_header : Creation → Header
+created_header new = record {
+  size = new.size;
+  cluster_bits = new.cluster_bits;
+  l1_size = created_l1_size new;
+  l1_offset = created_l1_offset new;
+  ref_offset = created_cluster_size new;
+  ref_clusters = created_table_clusters new;
+  refcount_order = new.refcount_order;
+  header_length = 112;
+  nb_snaps = 0;
+  snaps_offset = 0;
+  compat = 0;
+  autoclear = 0;
+  name = option_map (λ (name : List ℕ). record { at = created_name_offset new; len = length name }) new.name;
+  format = option_map (λ (format : List ℕ). record { at = 120; len = length format }) new.format;
+  ext_end = created_end_extension new + 8;
+  ended = true;
+}
 
 -- the whole file
 pub record IsCreated (new : Creation) (file : List ℕ) : Type 0 where

@@ -1,5 +1,5 @@
 -- When an image is refused, and when it is sound: where nothing refuses it.
-use Rattle.std.specs.Prelude.{◌≡◌, ℕ, ◌+◌, ◌*◌, ◌/◌, ◌%◌, Bool, true, false, not, ◌==◌, ◌||◌, ◌&&◌, nat_lt, if◌then◌else◌, List, [], ◌∷◌, length, slice_index, slice_index_or, Option, None, Some, is_some}
+use Rattle.std.specs.Prelude.{◌≡◌, ℕ, ◌+◌, ◌*◌, ◌/◌, ◌%◌, ◌≤◌, Bool, true, false, not, ◌==◌, ◌||◌, ◌&&◌, nat_lt, if◌then◌else◌, List, [], ◌∷◌, length, slice_index, slice_index_or, Option, None, Some, is_some}
 use Rattle.std.specs.Option.{option_map}
 use Rattle.std.specs.List.{find, range_with_len}
 use Rattle.q2_format.specs.Sizes.{cluster_size, entries_in_cluster, l1_entries_for}
@@ -130,3 +130,10 @@ image_refusal file = first (
 -- nothing refuses the image
 abbrev pub IsSound : List ℕ → Type 0
 IsSound file = image_refusal file ≡ None
+
+-- An image's clusters are named at most once, counted at least as often as they are named, and none is named
+-- that neither the file has nor a table that begins in it.
+pub record IsConsistent (file : List ℕ) (h : Header) (len : ℕ) : Type 0 where
+  pub within : (cluster : ℕ) → cluster_bound h len ≤ cluster → uses file h cluster ≡ 0
+  pub once : (cluster : ℕ) → uses file h cluster ≤ 1
+  pub counted : (cluster : ℕ) → uses file h cluster ≤ refcount_of file h cluster
