@@ -7,3 +7,4 @@ pub mod Contents
 pub mod References
 pub mod Sound
 pub mod Created
+pub mod Text
