@@ -122,7 +122,7 @@ pub number_at-behind : (old new : List ℕ) (at : ℕ) (bytes : List ℕ) → Is
 number_at-behind old new at bytes w i n h = number_at-alike old new i n (record { same = λ j low high. w.outside j (inr (omega arith)) })
 
 -- a number moves with its bytes
-big_from-moved : (n i j : ℕ) (xs ys : List ℕ) → ((k : ℕ) → k < n → slice_index xs (i + k) ≡ slice_index ys (j + k)) → big_from i n xs ≡ big_from j n ys
+pub big_from-moved : (n i j : ℕ) (xs ys : List ℕ) → ((k : ℕ) → k < n → slice_index xs (i + k) ≡ slice_index ys (j + k)) → big_from i n xs ≡ big_from j n ys
 big_from-moved zero i j xs ys same = refl
 big_from-moved (suc n) i j xs ys same =
     let here : slice_index xs i ≡ slice_index ys j = let first = same 0 (omega arith) in simp add-zero at first in

@@ -8,3 +8,5 @@ pub mod Firsts
 pub mod Consistent
 pub mod Trees
 pub mod ReadBack
+pub mod Frames
+pub mod HeaderFrames
