@@ -1,12 +1,11 @@
 -- What is read from a file by place: it reads the same where the bytes do, and what was written reads back.
-use Rattle.std.proofs.Common.{◌≡◌, ℕ, zero, suc, ◌+◌, ◌-◌, ◌*◌, ◌/◌, ◌%◌, ◌^◌, ◌<◌, ◌≤◌, ◌⊎◌, inl, inr, List, [], ◌∷◌, ◌++◌, length, take, drop, map, replicate, get_or, slice_index, ⊎_elim, refl, sym, ap, ◌∙◌, subst, arith, add-zero}
+use Rattle.std.proofs.Common.{◌≡◌, ℕ, zero, suc, ◌+◌, ◌-◌, ◌*◌, ◌^◌, ◌<◌, ◌≤◌, inl, inr, List, ◌++◌, length, take, drop, get_or, slice_index, ⊎_elim, refl, sym, ap, ◌∙◌, subst, arith, add-zero}
 use Rattle.std.proofs.lemmas.List.{ext_get_or, get_or-append-add, get_or-take, get_or-drop, length-take, length-append}
 use Rattle.std.proofs.Math.ListN.{get_or-append}
 use Rattle.std.proofs.Math.Seq.{get_or-append_right}
 use Rattle.std.proofs.lemmas.List.FromFn.{get_or-map-range_with_len, length-map-range_with_len}
-use Rattle.std.specs.List.{range_with_len}
 use Rattle.byteorder.specs.Endian.{big_from, big_bytes}
-use Rattle.byteorder.specs.Numbers.{big_from-lt, big_number-reads_back}
+use Rattle.byteorder.specs.Numbers.{big_number-reads_back}
 use Rattle.q2_format.specs.Bytes.{number_at, bytes_at, words_at, ReadsAlike, IsWritten}
 
 -- eight bytes are two halves of four
@@ -127,9 +126,9 @@ big_from-moved zero i j xs ys same = refl
 big_from-moved (suc n) i j xs ys same =
     let here : slice_index xs i ≡ slice_index ys j = let first = same 0 (omega arith) in simp add-zero at first in
     let rest = big_from-moved n (suc i) (suc j) xs ys (λ k h. let next = same (suc k) (omega arith) in
-        let left : suc i + k ≡ i + suc k = omega arith in
-        let right : suc j + k ≡ j + suc k = omega arith in
-        rw (left, right) next) in
+    let left : suc i + k ≡ i + suc k = omega arith in
+    let right : suc j + k ≡ j + suc k = omega arith in
+    rw (left, right) next) in
     rw (here, rest) refl
 
 -- the number that was written

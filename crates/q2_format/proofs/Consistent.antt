@@ -1,21 +1,21 @@
 -- A sound image names no cluster twice, and counts each that it names.
-use Rattle.std.proofs.Common.{◌≡◌, ℕ, zero, suc, ◌+◌, ◌-◌, ◌*◌, ◌/◌, ◌%◌, ◌^◌, ◌<◌, ◌≤◌, ◌⊎◌, inl, inr, min, Bool, true, false, not, ◌&&◌, ◌||◌, cond, eqb, ltb, List, [], ◌∷◌, length, map, get_or, slice_index, count_by, Option, None, Some, refl, sym, ap, ◌∙◌, subst, arith}
+use Rattle.std.proofs.Common.{◌≡◌, ℕ, suc, ◌+◌, ◌*◌, ◌/◌, ◌%◌, ◌<◌, ◌≤◌, inl, inr, Bool, false, not, ◌&&◌, ◌||◌, cond, eqb, ltb, List, [], ◌∷◌, length, get_or, count_by, None, refl, ap, arith}
 use Rattle.std.specs.Option.{option_map}
 use Rattle.std.specs.List.{sum_by}
-use Rattle.std.proofs.lemmas.Bool.{eqb-true, eqb-false, ltb-false, ltb-true, eq-eqb, ne_eqb, le-ltb, or_parts, and_left, and_right, not-false, cases_eq, cases_lt, cases_Bool}
+use Rattle.std.proofs.lemmas.Bool.{ltb-false, ltb-true, ne_eqb, le-ltb, or_parts, and_right, not-false, cases_lt}
 use Rattle.std.proofs.lemmas.Bool.Decides.{nat_tests}
 use Rattle.std.proofs.lemmas.List.Sums.{sum_by-cons}
 use Rattle.std.proofs.lemmas.Grind.{div_ceil_times}
 use Rattle.std.proofs.lemmas.Nat.{div_below, mul-add-lt}
 use Rattle.std.proofs.Math.Nat.{mul_comm, one-le-pow}
 use Rattle.q2_format.specs.Sizes.{cluster_size, clusters_for, entries_in_cluster, l1_entries_for}
-use Rattle.q2_format.specs.Entry.{host_offset, block_offset, is_compressed}
+use Rattle.q2_format.specs.Entry.{host_offset, block_offset}
 use Rattle.q2_format.specs.Header.{first, refused_where, header_of, header_refusal, format_refusal, profile_refusal, name_refusal, extension_refusal, size_refusal}
 use Rattle.q2_format.specs.declared.header.HeaderStop.TheVariants.{Short}
 use Rattle.q2_format.specs.Tables
 use Rattle.q2_format.specs.Tables.{Tree, tree_at, active_tree, l2_table, l2_word_of, refcount_table, refcount_of}
 use Rattle.q2_format.specs.References.{names_cluster, in_run, own_offset, structure_uses, tree_uses, uses, cluster_bound}
-use Rattle.q2_format.specs.Sound.{Refusal, InHeader, Offset, Reserved, Compressed, Overlap, Refcount, HeaderFull, is_misplaced, bad_refcount_table, bad_l1_table, bad_block, bad_l2_table, bad_host, guest_clusters, reserved_in_l1, reserved_in_refcount_table, reserved_in_l2, compressed_cluster, overlap, uncounted, is_header_full, table_refusals, image_refusal, IsSound, IsConsistent, lowest}
+use Rattle.q2_format.specs.Sound.{InHeader, Offset, Reserved, Compressed, Overlap, Refcount, HeaderFull, is_misplaced, bad_refcount_table, bad_l1_table, bad_block, bad_l2_table, bad_host, guest_clusters, reserved_in_l1, reserved_in_refcount_table, reserved_in_l2, compressed_cluster, overlap, uncounted, is_header_full, table_refusals, image_refusal, IsSound, IsConsistent, lowest}
 use Rattle.q2_format.specs.declared.header.Header.{Header}
 use Rattle.q2_format.proofs.Trees.{l2_word_of-at, length_l1, length_l2, length_of_l2}
 use Rattle.q2_format.proofs.Firsts.{first-none, first-cons-none, option_map-none, refused_where-none, lowest-none}
@@ -42,19 +42,19 @@ finds_nothing file h len none =
     let tree : Tree = active_tree file h in
     let each = first-none (table_refusals file h len) none in
     record {
-  refcount_table = option_map-none Offset (bad_refcount_table h len) each.0;
-  l1_table = option_map-none Offset (bad_l1_table h len) each.1.0;
-  blocks = option_map-none Offset (bad_block c len (Tables.refcount_table file h)) each.1.1.0;
-  l2_tables = option_map-none Offset (bad_l2_table c len tree) each.1.1.1.0;
-  hosts = option_map-none Offset (bad_host c len tree) each.1.1.1.1.0;
-  l1_bits = option_map-none (Reserved h.l1_offset) (reserved_in_l1 tree) each.1.1.1.1.1.0;
-  refcount_table_bits = option_map-none (Reserved h.ref_offset) (reserved_in_refcount_table (Tables.refcount_table file h)) each.1.1.1.1.1.1.0;
-  l2_bits = option_map-none (λ entry. Reserved entry.0 entry.1) (reserved_in_l2 c tree) each.1.1.1.1.1.1.1.0;
-  compressed = option_map-none Compressed (compressed_cluster c tree) each.1.1.1.1.1.1.1.1.0;
-  overlaps = option_map-none Overlap (overlap file h len) each.1.1.1.1.1.1.1.1.1.0;
-  counts = option_map-none Refcount (uncounted file h len) each.1.1.1.1.1.1.1.1.1.1.0;
-  room = refused_where-none (is_header_full h) HeaderFull each.1.1.1.1.1.1.1.1.1.1.1.0;
-}
+      refcount_table = option_map-none Offset (bad_refcount_table h len) each.0;
+      l1_table = option_map-none Offset (bad_l1_table h len) each.1.0;
+      blocks = option_map-none Offset (bad_block c len (Tables.refcount_table file h)) each.1.1.0;
+      l2_tables = option_map-none Offset (bad_l2_table c len tree) each.1.1.1.0;
+      hosts = option_map-none Offset (bad_host c len tree) each.1.1.1.1.0;
+      l1_bits = option_map-none (Reserved h.l1_offset) (reserved_in_l1 tree) each.1.1.1.1.1.0;
+      refcount_table_bits = option_map-none (Reserved h.ref_offset) (reserved_in_refcount_table (Tables.refcount_table file h)) each.1.1.1.1.1.1.0;
+      l2_bits = option_map-none (λ entry. Reserved entry.0 entry.1) (reserved_in_l2 c tree) each.1.1.1.1.1.1.1.0;
+      compressed = option_map-none Compressed (compressed_cluster c tree) each.1.1.1.1.1.1.1.1.0;
+      overlaps = option_map-none Overlap (overlap file h len) each.1.1.1.1.1.1.1.1.1.0;
+      counts = option_map-none Refcount (uncounted file h len) each.1.1.1.1.1.1.1.1.1.1.0;
+      room = refused_where-none (is_header_full h) HeaderFull each.1.1.1.1.1.1.1.1.1.1.1.0;
+    }
 
 -- an image that isn't refused has a header and tables that aren't
 pub sound_header : (file : List ℕ) → IsSound file → header_refusal file (length file) ≡ None
@@ -156,8 +156,8 @@ module _ (file : List ℕ) (h : Header) (len : ℕ) (some : 0 < cluster_size h.c
       let table = outside_run c cluster h.ref_offset h.ref_clusters (omega arith) in
       let l1 = outside_run c cluster h.l1_offset (clusters_for c (8 * h.l1_size)) (omega arith) in
       let blocks = count_none (λ word. names_cluster c cluster (block_offset word)) (Tables.refcount_table file h)
-          (λ i below. unnamed c len cluster (block_offset (get_or (Tables.refcount_table file h) i 0)) some
-          (placed_block c len (Tables.refcount_table file h) nothing.blocks i below) (omega arith)) in
+      (λ i below. unnamed c len cluster (block_offset (get_or (Tables.refcount_table file h) i 0)) some
+      (placed_block c len (Tables.refcount_table file h) nothing.blocks i below) (omega arith)) in
       let header : ◌≡◌ {A = ℕ} (cond (eqb cluster 0) 1 0) 0 = ap (λ (b : Bool). cond b 1 0) (ne_eqb cluster 0 (λ e. omega arith)) in
       omega (arith, header, table, blocks, l1)
 
@@ -182,9 +182,9 @@ module _ (file : List ℕ) (h : Header) (len : ℕ) (some : 0 < cluster_size h.c
       let c : ℕ = cluster_size h.cluster_bits in
       let tree : Tree = active_tree file h in
       let tables = count_none (λ word. names_cluster c cluster (host_offset word)) tree.l1
-          (λ i below. unnamed c len cluster (host_offset (get_or tree.l1 i 0)) some (placed_l2_table c len tree nothing.l2_tables i below) (omega arith)) in
+      (λ i below. unnamed c len cluster (host_offset (get_or tree.l1 i 0)) some (placed_l2_table c len tree nothing.l2_tables i below) (omega arith)) in
       let hosts = sum_none (λ table. count_by (λ word. names_cluster c cluster (own_offset word)) table) tree.l2
-          (λ i in_tree. count_none (λ word. names_cluster c cluster (own_offset word)) (get_or tree.l2 i []) (λ j in_table. no_host i in_tree j in_table)) in
+      (λ i in_tree. count_none (λ word. names_cluster c cluster (own_offset word)) (get_or tree.l2 i []) (λ j in_table. no_host i in_tree j in_table)) in
       omega (arith, tables, hosts)
 
   no_uses : uses file h cluster ≡ 0
@@ -215,13 +215,13 @@ consistent_parts file h len some long nothing =
       | inr behind ↦ omega (arith, no_uses file h len some long nothing cluster behind)
     ] in
     record {
-  within = λ cluster behind. no_uses file h len some long nothing cluster behind;
-  once = once;
-  counted = λ cluster. elim (cases_lt cluster (cluster_bound h len)) [
-    | inl below ↦ covered (uses file h cluster) (refcount_of file h cluster) (once cluster) (no_uncounted file h len cluster nothing.counts below)
-    | inr behind ↦ omega (arith, no_uses file h len some long nothing cluster behind)
-  ];
-}
+      within = λ cluster behind. no_uses file h len some long nothing cluster behind;
+      once = once;
+      counted = λ cluster. elim (cases_lt cluster (cluster_bound h len)) [
+        | inl below ↦ covered (uses file h cluster) (refcount_of file h cluster) (once cluster) (no_uncounted file h len cluster nothing.counts below)
+        | inr behind ↦ omega (arith, no_uses file h len some long nothing cluster behind)
+      ];
+    }
 
 -- a header that isn't refused is in a file of 104 bytes or more
 header_there : (file : List ℕ) (len : ℕ) → header_refusal file len ≡ None → 104 ≤ len

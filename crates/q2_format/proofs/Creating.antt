@@ -1,7 +1,7 @@
 -- What a created image's sizes come to, and what its bytes of 0 read as.
-use Rattle.std.proofs.Common.{◌≡◌, ℕ, ◌+◌, ◌*◌, ◌/◌, ◌%◌, ◌<◌, ◌≤◌, min, List, Option, None, Some, length, slice_index, Bor, refl, sym, ◌∙◌, arith}
+use Rattle.std.proofs.Common.{◌≡◌, ℕ, ◌+◌, ◌≤◌, List, Option, None, Some, length, Bor, refl, ◌∙◌, arith}
 use Rattle.std.specs.Option.{ForSome, option_copied}
-use Rattle.q2_format.specs.Bytes.{number_at, bytes_at, ReadsAlike}
+use Rattle.q2_format.specs.Bytes.{number_at, ReadsAlike}
 use Rattle.q2_format.specs.Created.{Creation, creation_of, created_table_clusters, created_l1_offset, AreZeros, HasCreatedFields, HasCreatedName, IsNewName}
 use Rattle.q2_format.proofs.ByPlace.{number_at-zeros, number_at-within, bytes_at-within}
 

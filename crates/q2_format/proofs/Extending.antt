@@ -1,11 +1,10 @@
 -- One step of the list of extensions, at each of its four outcomes.
-use Rattle.std.proofs.Common.{◌≡◌, ℕ, zero, suc, ◌+◌, ◌-◌, ◌*◌, ◌/◌, ◌%◌, ◌<◌, ◌≤◌, min, Bool, true, false, cond, eqb, ltb, List, Option, None, Some, refl, sym, ap, ◌∙◌, arith}
+use Rattle.std.proofs.Common.{◌≡◌, ℕ, zero, suc, ◌+◌, ◌<◌, ◌≤◌, min, true, false, cond, eqb, ltb, List, Option, refl, sym, arith}
 use Rattle.std.proofs.lemmas.Bool.{lt-ltb, le-ltb, eq-eqb, ne_eqb}
-use Rattle.q2_format.specs.Bytes.{number_at}
 use Rattle.q2_format.specs.Header.{extension_type, extension_length, extension_after, format_after, extension_list, extensions_from}
 use Rattle.q2_format.specs.declared.header.Place.{Place}
 use Rattle.q2_format.specs.declared.extensions.ExtensionList.{ExtensionList}
-use Rattle.q2_format.specs.declared.extensions.TheConstants.{END_OF_EXTENSIONS, BACKING_FORMAT}
+use Rattle.q2_format.specs.declared.extensions.TheConstants.{END_OF_EXTENSIONS}
 
 -- a list that ends with its area
 abbrev unended : ℕ → ℕ → Option Place → ExtensionList

@@ -1,5 +1,5 @@
 -- What a write, a longer file or a buffer changes of what is read by place: the lemmas for the crates above.
-use Rattle.std.proofs.Common.{◌≡◌, ℕ, zero, suc, ◌+◌, ◌-◌, ◌*◌, ◌/◌, ◌%◌, ◌^◌, ◌<◌, ◌≤◌, ◌⊎◌, inl, inr, Bool, true, false, not, ◌||◌, eqb, ltb, List, [], ◌∷◌, ◌++◌, length, replicate, get_or, slice_index, refl, sym, ap, ◌∙◌, arith}
+use Rattle.std.proofs.Common.{◌≡◌, ℕ, ◌+◌, ◌-◌, ◌*◌, ◌%◌, ◌^◌, ◌<◌, ◌≤◌, inl, inr, false, not, eqb, ltb, List, [], ◌++◌, length, replicate, get_or, slice_index, sym, ap, ◌∙◌, arith}
 use Rattle.std.proofs.Math.ListN.{set, length-set, get_or-append}
 use Rattle.std.proofs.Math.Seq.{get_or-append_right}
 use Rattle.std.proofs.lemmas.Bool.{cases_lt, cases_order, or_parts, or_from, not-false, not_from_true, ltb-true, lt-ltb}
@@ -9,7 +9,7 @@ use Rattle.byteorder.specs.Endian.{big_bytes}
 use Rattle.byteorder.specs.Numbers.{length-bytes_high_first}
 use Rattle.q2_format.specs.Bytes.{number_at, bytes_at, words_at, ReadsAlike, IsWritten}
 use Rattle.q2_format.specs.Sound.{is_misplaced}
-use Rattle.q2_format.proofs.ByPlace.{number_at-alike, number_at-within, number_at-before, number_at-behind, number_at-written, alike_within, big_from-moved, get_or-bytes_at, length-bytes_at, get_or-words_at, length-words_at}
+use Rattle.q2_format.proofs.ByPlace.{number_at-within, number_at-before, number_at-behind, number_at-written, big_from-moved, get_or-bytes_at, get_or-words_at, length-words_at}
 
 -- Rows of words.
 
@@ -20,9 +20,9 @@ words_at-alike old new at n alike =
     let len_old = length-words_at old at n in
     ext_get_or 0 (words_at new at n) (words_at old at n) (len_new ∙ sym len_old)
     (λ k h. let below : k < n = omega (arith, len_new) in
-        get_or-words_at new at n k below
-        ∙ number_at-within old new at (8 * n) (at + 8 * k) 8 alike (omega arith) (omega arith)
-        ∙ sym (get_or-words_at old at n k below))
+    get_or-words_at new at n k below
+    ∙ number_at-within old new at (8 * n) (at + 8 * k) 8 alike (omega arith) (omega arith)
+    ∙ sym (get_or-words_at old at n k below))
 
 -- a write on either side leaves a row
 pub words_at-before : (old new : List ℕ) (place : ℕ) (bytes : List ℕ) → IsWritten old new place bytes → (at n : ℕ) → at + 8 * n ≤ place → words_at new at n ≡ words_at old at n

@@ -1,19 +1,16 @@
 -- The header depends on the bytes of its first cluster alone, and on the file's length only by its limits.
-use Rattle.std.proofs.Common.{◌≡◌, ℕ, zero, suc, ◌+◌, ◌*◌, ◌/◌, ◌%◌, ◌<◌, ◌≤◌, ◌⊎◌, inl, inr, min, Bool, true, false, not, ◌||◌, cond, eqb, ltb, List, [], ◌∷◌, length, Option, None, Some, refl, sym, ap, ◌∙◌, arith}
+use Rattle.std.proofs.Common.{◌≡◌, ℕ, zero, suc, ◌+◌, ◌≤◌, inl, inr, Bool, true, false, not, ◌||◌, eqb, ltb, List, [], ◌∷◌, Option, None, Some, refl, ap, arith}
 use Rattle.std.specs.Option.{option_map_or}
 use Rattle.std.specs.Int.{trailing_zeros, w64}
 use Rattle.std.specs.Str.{is_utf8}
 use Rattle.std.proofs.lemmas.Bool.{cases_lt, lt-ltb, le-ltb, ltb-false, or_parts, eqb-true, not-false}
 use Rattle.q2_format.specs.Bytes.{number_at, bytes_at, ReadsAlike}
 use Rattle.q2_format.specs.Sizes.{cluster_size, clusters_for}
-use Rattle.q2_format.specs.Header.{first, refused_where, name_of, area_end, cluster_bits_of, header_length_of, refcount_order_of, incompatible_of, crypt_method_of, nb_snapshots_of, magic_of, version_of, size_of, l1_size_of, refcount_table_clusters_of, extension_type, extension_length, extension_after, format_after, extension_list, extensions_from, extensions_of, header_of, header_refusal, format_refusal, profile_refusal, name_refusal, extension_refusal, size_refusal, is_bad_name}
-use Rattle.q2_format.specs.declared.header.Header.{Header}
+use Rattle.q2_format.specs.Header.{first, refused_where, name_of, area_end, cluster_bits_of, header_length_of, refcount_order_of, incompatible_of, crypt_method_of, nb_snapshots_of, magic_of, version_of, size_of, l1_size_of, refcount_table_clusters_of, extension_after, format_after, extension_list, extensions_from, extensions_of, header_of, header_refusal, format_refusal, profile_refusal, name_refusal, extension_refusal, size_refusal, is_bad_name}
 use Rattle.q2_format.specs.declared.header.Place.{Place}
-use Rattle.q2_format.specs.declared.header.HeaderStop.{HeaderStop}
 use Rattle.q2_format.specs.declared.header.HeaderStop.TheVariants.{Short, Magic, Version, ClusterBits, RefcountOrder, Feature, Crypt, Snapshots, BackingName, TooLarge}
-use Rattle.q2_format.specs.declared.extensions.ExtensionList.{ExtensionList}
-use Rattle.q2_format.proofs.ByPlace.{number_at-within, bytes_at-within, alike_within}
-use Rattle.q2_format.proofs.Firsts.{first-none, none_first, refused_where-none}
+use Rattle.q2_format.proofs.ByPlace.{number_at-within, bytes_at-within}
+use Rattle.q2_format.proofs.Firsts.{first-none, refused_where-none}
 
 -- The list of extensions in an area.
 
@@ -129,9 +126,9 @@ bad_name_alike old new n name alike room small =
           rw (bits, header_length, text) refl
     ]
   where
-  or_same : (a x y : Bool) → ((a || true) || x) ≡ ((a || true) || y)
-  or_same true x y = refl
-  or_same false x y = refl
+    or_same : (a x y : Bool) → ((a || true) || x) ≡ ((a || true) || y)
+    or_same true x y = refl
+    or_same false x y = refl
 
 name_refusal_alike : (old new : List ℕ) (n : ℕ) → ReadsAlike old new 0 n → 104 ≤ n → cluster_size (cluster_bits_of old) ≤ n
     → name_refusal new ≡ name_refusal old
@@ -140,9 +137,9 @@ name_refusal_alike old new n alike room small =
     let name = name_alike old new n alike room in
     rw name (ap (λ (b : Bool). refused_where b BackingName) (by_name (name_of old)))
   where
-  by_name : (name : Option Place) → option_map_or (is_bad_name new) name false ≡ option_map_or (is_bad_name old) name false
-  by_name None = refl
-  by_name (Some name) = bad_name_alike old new n name alike room small
+    by_name : (name : Option Place) → option_map_or (is_bad_name new) name false ≡ option_map_or (is_bad_name old) name false
+    by_name None = refl
+    by_name (Some name) = bad_name_alike old new n name alike room small
 
 -- what a stage that refuses nothing says
 
@@ -150,10 +147,10 @@ pub profile_bits : (file : List ℕ) → profile_refusal file ≡ None → clust
 unfolding profile_refusal
 profile_bits file none =
     let each = first-none (refused_where (not (eqb (cluster_bits_of file) 16)) ClusterBits
-        ∷ refused_where (not (eqb (refcount_order_of file) 4)) RefcountOrder
-        ∷ refused_where (not (eqb (incompatible_of file) 0)) (Feature (trailing_zeros w64 (incompatible_of file)))
-        ∷ refused_where (not (eqb (crypt_method_of file) 0)) Crypt
-        ∷ refused_where (not (eqb (nb_snapshots_of file) 0)) Snapshots ∷ []) none in
+    ∷ refused_where (not (eqb (refcount_order_of file) 4)) RefcountOrder
+    ∷ refused_where (not (eqb (incompatible_of file) 0)) (Feature (trailing_zeros w64 (incompatible_of file)))
+    ∷ refused_where (not (eqb (crypt_method_of file) 0)) Crypt
+    ∷ refused_where (not (eqb (nb_snapshots_of file) 0)) Snapshots ∷ []) none in
     eqb-true (cluster_bits_of file) 16 (not-false (eqb (cluster_bits_of file) 16) (refused_where-none (not (eqb (cluster_bits_of file) 16)) ClusterBits each.0))
 
 area_by_name : (file : List ℕ) (c : ℕ) (name : Option Place) → option_map_or (is_bad_name file) name false ≡ false → cluster_size (cluster_bits_of file) ≡ c
@@ -208,8 +205,8 @@ format_longer : (file : List ℕ) (len longer : ℕ) → len ≤ longer → form
 unfolding format_refusal
 format_longer file len longer grows none =
     let each = first-none (refused_where (not (eqb (magic_of file) 0x514649fb)) Magic
-        ∷ refused_where (not (eqb (version_of file) 3)) Version
-        ∷ refused_where (ltb (header_length_of file) 104 || ltb len (header_length_of file)) Short ∷ []) none in
+    ∷ refused_where (not (eqb (version_of file) 3)) Version
+    ∷ refused_where (ltb (header_length_of file) 104 || ltb len (header_length_of file)) Short ∷ []) none in
     let test = or_parts (ltb (header_length_of file) 104) (ltb len (header_length_of file)) (refused_where-none (ltb (header_length_of file) 104 || ltb len (header_length_of file)) Short each.1.1.0) in
     let inside = le-ltb longer (header_length_of file) (omega (arith, ltb-false len (header_length_of file) test.1)) in
     let shorter = test.0 in
@@ -220,10 +217,10 @@ unfolding size_refusal
 size_longer file len longer small none =
     let c : ℕ = cluster_size (cluster_bits_of file) in
     let each = first-none (refused_where (ltb 274877906944 (size_of file)) TooLarge
-        ∷ refused_where (ltb 4194304 (clusters_for c (size_of file))) TooLarge
-        ∷ refused_where (ltb 8388608 (clusters_for c len)) TooLarge
-        ∷ refused_where (ltb 1024 (l1_size_of file)) TooLarge
-        ∷ refused_where (ltb 16 (refcount_table_clusters_of file)) TooLarge ∷ []) none in
+    ∷ refused_where (ltb 4194304 (clusters_for c (size_of file))) TooLarge
+    ∷ refused_where (ltb 8388608 (clusters_for c len)) TooLarge
+    ∷ refused_where (ltb 1024 (l1_size_of file)) TooLarge
+    ∷ refused_where (ltb 16 (refcount_table_clusters_of file)) TooLarge ∷ []) none in
     let clusters = le-ltb 8388608 (clusters_for c longer) small in
     rw (each.0, each.1.0, clusters, each.1.1.1.0, each.1.1.1.1.0) refl
 

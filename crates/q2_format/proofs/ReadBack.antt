@@ -1,16 +1,13 @@
 -- The header cluster of a created image is read back as what it was made from.
-use Rattle.std.proofs.Common.{◌≡◌, ℕ, ◌+◌, ◌*◌, ◌/◌, ◌%◌, ◌<◌, ◌≤◌, Bool, true, false, cond, eqb, ltb, List, [], length, slice_index, Option, None, Some, refl, sym, ap, ◌∙◌, arith}
-use Rattle.std.specs.Option.{option_map, option_map_or, ForSome}
-use Rattle.std.specs.Str.{IsUtf8, is_utf8}
-use Rattle.std.proofs.lemmas.Bool.{eq-eqb, ne_eqb, le-ltb, lt-ltb}
+use Rattle.std.proofs.Common.{◌≡◌, ℕ, ◌+◌, ◌*◌, ◌/◌, ◌≤◌, true, false, eqb, List, length, Option, None, Some, refl, ◌∙◌, arith}
+use Rattle.std.specs.Option.{option_map_or, ForSome}
+use Rattle.std.specs.Str.{IsUtf8}
+use Rattle.std.proofs.lemmas.Bool.{ne_eqb, le-ltb}
 use Rattle.std.proofs.lemmas.Str.{is_utf8-from_IsUtf8}
-use Rattle.q2_format.specs.Bytes.{number_at, bytes_at}
-use Rattle.q2_format.specs.Sizes.{cluster_size, clusters_for}
-use Rattle.q2_format.specs.Header.{name_of, area_end, extension_type, extension_length, extension_after, format_after, extensions_from, extensions_of, header_of, header_refusal, format_refusal, profile_refusal, name_refusal, extension_refusal, size_refusal, is_bad_name}
-use Rattle.q2_format.specs.Created.{Creation, creation_of, created_l1_size, created_l1_offset, created_table_clusters, created_end_extension, created_header, AreZeros, IsFormatExtension, HasCreatedFields, HasCreatedExtensions, HasCreatedName, HasCreatedHeader, IsNewName, IsNewFormat}
-use Rattle.q2_format.specs.declared.header.Header.{Header}
+use Rattle.q2_format.specs.Sizes.{clusters_for}
+use Rattle.q2_format.specs.Header.{name_of, area_end, extension_after, format_after, extensions_from, extensions_of, header_of, header_refusal, format_refusal, profile_refusal, name_refusal, extension_refusal, size_refusal, is_bad_name}
+use Rattle.q2_format.specs.Created.{creation_of, created_l1_size, created_table_clusters, created_end_extension, created_header, AreZeros, HasCreatedFields, HasCreatedExtensions, HasCreatedHeader, IsNewName, IsNewFormat}
 use Rattle.q2_format.specs.declared.header.Place.{Place}
-use Rattle.q2_format.specs.declared.extensions.ExtensionList.{ExtensionList}
 use Rattle.q2_format.proofs.Creating.{zero_number, one_table_cluster}
 use Rattle.q2_format.proofs.Extending.{extensions_ended, extensions_next}
 
@@ -62,9 +59,9 @@ module _ (file : List ℕ) (size : ℕ) (name format : Option (List ℕ)) (heade
   far_enough : 32768 ≤ area_end file
   far_enough = rw area_read (far name)
     where
-    far : (name : Option (List ℕ)) → 32768 ≤ option_map_or (λ (place : Place). place.at) (created_header (creation_of size name format)).name 65536
-    far None = omega arith
-    far (Some text) = omega arith
+      far : (name : Option (List ℕ)) → 32768 ≤ option_map_or (λ (place : Place). place.at) (created_header (creation_of size name format)).name 65536
+      far None = omega arith
+      far (Some text) = omega arith
 
   created_list_read : extensions_of file ≡ record { overruns = false; format = (created_header (creation_of size name format)).format; end = created_end_extension (creation_of size name format) + 8; ended = true }
   unfolding extensions_of

@@ -1,14 +1,14 @@
 -- An image whose L1 table is zeros maps nothing, and so reads as its backing disk.
-use Rattle.std.proofs.Common.{◌≡◌, ℕ, ◌+◌, ◌*◌, ◌/◌, ◌%◌, ◌<◌, ◌≤◌, ◌⊎◌, inl, inr, List, [], length, map, get_or, slice_index, Option, refl, sym, ap, ◌∙◌, arith}
+use Rattle.std.proofs.Common.{◌≡◌, ℕ, ◌+◌, ◌*◌, ◌/◌, ◌≤◌, inl, inr, List, [], map, get_or, slice_index, refl, ap, ◌∙◌, arith}
 use Rattle.std.proofs.lemmas.Bool.{cases_lt}
 use Rattle.std.proofs.lemmas.List.{get_or-map, get_or_past, length-map}
-use Rattle.q2_format.specs.Bytes.{number_at, words_at}
+use Rattle.q2_format.specs.Bytes.{words_at}
 use Rattle.q2_format.specs.Sizes.{cluster_size, entries_in_cluster}
 use Rattle.q2_format.specs.Entry.{l2_entry}
-use Rattle.q2_format.specs.Header.{header_of, l1_offset_of}
-use Rattle.q2_format.specs.Tables.{Tree, tree_at, active_tree, l2_table, l2_word_of}
-use Rattle.q2_format.specs.Contents.{byte_by_entry, byte_by_tree, guest_byte}
-use Rattle.q2_format.specs.Created.{Creation, IsCreated, created_l1_offset}
+use Rattle.q2_format.specs.Header.{header_of}
+use Rattle.q2_format.specs.Tables.{tree_at, l2_table, l2_word_of}
+use Rattle.q2_format.specs.Contents.{guest_byte}
+use Rattle.q2_format.specs.Created.{Creation, IsCreated}
 use Rattle.q2_format.specs.declared.header.Header.{Header}
 use Rattle.q2_format.specs.declared.entries.L2Entry.TheVariants.{Unallocated}
 use Rattle.q2_format.proofs.ByPlace.{get_or-words_at, length-words_at, number_at-zeros}

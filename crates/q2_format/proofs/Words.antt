@@ -1,11 +1,11 @@
 -- An L2 entry and its word, both ways.
-use Rattle.std.proofs.Common.{◌≡◌, ℕ, zero, suc, ◌+◌, ◌-◌, ◌*◌, ◌/◌, ◌%◌, ◌^◌, ◌<◌, ◌≤◌, Bool, true, false, not, ◌||◌, cond, eqb, refl, sym, ap, ◌∙◌, subst, arith}
-use Rattle.std.proofs.Math.Nat.{mod-eq_of_lt, one-mul}
+use Rattle.std.proofs.Common.{◌≡◌, ℕ, ◌+◌, ◌-◌, ◌*◌, ◌%◌, ◌^◌, ◌<◌, Bool, true, false, not, cond, eqb, refl, sym, ap, ◌∙◌, subst, arith}
+use Rattle.std.proofs.Math.Nat.{mod-eq_of_lt}
 use Rattle.std.proofs.lemmas.Bool.{eqb-true, eqb-false, ne_eqb, or_parts, not-false}
 use Rattle.std.proofs.lemmas.Nat.{pow_below, and_mask}
 use Rattle.std.proofs.lemmas.Bool.Decides.{nat_tests}
 use Rattle.std.specs.Int.Bits.{bit_and}
-use Rattle.q2_format.specs.Entry.{bits_of, host_offset, is_single, is_compressed, reads_as_zeros, has_reserved_in_l2, l2_entry, IsHostOffset, IsWritable, CanBeSingle, host_of, zero_flag, l2_spelling}
+use Rattle.q2_format.specs.Entry.{bits_of, host_offset, is_single, is_compressed, reads_as_zeros, has_reserved_in_l2, l2_entry, IsHostOffset, IsWritable, host_of, zero_flag, l2_spelling}
 use Rattle.q2_format.specs.declared.entries.L2Entry.{L2Entry}
 use Rattle.q2_format.specs.declared.entries.L2Entry.TheVariants.{Unallocated, Zero, Host, Compressed, Reserved}
 

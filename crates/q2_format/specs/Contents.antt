@@ -6,7 +6,6 @@ use Rattle.q2_format.specs.Sizes.{cluster_size}
 use Rattle.q2_format.specs.Entry.{l2_entry}
 use Rattle.q2_format.specs.Header.{header_of}
 use Rattle.q2_format.specs.Tables.{Tree, active_tree, l2_word_of}
-use Rattle.q2_format.specs.declared.header.Header.{Header}
 use Rattle.q2_format.specs.declared.entries.L2Entry.{L2Entry}
 use Rattle.q2_format.specs.declared.entries.L2Entry.TheVariants.{Unallocated, Zero, Host, Compressed, Reserved}
 

@@ -1,13 +1,12 @@
 -- A created image: nothing is mapped, and each of its clusters has refcount 1.
-use Rattle.std.specs.Prelude.{◌≡◌, ℕ, ◌+◌, ◌-◌, ◌*◌, ◌/◌, ◌<◌, ◌≤◌, min, max, ◌==◌, nat_lt, if◌then◌else◌, Bool, true, List, length, slice_index, Option, IfSome, is_some}
+use Rattle.std.specs.Prelude.{◌≡◌, ℕ, ◌+◌, ◌*◌, ◌/◌, ◌<◌, ◌≤◌, min, max, ◌==◌, nat_lt, if◌then◌else◌, true, List, length, slice_index, Option, IfSome, is_some}
 use Rattle.std.specs.Int.{div_ceil}
 use Rattle.std.specs.Option.{option_map, option_map_or, ForSome}
 use Rattle.std.specs.Str.{IsUtf8}
-use Rattle.q2_format.specs.Bytes.{number_at, bytes_at, words_at}
+use Rattle.q2_format.specs.Bytes.{number_at, bytes_at}
 use Rattle.q2_format.specs.Sizes.{cluster_size, clusters_for, entries_in_cluster, refcount_bytes, block_entries, l1_entries_for}
 use Rattle.q2_format.specs.Header.{magic_of, version_of, name_offset_of, name_length_of, cluster_bits_of, size_of, crypt_method_of, l1_size_of, l1_offset_of, refcount_table_offset_of, refcount_table_clusters_of, nb_snapshots_of, snapshots_offset_of, incompatible_of, compatible_of, autoclear_of, refcount_order_of, header_length_of, extension_type, extension_length}
 use Rattle.q2_format.specs.declared.header.Header.{Header}
-use Rattle.q2_format.specs.declared.header.Place.{Place}
 use Rattle.q2_format.specs.declared.header.TheConstants.{MAX_DISK_SIZE, MAX_NAME_LENGTH}
 use Rattle.q2_format.specs.declared.extensions.TheConstants.{BACKING_FORMAT}
 

@@ -1,5 +1,5 @@
 -- When an image is refused, and when it is sound: where nothing refuses it.
-use Rattle.std.specs.Prelude.{◌≡◌, ℕ, ◌+◌, ◌*◌, ◌/◌, ◌%◌, ◌≤◌, Bool, true, false, not, ◌==◌, ◌||◌, ◌&&◌, nat_lt, if◌then◌else◌, List, [], ◌∷◌, length, slice_index, slice_index_or, Option, None, Some, is_some}
+use Rattle.std.specs.Prelude.{◌≡◌, ℕ, ◌*◌, ◌/◌, ◌%◌, ◌≤◌, Bool, not, ◌==◌, ◌||◌, ◌&&◌, nat_lt, List, [], ◌∷◌, length, slice_index, Option, None, is_some}
 use Rattle.std.specs.Option.{option_map}
 use Rattle.std.specs.List.{find, range_with_len}
 use Rattle.q2_format.specs.Sizes.{cluster_size, entries_in_cluster, l1_entries_for}

@@ -50,14 +50,29 @@ pub(crate) fn read_extensions(cluster: &[u8], start: u64, end: u64) -> Extension
     while at + 8 <= end {
         let len = u64::from(u32_at(cluster, at as usize + 4));
         if at + 8 + len > end {
-            return ExtensionList { overruns: true, format, end: at, ended: false };
+            return ExtensionList {
+                overruns: true,
+                format,
+                end: at,
+                ended: false,
+            };
         }
         if u32_at(cluster, at as usize) == END_OF_EXTENSIONS {
-            return ExtensionList { overruns: false, format, end: at + 8, ended: true };
+            return ExtensionList {
+                overruns: false,
+                format,
+                end: at + 8,
+                ended: true,
+            };
         }
         format = format_behind(cluster, at, format);
         // The next extension begins at a multiple of 8 bytes behind this one.
         at = at + 8 + (len + 7) / 8 * 8;
     }
-    ExtensionList { overruns: false, format, end: at.min(end), ended: false }
+    ExtensionList {
+        overruns: false,
+        format,
+        end: at.min(end),
+        ended: false,
+    }
 }

@@ -12,16 +12,14 @@ ghost use Rattle.q2_format.specs.Sound.{IsConsistent, IsSound};
 pub fn l2_entries_have_one_word()
     ensures { (a b : ℕ) → a < 2 ^ 64 → b < 2 ^ 64 → IsWritable (l2_entry a)
         → l2_entry a ≡ l2_entry b → is_single a ≡ is_single b → a ≡ b }
-{
-}
+{}
 
 /// A created image reads as its backing disk, and without one, which is a list of no bytes, as zeros.
 #[tactic(auto, using(crate::proofs::Unmapped::created_byte))]
 pub fn created_images_map_nothing()
     ensures { (new : Creation) (file backing : List ℕ) (place : ℕ) → IsCreated new file
         → guest_byte file backing place ≡ slice_index backing place }
-{
-}
+{}
 
 /// The header of a created image is accepted, in a file within the limits, and says what the image was
 /// created from.
@@ -30,12 +28,10 @@ pub fn created_headers_read_back()
         → HasCreatedHeader (creation_of size name format) file → 112 ≤ len → len ≤ 2 ^ 39 → header_refusal file len ≡ None }
     ensures fields { (file : List ℕ) (size : ℕ) (name format : Option (List ℕ)) → CanBeCreated size name format
         → HasCreatedHeader (creation_of size name format) file → header_of file ≡ created_header (creation_of size name format) }
-{
-}
+{}
 
 /// A sound image names no cluster of its file twice, and counts each that it names.
 #[tactic(auto, using(crate::proofs::Consistent::sound_is_consistent))]
 pub fn sound_images_are_consistent()
     ensures { (file : List ℕ) → IsSound file → IsConsistent file (header_of file) (length file) }
-{
-}
+{}

@@ -12,13 +12,13 @@ mod tests;
 mod writing;
 
 pub use entries::{L2Entry, l2_word, read_l2};
-pub use reading::read_header;
-pub use writing::write_header;
-pub use laws::{
-    created_headers_read_back, created_images_map_nothing, l2_entries_have_one_word,
-    sound_images_are_consistent,
-};
 pub use header::{
     Header, HeaderStop, MAX_DISK_SIZE, MAX_FILE_CLUSTERS, MAX_GUEST_CLUSTERS, MAX_L1_SIZE,
     MAX_NAME_LENGTH, MAX_REFCOUNT_TABLE_CLUSTERS, MIN_HEADER_LENGTH, Place,
 };
+pub use laws::{
+    created_headers_read_back, created_images_map_nothing, l2_entries_have_one_word,
+    sound_images_are_consistent,
+};
+pub use reading::read_header;
+pub use writing::write_header;

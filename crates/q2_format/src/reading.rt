@@ -144,7 +144,11 @@ fn check_name(cluster: &[u8], c: u64) -> Result<Option<Place>, HeaderStop>
 
 /// The extensions of an image of clusters of `c` bytes, in front of its backing name.
 #[tactic(auto, unfolding(crate::specs::Header::extension_refusal, crate::specs::Header::extensions_of))]
-fn check_extensions(cluster: &[u8], c: u64, name: Option<Place>) -> Result<ExtensionList, HeaderStop>
+fn check_extensions(
+    cluster: &[u8],
+    c: u64,
+    name: Option<Place>,
+) -> Result<ExtensionList, HeaderStop>
     requires size { c ≡ cluster_size (cluster_bits_of cluster.now) }
     requires small { c < 2 ^ 32 }
     requires name { name ≡ name_of cluster.now }

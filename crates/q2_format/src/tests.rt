@@ -115,8 +115,14 @@ fn refuses_in_order(rt: HostRuntime) -> Result<(), Fail> {
         (&[(63, &[1])], HeaderStop::Snapshots),
         // A name that ends past its cluster, and one that isn't UTF-8.
         (&[(14, &[0xff, 0xfe, 0, 0, 0, 3])], HeaderStop::BackingName),
-        (&[(14, &[1, 0, 0, 0, 0, 1]), (256, &[0xff])], HeaderStop::BackingName),
-        (&[(112, &[0x68, 3, 0xf8, 0x57, 0, 1, 0, 0])], HeaderStop::Extension),
+        (
+            &[(14, &[1, 0, 0, 0, 0, 1]), (256, &[0xff])],
+            HeaderStop::BackingName,
+        ),
+        (
+            &[(112, &[0x68, 3, 0xf8, 0x57, 0, 1, 0, 0])],
+            HeaderStop::Extension,
+        ),
         // The length of an ending extension is judged too.
         (&[(112, &[0, 0, 0, 0, 0, 1, 0, 0])], HeaderStop::Extension),
         (&[(24, &[0, 0, 0, 0x40, 0, 0, 2, 0])], HeaderStop::TooLarge),
@@ -124,13 +130,20 @@ fn refuses_in_order(rt: HostRuntime) -> Result<(), Fail> {
     ];
     for (edits, stop) in rows {
         let cluster = edited(rt.alloc(), edits)?;
-        assert_eq!(rt; read_header(&cluster, CREATED_LENGTH).err(), Some(stop), "{stop}");
+        assert_eq!(rt;
+            read_header(&cluster, CREATED_LENGTH).err(),
+            Some(stop),
+            "{stop}"
+        );
     }
     let cluster = edited(rt.alloc(), &[(0, &[0x52])])?;
     assert_eq!(rt; read_header(&cluster, 103).err(), Some(HeaderStop::Short));
     // A longer file than 8,388,608 clusters.
     let cluster = edited(rt.alloc(), &[])?;
-    assert_eq!(rt; read_header(&cluster, 549_755_813_889).err(), Some(HeaderStop::TooLarge));
+    assert_eq!(rt;
+        read_header(&cluster, 549_755_813_889).err(),
+        Some(HeaderStop::TooLarge)
+    );
     assert!(rt; read_header(&cluster, 549_755_813_888).is_ok());
     Ok(())
 }
@@ -176,8 +189,14 @@ fn reads_and_writes_l2_entries(rt: HostRuntime) {
         assert_eq!(rt; read_l2(word), entry);
     }
     assert_eq!(rt; l2_word(L2Entry::Unallocated, false), 0);
-    assert_eq!(rt; l2_word(L2Entry::Host { host: 0x50000 }, true), 0x8000_0000_0005_0000);
-    assert_eq!(rt; l2_word(L2Entry::Zero { host: 0x50000 }, true), 0x8000_0000_0005_0001);
+    assert_eq!(rt;
+        l2_word(L2Entry::Host { host: 0x50000 }, true),
+        0x8000_0000_0005_0000
+    );
+    assert_eq!(rt;
+        l2_word(L2Entry::Zero { host: 0x50000 }, true),
+        0x8000_0000_0005_0001
+    );
     assert_eq!(rt; read_l2(0x4000_0000_0005_0000), L2Entry::Compressed);
     assert_eq!(rt; read_l2(0x4000_0000_0005_0002), L2Entry::Compressed);
     assert_eq!(rt; read_l2(0x8000_0000_0005_0002), L2Entry::Reserved);
@@ -188,7 +207,13 @@ fn reads_and_writes_l2_entries(rt: HostRuntime) {
 
 #[test]
 fn names_its_refusals(rt: HostRuntime) -> Result<(), Fail> {
-    assert_eq!(rt; format!(in rt.alloc(); "{}", HeaderStop::Feature(62))?.as_str(), "Feature(62)");
-    assert_eq!(rt; format!(in rt.alloc(); "{}", HeaderStop::BackingName)?.as_str(), "BackingName");
+    assert_eq!(rt;
+        format!(in rt.alloc(); "{}", HeaderStop::Feature(62))?.as_str(),
+        "Feature(62)"
+    );
+    assert_eq!(rt;
+        format!(in rt.alloc(); "{}", HeaderStop::BackingName)?.as_str(),
+        "BackingName"
+    );
     Ok(())
 }

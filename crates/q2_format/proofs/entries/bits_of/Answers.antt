@@ -1,4 +1,4 @@
-use Rattle.std.proofs.Common.{◌<◌, ◌+◌, ◌/◌, ◌^◌, arith}
+use Rattle.std.proofs.Common.{◌/◌, ◌^◌, arith}
 use Rattle.q2_format.proofs.Words.{masked}
 use Rattle.q2_format.proofs.entries.bits_of.Goals as goal
 

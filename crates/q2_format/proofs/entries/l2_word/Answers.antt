@@ -1,6 +1,6 @@
 -- Without and with bit 63, the sum is the entry's spelling.
 use Rattle.std.proofs.Common.{◌≡◌, ◌+◌, true, false, arith}
-use Rattle.q2_format.specs.Entry.{l2_entry, l2_spelling}
+use Rattle.q2_format.specs.Entry.{l2_spelling}
 use Rattle.q2_format.proofs.Words.{entry_of_spelling}
 use Rattle.q2_format.proofs.entries.l2_word.Goals as goal
 

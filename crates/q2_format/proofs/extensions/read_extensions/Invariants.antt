@@ -1,5 +1,5 @@
 -- What is left of the list, with the format found so far, says what the whole list says.
-use Rattle.std.proofs.Common.{◌+◌, ◌-◌, ◌≡◌, ◌^◌, ◌<◌, None}
+use Rattle.std.proofs.Common.{◌-◌, ◌≡◌, ◌^◌, ◌<◌, None}
 use Rattle.q2_format.specs.Header.{extensions_from}
 use Rattle.q2_format.proofs.extensions.read_extensions.Given as goal
 

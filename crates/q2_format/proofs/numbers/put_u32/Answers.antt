@@ -1,6 +1,5 @@
 -- The bytes of the number were put at the place, and nothing else.
-use Rattle.std.proofs.Common.{◌≡◌, ◌<◌, ◌++◌, ◌^◌, [], length, drop, replicate, arith, inl, inr}
-use Rattle.byteorder.specs.Endian.{big_bytes}
+use Rattle.std.proofs.Common.{drop, replicate, arith, inl, inr}
 use Rattle.q2_format.proofs.ByPlace.{number_at-written, number_at-before, number_at-behind}
 use Rattle.q2_format.proofs.numbers.put_u32.Goals as goal
 

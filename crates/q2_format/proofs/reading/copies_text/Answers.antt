@@ -1,5 +1,5 @@
 -- What was copied is what is tested.
-use Rattle.std.proofs.Common.{◌≡◌, ◌∙◌, length, ap}
+use Rattle.std.proofs.Common.{◌≡◌, ◌∙◌, ap}
 use Rattle.std.specs.Str.{is_utf8, IsValidUpTo, valid_up_to}
 use Rattle.q2_format.proofs.Texts.{is_ok_as_test}
 use Rattle.q2_format.proofs.reading.copies_text.Goals as goal

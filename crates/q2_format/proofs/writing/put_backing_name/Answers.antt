@@ -1,5 +1,5 @@
 -- The name that was put is the one that was given.
-use Rattle.std.proofs.Common.{◌≡◌, ◌∙◌, ap, sym, Some, List, ℕ, Option}
+use Rattle.std.proofs.Common.{◌≡◌, ◌∙◌, ap, sym, Some}
 use Rattle.std.specs.Option.{option_copied}
 use Rattle.q2_format.proofs.writing.put_backing_name.Goals as goal
 

@@ -1,5 +1,5 @@
 -- Each field is what was put at its place, or the 0 that was there.
-use Rattle.std.proofs.Common.{◌≡◌, ℕ, slice_index, None, List, arith, sym, ◌∙◌}
+use Rattle.std.proofs.Common.{◌≡◌, None, arith, sym, ◌∙◌}
 use Rattle.q2_format.specs.Bytes.{number_at}
 use Rattle.q2_format.proofs.Creating.{zero_number, one_table_cluster, l1_table_behind}
 use Rattle.q2_format.proofs.writing.put_fields.Goals as goal

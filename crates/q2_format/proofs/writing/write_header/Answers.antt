@@ -1,5 +1,5 @@
 -- Each part is put once, and read the same behind what is put after it.
-use Rattle.std.proofs.Common.{◌≡◌, ◌∙◌, arith}
+use Rattle.std.proofs.Common.{arith}
 use Rattle.std.specs.Option.{option_copied}
 use Rattle.q2_format.proofs.Creating.{fields_alike, given_name_alike}
 use Rattle.q2_format.specs.Created.{creation_of}
