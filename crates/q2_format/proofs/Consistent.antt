@@ -56,6 +56,19 @@ finds_nothing file h len none =
       room = refused_where-none (is_header_full h) HeaderFull each.1.1.1.1.1.1.1.1.1.1.1.0;
     }
 
+-- and where each look finds nothing, nothing is refused
+pub nothing_found : (file : List ℕ) (h : Header) (len : ℕ) → FindsNothing file h len → first (table_refusals file h len) ≡ None
+unfolding table_refusals
+nothing_found file h len nothing =
+    let room = nothing.room in
+    rw (nothing.refcount_table, nothing.l1_table, nothing.blocks, nothing.l2_tables, nothing.hosts, nothing.l1_bits, nothing.refcount_table_bits, nothing.l2_bits, nothing.compressed, nothing.overlaps, nothing.counts, room) refl
+
+pub sound_from_parts : (file : List ℕ) → header_refusal file (length file) ≡ None → FindsNothing file (header_of file) (length file) → IsSound file
+unfolding image_refusal
+sound_from_parts file header nothing =
+    let tables = nothing_found file (header_of file) (length file) nothing in
+    rw (header, tables) refl
+
 -- an image that isn't refused has a header and tables that aren't
 pub sound_header : (file : List ℕ) → IsSound file → header_refusal file (length file) ≡ None
 unfolding image_refusal
@@ -71,7 +84,7 @@ sound_tables file sound =
 
 -- Sums of nothing.
 
-count_none : (p : ℕ → Bool) (words : List ℕ) → ((i : ℕ) → i < length words → p (get_or words i 0) ≡ false) → count_by p words ≡ 0
+pub count_none : (p : ℕ → Bool) (words : List ℕ) → ((i : ℕ) → i < length words → p (get_or words i 0) ≡ false) → count_by p words ≡ 0
 count_none p [] h = refl
 count_none p (word ∷ words) h =
     let here : p word ≡ false = h 0 (omega arith) in
@@ -80,7 +93,7 @@ count_none p (word ∷ words) h =
     let term : ◌≡◌ {A = ℕ} (cond (p word) 1 0) 0 = ap (λ (b : Bool). cond b 1 0) here in
     omega (arith, split, term, rest)
 
-sum_none : (f : List ℕ → ℕ) (tables : List (List ℕ)) → ((i : ℕ) → i < length tables → f (get_or tables i []) ≡ 0) → sum_by f tables ≡ 0
+pub sum_none : (f : List ℕ → ℕ) (tables : List (List ℕ)) → ((i : ℕ) → i < length tables → f (get_or tables i []) ≡ 0) → sum_by f tables ≡ 0
 sum_none f [] h = refl
 sum_none f (table ∷ tables) h =
     let here : f table ≡ 0 = h 0 (omega arith) in

@@ -10,3 +10,4 @@ pub mod Trees
 pub mod ReadBack
 pub mod Frames
 pub mod HeaderFrames
+pub mod CreatedSound

@@ -19,14 +19,14 @@ unfolding l2_table
 l2_table-zero file c = refl
 
 -- words among bytes that are 0
-zero_word : (file : List ℕ) (at n k : ℕ) → ((i : ℕ) → at ≤ i → slice_index file i ≡ 0) → get_or (words_at file at n) k 0 ≡ 0
+pub zero_word : (file : List ℕ) (at n k : ℕ) → ((i : ℕ) → at ≤ i → slice_index file i ≡ 0) → get_or (words_at file at n) k 0 ≡ 0
 zero_word file at n k zeros_there = elim (cases_lt k n) [
   | inl h ↦ get_or-words_at file at n k h ∙ number_at-zeros file (at + 8 * k) 8 (λ i low high. zeros_there i (omega arith))
   | inr h ↦ get_or_past (words_at file at n) k 0 (omega (arith, length-words_at file at n))
 ]
 
 -- no L2 table is named
-no_table : (file : List ℕ) (c at n k : ℕ) → ((i : ℕ) → at ≤ i → slice_index file i ≡ 0)
+pub no_table : (file : List ℕ) (c at n k : ℕ) → ((i : ℕ) → at ≤ i → slice_index file i ≡ 0)
     → get_or (map (l2_table file c) (words_at file at n)) k [] ≡ []
 no_table file c at n k zeros_there = elim (cases_lt k n) [
   | inl h ↦
