@@ -30,6 +30,13 @@ pub fn created_headers_read_back()
         → HasCreatedHeader (creation_of size name format) file → header_of file ≡ created_header (creation_of size name format) }
 {}
 
+/// A created image is sound.
+#[tactic(auto, using(crate::proofs::CreatedSound::created_is_sound))]
+pub fn created_images_are_sound()
+    ensures { (file : List ℕ) (size : ℕ) (name format : Option (List ℕ)) → CanBeCreated size name format
+        → IsCreated (creation_of size name format) file → IsSound file }
+{}
+
 /// A sound image names no cluster of its file twice, and counts each that it names.
 #[tactic(auto, using(crate::proofs::Consistent::sound_is_consistent))]
 pub fn sound_images_are_consistent()

@@ -17,8 +17,8 @@ pub use header::{
     MAX_NAME_LENGTH, MAX_REFCOUNT_TABLE_CLUSTERS, MIN_HEADER_LENGTH, Place,
 };
 pub use laws::{
-    created_headers_read_back, created_images_map_nothing, l2_entries_have_one_word,
-    sound_images_are_consistent,
+    created_headers_read_back, created_images_are_sound, created_images_map_nothing,
+    l2_entries_have_one_word, sound_images_are_consistent,
 };
 pub use reading::read_header;
 pub use writing::write_header;
