@@ -11,3 +11,4 @@ pub mod ReadBack
 pub mod Frames
 pub mod HeaderFrames
 pub mod CreatedSound
+pub mod TreeFrames
