@@ -12,3 +12,4 @@ pub mod Frames
 pub mod HeaderFrames
 pub mod CreatedSound
 pub mod TreeFrames
+pub mod Limits

@@ -1,5 +1,5 @@
 -- The header of a qcow2 image, version 3: its fields by position, its list of extensions, and what is refused of it.
-use Rattle.std.specs.Prelude.{ℕ, zero, suc, ◌+◌, ◌*◌, ◌/◌, min, Bool, true, false, not, ◌==◌, ◌||◌, nat_lt, if◌then◌else◌, List, [], ◌∷◌, Option, None, Some, Result, Ok, Err}
+use Rattle.std.specs.Prelude.{◌≡◌, ◌≤◌, ℕ, zero, suc, ◌+◌, ◌*◌, ◌/◌, min, Bool, true, false, not, ◌==◌, ◌||◌, nat_lt, if◌then◌else◌, List, [], ◌∷◌, Option, None, Some, IfSome, Result, Ok, Err}
 use Rattle.std.specs.Option.{option_map_or}
 use Rattle.std.specs.Int.{trailing_zeros, w64}
 use Rattle.std.specs.Str.{is_utf8}
@@ -213,6 +213,32 @@ header_refusal file len = first (
     ∷ extension_refusal file
     ∷ size_refusal file len
     ∷ [])
+
+-- a place begins and ends between two others
+pub record LiesWithin (from to : ℕ) (place : Place) : Type 0 where
+  pub begins : from ≤ place.at
+  pub ends : place.at + place.len ≤ to
+
+-- what an accepted header of a file of `len` bytes keeps within
+pub record IsWithinLimits (h : Header) (len : ℕ) : Type 0 where
+  pub cluster_bits : h.cluster_bits ≡ 16
+  pub refcount_order : h.refcount_order ≡ 4
+  pub header_whole : MIN_HEADER_LENGTH ≤ h.header_length
+  pub header_in_file : h.header_length ≤ len
+  pub header_in_cluster : h.header_length ≤ cluster_size h.cluster_bits
+  pub no_snapshots : h.nb_snaps ≡ 0
+  pub name : IfSome h.name (λ name. LiesWithin h.header_length (cluster_size h.cluster_bits) name × (name.len ≤ MAX_NAME_LENGTH))
+  pub format : IfSome h.format (LiesWithin h.header_length (cluster_size h.cluster_bits))
+  pub list : h.ext_end ≤ cluster_size h.cluster_bits
+  pub disk : h.size ≤ MAX_DISK_SIZE
+  pub guest_clusters : clusters_for (cluster_size h.cluster_bits) h.size ≤ MAX_GUEST_CLUSTERS
+  pub file_clusters : clusters_for (cluster_size h.cluster_bits) len ≤ MAX_FILE_CLUSTERS
+  pub l1_size : h.l1_size ≤ MAX_L1_SIZE
+  pub refcount_table : h.ref_clusters ≤ MAX_REFCOUNT_TABLE_CLUSTERS
+
+-- a header that reading can give for a file of `len` bytes
+abbrev pub CanBeRead : Header → ℕ → Type 0
+CanBeRead h len = (file : List ℕ) × (header_refusal file len ≡ None) × (header_of file ≡ h)
 
 -- the refusal in an answer
 abbrev pub refusal_in : {X R : Type 0} → Result X R → Option R

@@ -1,7 +1,7 @@
 //! The list of header extensions, up to its area's end.
 
 ghost use Rattle.std.specs.Prelude.{◌≡◌, ◌+◌, ◌^◌, ◌<◌, None};
-ghost use Rattle.q2_format.specs.Header.{extension_after, extensions_from, format_after};
+ghost use Rattle.q2_format.specs.Header.{extensions_from, format_after};
 
 use crate::header::Place;
 use crate::numbers::u32_at;

@@ -74,15 +74,15 @@ pub struct Header {
 /// Why bytes are no header of an image that this project opens.
 #[derive(Clone, Copy, Debug, PartialEq, Eq, Hash, Error)]
 pub enum HeaderStop {
-    /// The file ends within the header's fields, or the header's length is below its fields or above the file's.
+    /// The file has fewer than 104 bytes, or the header's length is below 104 or above the file's.
     Short,
-    /// The file doesn't begin with `QFI\xfb`.
+    /// The file doesn't begin with `QFI` and 0xfb.
     Magic,
     /// The version isn't 3.
     Version,
-    /// Clusters have a size that isn't supported.
+    /// Clusters don't have 64 KiB.
     ClusterBits,
-    /// Refcounts have a width that isn't supported.
+    /// Refcounts don't have 16 bits.
     RefcountOrder,
     /// This incompatible feature bit is set, and none below it.
     Feature(u32),
@@ -90,11 +90,13 @@ pub enum HeaderStop {
     Crypt,
     /// The image has internal snapshots.
     Snapshots,
-    /// The backing file's name is too long, overlaps the header, leaves its cluster, or isn't UTF-8.
+    /// The backing file's name has more than 1,023 bytes, begins within the header, ends past the first
+    /// cluster, or isn't UTF-8.
     BackingName,
-    /// The header or an extension ends past its area.
+    /// The header ends past the first cluster, or an extension's data end past the list's area. The area
+    /// ends at the backing file's name, or else with the first cluster.
     Extension,
-    /// A size in the header or the file's own is above a limit.
+    /// The disk, the file, the L1 table or the refcount table is above its limit.
     TooLarge,
 }
 

@@ -24,17 +24,20 @@ pub fn created_images_map_nothing()
 /// The header of a created image is accepted, in a file within the limits, and says what the image was
 /// created from.
 pub fn created_headers_read_back()
-    ensures accepted { (file : List ℕ) (size len : ℕ) (name format : Option (List ℕ)) → CanBeCreated size name format
-        → HasCreatedHeader (creation_of size name format) file → 112 ≤ len → len ≤ 2 ^ 39 → header_refusal file len ≡ None }
-    ensures fields { (file : List ℕ) (size : ℕ) (name format : Option (List ℕ)) → CanBeCreated size name format
-        → HasCreatedHeader (creation_of size name format) file → header_of file ≡ created_header (creation_of size name format) }
+    ensures accepted { (file : List ℕ) (size len : ℕ) (name format : Option (List ℕ))
+        → CanBeCreated size name format → HasCreatedHeader (creation_of size name format) file
+        → 112 ≤ len → len ≤ 2 ^ 39 → header_refusal file len ≡ None }
+    ensures fields { (file : List ℕ) (size : ℕ) (name format : Option (List ℕ))
+        → CanBeCreated size name format → HasCreatedHeader (creation_of size name format) file
+        → header_of file ≡ created_header (creation_of size name format) }
 {}
 
 /// A created image is sound.
 #[tactic(auto, using(crate::proofs::CreatedSound::created_is_sound))]
 pub fn created_images_are_sound()
-    ensures { (file : List ℕ) (size : ℕ) (name format : Option (List ℕ)) → CanBeCreated size name format
-        → IsCreated (creation_of size name format) file → IsSound file }
+    ensures { (file : List ℕ) (size : ℕ) (name format : Option (List ℕ))
+        → CanBeCreated size name format → IsCreated (creation_of size name format) file
+        → IsSound file }
 {}
 
 /// A sound image names no cluster of its file twice, and counts each that it names.

@@ -4,7 +4,7 @@ ghost use Rattle.std.specs.Prelude.{◌≡◌, length, ◌+◌, ◌^◌, ◌<◌
 ghost use Rattle.std.specs.Str.{is_utf8};
 ghost use Rattle.q2_format.specs.Bytes.{bytes_at};
 ghost use Rattle.q2_format.specs.Sizes.{cluster_size};
-ghost use Rattle.q2_format.specs.Header.{refusal_in, header_refusal, format_refusal, profile_refusal, name_refusal, extension_refusal, size_refusal, header_of, name_of, extensions_of, area_end, is_bad_name, cluster_bits_of, header_length_of};
+ghost use Rattle.q2_format.specs.Header.{refusal_in, header_refusal, format_refusal, profile_refusal, name_refusal, extension_refusal, size_refusal, header_of, name_of, extensions_of, area_end, is_bad_name, cluster_bits_of, IsWithinLimits};
 
 use crate::extensions::{ExtensionList, read_extensions};
 use crate::header::{
@@ -214,15 +214,16 @@ fn fields(cluster: &[u8], name: Option<Place>, list: &ExtensionList) -> Header
     }
 }
 
-/// Reads the header of a file of `file_len` bytes from its first cluster. Bytes past the slice's end count
-/// as 0, as those past a file's end do. The bytes read as the published qcow2 text says.
+/// Reads the header of a file of `file_len` bytes from its first cluster, by the published qcow2 text,
+/// version 3. Bytes past the slice's end count as 0, as those past a file's end do.
 ///
-/// An error is the first of those that hold, in the order of [`HeaderStop`]'s text; but where the fields
-/// are there, a wrong magic or version comes before `Short`.
+/// Where the file has fewer than 104 bytes the answer is `Short`. Else it is the first that holds of
+/// `Magic`, `Version`, `Short`, and the others in the order in which [`HeaderStop`] has them.
 #[tactic(auto, unfolding(crate::specs::Header::header_refusal))]
 pub fn read_header(cluster: &[u8], file_len: u64) -> Result<Header, HeaderStop>
     ensures refused { refusal_in result ≡ header_refusal cluster.now file_len }
     ensures fields { IfOk result (λ header. header ≡ header_of cluster.now) }
+    ensures limits { IfOk result (λ header. IsWithinLimits header file_len) }
 {
     if file_len < u64::from(MIN_HEADER_LENGTH) {
         return Err(HeaderStop::Short);

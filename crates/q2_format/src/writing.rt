@@ -1,10 +1,9 @@
 //! Writing the header cluster of a created image.
 
-ghost use Rattle.std.specs.Prelude.{◌≡◌, ◌+◌, ◌*◌, ◌/◌, ◌^◌, ◌<◌, ◌≤◌, ℕ, List, Option, length, slice_index, None, Some};
+ghost use Rattle.std.specs.Prelude.{◌≡◌, ◌+◌, ◌*◌, ◌/◌, ◌<◌, ◌≤◌, ℕ, List, Option, length, slice_index, None, Some};
 ghost use Rattle.std.specs.Option.{ForSome, option_copied};
-ghost use Rattle.q2_format.specs.Bytes.{number_at, bytes_at};
 ghost use Rattle.q2_format.specs.Sizes.{l1_entries_for};
-ghost use Rattle.q2_format.specs.Created.{creation_of, created_table_clusters, created_l1_offset, AreZeros, IsFormatExtension, HasCreatedFields, HasCreatedName, HasCreatedExtensions, HasCreatedHeader, IsNewName, IsNewFormat};
+ghost use Rattle.q2_format.specs.Created.{creation_of, AreZeros, IsFormatExtension, HasCreatedFields, HasCreatedName, HasCreatedExtensions, HasCreatedHeader, IsNewName, IsNewFormat};
 
 use crate::extensions::BACKING_FORMAT;
 use crate::header::MAX_DISK_SIZE;
@@ -70,9 +69,11 @@ fn put_name(out: &mut [u8], name: &[u8])
     requires some { 1 ≤ length name.now }
     requires short { length name.now ≤ 1023 }
     requires zeros { AreZeros out.old 32768 65536 }
-    ensures fields { (size : ℕ) (format : Option (List ℕ)) → HasCreatedFields (creation_of size None format) out.old
+    ensures fields { (size : ℕ) (format : Option (List ℕ))
+        → HasCreatedFields (creation_of size None format) out.old
         → HasCreatedFields (creation_of size (Some name.now) format) out.new }
-    ensures name { (size : ℕ) (format : Option (List ℕ)) → HasCreatedName (creation_of size (Some name.now) format) out.new }
+    ensures name { (size : ℕ) (format : Option (List ℕ))
+        → HasCreatedName (creation_of size (Some name.now) format) out.new }
     ensures between { (i : ℕ) → 112 ≤ i → i < 32768 → slice_index out.new i ≡ slice_index out.old i }
 {
     put_u64(out, 8, NAME_OFFSET);
@@ -100,9 +101,11 @@ fn put_backing_name(out: &mut [u8], name: Option<&str>)
     requires whole { length out.old ≡ 65536 }
     requires name { ForSome name (λ name. IsNewName name.now) }
     requires zeros { AreZeros out.old 32768 65536 }
-    ensures fields { (size : ℕ) (format : Option (List ℕ)) → HasCreatedFields (creation_of size None format) out.old
+    ensures fields { (size : ℕ) (format : Option (List ℕ))
+        → HasCreatedFields (creation_of size None format) out.old
         → HasCreatedFields (creation_of size (option_copied name.entry) format) out.new }
-    ensures name { (size : ℕ) (format : Option (List ℕ)) → HasCreatedName (creation_of size (option_copied name.entry) format) out.new }
+    ensures name { (size : ℕ) (format : Option (List ℕ))
+        → HasCreatedName (creation_of size (option_copied name.entry) format) out.new }
     ensures between { (i : ℕ) → 112 ≤ i → i < 32768 → slice_index out.new i ≡ slice_index out.old i }
 {
     if let Some(name) = name {
@@ -116,7 +119,8 @@ fn put_extensions(out: &mut [u8], format: Option<&str>)
     requires whole { length out.old ≡ 65536 }
     requires format { ForSome format (λ format. IsNewFormat format.now) }
     requires zeros { AreZeros out.old 112 32768 }
-    ensures extensions { (size : ℕ) (name : Option (List ℕ)) → HasCreatedExtensions (creation_of size name (option_copied format.entry)) out.new }
+    ensures extensions { (size : ℕ) (name : Option (List ℕ))
+        → HasCreatedExtensions (creation_of size name (option_copied format.entry)) out.new }
     ensures before { (i : ℕ) → i < 112 → slice_index out.new i ≡ slice_index out.old i }
     ensures behind { (i : ℕ) → 32768 ≤ i → slice_index out.new i ≡ slice_index out.old i }
 {
@@ -133,7 +137,8 @@ pub fn write_header(size: u64, name: Option<&str>, format: Option<&str>, out: &m
     requires size { size ≤ MAX_DISK_SIZE }
     requires name { ForSome name (λ name. IsNewName name.now) }
     requires format { ForSome format (λ format. IsNewFormat format.now) }
-    ensures { HasCreatedHeader (creation_of size (option_copied name.entry) (option_copied format.entry)) out.new }
+    ensures { HasCreatedHeader
+        (creation_of size (option_copied name.entry) (option_copied format.entry)) out.new }
 {
     clear(out);
     put_fields(out, size);
