@@ -38,8 +38,8 @@ fn format_behind(cluster: &[u8], at: u64, format: Option<Place>) -> Option<Place
     }
 }
 
-#[tactic(auto, using(crate::proofs::Extending::extensions_short, crate::proofs::Extending::extensions_overrun, crate::proofs::Extending::extensions_ended, crate::proofs::Extending::extensions_next))]
 /// The list that begins at `start`, in an area that ends at `end`.
+#[tactic(auto, using(crate::proofs::Extending::extensions_short, crate::proofs::Extending::extensions_overrun, crate::proofs::Extending::extensions_ended, crate::proofs::Extending::extensions_next))]
 pub(crate) fn read_extensions(cluster: &[u8], start: u64, end: u64) -> ExtensionList
     requires start { start < 2 ^ 32 }
     requires end { end < 2 ^ 32 }
