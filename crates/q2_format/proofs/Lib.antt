@@ -1,0 +1,15 @@
+pub mod ByPlace
+pub mod Words
+pub mod Extending
+pub mod Texts
+pub mod Creating
+pub mod Unmapped
+pub mod Firsts
+pub mod Consistent
+pub mod Trees
+pub mod ReadBack
+pub mod Frames
+pub mod HeaderFrames
+pub mod CreatedSound
+pub mod TreeFrames
+pub mod Limits

@@ -1,0 +1,22 @@
+-- The bytes of the number were put at the place, and nothing else.
+use Rattle.std.proofs.Common.{drop, replicate, arith, inl, inr}
+use Rattle.q2_format.proofs.ByPlace.{number_at-written, number_at-before, number_at-behind}
+use Rattle.q2_format.proofs.numbers.put_u64.Goals as goal
+
+pub returns-clause-put : goal.returns-clause-put
+returns-clause-put c =
+    number_at-written c.args.out.now c.put_bytes.new.out c.args.at 8 c.args.value (drop 8 (replicate 8 0)) c.write_u64.new.buf
+    c.put_bytes.ensures.written c.write_u64.ensures c.write_u64.auto.buf (omega arith)
+
+pub returns-clause-before : goal.returns-clause-before
+returns-clause-before c i n h = number_at-before c.args.out.now c.put_bytes.new.out c.args.at c.write_u64.new.buf c.put_bytes.ensures.written i n h
+
+pub returns-clause-behind : goal.returns-clause-behind
+returns-clause-behind c i n h =
+    number_at-behind c.args.out.now c.put_bytes.new.out c.args.at c.write_u64.new.buf c.put_bytes.ensures.written i n (omega (arith, c.write_u64.auto.buf))
+
+pub returns-clause-bytes_before : goal.returns-clause-bytes_before
+returns-clause-bytes_before c i h = c.put_bytes.ensures.written.outside i (inl h)
+
+pub returns-clause-bytes_behind : goal.returns-clause-bytes_behind
+returns-clause-bytes_behind c i h = c.put_bytes.ensures.written.outside i (inr (omega (arith, c.write_u64.auto.buf)))

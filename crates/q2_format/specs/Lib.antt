@@ -1,0 +1,10 @@
+pub mod Bytes
+pub mod Sizes
+pub mod Entry
+pub mod Header
+pub mod Tables
+pub mod Contents
+pub mod References
+pub mod Sound
+pub mod Created
+pub mod Text
