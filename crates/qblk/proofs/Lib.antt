@@ -5,3 +5,4 @@ pub mod Progress
 pub mod Sessions
 pub mod Sending
 pub mod Whole
+pub mod Forms

@@ -7,3 +7,5 @@ pub mod Inputs
 pub mod Ready
 pub mod Output
 pub mod Session
+pub mod Words
+pub mod Untold

@@ -2,13 +2,16 @@
 #![tactic(auto)]
 
 mod engine;
+mod files;
 mod flight;
 mod input;
 mod output;
 mod requests;
+mod run;
 mod session;
 mod status;
 mod transfer;
+mod words;
 
 use std::io;
 

@@ -1,0 +1,17 @@
+-- The words of the program, and of which form they are.
+use Rattle.std.specs.Prelude.{◌≡◌, ℕ, Bool, true, not, ◌&&◌, ◌==◌, nat_lt, List, [], ◌∷◌, length, codes, map, slice_index}
+use Rattle.std.specs.List.{list_any}
+use Rattle.blk_base.specs.Written.{Written}
+
+-- a file name has 1 to 1,023 bytes, none of them zero; no word begins with `-`
+abbrev pub is_file_name : List ℕ → Bool
+is_file_name word = nat_lt 0 (length word) && nat_lt (length word) 1024 && not (slice_index word 0 == 45) && not (list_any (λ b. b == 0) word)
+
+-- `io raw IMAGE TRACE`
+pub record IsIo (words : List (List ℕ)) (image trace : List ℕ) : Type 0 where
+  pub form : words ≡ codes "io" ∷ codes "raw" ∷ image ∷ trace ∷ []
+  pub image_name : is_file_name image ≡ true
+  pub trace_name : is_file_name trace ≡ true
+
+abbrev pub texts_of : List Written → List (List ℕ)
+texts_of words = map (λ w. w.bytes) words
