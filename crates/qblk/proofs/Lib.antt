@@ -6,3 +6,4 @@ pub mod Sessions
 pub mod Sending
 pub mod Whole
 pub mod Forms
+pub mod Returned

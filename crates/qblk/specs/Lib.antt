@@ -9,3 +9,4 @@ pub mod Output
 pub mod Session
 pub mod Words
 pub mod Untold
+pub mod Openings

@@ -40,7 +40,7 @@ fn write_full<F: FileExt>(file: &F, off: u64, bytes: &[u8]) -> usize
     ensures { result ≤ length bytes.now }
 {
     let mut done = 0;
-    for _ in 0..u64::MAX {
+    'turns: for _ in 0..u64::MAX {
         if done >= bytes.len() {
             return done;
         }
@@ -73,7 +73,11 @@ pub struct FileDevice<F: FileExt + OpenFile + Drop> {
 }
 
 impl<F: FileExt + OpenFile + Drop> FileDevice<F> {
-    pub fn new(file: F, length: u64) -> Self {
+    /// A file that was opened, with its length.
+    pub fn new(file: F, length: u64) -> Self
+        ensures length { result.length ≡ length }
+        ensures faults { result.faults ≡ 0 }
+    {
         FileDevice {
             file,
             length,

@@ -10,6 +10,7 @@ mod requests;
 mod run;
 mod session;
 mod status;
+mod store;
 mod transfer;
 mod words;
 

@@ -1,0 +1,6 @@
+use Rattle.std.proofs.Common.{◌≤◌, length}
+use Rattle.qblk.proofs.files.write_full.Given as goal
+
+-- no more was written than there is
+abbrev pub invariant-turns : goal.invariant-turns
+invariant-turns g l = l.done ≤ length l.bytes
