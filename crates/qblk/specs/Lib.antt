@@ -10,3 +10,4 @@ pub mod Session
 pub mod Words
 pub mod Untold
 pub mod Openings
+pub mod Exit

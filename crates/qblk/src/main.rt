@@ -1,4 +1,5 @@
-//! qblk
+//! The block layer of QEMU as a program: `qblk io raw IMAGE TRACE` runs a trace of reads and writes on a raw image, and
+//! writes the transcript to standard output.
 #![tactic(auto)]
 
 mod engine;
@@ -14,13 +15,40 @@ mod store;
 mod transfer;
 mod words;
 
-use std::io;
+pub use run::{qblk, run_io};
+pub use status::{InputWhy, Status};
 
-fn main(rt: HostRuntime) -> io::Result<()> {
-    let f = flight::InFlight {
-        place: 0,
-        next: 0,
-        is_stopped: false,
+use blk_base::{NoMemory, Text};
+use std::alloc::Global;
+use std::process::ExitCode;
+use std::rt::Env;
+use std::{env, io};
+use store::{FileStore, OutSink};
+
+/// The words behind the program's name.
+fn words_of<R: Env + AllocGlobal>(rt: &R, alloc: Global) -> Result<Vec<Text>, NoMemory> {
+    let mut words = Vec::new(alloc);
+    let Ok(args) = env::args(rt) else {
+        return Err(NoMemory);
     };
-    println!(rt; "{f:?}")
+    for word in args.skip(1) {
+        words.push(Text::from_string(word))?;
+    }
+    Ok(words)
+}
+
+fn main(rt: HostRuntime) -> ExitCode {
+    let alloc = rt.alloc();
+    let status = match words_of(&rt, alloc) {
+        Ok(words) => {
+            let mut out = OutSink::new(io::writer(&rt));
+            let (status, _store) = qblk(alloc, &words, FileStore::new(&rt, alloc), &mut out);
+            status
+        }
+        Err(NoMemory) => Status::NoMemory,
+    };
+    if !matches!(status, Status::Done) {
+        let _ = eprintln!(&rt; "{status}");
+    }
+    ExitCode::from(status.exit())
 }

@@ -1,6 +1,9 @@
 //! How a run of the program ended.
+ghost use Rattle.std.specs.Prelude.{◌≡◌};
+ghost use Rattle.qblk.specs.Exit.{exit_of};
 
 use blk_base::{FaultFrom, Text};
+use std::fmt;
 
 /// Why an input is refused.
 #[derive(Clone, Copy, Debug, PartialEq, Eq)]
@@ -36,4 +39,55 @@ pub enum Status {
     Fault { from: FaultFrom, count: u64 },
     /// Want of memory. Nothing was put to the sink.
     NoMemory,
+}
+
+impl Status {
+    /// The number that the process ends with.
+    pub fn exit(&self) -> u8
+        ensures { result ≡ exit_of self.now }
+    {
+        match self {
+            Status::Done => 0,
+            Status::Usage => 1,
+            Status::Input { .. } => 2,
+            Status::Fault { .. } => 3,
+            Status::NoMemory => 5,
+        }
+    }
+}
+
+impl fmt::Display for InputWhy {
+    fn fmt<W: fmt::Write>(&self, f: &mut fmt::Formatter<W>) -> fmt::Result {
+        f.write_str(match self {
+            InputWhy::Absent => "Absent",
+            InputWhy::NotUtf8 => "NotUtf8",
+            InputWhy::TooLong => "TooLong",
+            InputWhy::BadLine => "BadLine",
+            InputWhy::TooMany => "TooMany",
+            InputWhy::TooLarge => "TooLarge",
+        })
+    }
+}
+
+/// The text of the status, for standard error. `Done` has none.
+impl fmt::Display for Status {
+    fn fmt<W: fmt::Write>(&self, f: &mut fmt::Formatter<W>) -> fmt::Result {
+        match self {
+            Status::Done => Ok(()),
+            Status::Usage => f.write_str("usage: qblk io FORMAT IMAGE TRACE"),
+            Status::Input { name, line, why } => {
+                let name = name.as_str();
+                write!(f, "input {name} line {line}: {why}")
+            }
+            Status::Fault { from, count } => match from {
+                FaultFrom::Store => write!(f, "fault store {count}"),
+                FaultFrom::Dev(dev) => {
+                    let dev = dev.0;
+                    write!(f, "fault dev{dev} {count}")
+                }
+                FaultFrom::Sink => write!(f, "fault sink {count}"),
+            },
+            Status::NoMemory => f.write_str("out of memory"),
+        }
+    }
 }

@@ -43,6 +43,16 @@ fn out_at(openings: &[Opening], name: &str) -> Option<usize>
     None
 }
 
+/// Whether a device of that name is out.
+fn has_out(openings: &[Opening], name: &str) -> bool
+    ensures { result ≡ is_out name.now (map opened_of openings.now) }
+{
+    match out_at(openings, name) {
+        Some(_) => true,
+        None => false,
+    }
+}
+
 /// Reads a file to its end, up to `limit` bytes and one chunk more.
 fn read_up_to<F: Read>(alloc: Global, file: &mut F, limit: u64) -> io::Result<Vec<u8>> {
     let mut bytes = Vec::new(alloc);
@@ -62,6 +72,7 @@ fn read_up_to<F: Read>(alloc: Global, file: &mut F, limit: u64) -> io::Result<Ve
 }
 
 /// The files of the system.
+#[derive(Drop)]
 pub struct FileStore<'a, R: Files> {
     rt: &'a R,
     alloc: Global,
@@ -114,7 +125,7 @@ where
     ghost faults = { λ s. s.faults };
 
     fn open_file(&mut self, name: &str) -> Result<Self::Dev, StoreStop> {
-        if out_at(&self.openings, name).is_some() {
+        if has_out(&self.openings, name) {
             return Err(StoreStop::InUse);
         }
         let Ok(name) = Text::copied(self.alloc, name) else {
@@ -144,7 +155,7 @@ where
     }
 
     fn create_file(&mut self, name: &str, len: u64) -> Result<(), StoreStop> {
-        if out_at(&self.openings, name).is_some() {
+        if has_out(&self.openings, name) {
             return Err(StoreStop::InUse);
         }
         if len > CAPACITY {
@@ -167,7 +178,7 @@ where
     }
 
     fn read_all(&mut self, name: &str, limit: u64) -> Result<Bytes, StoreStop> {
-        if out_at(&self.openings, name).is_some() {
+        if has_out(&self.openings, name) {
             return Err(StoreStop::InUse);
         }
         let mut file = match OpenOptions::new().read(true).open(self.rt, name) {
@@ -198,6 +209,7 @@ where
 }
 
 /// Standard output, or another writer.
+#[derive(Drop)]
 pub struct OutSink<W: Write> {
     out: W,
     faults: u64,
