@@ -1,0 +1,5 @@
+pub mod Tests
+pub mod Histories
+pub mod Made
+pub mod Passes
+pub mod Frames

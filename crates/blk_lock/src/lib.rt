@@ -1,0 +1,17 @@
+//! The turn under which every event is made.
+#![tactic(auto)]
+
+mod birth;
+mod known;
+mod logged;
+mod order;
+mod pass;
+mod plays;
+mod room;
+mod turns;
+
+pub use known::{Stamped, View};
+pub use logged::Logged;
+pub use pass::Pass;
+pub use room::{NoMemory, Room};
+pub use turns::{Turn, Turns};

@@ -1,0 +1,65 @@
+//! How passes are split and joined.
+ghost use Rattle.std.specs.Prelude.{◌≡◌, ◌≤◌, ◌⊎◌, ◌↔◌, true, [], IfSome, Contains};
+ghost use Rattle.blk_lock.specs.Rooms.{IsWithin};
+ghost use Rattle.blk_lock.specs.Stamps.{has_actor, made_by, OthersAdd};
+ghost use Rattle.blk_lock.specs.Plays.{after_split, split_off, after_join};
+ghost use Rattle.blk_lock.specs.Views.{view, lock_of, lock_id, mine};
+
+use super::Turns;
+use crate::known::Known;
+use crate::logged::Logged;
+use crate::pass::Pass;
+use crate::plays::{Both, Cut, Part, Settle, Unite};
+use crate::room::Room;
+use atomic_table::Seat;
+use std::marker::Brand;
+
+impl<W: Logged> Turns<W> {
+    /// A second pass that has seen the same and has made nothing. What it is given is taken from the first.
+    pub fn split(&self, pass: &mut Pass<W>, room: Room, actor: Option<u32>) -> Pass<W>
+        requires lock { lock_of pass.old ≡ lock_id self.now }
+        requires free { (view pass.old).turn ≡ None }
+        requires shares { 2 ≤ (view pass.old).shares }
+        requires room { IsWithin room (view pass.old).room }
+        requires actor { IfSome actor (λ a. has_actor (view pass.old).actors a ≡ true) }
+        ensures lock { (lock_of pass.new ≡ lock_of pass.old) × (lock_of result ≡ lock_of pass.old) }
+        ensures kept { view pass.new ≡ after_split room actor (view pass.old) }
+        ensures given { view result ≡ split_off room actor (view pass.old) }
+        ensures nothing { mine (view result) ≡ [] }
+    {
+        let mut seat = self.divide::<Brand>(&mut pass.seat, room, actor);
+        let _ = self.table.shared.load::<Settle>(&mut seat, 2);
+        Pass { seat }
+    }
+
+    fn divide<P: Part>(
+        &self,
+        seat: &mut Seat<Option<W>, Known<W::Entry, W::Opening>>,
+        room: Room,
+        actor: Option<u32>,
+    ) -> Seat<Option<W>, Known<W::Entry, W::Opening>>
+        requires lock { seat.old.table_id ≡ self.now.table.shared.table_id }
+        requires picked { (P.room ≡ room) × (P.given ≡ actor) }
+        ensures lock { seat.new.table_id ≡ seat.old.table_id }
+    {
+        let _ = (room, actor);
+        self.table.shared.split_seat::<Cut<P>>(seat)
+    }
+
+    /// The other pass ends. This one has then seen the longer of both histories, and what both have made is its own.
+    pub fn join(&self, pass: &mut Pass<W>, other: Pass<W>)
+        requires lock { (lock_of pass.old ≡ lock_id self.now) × (lock_of other ≡ lock_id self.now) }
+        requires free { ((view pass.old).turn ≡ None) × ((view other).turn ≡ None) }
+        ensures lock { lock_of pass.new ≡ lock_of pass.old }
+        ensures pass { view pass.new ≡ after_join (view pass.old) (view other) }
+        ensures goes_on { OthersAdd W.actor (view pass.old).names (view pass.old).actors (view pass.old).seen (view pass.new).seen }
+        ensures other_goes_on { OthersAdd W.actor (view other).names (view other).actors (view other).seen (view pass.new).seen }
+        ensures own { made_by (view pass.old).names (view pass.new).seen ≡ mine (view pass.old) }
+        ensures others_own { made_by (view other).names (view pass.new).seen ≡ mine (view other) }
+        ensures mine { (made : _) → Contains (mine (view pass.new)) made ↔ (Contains (mine (view pass.old)) made ⊎ Contains (mine (view other)) made) }
+    {
+        let Pass { seat } = other;
+        self.table.shared.join_seat::<Both>(&mut pass.seat, seat);
+        let _ = self.table.shared.load::<Unite>(&mut pass.seat, 2);
+    }
+}

@@ -1,0 +1,133 @@
+//! How a turn is taken and given back.
+ghost use Rattle.std.specs.Prelude.{◌≡◌, ℕ, ◌+◌, ◌<◌, ◌≤◌, ◌^◌, true, List, [], ◌∷◌, ◌++◌, length, All, IfSome, IsSomeAnd, unwrap_or};
+ghost use Rattle.std.specs.List.{enumerate_from};
+ghost use Rattle.blk_lock.specs.declared.known.Stage.TheVariants.{Rest, Waiting, Out};
+ghost use Rattle.blk_lock.specs.Rooms.{IsWithin, less};
+ghost use Rattle.blk_lock.specs.Stamps.{entries_of, may_make, OthersAdd};
+ghost use Rattle.blk_lock.specs.Plays.{Takes, Looks, made_since, after_put, counted_known};
+ghost use Rattle.blk_lock.specs.Views.{view, lock_of, lock_id, mine};
+
+use super::{Owed, Turn, Turns};
+use crate::known::Known;
+use crate::logged::Logged;
+use crate::pass::Pass;
+use crate::plays::{Count, Draw, Look, Serve, Watch};
+use atomic_table::Seat;
+use std::sync::Wait;
+use std::thread;
+
+type PassSeat<W> = Seat<Option<W>, Known<<W as Logged>::Entry, <W as Logged>::Opening>>;
+
+impl<W: Logged> Turns<W> {
+    /// Waits until the turn is this pass's.
+    pub fn take<R: Wait>(&self, rt: &R, pass: &mut Pass<W>) -> Turn<W>
+        requires lock { lock_of pass.old ≡ lock_id self.now }
+        requires free { (view pass.old).turn ≡ None }
+        ensures lock { lock_of pass.new ≡ lock_of pass.old }
+        ensures pass { view pass.new ≡ record (view pass.old) { seen = (view pass.new).seen; turn = Some (W.spare result.world) } }
+        ensures seen { OthersAdd W.actor (view pass.old).names (view pass.old).actors (view pass.old).seen (view pass.new).seen }
+        ensures mine { mine (view pass.new) ≡ mine (view pass.old) }
+        ensures history { W.history result.world ≡ entries_of (view pass.new).seen }
+        ensures opened { IfSome (view pass.old).opening (W.comes result.world) }
+        ensures room { IsWithin (view pass.old).room (W.spare result.world) }
+    {
+        Turn {
+            world: self.take_world(rt, &mut pass.seat),
+            owed: Owed,
+        }
+    }
+
+    fn take_world<R: Wait>(&self, rt: &R, seat: &mut PassSeat<W>) -> W
+        requires lock { seat.old.table_id ≡ self.now.table.shared.table_id }
+        requires rest { (seat.old.me.0.stage ≡ Rest) × (seat.old.me.1 ≡ []) }
+        ensures lock { seat.new.table_id ≡ seat.old.table_id }
+        ensures taken { (ticket : ℕ) × Takes W.history W.actor W.spare W.comes ticket seat.old.me (seat.new.me.0, (0, Some result) ∷ []) }
+        ensures in_hand { seat.new.me.1 ≡ (0, None) ∷ [] }
+    {
+        let ticket = self.draw(rt, seat);
+        self.watch(rt, seat, ticket);
+        let Some(world) = self.table.shared.exchange(seat, 0, None) else {
+            unreachable!()
+        };
+        world
+    }
+
+    // After 2^64 - 1 turns it waits for ever.
+    fn draw<R: Wait>(&self, rt: &R, seat: &mut PassSeat<W>) -> u64
+        requires lock { seat.old.table_id ≡ self.now.table.shared.table_id }
+        requires rest { seat.old.me.0.stage ≡ Rest }
+        ensures lock { seat.new.table_id ≡ seat.old.table_id }
+        ensures waits { seat.new.me ≡ (record seat.old.me.0 { stage = Waiting result }, seat.old.me.1) }
+    {
+        for _ in rt.forever() {
+            let drawn = self.table.shared.peek(0);
+            if drawn < u64::MAX {
+                let found = self
+                    .table
+                    .shared
+                    .compare_exchange::<Draw>(seat, 0, drawn, drawn + 1);
+                if found == drawn {
+                    return drawn;
+                }
+            }
+            thread::yield_now();
+        }
+        unreachable!()
+    }
+
+    fn watch<R: Wait>(&self, rt: &R, seat: &mut PassSeat<W>, ticket: u64)
+        requires lock { seat.old.table_id ≡ self.now.table.shared.table_id }
+        requires waits { seat.old.me.0.stage ≡ Waiting ticket }
+        ensures lock { seat.new.table_id ≡ seat.old.table_id }
+        ensures taken { Takes W.history W.actor W.spare W.comes ticket seat.old.me seat.new.me }
+    {
+        for _ in rt.forever() {
+            if self.table.shared.load::<Watch>(seat, 1) == ticket {
+                return;
+            }
+            thread::yield_now();
+        }
+        unreachable!()
+    }
+
+    /// Gives the turn back, and counts the entries that were made in it.
+    pub fn put(&self, pass: &mut Pass<W>, turn: Turn<W>)
+        requires lock { lock_of pass.old ≡ lock_id self.now }
+        requires history { W.history turn.world ≡ entries_of (view pass.old).seen ++ made_since (view pass.old).seen (W.history turn.world) }
+        requires opened { IfSome (view pass.old).opening (W.comes turn.world) }
+        requires room { IsSomeAnd (view pass.old).turn (λ had. IsWithin (less had (W.spare turn.world)) (view pass.old).room) }
+        requires unspent { W.history turn.world ≡ entries_of (view pass.old).seen → IfSome (view pass.old).turn (λ had. IsWithin had (W.spare turn.world)) }
+        requires actors { All (λ e. may_make (view pass.old).actors (W.actor e) ≡ true) (made_since (view pass.old).seen (W.history turn.world)) }
+        ensures lock { lock_of pass.new ≡ lock_of pass.old }
+        ensures pass { view pass.new ≡ after_put (made_since (view pass.old).seen (W.history turn.world)) (W.spare turn.world) (view pass.old) }
+        ensures mine { mine (view pass.new) ≡ mine (view pass.old) ++ enumerate_from (length (view pass.old).seen) (made_since (view pass.old).seen (W.history turn.world)) }
+    {
+        let Turn { world, owed } = turn;
+        let Owed = owed;
+        self.put_world(&mut pass.seat, world);
+    }
+
+    fn put_world(&self, seat: &mut PassSeat<W>, world: W)
+        requires lock { seat.old.table_id ≡ self.now.table.shared.table_id }
+        ensures lock { seat.new.table_id ≡ seat.old.table_id }
+    {
+        let entries = world.entries();
+        let emptied = self.table.shared.exchange(seat, 0, Some(world));
+        let None = emptied else { unreachable!() };
+        self.table.shared.store::<Count>(seat, 2, entries);
+        let _ = self.table.shared.fetch_add::<Serve>(seat, 1, 1);
+    }
+
+    /// The count of entries, with which the pass sees the history so far.
+    pub fn front(&self, pass: &mut Pass<W>) -> u64
+        requires lock { lock_of pass.old ≡ lock_id self.now }
+        requires free { (view pass.old).turn ≡ None }
+        ensures lock { lock_of pass.new ≡ lock_of pass.old }
+        ensures pass { view pass.new ≡ record (view pass.old) { seen = (view pass.new).seen } }
+        ensures seen { OthersAdd W.actor (view pass.old).names (view pass.old).actors (view pass.old).seen (view pass.new).seen }
+        ensures mine { mine (view pass.new) ≡ mine (view pass.old) }
+        ensures count { result ≡ length (view pass.new).seen }
+    {
+        self.table.shared.load::<Look>(&mut pass.seat, 2)
+    }
+}
