@@ -57,7 +57,7 @@ module _ {W E O : Type 0} (history : W → List E) (actor : E → Option ℕ) (s
           → (drawn served : ℕ) (log : List (Stamped E)) (words : List ℕ) (homes : List (mathlib.Core.Option.Option (Option W)))
           → words ≡ drawn ∷ served ∷ length log ∷ []
           → OthersAdd actor v.view.names v.view.actors seen log
-          → StandsAt actor drawn log seen stage
+          → StandsAt actor drawn log w.view stage
           → ((j : ℕ) (q : Known E O) → j ≢ id → Has s.views j q → IsSound actor opening drawn log q)
           → All (IsNamed s.views) log
           → ((k : Measure) → rooms k (set s.views id w) + taken k log ≤ amount k start)

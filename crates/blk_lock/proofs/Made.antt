@@ -117,13 +117,14 @@ module _ {E : Type 0} where
       entries_of-unmarked [] = refl
       entries_of-unmarked (e ∷ es) = ap (λ l. e ∷ l) (entries_of-unmarked es)
 
-  unmarked_all : (P : Stamped E → Type 0) (name : List ℕ) (es : List E) → ((e : E) (t : Option Room) → P (record { entry = e; maker = name; took = t })) → All P (map (λ x. record { entry = x; maker = name; took = None }) es)
-  unmarked_all P name [] each = All-nil P
-  unmarked_all P name (e ∷ es) each = All-cons P (record { entry = e; maker = name; took = None }) (map (λ x. record { entry = x; maker = name; took = None }) es) (each e None) (unmarked_all P name es each)
+  unmarked_all : (P : Stamped E → Type 0) (Q : E → Type 0) (name : List ℕ) (es : List E) → ((e : E) (t : Option Room) → Q e → P (record { entry = e; maker = name; took = t })) → All Q es → All P (map (λ x. record { entry = x; maker = name; took = None }) es)
+  unmarked_all P Q name [] each all = All-nil P
+  unmarked_all P Q name (e ∷ es) each all = All-cons P (record { entry = e; maker = name; took = None }) (map (λ x. record { entry = x; maker = name; took = None }) es) (each e None (All-head Q e es all)) (unmarked_all P Q name es each (All-tail Q e es all))
 
-  pub All-stamped : (P : Stamped E → Type 0) (name : List ℕ) (took : Room) (es : List E) → ((e : E) (t : Option Room) → P (record { entry = e; maker = name; took = t })) → All P (stamped name took es)
-  All-stamped P name took [] each = All-nil P
-  All-stamped P name took (e ∷ es) each = All-cons P (record { entry = e; maker = name; took = Some took }) (map (λ x. record { entry = x; maker = name; took = None }) es) (each e (Some took)) (unmarked_all P name es each)
+  -- what holds of each entry that is made under a name, holds of each where they stand with it
+  pub All-stamped : (P : Stamped E → Type 0) (Q : E → Type 0) (name : List ℕ) (took : Room) (es : List E) → ((e : E) (t : Option Room) → Q e → P (record { entry = e; maker = name; took = t })) → All Q es → All P (stamped name took es)
+  All-stamped P Q name took [] each all = All-nil P
+  All-stamped P Q name took (e ∷ es) each all = All-cons P (record { entry = e; maker = name; took = Some took }) (map (λ x. record { entry = x; maker = name; took = None }) es) (each e (Some took) (All-head Q e es all)) (unmarked_all P Q name es each (All-tail Q e es all))
 
   unmarked_taken : (k : Measure) (name : List ℕ) (es : List E) → taken k (map (λ x. record { entry = x; maker = name; took = None }) es) ≡ 0
   unmarked_taken k name [] = refl

@@ -9,7 +9,7 @@ use Rattle.blk_lock.specs.declared.known.View.{View}
 use Rattle.blk_lock.specs.declared.known.Side.{Side}
 use Rattle.blk_lock.specs.declared.known.Known.{Known}
 use Rattle.blk_lock.specs.declared.known.Stage.{Stage}
-use Rattle.blk_lock.specs.declared.known.Stage.TheVariants.{Joined, Rest, Waiting, Out, Counted}
+use Rattle.blk_lock.specs.declared.known.Stage.TheVariants.{Fresh, Joined, Rest, Waiting, Out, Counted}
 use Rattle.blk_lock.specs.Rooms.{Measure, amount}
 use Rattle.blk_lock.specs.Stamps.{is_among, has_actor, entries_of, taken, OthersAdd}
 use Rattle.blk_lock.specs.Stages.{IsLive, ticket_of, is_out}
@@ -27,15 +27,23 @@ module _ {E : Type 0} where
   abbrev pub GoesOn : (E → Option ℕ) → List (Stamped E) → Side E → Type 0
   GoesOn actor log side = OthersAdd actor side.names side.actors side.seen log
 
-  -- what holds of a pass by where it stands
-  abbrev pub StandsAt : (E → Option ℕ) → ℕ → List (Stamped E) → List (Stamped E) → Stage E → Type 0
-  StandsAt actor drawn log seen (Joined left right) = GoesOn actor log left × GoesOn actor log right
-  StandsAt actor drawn log seen (Waiting ticket) = IsDrawn drawn ticket
-  StandsAt actor drawn log seen (Out ticket) = IsDrawn drawn ticket × (seen ≡ log)
-  StandsAt actor drawn log seen (Counted ticket) = IsDrawn drawn ticket × (seen ≡ log)
-  StandsAt actor drawn log seen _ = Unit {0}
-
 module _ {E O : Type 0} where
+  -- a pass that two were joined into goes on from both
+  pub record Unites (actor : E → Option ℕ) (log : List (Stamped E)) (v : View E O) (left right : Side E) : Type 0 where
+    pub names : v.names ≡ left.names ++ right.names
+    pub actors : v.actors ≡ left.actors ++ right.actors
+    pub from_left : GoesOn actor log left
+    pub from_right : GoesOn actor log right
+
+  -- what holds of a pass by where it stands
+  abbrev pub StandsAt : (E → Option ℕ) → ℕ → List (Stamped E) → View E O → Stage E → Type 0
+  StandsAt actor drawn log v Fresh = All (λ m. is_among v.names m.maker ≡ false) log
+  StandsAt actor drawn log v (Joined left right) = Unites actor log v left right
+  StandsAt actor drawn log v (Waiting ticket) = IsDrawn drawn ticket
+  StandsAt actor drawn log v (Out ticket) = IsDrawn drawn ticket × (v.seen ≡ log)
+  StandsAt actor drawn log v (Counted ticket) = IsDrawn drawn ticket × (v.seen ≡ log)
+  StandsAt actor drawn log v _ = Unit {0}
+
   -- a later split of the pass gives this name, or a split of that pass
   abbrev pub MayGive : View E O → List ℕ → Type 0
   MayGive v name = (k : ℕ) × (rest : List ℕ) × (v.splits < k) × (name ≡ v.name ++ k ∷ rest)
@@ -46,7 +54,7 @@ module _ {E O : Type 0} where
     pub named : is_among p.view.names p.view.name ≡ true
     pub shared : 0 < p.view.shares
     pub goes_on : OthersAdd actor p.view.names p.view.actors p.view.seen log
-    pub stands : StandsAt actor drawn log p.view.seen p.stage
+    pub stands : StandsAt actor drawn log p.view p.stage
 
   -- two passes have no name, actor or ticket in common
   pub record AreApart (p q : Known E O) : Type 0 where

@@ -1,5 +1,5 @@
 -- What each atomic step tells the pass that makes it.
-use Rattle.std.specs.Prelude.{◌≡◌, ◌≢◌, ℕ, ◌+◌, ◌-◌, ◌==◌, not, List, [], ◌∷◌, ◌++◌, length, drop, filter, nat_lt, All, if◌then◌else◌, Option, Some, None, unwrap_or, IfSome}
+use Rattle.std.specs.Prelude.{◌≡◌, ◌≢◌, ℕ, ◌+◌, ◌-◌, ◌==◌, not, true, List, [], ◌∷◌, ◌++◌, length, drop, filter, nat_lt, All, if◌then◌else◌, Option, Some, None, unwrap_or, IfSome}
 use Rattle.atomic_table.specs.Table.{Me, Step}
 use Rattle.blk_lock.specs.declared.room.Room.{Room}
 use Rattle.blk_lock.specs.declared.known.Stamped.{Stamped}
@@ -9,7 +9,7 @@ use Rattle.blk_lock.specs.declared.known.Known.{Known}
 use Rattle.blk_lock.specs.declared.known.Stage.{Stage}
 use Rattle.blk_lock.specs.declared.known.Stage.TheVariants.{Spent, Fresh, Joined, Rest, Waiting, Out, Counted}
 use Rattle.blk_lock.specs.Rooms.{no_room, plus, less, IsWithin}
-use Rattle.blk_lock.specs.Stamps.{entries_of, stamped, made_by, OthersAdd}
+use Rattle.blk_lock.specs.Stamps.{is_among, entries_of, stamped, made_by, OthersAdd}
 use Rattle.blk_lock.specs.Stages.{ticket_of}
 use Rattle.blk_lock.specs.Order.{GoesOn}
 
@@ -117,9 +117,10 @@ module _ {W E O : Type 0} where
     pub served : ticket_of m.0.stage ≡ Some found → Takes history actor spare comes found m m'
     pub missed : ticket_of m.0.stage ≢ Some found → m' ≡ m
 
-  -- what was made with the value in hand is counted
-  abbrev pub Counts : (W → List E) → (W → Room) → Me (Option W) (Known E O) → Me (Option W) (Known E O) → Type 0
-  Counts history spare m m' = (world : W) → m.1 ≡ (0, Some world) ∷ [] → m' ≡ (counted_known (made_since m.0.view.seen (history world)) (spare world) m.0, m.1)
+  -- what was made with the value in hand is counted, under the pass's name, which is one of its names
+  pub record Counts (history : W → List E) (spare : W → Room) (m m' : Me (Option W) (Known E O)) : Type 0 where
+    pub after : (world : W) → m.1 ≡ (0, Some world) ∷ [] → m' ≡ (counted_known (made_since m.0.view.seen (history world)) (spare world) m.0, m.1)
+    pub named : is_among m.0.view.names m.0.view.name ≡ true
 
   -- the value is given back
   abbrev pub Serves : Me (Option W) (Known E O) → Me (Option W) (Known E O) → Type 0
@@ -138,6 +139,6 @@ module _ {W E O : Type 0} where
     pub nothing : made_by m.0.view.names m.0.view.seen ≡ []
 
   -- what a pass has seen after a join goes on from both sides
-  pub record Unites (actor : E → Option ℕ) (m m' : Me (Option W) (Known E O)) : Type 0 where
+  pub record Joins (actor : E → Option ℕ) (m m' : Me (Option W) (Known E O)) : Type 0 where
     pub after : m' ≡ (resting m.0, m.1)
     pub both : (left right : Side E) → m.0.stage ≡ Joined left right → GoesOn actor m.0.view.seen left × GoesOn actor m.0.view.seen right

@@ -2,7 +2,7 @@
 ghost use Rattle.std.specs.Prelude.{ℕ, Option, None};
 ghost use Rattle.blk_lock.specs.declared.room.Room.{Room};
 ghost use Rattle.blk_lock.specs.Rooms.{no_room};
-ghost use Rattle.blk_lock.specs.Plays.{Draws, Watches, Counts, Serves, Looks, Settles, Unites, split_known, fresh_known, joined_known, spent_known};
+ghost use Rattle.blk_lock.specs.Plays.{Draws, Watches, Counts, Serves, Looks, Settles, Joins, split_known, fresh_known, joined_known, spent_known};
 
 use crate::known::Known;
 use crate::logged::Logged;
@@ -55,7 +55,7 @@ impl<W: Logged> Play<Option<W>, Known<W::Entry, W::Opening>> for Settle {
 pub(crate) struct Unite;
 
 impl<W: Logged> Play<Option<W>, Known<W::Entry, W::Opening>> for Unite {
-    ghost then = { λ st m found n. Unites W.actor m n };
+    ghost then = { λ st m found n. Joins W.actor m n };
 }
 
 /// What a split gives. Each call picks it.
