@@ -3,7 +3,7 @@ use Rattle.std.proofs.Common.{◌≡◌, ◌≢◌, ℕ, zero, suc, ◌+◌, ◌
 use Rattle.std.proofs.lemmas.List.Elements.{All-nil, All-cons, All-head, All-tail, All-append}
 use Rattle.std.proofs.lemmas.List.Prefix.{front_rest}
 use Rattle.std.specs.List.{enumerate_from}
-use Rattle.blk_lock.specs.declared.room.Room.{Room}
+use Rattle.blk_base.specs.declared.memory.Room.{Room}
 use Rattle.blk_lock.specs.declared.known.Stamped.{Stamped}
 use Rattle.blk_lock.specs.Rooms.{Measure, amount, amount_if}
 use Rattle.blk_lock.specs.Stamps.{same_name, is_among, has_actor, is_by, may_make, entries_of, stamped, taken, made_by, IsOthers, OthersAdd}

@@ -6,3 +6,5 @@ pub mod Frames
 pub mod Steps
 pub mod Puts
 pub mod Splits
+pub mod Joins
+pub mod Ends

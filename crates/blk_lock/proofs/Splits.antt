@@ -5,7 +5,7 @@ use mathlib.Core.Option.{none, some, some-injective, some-ne-none}
 use lib.ListN.{get_elem?}
 use Rattle.atomic_table.specs.Table.{State, Splits}
 use Rattle.atomic_table.proofs.Lists.{at_set, set_else, at_longer}
-use Rattle.blk_lock.specs.declared.room.Room.{Room}
+use Rattle.blk_base.specs.declared.memory.Room.{Room}
 use Rattle.blk_lock.specs.declared.known.Stamped.{Stamped}
 use Rattle.blk_lock.specs.declared.known.View.{View}
 use Rattle.blk_lock.specs.declared.known.Known.{Known}

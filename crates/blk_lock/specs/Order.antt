@@ -3,7 +3,7 @@ use Rattle.std.specs.Prelude.{◌≡◌, ◌≢◌, ℕ, ◌+◌, ◌<◌, ◌�
 use mathlib.Core.Option.{none, some}
 use lib.ListN.{get_elem?}
 use Rattle.atomic_table.specs.Table.{State}
-use Rattle.blk_lock.specs.declared.room.Room.{Room}
+use Rattle.blk_base.specs.declared.memory.Room.{Room}
 use Rattle.blk_lock.specs.declared.known.Stamped.{Stamped}
 use Rattle.blk_lock.specs.declared.known.View.{View}
 use Rattle.blk_lock.specs.declared.known.Side.{Side}

@@ -1,7 +1,7 @@
 -- What each atomic step tells the pass that makes it.
 use Rattle.std.specs.Prelude.{◌≡◌, ◌≢◌, ℕ, ◌+◌, ◌-◌, ◌==◌, not, true, List, [], ◌∷◌, ◌++◌, length, drop, filter, nat_lt, All, if◌then◌else◌, Option, Some, None, unwrap_or, IfSome}
 use Rattle.atomic_table.specs.Table.{Me, Step}
-use Rattle.blk_lock.specs.declared.room.Room.{Room}
+use Rattle.blk_base.specs.declared.memory.Room.{Room}
 use Rattle.blk_lock.specs.declared.known.Stamped.{Stamped}
 use Rattle.blk_lock.specs.declared.known.View.{View}
 use Rattle.blk_lock.specs.declared.known.Side.{Side}
@@ -138,7 +138,7 @@ module _ {W E O : Type 0} where
     pub after : m' ≡ (resting m.0, m.1)
     pub nothing : made_by m.0.view.names m.0.view.seen ≡ []
 
-  -- what a pass has seen after a join goes on from both sides
+  -- what a pass has seen after a join, which is the longer of two histories, goes on from both
   pub record Joins (actor : E → Option ℕ) (m m' : Me (Option W) (Known E O)) : Type 0 where
     pub after : m' ≡ (resting m.0, m.1)
-    pub both : (left right : Side E) → m.0.stage ≡ Joined left right → GoesOn actor m.0.view.seen left × GoesOn actor m.0.view.seen right
+    pub both : (left right : Side E) → m.0.stage ≡ Joined left right → m.0.view.seen ≡ longer left.seen right.seen → GoesOn actor m.0.view.seen left × GoesOn actor m.0.view.seen right

@@ -1,6 +1,6 @@
 -- Rooms, part by part: a number of entries and a number of bytes.
 use Rattle.std.specs.Prelude.{ℕ, ◌+◌, ◌-◌, ◌≤◌, Option, Some, None}
-use Rattle.blk_lock.specs.declared.room.Room.{Room}
+use Rattle.blk_base.specs.declared.memory.Room.{Room}
 
 -- what a room counts
 pub data Measure : Type 0 where

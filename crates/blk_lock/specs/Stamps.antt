@@ -2,7 +2,7 @@
 -- A name is a list of numbers: that of a pass is its parent's followed by the number of the split that gave it.
 use Rattle.std.specs.Prelude.{◌≡◌, ℕ, ◌+◌, Bool, true, false, ◌&&◌, ◌||◌, ◌==◌, List, [], ◌∷◌, ◌++◌, map, filter, All, Option, Some, None}
 use Rattle.std.specs.List.{enumerate_from, list_any}
-use Rattle.blk_lock.specs.declared.room.Room.{Room}
+use Rattle.blk_base.specs.declared.memory.Room.{Room}
 use Rattle.blk_lock.specs.declared.known.Stamped.{Stamped}
 use Rattle.blk_lock.specs.Rooms.{Measure, amount_if}
 

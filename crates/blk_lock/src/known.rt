@@ -1,5 +1,5 @@
 //! What passes know. No value of these types is made: they stand in clauses alone.
-use crate::room::Room;
+use blk_base::Room;
 use std::collections::LinkedList;
 
 /// An entry of the history beside the name of the pass that made it.

@@ -7,11 +7,9 @@ mod logged;
 mod order;
 mod pass;
 mod plays;
-mod room;
 mod turns;
 
 pub use known::{Stamped, View};
 pub use logged::Logged;
 pub use pass::Pass;
-pub use room::{NoMemory, Room};
 pub use turns::{Turn, Turns};

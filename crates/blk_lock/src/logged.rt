@@ -1,5 +1,5 @@
 ghost use Rattle.std.specs.Prelude.{◌≡◌, ℕ, List, Option, length};
-ghost use Rattle.blk_lock.specs.declared.room.Room.{Room};
+ghost use Rattle.blk_base.specs.declared.memory.Room.{Room};
 
 /// A value that keeps a history.
 pub trait Logged {

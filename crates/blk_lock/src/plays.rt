@@ -1,6 +1,6 @@
 //! What each atomic step tells, and how passes are cut and joined.
 ghost use Rattle.std.specs.Prelude.{ℕ, Option, None};
-ghost use Rattle.blk_lock.specs.declared.room.Room.{Room};
+ghost use Rattle.blk_base.specs.declared.memory.Room.{Room};
 ghost use Rattle.blk_lock.specs.Rooms.{no_room};
 ghost use Rattle.blk_lock.specs.Plays.{Draws, Watches, Counts, Serves, Looks, Settles, Joins, split_known, fresh_known, joined_known, spent_known};
 

@@ -9,7 +9,7 @@ use super::Turns;
 use crate::birth::Named;
 use crate::logged::Logged;
 use crate::pass::Pass;
-use crate::room::NoMemory;
+use blk_base::NoMemory;
 use atomic_table::{Refused, Table};
 use std::alloc::Global;
 use std::snapshot::Snapshot;

@@ -10,7 +10,7 @@ use crate::known::Known;
 use crate::logged::Logged;
 use crate::pass::Pass;
 use crate::plays::{Both, Cut, Part, Settle, Unite};
-use crate::room::Room;
+use blk_base::Room;
 use atomic_table::Seat;
 use std::marker::Brand;
 
