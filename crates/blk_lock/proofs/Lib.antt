@@ -8,3 +8,4 @@ pub mod Puts
 pub mod Splits
 pub mod Joins
 pub mod Ends
+pub mod Calls

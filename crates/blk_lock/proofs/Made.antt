@@ -149,3 +149,14 @@ module _ {E : Type 0} where
   -- what was made since a history was seen is what follows on it
   pub made_since-append : (seen : List (Stamped E)) (es : List E) → made_since seen (entries_of seen ++ es) ≡ es
   made_since-append seen es = ap (λ n. drop n (entries_of seen ++ es)) (sym (length-entries_of seen)) ∙ front_rest (entries_of seen ++ es) (entries_of seen) es refl
+
+  -- what one turn makes is its pass's own, once, at the places that follow
+  pub made_by-stamped : (names : List (List ℕ)) (name : List ℕ) (took : Room) (seen : List (Stamped E)) (es : List E) → is_among names name ≡ true
+      → made_by names (seen ++ stamped name took es) ≡ made_by names seen ++ enumerate_from (length seen) es
+  made_by-stamped names name took seen es named =
+      let start : 0 + length seen ≡ length seen = omega arith in
+      let all : All (λ s. is_among names s.maker ≡ true) (stamped name took es) = All-stamped (λ s. is_among names s.maker ≡ true) (λ e. Unit {0}) name took es (λ e t u. named) (λ k d lt. tt) in
+      made_from-append names 0 seen (stamped name took es)
+      ∙ ap (λ l. made_by names seen ++ l) (made_from-all names (0 + length seen) (stamped name took es) all)
+      ∙ ap (λ n. made_by names seen ++ enumerate_from n (entries_of (stamped name took es))) start
+      ∙ ap (λ l. made_by names seen ++ enumerate_from (length seen) l) (entries_of-stamped name took es)

@@ -166,12 +166,15 @@ module _ {W E O : Type 0} (history : W → List E) (actor : E → Option ℕ) (s
           record {
             served = λ _. record {
               world = h.world;
-              seen = r.log;
-              after = refl;
-              told = h.told;
-              opened = subst (λ o. IfSome o (comes h.world)) (sym mine.opened) h.opened;
-              room = (room_for s id v h.world at h.has_room in_entries, room_for s id v h.world at h.has_room in_bytes);
-              others = mine.goes_on;
+              taken = record {
+                seen = r.log;
+                after = refl;
+                told = h.told;
+                opened = subst (λ o. IfSome o (comes h.world)) (sym mine.opened) h.opened;
+                room = (room_for s id v h.world at h.has_room in_entries, room_for s id v h.world at h.has_room in_bytes);
+                others = mine.goes_on;
+              };
+              in_hand = refl;
             };
             missed = λ ne. absurd (ne (ap ticket_of its));
           },

@@ -102,15 +102,20 @@ module _ {W E O : Type 0} where
     pub drawn : found ≡ st.first → m' ≡ (record m.0 { stage = Waiting st.first }, m.1)
     pub missed : found ≢ st.first → m' ≡ m
 
-  -- the value is taken, with the whole history
+  -- the pass has taken this value, and seen its whole history
+  pub record HasTaken (history : W → List E) (actor : E → Option ℕ) (spare : W → Room) (comes : W → O → Type 0) (ticket : ℕ) (p q : Known E O) (world : W) : Type 0 where
+    pub seen : List (Stamped E)
+    pub after : q ≡ record { stage = Out ticket; view = record p.view { seen = seen; turn = Some (spare world) } }
+    pub told : history world ≡ entries_of seen
+    pub opened : IfSome p.view.opening (comes world)
+    pub room : IsWithin p.view.room (spare world)
+    pub others : OthersAdd actor p.view.names p.view.actors p.view.seen seen
+
+  -- the value is taken from its slot
   pub record Takes (history : W → List E) (actor : E → Option ℕ) (spare : W → Room) (comes : W → O → Type 0) (ticket : ℕ) (m m' : Me (Option W) (Known E O)) : Type 0 where
     pub world : W
-    pub seen : List (Stamped E)
-    pub after : m' ≡ (record { stage = Out ticket; view = record m.0.view { seen = seen; turn = Some (spare world) } }, (0, Some world) ∷ m.1)
-    pub told : history world ≡ entries_of seen
-    pub opened : IfSome m.0.view.opening (comes world)
-    pub room : IsWithin m.0.view.room (spare world)
-    pub others : OthersAdd actor m.0.view.names m.0.view.actors m.0.view.seen seen
+    pub taken : HasTaken history actor spare comes ticket m.0 m'.0 world
+    pub in_hand : m'.1 ≡ (0, Some world) ∷ m.1
 
   -- the value is taken where the ticket is served
   pub record Watches (history : W → List E) (actor : E → Option ℕ) (spare : W → Room) (comes : W → O → Type 0) (m : Me (Option W) (Known E O)) (found : ℕ) (m' : Me (Option W) (Known E O)) : Type 0 where

@@ -2,9 +2,9 @@
 ghost use Rattle.std.specs.Prelude.{◌≡◌, ℕ, ◌+◌, ◌<◌, ◌≤◌, ◌^◌, true, List, [], ◌∷◌, ◌++◌, length, All, IfSome, IsSomeAnd, unwrap_or};
 ghost use Rattle.std.specs.List.{enumerate_from};
 ghost use Rattle.blk_lock.specs.declared.known.Stage.TheVariants.{Rest, Waiting, Out};
-ghost use Rattle.blk_lock.specs.Rooms.{IsWithin, less};
-ghost use Rattle.blk_lock.specs.Stamps.{entries_of, may_make, OthersAdd};
-ghost use Rattle.blk_lock.specs.Plays.{Takes, Looks, made_since, after_put, counted_known};
+ghost use Rattle.blk_lock.specs.Rooms.{IsWithin, no_room, less};
+ghost use Rattle.blk_lock.specs.Stamps.{is_among, entries_of, may_make, OthersAdd};
+ghost use Rattle.blk_lock.specs.Plays.{HasTaken, Takes, Looks, made_since, after_put, resting};
 ghost use Rattle.blk_lock.specs.Views.{view, lock_of, lock_id, mine};
 
 use super::{Owed, Turn, Turns};
@@ -41,7 +41,7 @@ impl<W: Logged> Turns<W> {
         requires lock { seat.old.table_id ≡ self.now.table.shared.table_id }
         requires rest { (seat.old.me.0.stage ≡ Rest) × (seat.old.me.1 ≡ []) }
         ensures lock { seat.new.table_id ≡ seat.old.table_id }
-        ensures taken { (ticket : ℕ) × Takes W.history W.actor W.spare W.comes ticket seat.old.me (seat.new.me.0, (0, Some result) ∷ []) }
+        ensures taken { (ticket : ℕ) × HasTaken W.history W.actor W.spare W.comes ticket seat.old.me.0 seat.new.me.0 result }
         ensures in_hand { seat.new.me.1 ≡ (0, None) ∷ [] }
     {
         let ticket = self.draw(rt, seat);
@@ -100,6 +100,7 @@ impl<W: Logged> Turns<W> {
         requires actors { All (λ e. may_make (view pass.old).actors (W.actor e) ≡ true) (made_since (view pass.old).seen (W.history turn.world)) }
         ensures lock { lock_of pass.new ≡ lock_of pass.old }
         ensures pass { view pass.new ≡ after_put (made_since (view pass.old).seen (W.history turn.world)) (W.spare turn.world) (view pass.old) }
+        ensures unspent { W.history turn.world ≡ entries_of (view pass.old).seen → (view pass.new).room ≡ (view pass.old).room }
         ensures mine { mine (view pass.new) ≡ mine (view pass.old) ++ enumerate_from (length (view pass.old).seen) (made_since (view pass.old).seen (W.history turn.world)) }
     {
         let Turn { world, owed } = turn;
@@ -109,7 +110,15 @@ impl<W: Logged> Turns<W> {
 
     fn put_world(&self, seat: &mut PassSeat<W>, world: W)
         requires lock { seat.old.table_id ≡ self.now.table.shared.table_id }
+        requires out { (ticket : ℕ) × (seat.old.me.0.stage ≡ Out ticket) }
+        requires in_hand { seat.old.me.1 ≡ (0, None) ∷ [] }
+        requires history { W.history world ≡ entries_of seat.old.me.0.view.seen ++ made_since seat.old.me.0.view.seen (W.history world) }
+        requires opened { IfSome seat.old.me.0.view.opening (W.comes world) }
+        requires room { IsWithin (less (unwrap_or seat.old.me.0.view.turn no_room) (W.spare world)) seat.old.me.0.view.room }
+        requires actors { All (λ e. may_make seat.old.me.0.view.actors (W.actor e) ≡ true) (made_since seat.old.me.0.view.seen (W.history world)) }
         ensures lock { seat.new.table_id ≡ seat.old.table_id }
+        ensures put { seat.new.me ≡ (resting (record seat.old.me.0 { view = after_put (made_since seat.old.me.0.view.seen (W.history world)) (W.spare world) seat.old.me.0.view }), []) }
+        ensures named { is_among seat.old.me.0.view.names seat.old.me.0.view.name ≡ true }
     {
         let entries = world.entries();
         let emptied = self.table.shared.exchange(seat, 0, Some(world));
