@@ -1,5 +1,5 @@
 -- What the calls put together from the steps that they make.
-use Rattle.std.proofs.Common.{◌≡◌, ℕ, ◌+◌, ◌%◌, ◌^◌, Bool, true, false, List, [], ◌∷◌, ◌++◌, length, All, Option, Some, None, IfSome, IsSomeAnd, unwrap_or, arith, ◌-◌, ◌≤◌, refl, sym, ap, ◌∙◌, subst}
+use Rattle.std.proofs.Common.{◌≡◌, ℕ, ◌+◌, ◌%◌, ◌^◌, Bool, true, false, List, [], ◌∷◌, ◌++◌, length, All, Contains, ◌↔◌, ◌⊎◌, Option, Some, None, IfSome, IsSomeAnd, unwrap_or, arith, ◌-◌, ◌≤◌, refl, sym, ap, ◌∙◌, subst}
 use Rattle.std.specs.List.{enumerate_from}
 use Rattle.atomic_table.specs.Table.{State, Me, Allows, rest}
 use Rattle.blk_base.specs.declared.memory.Room.{Room}
@@ -9,11 +9,11 @@ use Rattle.blk_lock.specs.declared.known.Known.{Known}
 use Rattle.blk_lock.specs.declared.known.Stage.{Stage}
 use Rattle.blk_lock.specs.declared.known.Stage.TheVariants.{Spent, Fresh, Joined, Rest, Waiting, Out, Counted}
 use Rattle.blk_lock.specs.Rooms.{no_room, less, IsWithin}
-use Rattle.blk_lock.specs.Stamps.{is_among, may_make, entries_of, stamped}
+use Rattle.blk_lock.specs.Stamps.{is_among, may_make, entries_of, stamped, made_by, OthersAdd}
 use Rattle.blk_lock.specs.Stages.{is_settled, ticket_of}
 use Rattle.blk_lock.specs.Views.{mine}
-use Rattle.blk_lock.specs.Plays.{made_since, after_put, counted_known, HasTaken, Counts, Serves}
-use Rattle.blk_lock.proofs.Made.{made_by-stamped, entries_of-stamped, entries_of-append}
+use Rattle.blk_lock.specs.Plays.{longer, side_of, joined_known, Joins, made_since, after_put, counted_known, HasTaken, Counts, Serves}
+use Rattle.blk_lock.proofs.Made.{made_by-append, made_by-stamped, entries_of-stamped, entries_of-append}
 use Rattle.blk_lock.proofs.Frames.{Rule}
 use Rattle.blk_lock.proofs.Puts.{counts, serves}
 
@@ -126,3 +126,20 @@ module _ {W E O : Type 0} (history : W → List E) (actor : E → Option ℕ) (s
           may.grown ∙ ap (λ l. entries_of p.view.seen ++ l) (sym (entries_of-stamped p.view.name (less (unwrap_or p.view.turn no_room) (spare world)) made)) ∙ sym (entries_of-append p.view.seen stamps) in
         subst (λ (z : M). Allows Lawful slots id z 1 (λ n. (n + 1) % 2 ^ 64) (λ _ n. Serves z n)) (sym is)
         (serves history actor spare comes opening start slots id (unwrap_or (ticket_of p.stage) 0) (counted history spare p world) world refl refl told may.opened refl)
+
+-- what two passes made is what the pass that they were joined into has made
+pub both_made : {E : Type 0} (names n1 n2 : List (List ℕ)) (seen : List (Stamped E)) (m1 m2 : List (ℕ × E)) → names ≡ n1 ++ n2 → made_by n1 seen ≡ m1 → made_by n2 seen ≡ m2
+    → (x : ℕ × E) → Contains (made_by names seen) x ↔ (Contains m1 x ⊎ Contains m2 x)
+both_made {E} names n1 n2 seen m1 m2 is one two x =
+    let Told : List (List ℕ) × List (ℕ × E) × List (ℕ × E) → Type 0 = λ z. Contains (made_by z.0 seen) x ↔ (Contains z.1 x ⊎ Contains z.2 x) in
+    subst Told (λ i. (sym is i, one i, two i)) (made_by-append n1 n2 seen x)
+
+module _ {W E O : Type 0} (actor : E → Option ℕ) where
+  -- after a join what was seen goes on from both
+  pub united : (p q : Known E O) (hand : List (ℕ × Option W)) (m n : Me (Option W) (Known E O)) → m ≡ (joined_known p q, hand) → Joins actor m n
+      → OthersAdd actor p.view.names p.view.actors p.view.seen n.0.view.seen × OthersAdd actor q.view.names q.view.actors q.view.seen n.0.view.seen
+  united p q hand m n is h =
+      let k : Joins actor (joined_known p q, hand) n = subst (λ (z : Me (Option W) (Known E O)). Joins actor z n) is h in
+      let two = k.both (side_of p.view) (side_of q.view) refl refl in
+      let same : longer p.view.seen q.view.seen ≡ n.0.view.seen = ap (λ (z : Me (Option W) (Known E O)). z.0.view.seen) (sym k.after) in
+      (subst (OthersAdd actor p.view.names p.view.actors p.view.seen) same two.0, subst (OthersAdd actor q.view.names q.view.actors q.view.seen) same two.1)

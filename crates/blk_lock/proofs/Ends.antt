@@ -31,6 +31,16 @@ module _ {X : Type 0} where
   none_of_both P Q not [] p q = refl
   none_of_both P Q not (x ∷ xs) p q = absurd (not x (All-head P x xs p) (All-head Q x xs q))
 
+module _ {W E O : Type 0} (history : W → List E) (comes : W → O → Type 0) where
+  -- all that the value has is the pass's own
+  pub record IsWhole (v : Known E O) (world : W) : Type 0 where
+    pub told : history world ≡ entries_of v.view.seen
+    pub opened : IfSome v.view.opening (comes world)
+    pub made : made_by v.view.names v.view.seen ≡ enumerate_from 0 (history world)
+
+  pub whole_as : (v : Known E O) (taken : Option W) (world x : W) → taken ≡ Some world → taken ≡ Some x → IsWhole v world → IsWhole v x
+  whole_as v taken world x is its h = let same : world ≡ x = (let e : Some world ≡ Some x = sym is ∙ its in cc) in subst (IsWhole v) same h
+
 module _ {W E O : Type 0} (history : W → List E) (actor : E → Option ℕ) (spare : W → Room) (comes : W → O → Type 0) (opening : O) where
   abbrev St : Type 0
   St = State (Option W) (Known E O)
@@ -104,21 +114,17 @@ module _ {W E O : Type 0} (history : W → List E) (actor : E → Option ℕ) (s
       made_all : made_by v.view.names v.view.seen ≡ enumerate_from 0 (history is_home.world)
       made_all = made_from-all v.view.names 0 v.view.seen (subst (All (λ m. is_among v.view.names m.maker ≡ true)) (sym seen_all) all_mine) ∙ ap (enumerate_from 0) (sym told_all)
 
-    -- the value that comes back, where one pass has all shares
-    pub record ComesBack (v : Known E O) (items : List (Option W)) : Type 0 where
-      pub world : W
-      pub there : get_elem? items 0 ≡ some (Some world)
-      pub told : history world ≡ entries_of v.view.seen
-      pub opened : IfSome v.view.opening (comes world)
-      pub made : made_by v.view.names v.view.seen ≡ enumerate_from 0 (history world)
-
-    pub ends : (id : ℕ) (v : Known E O) (words : List ℕ) (items : List (Option W)) → Final (Seen Lawful id v) words items → v.stage ≡ Rest → v.view.shares ≡ 1024 → ComesBack v items
-    ends id v words items final rest all =
+    -- what comes out of the slot at the end, where one pass has all shares
+    pub ends : (id : ℕ) (v : Known E O) (words : List ℕ) (items : List (Option W)) (taken : Option W) → Final (Seen Lawful id v) words items → v.stage ≡ Rest → v.view.shares ≡ 1024 → get_elem? items 0 ≡ some taken
+        → (world : W) × (taken ≡ Some world) × IsWhole history comes v world
+    ends id v words items taken final rest all there =
         let s : St = final.0 in let r : Lawful s = final.1.0 in let at : get_elem? s.views id ≡ some v = final.1.1 in
-        let h = is_home s r id v at rest all in record {
-          world = h.world;
-          there = final.4 0 (Some h.world) (ap (λ l. get_elem? l 0) h.in_slot);
-          told = told_all s r id v at rest all;
-          opened = subst (λ o. IfSome o (comes h.world)) (sym (mine s r id v at rest all).opened) h.opened;
-          made = made_all s r id v at rest all;
-        }
+        let h = is_home s r id v at rest all in (
+          h.world,
+          some-injective taken (Some h.world) (sym there ∙ final.4 0 (Some h.world) (ap (λ l. get_elem? l 0) h.in_slot)),
+          record {
+            told = told_all s r id v at rest all;
+            opened = subst (λ o. IfSome o (comes h.world)) (sym (mine s r id v at rest all).opened) h.opened;
+            made = made_all s r id v at rest all;
+          },
+        )

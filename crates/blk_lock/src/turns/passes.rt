@@ -1,8 +1,9 @@
 //! How passes are split and joined.
 ghost use Rattle.std.specs.Prelude.{◌≡◌, ◌≤◌, ◌⊎◌, ◌↔◌, true, [], IfSome, Contains};
+ghost use Rattle.blk_lock.specs.declared.known.Stage.TheVariants.{Rest};
 ghost use Rattle.blk_lock.specs.Rooms.{IsWithin};
 ghost use Rattle.blk_lock.specs.Stamps.{has_actor, made_by, OthersAdd};
-ghost use Rattle.blk_lock.specs.Plays.{after_split, split_off, after_join};
+ghost use Rattle.blk_lock.specs.Plays.{after_split, split_off, after_join, split_known, fresh_known};
 ghost use Rattle.blk_lock.specs.Views.{view, lock_of, lock_id, mine};
 
 use super::Turns;
@@ -40,7 +41,13 @@ impl<W: Logged> Turns<W> {
     ) -> Seat<Option<W>, Known<W::Entry, W::Opening>>
         requires lock { seat.old.table_id ≡ self.now.table.shared.table_id }
         requires picked { (P.room ≡ room) × (P.given ≡ actor) }
-        ensures lock { seat.new.table_id ≡ seat.old.table_id }
+        requires rest { (seat.old.me.0.stage ≡ Rest) × (seat.old.me.1 ≡ []) }
+        requires shares { 2 ≤ seat.old.me.0.view.shares }
+        requires room { IsWithin room seat.old.me.0.view.room }
+        requires actor { IfSome actor (λ a. has_actor seat.old.me.0.view.actors a ≡ true) }
+        ensures lock { (seat.new.table_id ≡ seat.old.table_id) × (result.table_id ≡ seat.old.table_id) }
+        ensures kept { seat.new.me ≡ (split_known room actor seat.old.me.0, []) }
+        ensures given { result.me ≡ (fresh_known room actor seat.old.me.0, []) }
     {
         let _ = (room, actor);
         self.table.shared.split_seat::<Cut<P>>(seat)

@@ -1,22 +1,24 @@
-use Rattle.std.proofs.Common.{rules, ◌≡◌, [], IfOk, IfErr, IfSome, ℕ, ◌+◌, ◌-◌, ◌*◌, ◌<◌, ◌≤◌, length, ◌/◌, ◌%◌, Bool, true, false, nat_eq, nat_lt, List, ◌∷◌, ◌++◌, slice_index_or, slice_set, bit_and, bit_or, Fits, w8, w32, w64, Bor, MutBor}
-use Rattle.std.specs.List.{enumerate_from}
-use Rattle.blk_lock.specs.Stamps.{entries_of}
-use Rattle.blk_lock.specs.Order.{first_view}
-use Rattle.blk_lock.specs.Views.{view, lock_of, lock_id, mine}
+use Rattle.blk_lock.proofs.Calls.{rests}
+use Rattle.blk_lock.proofs.Ends.{IsWhole, ends, whole_as}
 use Rattle.blk_lock.proofs.turns.Turns.close.Goals as goal
 
--- src/turns/ends.rt:56:13
 pub unreachable-requires : goal.unreachable-requires
-unreachable-requires g c = ?
+unreachable-requires g c =
+    let pass = c.args.pass in
+    let back = ends _ _ _ _ _ _ _ _ _ _ _ c.close_with-closed.ensures.values.2 (rests _ _ pass.settled c.requires.free) c.requires.all c.take-world.ensures.value in
+    c.in_default.not-Some back.0 back.1
 
--- src/turns/ends.rt:42:5
+whole : (g : _) (c : goal.In-Some g) → IsWhole g.W.Logged.history g.W.Logged.comes c.args.pass.seat.me.0 c.in-Some.world
+whole g c =
+    let pass = c.args.pass in
+    let back = ends _ _ _ _ _ _ _ _ _ _ _ c.close_with-closed.ensures.values.2 (rests _ _ pass.settled c.requires.free) c.requires.all c.take-world.ensures.value in
+    whole_as _ _ _ _ _ _ back.1 c.in-Some.is back.2
+
 pub returns-clause-history : goal.returns-clause-history
-returns-clause-history g c = ?
+returns-clause-history g c = (whole g c).told
 
--- src/turns/ends.rt:42:5
 pub returns-clause-opened : goal.returns-clause-opened
-returns-clause-opened g c = ?
+returns-clause-opened g c = (whole g c).opened
 
--- src/turns/ends.rt:42:5
 pub returns-clause-mine : goal.returns-clause-mine
-returns-clause-mine g c = ?
+returns-clause-mine g c = (whole g c).made

@@ -1,10 +1,16 @@
-use Rattle.std.proofs.Common.{rules, ◌≡◌, ◌≤◌, ◌⊎◌, ◌↔◌, true, [], IfSome, Contains, ℕ, ◌+◌, ◌-◌, ◌*◌, ◌<◌, length, ◌/◌, ◌%◌, Bool, false, nat_eq, nat_lt, List, ◌∷◌, ◌++◌, slice_index_or, slice_set, bit_and, bit_or, Fits, w8, w32, w64, Bor, MutBor}
-use Rattle.blk_lock.specs.Rooms.{IsWithin}
-use Rattle.blk_lock.specs.Stamps.{has_actor, made_by, OthersAdd}
-use Rattle.blk_lock.specs.Plays.{after_split, split_off, after_join}
-use Rattle.blk_lock.specs.Views.{view, lock_of, lock_id, mine}
+use Rattle.std.proofs.Common.{◌≡◌, ℕ, Option, ap, ◌∙◌, sym, subst, rules}
+use Rattle.atomic_table.specs.Table.{Splits}
+use Rattle.blk_base.specs.declared.memory.Room.{Room}
+use Rattle.blk_lock.specs.Order.{InOrder}
+use Rattle.blk_lock.specs.Plays.{split_known, fresh_known}
+use Rattle.blk_lock.proofs.Splits.{splits}
 use Rattle.blk_lock.proofs.turns.Turns.divide.Goals as goal
 
--- src/turns/passes.rt:46:9
 pub split_seat-requires : goal.split_seat-requires
-split_seat-requires g c = ?
+split_seat-requires g c =
+    let l = g.W.Logged in let r = c.requires in let key = c.args.self.now.table.shared.key in let seat = c.args.seat.now in
+    (search rules, search rules,
+      subst
+      (λ (z : Room × Option ℕ). Splits (InOrder l.history l.actor l.spare l.comes key.1.opening (l.spare key.0.value)) seat.id seat.me.0 (split_known z.0 z.1 seat.me.0) (fresh_known z.0 z.1 seat.me.0))
+      (λ i. (sym r.picked.0 i, sym r.picked.1 i))
+      (splits l.history l.actor l.spare l.comes key.1.opening (l.spare key.0.value) seat.id seat.me.0 c.args.room c.args.actor r.rest.0 r.shares r.room r.actor))

@@ -1,10 +1,14 @@
-use Rattle.std.proofs.Common.{rules, ◌≡◌, [], IfOk, IfErr, IfSome, ℕ, ◌+◌, ◌-◌, ◌*◌, ◌<◌, ◌≤◌, length, ◌/◌, ◌%◌, Bool, true, false, nat_eq, nat_lt, List, ◌∷◌, ◌++◌, slice_index_or, slice_set, bit_and, bit_or, Fits, w8, w32, w64, Bor, MutBor}
-use Rattle.std.specs.List.{enumerate_from}
-use Rattle.blk_lock.specs.Stamps.{entries_of}
-use Rattle.blk_lock.specs.Order.{first_view}
-use Rattle.blk_lock.specs.Views.{view, lock_of, lock_id, mine}
+use Rattle.std.proofs.Common.{◌≡◌, List, [], ◌∷◌, ◌++◌, Option, Some, ap, ◌∙◌, sym, subst}
+use Rattle.atomic_table.specs.Table as table
+use Rattle.blk_lock.specs.Order.{InOrder, first_known}
+use Rattle.blk_lock.proofs.Ends.{begins}
 use Rattle.blk_lock.proofs.turns.Turns.new.Goals as goal
 
--- src/turns/ends.rt:30:15
 pub new-requires : goal.new-requires
-new-requires g c = ?
+new-requires g c =
+    let l = g.W.Logged in let world = c.args.world in
+    let items : c.push_reserved.new.self.items ≡ Some world ∷ [] = c.push_reserved.ensures.items ∙ ap (λ xs. xs ++ Some world ∷ []) c.in-Ok.ensures.items in
+    subst
+    (λ (z : g.row.W-Opening.Denot × g.row.W.Denot × List (Option g.row.W.Denot)). InOrder l.history l.actor l.spare l.comes z.0 (l.spare z.1) (table.opening (0 ∷ 0 ∷ 0 ∷ []) z.2 (first_known z.0 (l.spare z.1))))
+    (λ i. (sym c.of-2.ensures i, sym c.of.ensures i, sym items i))
+    (begins l.history l.actor l.spare l.comes g.opening world c.requires.1.1.1.0 c.requires.1.1.1.1)
