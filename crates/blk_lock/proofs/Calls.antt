@@ -12,6 +12,7 @@ use Rattle.blk_lock.specs.Rooms.{no_room, less, IsWithin}
 use Rattle.blk_lock.specs.Stamps.{is_among, may_make, entries_of, stamped, made_by, OthersAdd}
 use Rattle.blk_lock.specs.Stages.{is_settled, ticket_of}
 use Rattle.blk_lock.specs.Views.{mine}
+use Rattle.blk_lock.specs.Order.{HaveNoneInCommon}
 use Rattle.blk_lock.specs.Plays.{longer, side_of, joined_known, Joins, made_since, after_put, counted_known, HasTaken, Counts, Serves}
 use Rattle.blk_lock.proofs.Made.{made_by-append, made_by-stamped, entries_of-stamped, entries_of-append}
 use Rattle.blk_lock.proofs.Frames.{Rule}
@@ -143,3 +144,8 @@ module _ {W E O : Type 0} (actor : E → Option ℕ) where
       let two = k.both (side_of p.view) (side_of q.view) refl refl in
       let same : longer p.view.seen q.view.seen ≡ n.0.view.seen = ap (λ (z : Me (Option W) (Known E O)). z.0.view.seen) (sym k.after) in
       (subst (OthersAdd actor p.view.names p.view.actors p.view.seen) same two.0, subst (OthersAdd actor q.view.names q.view.actors q.view.seen) same two.1)
+
+  -- two passes that were joined had nothing in common
+  pub were_apart : (p q : Known E O) (hand : List (ℕ × Option W)) (m n : Me (Option W) (Known E O)) → m ≡ (joined_known p q, hand) → Joins actor m n → HaveNoneInCommon p.view.names p.view.actors q.view.names q.view.actors
+  were_apart p q hand m n is h =
+      let k : Joins actor (joined_known p q, hand) n = subst (λ (z : Me (Option W) (Known E O)). Joins actor z n) is h in k.apart (side_of p.view) (side_of q.view) refl

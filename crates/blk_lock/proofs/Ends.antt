@@ -12,14 +12,14 @@ use Rattle.blk_lock.specs.declared.known.Stamped.{Stamped}
 use Rattle.blk_lock.specs.declared.known.Known.{Known}
 use Rattle.blk_lock.specs.declared.known.Stage.{Stage}
 use Rattle.blk_lock.specs.declared.known.Stage.TheVariants.{Rest}
-use Rattle.blk_lock.specs.Rooms.{Measure, amount}
+use Rattle.blk_lock.specs.Rooms.{Measure, in_entries, in_bytes, amount, IsWithin}
 use Rattle.blk_lock.specs.Stamps.{is_among, entries_of, taken, made_by, IsOthers}
 use Rattle.blk_lock.specs.Stages.{IsLive, is_out}
 use Rattle.blk_lock.specs.Order.{total, MayGive, IsSound, AreApart, Has, rooms, IsHome, IsAway, InOrder, first_known}
 use Rattle.blk_lock.proofs.Tests.{not_both, is_among-one}
 use Rattle.blk_lock.proofs.Histories.{All-then, All-later, All-earlier, OthersAdd-same}
 use Rattle.blk_lock.proofs.Made.{made_from-all}
-use Rattle.blk_lock.proofs.Passes.{total-two, out_is_live}
+use Rattle.blk_lock.proofs.Passes.{total-at, total-two, out_is_live}
 use Rattle.blk_lock.proofs.Frames.{Rule, IsNamed}
 
 at_one : {X : Type 0} (x y : X) (i : ℕ) → get_elem? (x ∷ []) i ≡ some y → (i ≡ 0) × (x ≡ y)
@@ -31,12 +31,13 @@ module _ {X : Type 0} where
   none_of_both P Q not [] p q = refl
   none_of_both P Q not (x ∷ xs) p q = absurd (not x (All-head P x xs p) (All-head Q x xs q))
 
-module _ {W E O : Type 0} (history : W → List E) (comes : W → O → Type 0) where
+module _ {W E O : Type 0} (history : W → List E) (spare : W → Room) (comes : W → O → Type 0) where
   -- all that the value has is the pass's own
   pub record IsWhole (v : Known E O) (world : W) : Type 0 where
     pub told : history world ≡ entries_of v.view.seen
     pub opened : IfSome v.view.opening (comes world)
     pub made : made_by v.view.names v.view.seen ≡ enumerate_from 0 (history world)
+    pub room : IsWithin v.view.room (spare world)
 
   pub whole_as : (v : Known E O) (taken : Option W) (world x : W) → taken ≡ Some world → taken ≡ Some x → IsWhole v world → IsWhole v x
   whole_as v taken world x is its h = let same : world ≡ x = (let e : Some world ≡ Some x = sym is ∙ its in cc) in subst (IsWhole v) same h
@@ -108,6 +109,9 @@ module _ {W E O : Type 0} (history : W → List E) (actor : E → Option ℕ) (s
       seen_all : v.view.seen ≡ r.log
       seen_all = sym (mine.goes_on.begins ∙ ap (λ l. v.view.seen ++ l) none_left ∙ append-nil v.view.seen)
 
+      room_fits : (k : Measure) → amount k v.view.room ≤ amount k (spare is_home.world)
+      room_fits k = let part = total-at (λ p. amount k p.view.room) s.views id v at in let b = is_home.has_room k in omega arith
+
       told_all : history is_home.world ≡ entries_of v.view.seen
       told_all = is_home.told ∙ ap entries_of (sym seen_all)
 
@@ -116,7 +120,7 @@ module _ {W E O : Type 0} (history : W → List E) (actor : E → Option ℕ) (s
 
     -- what comes out of the slot at the end, where one pass has all shares
     pub ends : (id : ℕ) (v : Known E O) (words : List ℕ) (items : List (Option W)) (taken : Option W) → Final (Seen Lawful id v) words items → v.stage ≡ Rest → v.view.shares ≡ 1024 → get_elem? items 0 ≡ some taken
-        → (world : W) × (taken ≡ Some world) × IsWhole history comes v world
+        → (world : W) × (taken ≡ Some world) × IsWhole history spare comes v world
     ends id v words items taken final rest all there =
         let s : St = final.0 in let r : Lawful s = final.1.0 in let at : get_elem? s.views id ≡ some v = final.1.1 in
         let h = is_home s r id v at rest all in (
@@ -126,5 +130,6 @@ module _ {W E O : Type 0} (history : W → List E) (actor : E → Option ℕ) (s
             told = told_all s r id v at rest all;
             opened = subst (λ o. IfSome o (comes h.world)) (sym (mine s r id v at rest all).opened) h.opened;
             made = made_all s r id v at rest all;
+            room = (room_fits s r id v at rest all in_entries, room_fits s r id v at rest all in_bytes);
           },
         )

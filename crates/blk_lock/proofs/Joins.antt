@@ -16,7 +16,7 @@ use Rattle.blk_lock.specs.declared.known.Stage.TheVariants.{Spent, Fresh, Joined
 use Rattle.blk_lock.specs.Rooms.{Measure, in_entries, in_bytes, amount, no_room, plus}
 use Rattle.blk_lock.specs.Stamps.{is_among, has_actor, taken, OthersAdd, made_by}
 use Rattle.blk_lock.specs.Stages.{IsLive, ticket_of, is_out}
-use Rattle.blk_lock.specs.Order.{total, GoesOn, Unites, StandsAt, MayGive, IsSound, AreApart, Has, rooms, IsHome, IsAway, InOrder}
+use Rattle.blk_lock.specs.Order.{total, GoesOn, HaveNoneInCommon, Unites, StandsAt, MayGive, IsSound, AreApart, Has, rooms, IsHome, IsAway, InOrder}
 use Rattle.blk_lock.specs.Plays.{longer, joined_known, spent_known, resting, Settles}
 use Rattle.blk_lock.specs.Plays as plays
 use Rattle.blk_lock.proofs.Tests.{not_both, is_among-left, is_among-right, is_among-cases, has_actor-cases}
@@ -91,13 +91,16 @@ module _ {W E O : Type 0} (history : W → List E) (actor : E → Option ℕ) (s
     its : IsSound actor opening r.drawn r.log u
     its = r.sound other u away
 
+    apart_two : HaveNoneInCommon v.view.names v.view.actors u.view.names u.view.actors
+    apart_two = let a = r.apart id other v u (λ e. ne (sym e)) here away in record { no_name = a.names; no_actor = a.actors }
+
     sound_both : IsSound actor opening r.drawn r.log both
     sound_both = record {
       opened = mine.opened;
       named = is_among-left v.view.names u.view.names v.view.name mine.named;
       shared = (let a = mine.shared in omega arith);
       goes_on = OthersAdd-longer actor v.view.names u.view.names v.view.actors u.view.actors v.view.seen u.view.seen r.log mine.goes_on its.goes_on;
-      stands = record { names = refl; actors = refl; from_left = mine.goes_on; from_right = its.goes_on };
+      stands = record { names = refl; actors = refl; apart = apart_two; from_left = mine.goes_on; from_right = its.goes_on };
     }
 
     apart_both : (j : ℕ) (q : Known E O) → j ≢ id → j ≢ other → Has s.views j q → AreApart both q
@@ -223,6 +226,7 @@ module _ {W E O : Type 0} (history : W → List E) (actor : E → Option ℕ) (s
         rests_one s r id v at live (ap is_out joined) me.1,
         record {
           after = refl;
+          apart = λ l x is. (let two : Unites actor r.log v.view l x = subst (StandsAt actor r.drawn r.log v.view) is mine.stands in two.apart);
           both = λ l x is longest.
               let two : Unites actor r.log v.view l x = subst (StandsAt actor r.drawn r.log v.view) is mine.stands in
               let a = length-longer-left l.seen x.seen in let b = length-longer-right l.seen x.seen in let c = ap length longest in

@@ -62,6 +62,7 @@ module _ {E O : Type 0} (actor : E → Option ℕ) where
       record {
         names = h.names;
         actors = h.actors;
+        apart = h.apart;
         from_left = OthersAdd-more actor l.names l.actors l.seen log more h.from_left (All-then (IsOthers actor v.names v.actors) (IsOthers actor l.names l.actors)
           (IsOthers-fewer actor v.names l.names v.actors l.actors (λ n t. names n (is_among-left l.names r.names n t)) (λ a t. actors a (has_actor-left l.actors r.actors a t))) more all);
         from_right = OthersAdd-more actor r.names r.actors r.seen log more h.from_right (All-then (IsOthers actor v.names v.actors) (IsOthers actor r.names r.actors)

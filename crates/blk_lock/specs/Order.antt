@@ -27,11 +27,17 @@ module _ {E : Type 0} where
   abbrev pub GoesOn : (E → Option ℕ) → List (Stamped E) → Side E → Type 0
   GoesOn actor log side = OthersAdd actor side.names side.actors side.seen log
 
+-- two passes have no name and no actor in common
+pub record HaveNoneInCommon (names : List (List ℕ)) (actors : List ℕ) (names' : List (List ℕ)) (actors' : List ℕ) : Type 0 where
+  pub no_name : (n : List ℕ) → is_among names n ≡ true → is_among names' n ≡ true → ⊥
+  pub no_actor : (a : ℕ) → has_actor actors a ≡ true → has_actor actors' a ≡ true → ⊥
+
 module _ {E O : Type 0} where
   -- a pass that two were joined into goes on from both
   pub record Unites (actor : E → Option ℕ) (log : List (Stamped E)) (v : View E O) (left right : Side E) : Type 0 where
     pub names : v.names ≡ left.names ++ right.names
     pub actors : v.actors ≡ left.actors ++ right.actors
+    pub apart : HaveNoneInCommon left.names left.actors right.names right.actors
     pub from_left : GoesOn actor log left
     pub from_right : GoesOn actor log right
 

@@ -11,7 +11,7 @@ use Rattle.blk_lock.specs.declared.known.Stage.TheVariants.{Spent, Fresh, Joined
 use Rattle.blk_lock.specs.Rooms.{no_room, plus, less, IsWithin}
 use Rattle.blk_lock.specs.Stamps.{is_among, entries_of, stamped, made_by, OthersAdd}
 use Rattle.blk_lock.specs.Stages.{ticket_of}
-use Rattle.blk_lock.specs.Order.{GoesOn}
+use Rattle.blk_lock.specs.Order.{GoesOn, HaveNoneInCommon}
 
 -- the actor is taken from the list, if there is one
 abbrev pub without : List ℕ → Option ℕ → List ℕ
@@ -147,3 +147,4 @@ module _ {W E O : Type 0} where
   pub record Joins (actor : E → Option ℕ) (m m' : Me (Option W) (Known E O)) : Type 0 where
     pub after : m' ≡ (resting m.0, m.1)
     pub both : (left right : Side E) → m.0.stage ≡ Joined left right → m.0.view.seen ≡ longer left.seen right.seen → GoesOn actor m.0.view.seen left × GoesOn actor m.0.view.seen right
+    pub apart : (left right : Side E) → m.0.stage ≡ Joined left right → HaveNoneInCommon left.names left.actors right.names right.actors

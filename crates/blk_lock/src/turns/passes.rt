@@ -3,6 +3,7 @@ ghost use Rattle.std.specs.Prelude.{◌≡◌, ◌≤◌, ◌⊎◌, ◌↔◌, 
 ghost use Rattle.blk_lock.specs.declared.known.Stage.TheVariants.{Rest};
 ghost use Rattle.blk_lock.specs.Rooms.{IsWithin};
 ghost use Rattle.blk_lock.specs.Stamps.{has_actor, made_by, OthersAdd};
+ghost use Rattle.blk_lock.specs.Order.{HaveNoneInCommon};
 ghost use Rattle.blk_lock.specs.Plays.{after_split, split_off, after_join, split_known, fresh_known};
 ghost use Rattle.blk_lock.specs.Views.{view, lock_of, lock_id, mine};
 
@@ -59,6 +60,7 @@ impl<W: Logged> Turns<W> {
         requires free { ((view pass.old).turn ≡ None) × ((view other).turn ≡ None) }
         ensures lock { lock_of pass.new ≡ lock_of pass.old }
         ensures pass { view pass.new ≡ after_join (view pass.old) (view other) }
+        ensures apart { HaveNoneInCommon (view pass.old).names (view pass.old).actors (view other).names (view other).actors }
         ensures goes_on { OthersAdd W.actor (view pass.old).names (view pass.old).actors (view pass.old).seen (view pass.new).seen }
         ensures other_goes_on { OthersAdd W.actor (view other).names (view other).actors (view other).seen (view pass.new).seen }
         ensures own { made_by (view pass.old).names (view pass.new).seen ≡ mine (view pass.old) }

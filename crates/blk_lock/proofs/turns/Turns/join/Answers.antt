@@ -4,7 +4,7 @@ use Rattle.blk_lock.specs.Plays.{side_of}
 use Rattle.blk_lock.specs.Stamps.{OthersAdd}
 use Rattle.blk_lock.proofs.Made.{made_by-others}
 use Rattle.blk_lock.proofs.Joins.{joins, unites}
-use Rattle.blk_lock.proofs.Calls.{rests, united, both_made}
+use Rattle.blk_lock.proofs.Calls.{rests, united, were_apart, both_made}
 use Rattle.blk_lock.proofs.turns.Turns.join.Goals as goal
 
 pub join_seat-requires : goal.join_seat-requires
@@ -21,6 +21,9 @@ load-requires g c =
 both : (g : _) (c : goal.After-pass-1 g) → OthersAdd g.W.Logged.actor c.args.pass.now.seat.me.0.view.names c.args.pass.now.seat.me.0.view.actors c.args.pass.now.seat.me.0.view.seen c.load.new.seat.me.0.view.seen
     × OthersAdd g.W.Logged.actor c.args.other.seat.me.0.view.names c.args.other.seat.me.0.view.actors c.args.other.seat.me.0.view.seen c.load.new.seat.me.0.view.seen
 both g c = united g.W.Logged.actor c.args.pass.now.seat.me.0 c.args.other.seat.me.0 _ _ _ c.join_seat.ensures.2 c.load.ensures.2
+
+pub returns-clause-apart : goal.returns-clause-apart
+returns-clause-apart g c = were_apart g.W.Logged.actor c.args.pass.now.seat.me.0 c.args.other.seat.me.0 _ _ _ c.join_seat.ensures.2 c.load.ensures.2
 
 pub returns-clause-goes_on : goal.returns-clause-goes_on
 returns-clause-goes_on g c = (both g c).0
