@@ -9,3 +9,4 @@ pub mod Splits
 pub mod Joins
 pub mod Ends
 pub mod Calls
+pub mod Callers

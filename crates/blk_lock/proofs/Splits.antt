@@ -48,7 +48,7 @@ taken_out (x ∷ xs) b a same h =
     | false ↦ λ is there. ⊎_elim (λ (here : eqb x a ≡ true). let e : x ≡ b = eqb-true x a here ∙ sym same in not_both (eqb x b) (eq-eqb x b e) is) (λ later. taken_out xs b a same later) (or_cases (eqb x a) (has_actor (filter (λ y. not (eqb y b)) xs) a) there)
     ] refl h
 
-has_actor-one : (b a : ℕ) → has_actor (b ∷ []) a ≡ true → b ≡ a
+pub has_actor-one : (b a : ℕ) → has_actor (b ∷ []) a ≡ true → b ≡ a
 has_actor-one b a h = ⊎_elim (λ here. eqb-true b a here) (λ (none : false ≡ true). cc) (or_cases (eqb b a) false h)
 
 pub kept_or_given : (xs : List ℕ) (given : Option ℕ) (a : ℕ) → has_actor (without xs given) a ≡ true → has_actor (list_of given) a ≡ true → ⊥

@@ -47,6 +47,10 @@ module _ {E : Type 0} where
   abbrev pub made_by : List (List ℕ) → List (Stamped E) → List (ℕ × E)
   made_by names stamps = map (λ p. (p.0, p.1.entry)) (filter (λ p. is_among names p.1.maker) (enumerate_from 0 stamps))
 
+  -- what this actor made, in its order
+  abbrev pub done_by : (E → Option ℕ) → ℕ → List (Stamped E) → List E
+  done_by actor a stamps = filter (λ e. is_by (a ∷ []) (actor e)) (entries_of stamps)
+
   -- others made it: neither a pass of these names, nor one of these actors
   pub record IsOthers (actor : E → Option ℕ) (names : List (List ℕ)) (actors : List ℕ) (s : Stamped E) : Type 0 where
     pub by_another : is_among names s.maker ≡ false
