@@ -1,10 +1,18 @@
 -- Actors that run in threads: what they need, and what they have done at their end.
 use Rattle.std.specs.Prelude.{◌≡◌, ℕ, ◌+◌, ◌*◌, ◌<◌, ◌≤◌, ◌^◌, ◌++◌, true, None}
+use Rattle.blk_base.specs.declared.memory.Room.{Room}
 use Rattle.blk_lock.specs.declared.known.View.{View}
 use Rattle.blk_lock.specs.Stamps.{has_actor, done_by}
+use Rattle.blk_lock.specs.Order.{first_view}
 use Rattle.lock_probe.specs.declared.register.Entry.{Entry}
 use Rattle.lock_probe.specs.declared.register.Opening.{Opening}
 use Rattle.lock_probe.specs.Replay.{actor_of, script}
+
+-- the first pass of a register that had this value, with room for so many entries
+pub record IsFirst (value most : ℕ) (v : View Entry Opening) : Type 0 where
+  pub room : Room
+  pub is : v ≡ first_view (record { value = value }) room
+  pub enough : most ≤ room.entries
 
 -- the pass has what so many actors from the first on need to write their scripts
 pub record MayRun (v : View Entry Opening) (first count rounds : ℕ) : Type 0 where

@@ -1,18 +1,35 @@
 //! One call under the lock, and actors that make calls in threads.
-ghost use Rattle.std.specs.Prelude.{◌≡◌, ◌+◌, ◌-◌, ◌<◌, true};
+ghost use Rattle.std.specs.Prelude.{◌≡◌, ◌+◌, ◌-◌, ◌<◌, true, IfOk};
 ghost use Rattle.std.specs.Thread.{IsSync};
 ghost use Rattle.blk_lock.specs.Rooms.{less};
 ghost use Rattle.blk_lock.specs.Stamps.{has_actor};
 ghost use Rattle.blk_lock.specs.Views.{view, lock_of, lock_id};
 ghost use Rattle.lock_probe.specs.Face.{one_entry};
 ghost use Rattle.lock_probe.specs.Replay.{Makes};
-ghost use Rattle.lock_probe.specs.Runs.{MayRun, HasRun, MayWrite, HasWritten};
+ghost use Rattle.lock_probe.specs.Runs.{IsFirst, MayRun, HasRun, MayWrite, HasWritten};
 
 use crate::register::{Entry, Register};
-use blk_base::Room;
+use blk_base::{NoMemory, Room};
 use blk_lock::{Pass, Turns};
+use std::alloc::Global;
 use std::sync::Wait;
 use std::thread::{Threads, join};
+
+/// A register under a lock, with room for so many entries.
+pub fn open(
+    alloc: Global,
+    value: u64,
+    most: usize,
+) -> Result<(Turns<Register>, Pass<Register>), NoMemory>
+    ensures lock { IfOk result (λ t. lock_of t.1 ≡ lock_id t.0) }
+    ensures pass { IfOk result (λ t. IsFirst value most (view t.1)) }
+{
+    let register = Register::new(alloc, value, most)?;
+    match Turns::new(alloc, register) {
+        Ok((turns, pass)) => Ok((turns, pass)),
+        Err((none, _register)) => Err(none),
+    }
+}
 
 /// An actor writes a value, and is told what the register had at that place of the history.
 pub fn exchange<R: Wait>(

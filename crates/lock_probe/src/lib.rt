@@ -3,6 +3,8 @@
 
 mod calls;
 mod register;
+#[cfg(test)]
+mod tests;
 
-pub use calls::{exchange, run_actors};
+pub use calls::{exchange, open, run_actors};
 pub use register::{Entry, Opening, Register};

@@ -64,6 +64,18 @@ impl Register {
         Ok(Register { value, log })
     }
 
+    pub fn value(&self) -> u64
+        ensures { result ≡ self.now.value }
+    {
+        self.value
+    }
+
+    pub fn log(&self) -> &[Entry]
+        ensures { result.now ≡ self.now.log }
+    {
+        self.log.as_slice()
+    }
+
     /// Writes, and gives what was there.
     pub fn swap(&mut self, entry: Entry) -> u64
         requires { 0 < self.old.spare.entries }
