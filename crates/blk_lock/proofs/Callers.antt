@@ -1,5 +1,5 @@
 -- For callers of the lock: the history of a turn, and the entries of one actor.
-use Rattle.std.proofs.Common.{◌≡◌, ℕ, zero, suc, ◌<◌, arith, Bool, true, false, List, [], ◌∷◌, ◌++◌, ◌≢◌, length, filter, cond, not, eqb, eqb-true, ⊎_elim, subst, All, Option, Some, None, refl, sym, ap, ◌∙◌, append-nil}
+use Rattle.std.proofs.Common.{◌≡◌, ℕ, true, false, List, [], ◌∷◌, ◌++◌, ◌≢◌, filter, cond, not, eqb, eqb-true, ⊎_elim, subst, All, Option, Some, None, refl, sym, ap, ◌∙◌, append-nil}
 use Rattle.std.proofs.lemmas.List.Elements.{All-head, All-tail, filter-append}
 use Rattle.blk_lock.specs.declared.known.Stamped.{Stamped}
 use Rattle.blk_lock.specs.Stamps.{has_actor, is_by, entries_of, done_by, IsOthers, OthersAdd}
@@ -42,30 +42,9 @@ filtered_keeps : (xs : List ℕ) (b a : ℕ) → a ≢ b → has_actor xs a ≡ 
 filtered_keeps [] b a ne h = h
 filtered_keeps (x ∷ xs) b a ne h =
     elim (eqb x b) as (λ t. eqb x b ≡ t → has_actor (cond (not t) (x ∷ filter (λ y. not (eqb y b)) xs) (filter (λ y. not (eqb y b)) xs)) a ≡ true) [
-      true ↦ λ is. ⊎_elim (λ (here : eqb x a ≡ true). absurd (ne (sym (eqb-true x a here) ∙ eqb-true x b is))) (filtered_keeps xs b a ne) (or_cases (eqb x a) (has_actor xs a) h)
-    | false ↦ λ is. ⊎_elim (or_left _ _) (λ later. or_right _ _ (filtered_keeps xs b a ne later)) (or_cases (eqb x a) (has_actor xs a) h)
+      | true ↦ λ is. ⊎_elim (λ (here : eqb x a ≡ true). absurd (ne (sym (eqb-true x a here) ∙ eqb-true x b is))) (filtered_keeps xs b a ne) (or_cases (eqb x a) (has_actor xs a) h)
+      | false ↦ λ is. ⊎_elim (or_left _ _) (λ later. or_right _ _ (filtered_keeps xs b a ne later)) (or_cases (eqb x a) (has_actor xs a) h)
     ] refl
 
 pub kept_without : (xs : List ℕ) (b a : ℕ) → a ≢ b → has_actor xs a ≡ true → has_actor (without xs (Some b)) a ≡ true
 kept_without xs b a ne h = filtered_keeps xs b a ne h
-
--- the first pass has the actors 0 to 16
-pub first_actors : (a : ℕ) → a < 17 → has_actor (0 ∷ 1 ∷ 2 ∷ 3 ∷ 4 ∷ 5 ∷ 6 ∷ 7 ∷ 8 ∷ 9 ∷ 10 ∷ 11 ∷ 12 ∷ 13 ∷ 14 ∷ 15 ∷ 16 ∷ []) a ≡ true
-first_actors zero lt = refl
-first_actors (suc zero) lt = refl
-first_actors (suc (suc zero)) lt = refl
-first_actors (suc (suc (suc zero))) lt = refl
-first_actors (suc (suc (suc (suc zero)))) lt = refl
-first_actors (suc (suc (suc (suc (suc zero))))) lt = refl
-first_actors (suc (suc (suc (suc (suc (suc zero)))))) lt = refl
-first_actors (suc (suc (suc (suc (suc (suc (suc zero))))))) lt = refl
-first_actors (suc (suc (suc (suc (suc (suc (suc (suc zero)))))))) lt = refl
-first_actors (suc (suc (suc (suc (suc (suc (suc (suc (suc zero))))))))) lt = refl
-first_actors (suc (suc (suc (suc (suc (suc (suc (suc (suc (suc zero)))))))))) lt = refl
-first_actors (suc (suc (suc (suc (suc (suc (suc (suc (suc (suc (suc zero))))))))))) lt = refl
-first_actors (suc (suc (suc (suc (suc (suc (suc (suc (suc (suc (suc (suc zero)))))))))))) lt = refl
-first_actors (suc (suc (suc (suc (suc (suc (suc (suc (suc (suc (suc (suc (suc zero))))))))))))) lt = refl
-first_actors (suc (suc (suc (suc (suc (suc (suc (suc (suc (suc (suc (suc (suc (suc zero)))))))))))))) lt = refl
-first_actors (suc (suc (suc (suc (suc (suc (suc (suc (suc (suc (suc (suc (suc (suc (suc zero))))))))))))))) lt = refl
-first_actors (suc (suc (suc (suc (suc (suc (suc (suc (suc (suc (suc (suc (suc (suc (suc (suc zero)))))))))))))))) lt = refl
-first_actors (suc (suc (suc (suc (suc (suc (suc (suc (suc (suc (suc (suc (suc (suc (suc (suc (suc n))))))))))))))))) lt = absurd (omega arith)

@@ -1,5 +1,5 @@
 -- What the calls put together from the steps that they make.
-use Rattle.std.proofs.Common.{◌≡◌, ℕ, ◌+◌, ◌%◌, ◌^◌, Bool, true, false, List, [], ◌∷◌, ◌++◌, length, All, Contains, ◌↔◌, ◌⊎◌, Option, Some, None, IfSome, IsSomeAnd, unwrap_or, arith, ◌-◌, ◌≤◌, refl, sym, ap, ◌∙◌, subst}
+use Rattle.std.proofs.Common.{◌≡◌, ℕ, ◌+◌, ◌%◌, ◌^◌, true, List, [], ◌∷◌, ◌++◌, length, All, Contains, ◌↔◌, ◌⊎◌, Option, Some, None, IfSome, IsSomeAnd, unwrap_or, arith, ◌-◌, ◌≤◌, refl, sym, ap, ◌∙◌, subst}
 use Rattle.std.specs.List.{enumerate_from}
 use Rattle.atomic_table.specs.Table.{State, Me, Allows, rest}
 use Rattle.blk_base.specs.declared.memory.Room.{Room}
@@ -96,7 +96,7 @@ module _ {W E O : Type 0} (history : W → List E) (actor : E → Option ℕ) (s
   pub HasTaken-from : (ticket drawn : ℕ) (m d : M) (q q' : Known E O) (x y : W) → HasTaken history actor spare comes ticket d.0 q x → d ≡ (record m.0 { stage = Waiting drawn }, m.1) → q' ≡ q → x ≡ y → HasTaken history actor spare comes ticket m.0 q' y
   HasTaken-from ticket drawn m d q q' x y h waited same is =
       let k : HasTaken history actor spare comes ticket (record m.0 { stage = Waiting drawn }) q' y =
-        subst (λ (z : M × Known E O × W). HasTaken history actor spare comes ticket z.0.0 z.1 z.2) (λ i. (waited i, sym same i, is i)) h in
+      subst (λ (z : M × Known E O × W). HasTaken history actor spare comes ticket z.0.0 z.1 z.2) (λ i. (waited i, sym same i, is i)) h in
       record { seen = k.seen; after = k.after; told = k.told; opened = k.opened; room = k.room; others = k.others }
 
   -- what a pass whose turn is out may give back
@@ -124,7 +124,7 @@ module _ {W E O : Type 0} (history : W → List E) (actor : E → Option ℕ) (s
         let made : List E = made_since p.view.seen (history world) in
         let stamps : List (Stamped E) = stamped p.view.name (less (unwrap_or p.view.turn no_room) (spare world)) made in
         let told : history world ≡ entries_of (p.view.seen ++ stamps) =
-          may.grown ∙ ap (λ l. entries_of p.view.seen ++ l) (sym (entries_of-stamped p.view.name (less (unwrap_or p.view.turn no_room) (spare world)) made)) ∙ sym (entries_of-append p.view.seen stamps) in
+        may.grown ∙ ap (λ l. entries_of p.view.seen ++ l) (sym (entries_of-stamped p.view.name (less (unwrap_or p.view.turn no_room) (spare world)) made)) ∙ sym (entries_of-append p.view.seen stamps) in
         subst (λ (z : M). Allows Lawful slots id z 1 (λ n. (n + 1) % 2 ^ 64) (λ _ n. Serves z n)) (sym is)
         (serves history actor spare comes opening start slots id (unwrap_or (ticket_of p.stage) 0) (counted history spare p world) world refl refl told may.opened refl)
 

@@ -1,8 +1,8 @@
 -- The rule holds at the start, and what it says at the end.
-use Rattle.std.proofs.Common.{◌≡◌, ◌≢◌, ℕ, zero, suc, ◌+◌, ◌<◌, ◌≤◌, Bool, true, false, List, [], ◌∷◌, ◌++◌, map, length, All, Option, Some, None, IfSome, ◌⊎◌, inl, inr, ⊎_elim, refl, sym, ap, ◌∙◌, subst, arith, append-nil}
+use Rattle.std.proofs.Common.{◌≡◌, ℕ, zero, suc, ◌≤◌, true, false, List, [], ◌∷◌, ◌++◌, map, All, Option, Some, IfSome, inl, ⊎_elim, refl, sym, ap, ◌∙◌, subst, arith, append-nil}
 use Rattle.std.proofs.lemmas.List.Elements.{All-nil, All-head}
 use Rattle.std.specs.List.{enumerate_from}
-use mathlib.Core.Option.{none, some, some-injective, some-ne-none}
+use mathlib.Core.Option.{some, some-injective, some-ne-none}
 use mathlib.Core.Logic.{dite}
 use native.Mathlib.Decide.{ℕ_discrete}
 use lib.ListN.{get_elem?}
@@ -10,14 +10,13 @@ use Rattle.atomic_table.specs.Table.{State, Final, Seen}
 use Rattle.blk_base.specs.declared.memory.Room.{Room}
 use Rattle.blk_lock.specs.declared.known.Stamped.{Stamped}
 use Rattle.blk_lock.specs.declared.known.Known.{Known}
-use Rattle.blk_lock.specs.declared.known.Stage.{Stage}
 use Rattle.blk_lock.specs.declared.known.Stage.TheVariants.{Rest}
 use Rattle.blk_lock.specs.Rooms.{Measure, in_entries, in_bytes, amount, IsWithin}
 use Rattle.blk_lock.specs.Stamps.{is_among, entries_of, taken, made_by, IsOthers}
 use Rattle.blk_lock.specs.Stages.{IsLive, is_out}
-use Rattle.blk_lock.specs.Order.{total, MayGive, IsSound, AreApart, Has, rooms, IsHome, IsAway, InOrder, first_known}
+use Rattle.blk_lock.specs.Order.{MayGive, IsSound, Has, IsHome, first_known}
 use Rattle.blk_lock.proofs.Tests.{not_both, is_among-one}
-use Rattle.blk_lock.proofs.Histories.{All-then, All-later, All-earlier, OthersAdd-same}
+use Rattle.blk_lock.proofs.Histories.{All-then, All-later, OthersAdd-same}
 use Rattle.blk_lock.proofs.Made.{made_from-all}
 use Rattle.blk_lock.proofs.Passes.{total-at, total-two, out_is_live}
 use Rattle.blk_lock.proofs.Frames.{Rule, IsNamed}
@@ -93,7 +92,7 @@ module _ {W E O : Type 0} (history : W → List E) (actor : E → Option ℕ) (s
       is_home : IsHome history spare comes opening r.log s.homes s.views
       is_home = ⊎_elim (λ h. h)
           (λ a. let same : id ≡ a.holder = sym (alone a.holder a.pass (a.there, out_is_live a.pass.stage a.out)) in
-            not_both (is_out v.stage) (subst (λ (x : Known E O). is_out x.stage ≡ true) (some-injective a.pass v (sym a.there ∙ (ap (get_elem? s.views) (sym same) ∙ at))) a.out) (ap is_out rest))
+          not_both (is_out v.stage) (subst (λ (x : Known E O). is_out x.stage ≡ true) (some-injective a.pass v (sym a.there ∙ (ap (get_elem? s.views) (sym same) ∙ at))) a.out) (ap is_out rest))
           r.place
 
       all_mine : All (λ m. is_among v.view.names m.maker ≡ true) r.log

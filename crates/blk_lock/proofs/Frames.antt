@@ -1,24 +1,21 @@
 -- A step of one pass keeps the rule: what has to be shown of that pass, and what stays.
-use Rattle.std.proofs.Common.{◌≡◌, ◌≢◌, ℕ, zero, suc, ◌+◌, ◌-◌, ◌<◌, ◌≤◌, Bool, true, false, List, [], ◌∷◌, ◌++◌, length, get_or, set, All, Option, Some, None, ◌⊎◌, inl, inr, ⊎_elim, refl, sym, ap, ◌∙◌, subst, arith}
+use Rattle.std.proofs.Common.{◌≡◌, ◌≢◌, ℕ, ◌+◌, ◌≤◌, true, false, List, [], ◌∷◌, length, get_or, set, All, Option, Some, ◌⊎◌, inl, inr, ⊎_elim, sym, ap, ◌∙◌, subst, arith}
 use mathlib.Core.Option.{none, some, some-injective, some-ne-none}
-use mathlib.Core.Logic.{dite}
-use native.Mathlib.Decide.{ℕ_discrete}
 use lib.ListN.{get_elem?}
 use lib.Seq.{set-get_or}
-use Rattle.atomic_table.specs.Table.{State, Me, keeps, stepped}
-use Rattle.atomic_table.proofs.Lists.{at_set, set_again, set_else, set_here}
+use Rattle.atomic_table.specs.Table.{State, keeps, stepped}
+use Rattle.atomic_table.proofs.Lists.{at_set, set_again, set_else}
 use Rattle.blk_base.specs.declared.memory.Room.{Room}
 use Rattle.blk_lock.specs.declared.known.Stamped.{Stamped}
 use Rattle.blk_lock.specs.declared.known.Known.{Known}
 use Rattle.blk_lock.specs.declared.known.Stage.{Stage}
-use Rattle.blk_lock.specs.declared.known.Stage.TheVariants.{Spent, Fresh, Joined, Rest, Waiting, Out, Counted}
 use Rattle.blk_lock.specs.Rooms.{Measure, amount}
-use Rattle.blk_lock.specs.Stamps.{is_among, has_actor, entries_of, taken, OthersAdd}
+use Rattle.blk_lock.specs.Stamps.{is_among, taken, OthersAdd}
 use Rattle.blk_lock.specs.Stages.{IsLive, ticket_of, is_out}
-use Rattle.blk_lock.specs.Order.{total, GoesOn, IsDrawn, StandsAt, MayGive, IsSound, AreApart, Has, rooms, IsHome, IsAway, InOrder}
+use Rattle.blk_lock.specs.Order.{StandsAt, MayGive, IsSound, AreApart, Has, rooms, IsHome, IsAway, InOrder}
 use Rattle.blk_lock.proofs.Tests.{not_both}
 use Rattle.blk_lock.proofs.Histories.{All-then}
-use Rattle.blk_lock.proofs.Passes.{total-set, moved, out_is_live, AreApart-sym, on_each, on_pairs, on_all_pairs, makers_stay, at_inside}
+use Rattle.blk_lock.proofs.Passes.{total-set, moved, AreApart-sym, on_each, on_pairs, on_all_pairs, makers_stay}
 
 module _ {W E O : Type 0} (history : W → List E) (actor : E → Option ℕ) (spare : W → Room) (comes : W → O → Type 0) (opening : O) (start : Room) where
   abbrev pub St : Type 0
@@ -71,12 +68,12 @@ module _ {W E O : Type 0} (history : W → List E) (actor : E → Option ℕ) (s
             words = words_are;
             sound = on_each s.views id w (IsSound actor opening drawn log) record { opened = mine.opened; named = mine.named; shared = mine.shared; goes_on = goes_on; stands = stands } others;
             apart = on_pairs s.views id w AreApart
-              (λ j q ne h. let a = r.apart id j v q (λ e. ne (sym e)) here h in record { names = a.names; actors = a.actors; tickets = only j q ne h })
-              AreApart-sym r.apart;
+                (λ j q ne h. let a = r.apart id j v q (λ e. ne (sym e)) here h in record { names = a.names; actors = a.actors; tickets = only j q ne h })
+                AreApart-sym r.apart;
             unnamed = on_all_pairs s.views id w (λ p q. (n : List ℕ) → is_among q.view.names n ≡ true → MayGive p.view n → ⊥)
-              (r.unnamed id id v v here here)
-              (λ j q ne h. (r.unnamed id j v q here h, r.unnamed j id q v h here))
-              r.unnamed;
+                (r.unnamed id id v v here here)
+                (λ j q ne h. (r.unnamed id j v q here h, r.unnamed j id q v h here))
+                r.unnamed;
             made = All-then (IsNamed s.views) (IsNamed (set s.views id w)) (λ m. makers_stay s.views id w v at (λ n t. t) is_live m.maker) log named;
             shares = (let all = total-set (λ p. p.view.shares) s.views id v w at in let sum = r.shares in omega arith);
             in_room = in_room;

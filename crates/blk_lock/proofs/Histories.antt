@@ -1,13 +1,9 @@
 -- Histories that go on from others, and who made what in them.
-use Rattle.std.proofs.Common.{◌≡◌, ◌≢◌, ℕ, zero, suc, ◌+◌, ◌-◌, ◌<◌, ◌≤◌, Bool, true, false, cond, eqb, ltb, ltb-true, ltb-false, List, [], ◌∷◌, ◌++◌, map, filter, drop, length, All, Option, Some, None, ◌⊎◌, inl, inr, ⊎_elim, refl, sym, ap, ◌∙◌, subst, arith, append_assoc, length-append, append-nil}
+use Rattle.std.proofs.Common.{◌≡◌, ℕ, ◌≤◌, true, false, cond, ltb, ltb-true, ltb-false, List, [], ◌∷◌, ◌++◌, length, All, Option, Some, None, ⊎_elim, refl, sym, ap, ◌∙◌, subst, arith, append_assoc, append-nil}
 use Rattle.std.proofs.lemmas.List.Elements.{All-nil, All-cons, All-head, All-tail, All-append}
-use Rattle.std.proofs.lemmas.List.Prefix.{front_rest}
-use Rattle.std.specs.List.{enumerate_from}
-use Rattle.blk_base.specs.declared.memory.Room.{Room}
 use Rattle.blk_lock.specs.declared.known.Stamped.{Stamped}
-use Rattle.blk_lock.specs.Rooms.{Measure, amount, amount_if}
-use Rattle.blk_lock.specs.Stamps.{same_name, is_among, has_actor, is_by, may_make, entries_of, stamped, taken, made_by, IsOthers, OthersAdd}
-use Rattle.blk_lock.specs.Plays.{longer, made_since}
+use Rattle.blk_lock.specs.Stamps.{is_among, has_actor, is_by, IsOthers, OthersAdd}
+use Rattle.blk_lock.specs.Plays.{longer}
 use Rattle.blk_lock.proofs.Tests.{not_true, not_both, is_among-cases, has_actor-cases}
 
 module _ {X : Type 0} where
@@ -97,20 +93,20 @@ module _ {E : Type 0} (actor : E → Option ℕ) where
       → OthersAdd actor (n1 ++ n2) (a1 ++ a2) (longer xs ys) log
   OthersAdd-longer n1 n2 a1 a2 xs ys log h k =
       elim (ltb (length xs) (length ys)) as (λ b. ltb (length xs) (length ys) ≡ b → OthersAdd actor (n1 ++ n2) (a1 ++ a2) (cond b ys xs) log) [
-        true ↦ λ lt. let le : length xs ≤ length ys = omega (arith, ltb-true (length xs) (length ys) lt) in
+        | true ↦ λ lt. let le : length xs ≤ length ys = omega (arith, ltb-true (length xs) (length ys) lt) in
             record { rest = k.rest; begins = k.begins; by_others = All-both n1 n2 a1 a2 k.rest (shorter_rest n1 n2 a1 a2 xs ys log h k le) k.by_others }
-      | false ↦ λ ge. let le : length ys ≤ length xs = ltb-false (length xs) (length ys) ge in
+        | false ↦ λ ge. let le : length ys ≤ length xs = ltb-false (length xs) (length ys) ge in
             record { rest = h.rest; begins = h.begins; by_others = All-both n1 n2 a1 a2 h.rest h.by_others (shorter_rest n2 n1 a2 a1 ys xs log k h le) }
       ] refl
 
 pub length-longer-left : {E : Type 0} (xs ys : List (Stamped E)) → length xs ≤ length (longer xs ys)
 length-longer-left xs ys = elim (ltb (length xs) (length ys)) as (λ b. ltb (length xs) (length ys) ≡ b → length xs ≤ length (cond b ys xs)) [
-    true ↦ λ lt. omega (arith, ltb-true (length xs) (length ys) lt)
+  | true ↦ λ lt. omega (arith, ltb-true (length xs) (length ys) lt)
   | false ↦ λ ge. omega arith
-  ] refl
+] refl
 
 pub length-longer-right : {E : Type 0} (xs ys : List (Stamped E)) → length ys ≤ length (longer xs ys)
 length-longer-right xs ys = elim (ltb (length xs) (length ys)) as (λ b. ltb (length xs) (length ys) ≡ b → length ys ≤ length (cond b ys xs)) [
-    true ↦ λ lt. omega arith
+  | true ↦ λ lt. omega arith
   | false ↦ λ ge. ltb-false (length xs) (length ys) ge
-  ] refl
+] refl

@@ -1,6 +1,6 @@
 -- A join keeps the rule, and so do the looks that end a split and a join.
-use Rattle.std.proofs.Common.{◌≡◌, ◌≢◌, ℕ, zero, suc, ◌+◌, ◌-◌, ◌<◌, ◌≤◌, Bool, true, false, List, [], ◌∷◌, ◌++◌, length, get_or, set, All, Option, Some, None, ◌⊎◌, inl, inr, ⊎_elim, refl, sym, ap, ◌∙◌, subst, arith}
-use mathlib.Core.Option.{none, some, some-injective, some-ne-none}
+use Rattle.std.proofs.Common.{◌≡◌, ◌≢◌, ℕ, ◌+◌, true, false, List, length, get_or, set, All, Option, ◌⊎◌, inl, inr, ⊎_elim, refl, sym, ap, ◌∙◌, subst, arith}
+use mathlib.Core.Option.{some, some-injective}
 use mathlib.Core.Logic.{dite}
 use native.Mathlib.Decide.{ℕ_discrete}
 use lib.ListN.{get_elem?}
@@ -8,21 +8,19 @@ use Rattle.atomic_table.specs.Table.{State, Me, keeps, Allows, Joins, stepped}
 use Rattle.atomic_table.proofs.Lists.{at_set, set_else, set_here}
 use Rattle.blk_base.specs.declared.memory.Room.{Room}
 use Rattle.blk_lock.specs.declared.known.Stamped.{Stamped}
-use Rattle.blk_lock.specs.declared.known.View.{View}
 use Rattle.blk_lock.specs.declared.known.Side.{Side}
 use Rattle.blk_lock.specs.declared.known.Known.{Known}
-use Rattle.blk_lock.specs.declared.known.Stage.{Stage}
-use Rattle.blk_lock.specs.declared.known.Stage.TheVariants.{Spent, Fresh, Joined, Rest, Waiting, Out, Counted}
+use Rattle.blk_lock.specs.declared.known.Stage.TheVariants.{Fresh, Joined, Rest}
 use Rattle.blk_lock.specs.Rooms.{Measure, in_entries, in_bytes, amount, no_room, plus}
-use Rattle.blk_lock.specs.Stamps.{is_among, has_actor, taken, OthersAdd, made_by}
-use Rattle.blk_lock.specs.Stages.{IsLive, ticket_of, is_out}
-use Rattle.blk_lock.specs.Order.{total, GoesOn, HaveNoneInCommon, Unites, StandsAt, MayGive, IsSound, AreApart, Has, rooms, IsHome, IsAway, InOrder}
+use Rattle.blk_lock.specs.Stamps.{is_among}
+use Rattle.blk_lock.specs.Stages.{IsLive, is_out}
+use Rattle.blk_lock.specs.Order.{HaveNoneInCommon, Unites, StandsAt, MayGive, IsSound, AreApart, Has, rooms, IsHome, IsAway}
 use Rattle.blk_lock.specs.Plays.{longer, joined_known, spent_known, resting, Settles}
 use Rattle.blk_lock.specs.Plays as plays
 use Rattle.blk_lock.proofs.Tests.{not_both, is_among-left, is_among-right, is_among-cases, has_actor-cases}
 use Rattle.blk_lock.proofs.Histories.{All-then, All-earlier, OthersAdd-longer, OthersAdd-between, length-longer-left, length-longer-right}
 use Rattle.blk_lock.proofs.Made.{made_from-none}
-use Rattle.blk_lock.proofs.Passes.{total-set, moved, AreApart-sym, at_inside}
+use Rattle.blk_lock.proofs.Passes.{total-set, AreApart-sym, at_inside}
 use Rattle.blk_lock.proofs.Frames.{Rule, IsNamed, moves, stays, rooms_stay}
 
 amount-plus : (k : Measure) (a b : Room) → amount k (plus a b) ≡ amount k a + amount k b
@@ -39,9 +37,9 @@ module _ {E O : Type 0} (passes : List (Known E O)) (id other : ℕ) (both : Kno
 
   has_joined : (j : ℕ) (q : Known E O) → Has after j q → ((j ≡ id) × (both ≡ q)) ⊎ ((j ≢ id) × (j ≢ other) × Has passes j q)
   has_joined j q h = ⊎_elim
-    (λ (t : (j ≡ other) × (spent_known ≡ q)). let none : IsLive (spent_known {E = E} {O = O}).stage = subst (λ (x : Known E O). IsLive x.stage) (sym t.1) h.1 in absurd none)
-    (λ (t : (j ≢ other) × (get_elem? (set passes id both) j ≡ some q)). ⊎_elim inl (λ (u : (j ≢ id) × (get_elem? passes j ≡ some q)). inr (u.0, t.0, (u.1, h.1))) (at_set passes id j both q t.1))
-    (at_set (set passes id both) other j spent_known q h.0)
+      (λ (t : (j ≡ other) × (spent_known ≡ q)). let none : IsLive (spent_known {E = E} {O = O}).stage = subst (λ (x : Known E O). IsLive x.stage) (sym t.1) h.1 in absurd none)
+      (λ (t : (j ≢ other) × (get_elem? (set passes id both) j ≡ some q)). ⊎_elim inl (λ (u : (j ≢ id) × (get_elem? passes j ≡ some q)). inr (u.0, t.0, (u.1, h.1))) (at_set passes id j both q t.1))
+      (at_set (set passes id both) other j spent_known q h.0)
 
   joined_each : (P : Known E O → Type 0) → P both → ((j : ℕ) (q : Known E O) → Has passes j q → P q) → (j : ℕ) (q : Known E O) → Has after j q → P q
   joined_each P mine old j q h = ⊎_elim (λ t. subst P t.1 mine) (λ t. old j q t.2) (has_joined j q h)
@@ -50,17 +48,17 @@ module _ {E O : Type 0} (passes : List (Known E O)) (id other : ℕ) (both : Kno
       → ((i j : ℕ) (p q : Known E O) → i ≢ j → Has passes i p → Has passes j q → R p q)
       → (i j : ℕ) (p q : Known E O) → i ≢ j → Has after i p → Has after j q → R p q
   joined_pairs R mine turn old i j p q apart hi hj = ⊎_elim
-    (λ (s : (i ≡ id) × (both ≡ p)). ⊎_elim (λ (t : (j ≡ id) × (both ≡ q)). absurd (apart (s.0 ∙ sym t.0))) (λ (t : (j ≢ id) × (j ≢ other) × Has passes j q). subst (λ (x : Known E O). R x q) s.1 (mine j q t.0 t.1 t.2)) (has_joined j q hj))
-    (λ (s : (i ≢ id) × (i ≢ other) × Has passes i p). ⊎_elim (λ (t : (j ≡ id) × (both ≡ q)). subst (λ (x : Known E O). R p x) t.1 (turn both p (mine i p s.0 s.1 s.2))) (λ (t : (j ≢ id) × (j ≢ other) × Has passes j q). old i j p q apart s.2 t.2) (has_joined j q hj))
-    (has_joined i p hi)
+      (λ (s : (i ≡ id) × (both ≡ p)). ⊎_elim (λ (t : (j ≡ id) × (both ≡ q)). absurd (apart (s.0 ∙ sym t.0))) (λ (t : (j ≢ id) × (j ≢ other) × Has passes j q). subst (λ (x : Known E O). R x q) s.1 (mine j q t.0 t.1 t.2)) (has_joined j q hj))
+      (λ (s : (i ≢ id) × (i ≢ other) × Has passes i p). ⊎_elim (λ (t : (j ≡ id) × (both ≡ q)). subst (λ (x : Known E O). R p x) t.1 (turn both p (mine i p s.0 s.1 s.2))) (λ (t : (j ≢ id) × (j ≢ other) × Has passes j q). old i j p q apart s.2 t.2) (has_joined j q hj))
+      (has_joined i p hi)
 
   joined_all_pairs : (R : Known E O → Known E O → Type 0) → R both both → ((j : ℕ) (q : Known E O) → Has passes j q → R both q × R q both)
       → ((i j : ℕ) (p q : Known E O) → Has passes i p → Has passes j q → R p q)
       → (i j : ℕ) (p q : Known E O) → Has after i p → Has after j q → R p q
   joined_all_pairs R self mine old i j p q hi hj = ⊎_elim
-    (λ (s : (i ≡ id) × (both ≡ p)). ⊎_elim (λ (t : (j ≡ id) × (both ≡ q)). subst (λ (x : Known E O × Known E O). R x.0 x.1) (λ k. (s.1 k, t.1 k)) self) (λ (t : (j ≢ id) × (j ≢ other) × Has passes j q). subst (λ (x : Known E O). R x q) s.1 (mine j q t.2).0) (has_joined j q hj))
-    (λ (s : (i ≢ id) × (i ≢ other) × Has passes i p). ⊎_elim (λ (t : (j ≡ id) × (both ≡ q)). subst (λ (x : Known E O). R p x) t.1 (mine i p s.2).1) (λ (t : (j ≢ id) × (j ≢ other) × Has passes j q). old i j p q s.2 t.2) (has_joined j q hj))
-    (has_joined i p hi)
+      (λ (s : (i ≡ id) × (both ≡ p)). ⊎_elim (λ (t : (j ≡ id) × (both ≡ q)). subst (λ (x : Known E O × Known E O). R x.0 x.1) (λ k. (s.1 k, t.1 k)) self) (λ (t : (j ≢ id) × (j ≢ other) × Has passes j q). subst (λ (x : Known E O). R x q) s.1 (mine j q t.2).0) (has_joined j q hj))
+      (λ (s : (i ≢ id) × (i ≢ other) × Has passes i p). ⊎_elim (λ (t : (j ≡ id) × (both ≡ q)). subst (λ (x : Known E O). R p x) t.1 (mine i p s.2).1) (λ (t : (j ≢ id) × (j ≢ other) × Has passes j q). old i j p q s.2 t.2) (has_joined j q hj))
+      (has_joined i p hi)
 
 module _ {W E O : Type 0} (history : W → List E) (actor : E → Option ℕ) (spare : W → Room) (comes : W → O → Type 0) (opening : O) (start : Room) where
   abbrev St : Type 0
@@ -121,11 +119,11 @@ module _ {W E O : Type 0} (history : W → List E) (actor : E → Option ℕ) (s
         let it_has : Has passes id both = (set_else (set s.views id both) other id spent_known (λ e. ne (sym e)) ∙ set_here s.views id both (at_inside s.views id v at), tt) in
         dite (ℕ_discrete t.0 id)
         (λ is. let same : t.1 ≡ v = some-injective t.1 v (sym t.2.0 ∙ (ap (get_elem? s.views) is ∙ at)) in
-          (id, both, it_has, is_among-left v.view.names u.view.names m (subst (λ (x : Known E O). is_among x.view.names m ≡ true) same t.3)))
+        (id, both, it_has, is_among-left v.view.names u.view.names m (subst (λ (x : Known E O). is_among x.view.names m ≡ true) same t.3)))
         (λ not_id. dite (ℕ_discrete t.0 other)
-          (λ is. let same : t.1 ≡ u = some-injective t.1 u (sym t.2.0 ∙ (ap (get_elem? s.views) is ∙ there)) in
-            (id, both, it_has, is_among-right v.view.names u.view.names m (subst (λ (x : Known E O). is_among x.view.names m ≡ true) same t.3)))
-          (λ not_other. (t.0, t.1, (set_else (set s.views id both) other t.0 spent_known not_other ∙ (set_else s.views id t.0 both not_id ∙ t.2.0), t.2.1), t.3)))
+        (λ is. let same : t.1 ≡ u = some-injective t.1 u (sym t.2.0 ∙ (ap (get_elem? s.views) is ∙ there)) in
+        (id, both, it_has, is_among-right v.view.names u.view.names m (subst (λ (x : Known E O). is_among x.view.names m ≡ true) same t.3)))
+        (λ not_other. (t.0, t.1, (set_else (set s.views id both) other t.0 spent_known not_other ∙ (set_else s.views id t.0 both not_id ∙ t.2.0), t.2.1), t.3)))
 
     other_there : get_elem? (set s.views id both) other ≡ some u
     other_there = set_else s.views id other both ne ∙ there
@@ -144,9 +142,9 @@ module _ {W E O : Type 0} (history : W → List E) (actor : E → Option ℕ) (s
       opened = h.opened;
       has_room = λ k. let a = rooms_same k in let b = h.has_room k in omega arith;
       none_out = λ j q p. ⊎_elim
-        (λ (t : (j ≡ other) × (spent_known ≡ q)). subst (λ (x : Known E O). is_out x.stage ≡ false) t.1 refl)
-        (λ (t : (j ≢ other) × (get_elem? (set s.views id both) j ≡ some q)). ⊎_elim (λ (x : (j ≡ id) × (both ≡ q)). subst (λ (y : Known E O). is_out y.stage ≡ false) x.1 refl) (λ (x : (j ≢ id) × (get_elem? s.views j ≡ some q)). h.none_out j q x.1) (at_set s.views id j both q t.1))
-        (at_set (set s.views id both) other j spent_known q p);
+          (λ (t : (j ≡ other) × (spent_known ≡ q)). subst (λ (x : Known E O). is_out x.stage ≡ false) t.1 refl)
+          (λ (t : (j ≢ other) × (get_elem? (set s.views id both) j ≡ some q)). ⊎_elim (λ (x : (j ≡ id) × (both ≡ q)). subst (λ (y : Known E O). is_out y.stage ≡ false) x.1 refl) (λ (x : (j ≢ id) × (get_elem? s.views j ≡ some q)). h.none_out j q x.1) (at_set s.views id j both q t.1))
+          (at_set (set s.views id both) other j spent_known q p);
     }
     place (inr a) =
         let ne_id : a.holder ≢ id = λ e. not_both (is_out v.stage) (subst (λ (x : Known E O). is_out x.stage ≡ true) (some-injective a.pass v (sym a.there ∙ (ap (get_elem? s.views) e ∙ at))) a.out) (ap is_out rest) in
@@ -162,9 +160,9 @@ module _ {W E O : Type 0} (history : W → List E) (actor : E → Option ℕ) (s
           empty = a.empty;
           has_room = λ k. let e = rooms_same k in let b = a.has_room k in omega arith;
           alone = λ j q p o. ⊎_elim
-            (λ (t : (j ≡ other) × (spent_known ≡ q)). not_both (is_out q.stage) o (subst (λ (x : Known E O). is_out x.stage ≡ false) t.1 refl))
-            (λ (t : (j ≢ other) × (get_elem? (set s.views id both) j ≡ some q)). ⊎_elim (λ (x : (j ≡ id) × (both ≡ q)). not_both (is_out q.stage) o (subst (λ (y : Known E O). is_out y.stage ≡ false) x.1 refl)) (λ (x : (j ≢ id) × (get_elem? s.views j ≡ some q)). a.alone j q x.1 o) (at_set s.views id j both q t.1))
-            (at_set (set s.views id both) other j spent_known q p);
+              (λ (t : (j ≡ other) × (spent_known ≡ q)). not_both (is_out q.stage) o (subst (λ (x : Known E O). is_out x.stage ≡ false) t.1 refl))
+              (λ (t : (j ≢ other) × (get_elem? (set s.views id both) j ≡ some q)). ⊎_elim (λ (x : (j ≡ id) × (both ≡ q)). not_both (is_out q.stage) o (subst (λ (y : Known E O). is_out y.stage ≡ false) x.1 refl)) (λ (x : (j ≢ id) × (get_elem? s.views j ≡ some q)). a.alone j q x.1 o) (at_set s.views id j both q t.1))
+              (at_set (set s.views id both) other j spent_known q p);
         }
 
     joins_one : Lawful record { words = s.words; homes = s.homes; views = passes }
@@ -229,8 +227,9 @@ module _ {W E O : Type 0} (history : W → List E) (actor : E → Option ℕ) (s
           apart = λ l x is. (let two : Unites actor r.log v.view l x = subst (StandsAt actor r.drawn r.log v.view) is mine.stands in two.apart);
           both = λ l x is longest.
               let two : Unites actor r.log v.view l x = subst (StandsAt actor r.drawn r.log v.view) is mine.stands in
-              let a = length-longer-left l.seen x.seen in let b = length-longer-right l.seen x.seen in let c = ap length longest in
-              (OthersAdd-between actor l.names v.view.names l.actors v.view.actors l.seen v.view.seen r.log two.from_left mine.goes_on (omega arith),
-                OthersAdd-between actor x.names v.view.names x.actors v.view.actors x.seen v.view.seen r.log two.from_right mine.goes_on (omega arith));
+              let a = length-longer-left l.seen x.seen in let b = length-longer-right l.seen x.seen in let c = ap length longest in (
+                OthersAdd-between actor l.names v.view.names l.actors v.view.actors l.seen v.view.seen r.log two.from_left mine.goes_on (omega arith),
+                OthersAdd-between actor x.names v.view.names x.actors v.view.actors x.seen v.view.seen r.log two.from_right mine.goes_on (omega arith),
+              );
         },
       )

@@ -1,11 +1,11 @@
 -- Which entries of a history were made by whom, and what one turn adds to it.
-use Rattle.std.proofs.Common.{◌≡◌, ◌≢◌, ℕ, zero, suc, ◌+◌, ◌-◌, ◌<◌, ◌≤◌, Bool, true, false, ◌||◌, cond, List, [], ◌∷◌, ◌++◌, map, filter, drop, length, All, Contains, Option, Some, None, ◌⊎◌, ◌↔◌, inl, inr, ⊎_elim, refl, sym, ap, ◌∙◌, subst, arith, append_assoc, length-append, append-nil, add-zero, add_assoc, zero-add}
+use Rattle.std.proofs.Common.{◌≡◌, ℕ, ◌+◌, ◌≤◌, Bool, true, false, ◌||◌, cond, List, [], ◌∷◌, ◌++◌, map, filter, drop, length, All, Contains, Option, Some, None, ◌⊎◌, ◌↔◌, inl, inr, ⊎_elim, refl, sym, ap, ◌∙◌, subst, arith, append-nil, add-zero}
 use Rattle.std.proofs.lemmas.List.Elements.{All-nil, All-cons, All-head, All-tail, Contains-append_left, Contains-append_right, Contains-append_cases}
 use Rattle.std.proofs.lemmas.List.Prefix.{front_rest}
 use Rattle.std.specs.List.{enumerate_from}
 use Rattle.blk_base.specs.declared.memory.Room.{Room}
 use Rattle.blk_lock.specs.declared.known.Stamped.{Stamped}
-use Rattle.blk_lock.specs.Rooms.{Measure, amount, amount_if}
+use Rattle.blk_lock.specs.Rooms.{Measure, amount}
 use Rattle.blk_lock.specs.Stamps.{same_name, is_among, entries_of, stamped, taken, made_by, IsOthers, OthersAdd}
 use Rattle.blk_lock.specs.Plays.{made_since}
 use Rattle.blk_lock.proofs.Histories.{All-then}

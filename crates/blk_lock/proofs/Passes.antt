@@ -1,20 +1,18 @@
 -- One pass changes, and the others stay as they were.
-use Rattle.std.proofs.Common.{◌≡◌, ◌≢◌, ℕ, zero, suc, ◌+◌, ◌-◌, ◌<◌, ◌≤◌, Bool, true, false, List, [], ◌∷◌, ◌++◌, length, set, All, Option, Some, None, ◌⊎◌, inl, inr, ⊎_elim, refl, sym, ap, ◌∙◌, subst, arith}
-use Rattle.std.proofs.lemmas.List.Elements.{All-nil, All-cons, All-head, All-tail, All-append}
-use mathlib.Core.Option.{none, some, some-injective, some-ne-none}
+use Rattle.std.proofs.Common.{◌≡◌, ◌≢◌, ℕ, zero, suc, ◌+◌, ◌<◌, ◌≤◌, true, List, [], ◌∷◌, ◌++◌, length, set, Option, ◌⊎◌, inl, inr, ⊎_elim, refl, sym, ap, ◌∙◌, subst, arith}
+use mathlib.Core.Option.{some, some-injective, some-ne-none}
 use mathlib.Core.Logic.{dite}
 use native.Mathlib.Decide.{ℕ_discrete}
 use lib.ListN.{get_elem?}
-use Rattle.atomic_table.proofs.Lists.{at_set, set_here, set_else, at_longer, at_snoc, at_last}
+use Rattle.atomic_table.proofs.Lists.{at_set, set_here, set_else}
 use Rattle.blk_base.specs.declared.memory.Room.{Room}
 use Rattle.blk_lock.specs.declared.known.Stamped.{Stamped}
 use Rattle.blk_lock.specs.declared.known.Known.{Known}
 use Rattle.blk_lock.specs.declared.known.Stage.{Stage}
 use Rattle.blk_lock.specs.declared.known.Stage.TheVariants.{Spent, Fresh, Joined, Rest, Waiting, Out, Counted}
-use Rattle.blk_lock.specs.Rooms.{Measure, amount}
-use Rattle.blk_lock.specs.Stamps.{is_among, has_actor}
-use Rattle.blk_lock.specs.Stages.{IsLive, ticket_of, is_out}
-use Rattle.blk_lock.specs.Order.{total, Has, AreApart, MayGive, rooms}
+use Rattle.blk_lock.specs.Stamps.{is_among}
+use Rattle.blk_lock.specs.Stages.{IsLive, is_out}
+use Rattle.blk_lock.specs.Order.{total, Has, AreApart}
 
 pub at_inside : {X : Type 0} (xs : List X) (i : ℕ) (x : X) → get_elem? xs i ≡ some x → i < length xs
 at_inside [] i x at = absurd (some-ne-none x (sym at))
@@ -72,35 +70,35 @@ module _ {E O : Type 0} where
         → ((i j : ℕ) (p q : Known E O) → i ≢ j → Has passes i p → Has passes j q → R p q)
         → (i j : ℕ) (p q : Known E O) → i ≢ j → Has (set passes id w) i p → Has (set passes id w) j q → R p q
     on_pairs R mine turn others i j p q apart hi hj = ⊎_elim
-      (λ (s : (i ≡ id) × (w ≡ p)). ⊎_elim
+        (λ (s : (i ≡ id) × (w ≡ p)). ⊎_elim
         (λ (t : (j ≡ id) × (w ≡ q)). absurd (apart (s.0 ∙ sym t.0)))
         (λ (t : (j ≢ id) × Has passes j q). subst (λ (x : Known E O). R x q) s.1 (mine j q t.0 t.1))
         (has_set j q hj))
-      (λ (s : (i ≢ id) × Has passes i p). ⊎_elim
+        (λ (s : (i ≢ id) × Has passes i p). ⊎_elim
         (λ (t : (j ≡ id) × (w ≡ q)). subst (λ (x : Known E O). R p x) t.1 (turn w p (mine i p s.0 s.1)))
         (λ (t : (j ≢ id) × Has passes j q). others i j p q apart s.1 t.1)
         (has_set j q hj))
-      (has_set i p hi)
+        (has_set i p hi)
 
     pub on_all_pairs : (R : Known E O → Known E O → Type 0) → R w w → ((j : ℕ) (q : Known E O) → j ≢ id → Has passes j q → R w q × R q w)
         → ((i j : ℕ) (p q : Known E O) → Has passes i p → Has passes j q → R p q)
         → (i j : ℕ) (p q : Known E O) → Has (set passes id w) i p → Has (set passes id w) j q → R p q
     on_all_pairs R self mine others i j p q hi hj = ⊎_elim
-      (λ (s : (i ≡ id) × (w ≡ p)). ⊎_elim
+        (λ (s : (i ≡ id) × (w ≡ p)). ⊎_elim
         (λ (t : (j ≡ id) × (w ≡ q)). subst (λ (x : Known E O × Known E O). R x.0 x.1) (λ k. (s.1 k, t.1 k)) self)
         (λ (t : (j ≢ id) × Has passes j q). subst (λ (x : Known E O). R x q) s.1 (mine j q t.0 t.1).0)
         (has_set j q hj))
-      (λ (s : (i ≢ id) × Has passes i p). ⊎_elim
+        (λ (s : (i ≢ id) × Has passes i p). ⊎_elim
         (λ (t : (j ≡ id) × (w ≡ q)). subst (λ (x : Known E O). R p x) t.1 (mine i p s.0 s.1).1)
         (λ (t : (j ≢ id) × Has passes j q). others i j p q s.1 t.1)
         (has_set j q hj))
-      (has_set i p hi)
+        (has_set i p hi)
 
     -- who is named among the passes is still named, where the pass keeps its names
     pub makers_stay : (v : Known E O) → get_elem? passes id ≡ some v → ((n : List ℕ) → is_among v.view.names n ≡ true → is_among w.view.names n ≡ true) → IsLive w.stage
         → (n : List ℕ) → (i : ℕ) × (p : Known E O) × Has passes i p × (is_among p.view.names n ≡ true)
         → (i : ℕ) × (p : Known E O) × Has (set passes id w) i p × (is_among p.view.names n ≡ true)
     makers_stay v at more live n t = dite (ℕ_discrete t.0 id)
-      (λ here. let same : t.1 ≡ v = some-injective t.1 v (sym t.2.0 ∙ (ap (get_elem? passes) here ∙ at)) in
+        (λ here. let same : t.1 ≡ v = some-injective t.1 v (sym t.2.0 ∙ (ap (get_elem? passes) here ∙ at)) in
         (id, w, (set_here passes id w (at_inside passes id v at), live), more n (subst (λ (x : Known E O). is_among x.view.names n ≡ true) same t.3)))
-      (λ apart. (t.0, t.1, (set_else passes id t.0 w apart ∙ t.2.0, t.2.1), t.3))
+        (λ apart. (t.0, t.1, (set_else passes id t.0 w apart ∙ t.2.0, t.2.1), t.3))

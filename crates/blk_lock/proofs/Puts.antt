@@ -1,9 +1,9 @@
 -- Counting what a turn made, and serving the next, keep the rule.
-use Rattle.std.proofs.Common.{◌≡◌, ◌≢◌, ℕ, zero, suc, ◌+◌, ◌-◌, ◌<◌, ◌≤◌, ◌^◌, ◌%◌, ◌==◌, Bool, true, false, List, [], ◌∷◌, ◌++◌, length, get_or, set, eqb, All, Option, Some, None, IfSome, unwrap_or, ◌⊎◌, inl, inr, ⊎_elim, refl, sym, ap, ◌∙◌, subst, arith, mod-eq_of_lt, length-append}
+use Rattle.std.proofs.Common.{◌≡◌, ◌≢◌, ℕ, ◌+◌, ◌-◌, ◌<◌, ◌≤◌, ◌^◌, ◌%◌, true, false, List, [], ◌∷◌, ◌++◌, length, get_or, set, All, Option, Some, None, IfSome, unwrap_or, inl, inr, ⊎_elim, refl, sym, ap, ◌∙◌, subst, arith, mod-eq_of_lt, length-append}
 use Rattle.std.proofs.lemmas.List.Elements.{All-append}
-use mathlib.Core.Option.{none, some, some-injective, some-ne-none}
+use mathlib.Core.Option.{some, some-injective}
 use lib.ListN.{get_elem?}
-use Rattle.atomic_table.specs.Table.{State, Me, Act, keeps, gives, Valid, Allows, step, stepped, carried_after}
+use Rattle.atomic_table.specs.Table.{State, Me, keeps, gives, Allows, stepped}
 use Rattle.atomic_table.proofs.Lists.{at_set, set_here}
 use Rattle.blk_base.specs.declared.memory.Room.{Room}
 use Rattle.blk_lock.specs.declared.known.Stamped.{Stamped}
@@ -12,15 +12,15 @@ use Rattle.blk_lock.specs.declared.known.Known.{Known}
 use Rattle.blk_lock.specs.declared.known.Stage.{Stage}
 use Rattle.blk_lock.specs.declared.known.Stage.TheVariants.{Spent, Fresh, Joined, Rest, Waiting, Out, Counted}
 use Rattle.blk_lock.specs.Rooms.{Measure, in_entries, in_bytes, amount, no_room, less, IsWithin}
-use Rattle.blk_lock.specs.Stamps.{is_among, has_actor, is_by, may_make, entries_of, stamped, taken, IsOthers, OthersAdd}
+use Rattle.blk_lock.specs.Stamps.{is_among, has_actor, is_by, may_make, entries_of, stamped, IsOthers, OthersAdd}
 use Rattle.blk_lock.specs.Stages.{IsLive, ticket_of, is_out}
-use Rattle.blk_lock.specs.Order.{total, GoesOn, Unites, IsDrawn, StandsAt, IsSound, AreApart, Has, rooms, IsHome, IsAway, InOrder}
-use Rattle.blk_lock.specs.Plays.{made_since, after_count, counted_known, Counts, Serves}
+use Rattle.blk_lock.specs.Order.{IsDrawn, StandsAt, IsSound, AreApart, Has, rooms, IsAway}
+use Rattle.blk_lock.specs.Plays.{made_since, counted_known, Counts, Serves}
 use Rattle.blk_lock.proofs.Tests.{not_true, not_both, is_among-left, is_among-right, has_actor-left, has_actor-right}
 use Rattle.blk_lock.proofs.Histories.{All-then, OthersAdd-same, OthersAdd-more, IsOthers-fewer}
 use Rattle.blk_lock.proofs.Made.{All-stamped, entries_of-stamped, taken-stamped, taken-append, length-entries_of}
-use Rattle.blk_lock.proofs.Passes.{total-set, total-at, moved, out_is_live, at_inside}
-use Rattle.blk_lock.proofs.Frames.{Rule, IsNamed, unmoved, moves, stays, rooms_stay}
+use Rattle.blk_lock.proofs.Passes.{total-set, moved, at_inside}
+use Rattle.blk_lock.proofs.Frames.{Rule, IsNamed, moves, rooms_stay}
 
 pub amount-less : (k : Measure) (a b : Room) → amount k (less a b) ≡ amount k a - amount k b
 amount-less in_entries a b = refl
@@ -49,7 +49,7 @@ module _ {E : Type 0} (actor : E → Option ℕ) where
       → (is_among names name ≡ true → ⊥) → ((x : ℕ) → has_actor actors x ≡ true → has_actor actors' x ≡ true → ⊥) → All (λ e. may_make actors (actor e) ≡ true) made
       → All (IsOthers actor names actors') (stamped name took made)
   made_by_another name took made names actors actors' other apart all = All-stamped (IsOthers actor names actors') (λ e. may_make actors (actor e) ≡ true) name took made
-    (λ e t may. record { by_another = not_true (is_among names name) other; of_another = not_anothers actors actors' (actor e) apart may }) all
+      (λ e t may. record { by_another = not_true (is_among names name) other; of_another = not_anothers actors actors' (actor e) apart may }) all
 
 module _ {E O : Type 0} (actor : E → Option ℕ) where
   -- what holds of a pass stays so when another's entries are counted
@@ -64,9 +64,9 @@ module _ {E O : Type 0} (actor : E → Option ℕ) where
         actors = h.actors;
         apart = h.apart;
         from_left = OthersAdd-more actor l.names l.actors l.seen log more h.from_left (All-then (IsOthers actor v.names v.actors) (IsOthers actor l.names l.actors)
-          (IsOthers-fewer actor v.names l.names v.actors l.actors (λ n t. names n (is_among-left l.names r.names n t)) (λ a t. actors a (has_actor-left l.actors r.actors a t))) more all);
+            (IsOthers-fewer actor v.names l.names v.actors l.actors (λ n t. names n (is_among-left l.names r.names n t)) (λ a t. actors a (has_actor-left l.actors r.actors a t))) more all);
         from_right = OthersAdd-more actor r.names r.actors r.seen log more h.from_right (All-then (IsOthers actor v.names v.actors) (IsOthers actor r.names r.actors)
-          (IsOthers-fewer actor v.names r.names v.actors r.actors (λ n t. names n (is_among-right l.names r.names n t)) (λ a t. actors a (has_actor-right l.actors r.actors a t))) more all);
+            (IsOthers-fewer actor v.names r.names v.actors r.actors (λ n t. names n (is_among-right l.names r.names n t)) (λ a t. actors a (has_actor-right l.actors r.actors a t))) more all);
       }
   stands_on drawn log more v Rest off all h = tt
   stands_on drawn log more v (Waiting t) off all h = h
@@ -92,10 +92,10 @@ module _ {W E O : Type 0} (history : W → List E) (actor : E → Option ℕ) (s
 
   pub is_mine : (s : St) (r : Lawful s) (id : ℕ) (v : Known E O) → get_elem? s.views id ≡ some v → is_out v.stage ≡ true → IsMine s r id v
   is_mine s r id v at out = ⊎_elim (λ h. not_both (is_out v.stage) out (h.none_out id v at))
-    (λ a. let here : id ≡ a.holder = a.alone id v at out in
+      (λ a. let here : id ≡ a.holder = a.alone id v at out in
       let same : v ≡ a.pass = some-injective v a.pass (sym at ∙ (ap (get_elem? s.views) here ∙ a.there)) in
       record { away = a; holder = here; pass = same; ticket = ap (λ (x : Known E O). ticket_of x.stage) same ∙ a.ticket })
-    r.place
+      r.place
 
   pub others_are_in : (s : St) (r : Lawful s) (id : ℕ) (v : Known E O) → IsMine s r id v → (j : ℕ) (q : Known E O) → j ≢ id → get_elem? s.views j ≡ some q → is_out q.stage ≡ false
   others_are_in s r id v m j q ne at = not_true (is_out q.stage) (λ out. ne (m.away.alone j q at out ∙ sym m.holder))
@@ -172,7 +172,7 @@ module _ {W E O : Type 0} (history : W → List E) (actor : E → Option ℕ) (s
           stands = stands_on actor r.drawn r.log stamps q.view q.stage (others_are_in s r id v has_it j q ne h.0) (by_me j q ne h) k.stands;
         })
         (All-append (IsNamed history actor spare comes opening start s.views) r.log stamps r.made
-          (All-stamped (IsNamed history actor spare comes opening start s.views) (λ e. may_make v.view.actors (actor e) ≡ true) v.view.name took made (λ e n may. (id, v, (at, live), mine.named)) allowed))
+        (All-stamped (IsNamed history actor spare comes opening start s.views) (λ e. may_make v.view.actors (actor e) ≡ true) v.view.name took made (λ e n may. (id, v, (at, live), mine.named)) allowed))
         (λ k. let a = rooms_less k in let b = taken-append k r.log stamps in let c = taken-stamped k v.view.name took made in let d = r.in_room k in omega arith)
         (inr record {
           holder = id;
@@ -221,7 +221,7 @@ module _ {W E O : Type 0} (history : W → List E) (actor : E → Option ℕ) (s
       let same : (k : Measure) → amount k v.view.room ≡ amount k v.view.room = λ k. refl in
       let kept : (k : Measure) → rooms k (set s.views id w) ≡ rooms k s.views = rooms_stay history actor spare comes opening start s r id v at live Rest v.view.seen v.view.room None same in
       let had_is : (k : Measure) → amount k (spare world) ≡ amount k m.away.had =
-        λ k. ap (λ (o : Option Room). amount k (unwrap_or o no_room)) (sym turn ∙ (ap (λ (x : Known E O). x.view.turn) m.pass ∙ m.away.turn)) in
+      λ k. ap (λ (o : Option Room). amount k (unwrap_or o no_room)) (sym turn ∙ (ap (λ (x : Known E O). x.view.turn) m.pass ∙ m.away.turn)) in
       moves history actor spare comes opening start s r id v at live Rest v.view.seen v.view.room None tt
       (λ j q ne k n its qs. cc)
       r.drawn (r.served + 1) r.log (set s.words 1 ((get_or s.words 1 0 + 1) % 2 ^ 64)) (set s.homes 0 (some (Some world)))

@@ -1,7 +1,7 @@
 -- A split keeps the rule: the new pass has a name that nobody has, and what it was given is its own alone.
-use Rattle.std.proofs.Common.{◌≡◌, ◌≢◌, ℕ, zero, suc, ◌+◌, ◌-◌, ◌<◌, ◌≤◌, Bool, true, false, ◌||◌, not, cond, eqb, eqb-true, eq-eqb, List, [], ◌∷◌, ◌++◌, filter, length, set, All, Option, Some, None, IfSome, ◌⊎◌, inl, inr, ⊎_elim, refl, sym, ap, ◌∙◌, subst, arith, append_assoc, append-nil, length-append}
+use Rattle.std.proofs.Common.{◌≡◌, ◌≢◌, ℕ, zero, suc, ◌+◌, ◌<◌, ◌≤◌, true, false, not, cond, eqb, eqb-true, eq-eqb, List, [], ◌∷◌, ◌++◌, filter, length, set, All, Option, Some, None, IfSome, ◌⊎◌, inl, inr, ⊎_elim, refl, sym, ap, ◌∙◌, subst, arith, append_assoc, length-append}
 use Rattle.std.proofs.lemmas.List.Elements.{All-nil, All-cons, All-head, All-tail}
-use mathlib.Core.Option.{none, some, some-injective, some-ne-none}
+use mathlib.Core.Option.{some, some-injective, some-ne-none}
 use lib.ListN.{get_elem?}
 use Rattle.atomic_table.specs.Table.{State, Splits}
 use Rattle.atomic_table.proofs.Lists.{at_set, set_else, at_longer}
@@ -9,16 +9,15 @@ use Rattle.blk_base.specs.declared.memory.Room.{Room}
 use Rattle.blk_lock.specs.declared.known.Stamped.{Stamped}
 use Rattle.blk_lock.specs.declared.known.View.{View}
 use Rattle.blk_lock.specs.declared.known.Known.{Known}
-use Rattle.blk_lock.specs.declared.known.Stage.{Stage}
-use Rattle.blk_lock.specs.declared.known.Stage.TheVariants.{Spent, Fresh, Joined, Rest, Waiting, Out, Counted}
-use Rattle.blk_lock.specs.Rooms.{Measure, amount, less, IsWithin}
-use Rattle.blk_lock.specs.Stamps.{is_among, has_actor, is_by, taken, IsOthers, OthersAdd}
-use Rattle.blk_lock.specs.Stages.{IsLive, ticket_of, is_out}
-use Rattle.blk_lock.specs.Order.{total, StandsAt, MayGive, IsSound, AreApart, Has, rooms, IsHome, IsAway, InOrder}
+use Rattle.blk_lock.specs.declared.known.Stage.TheVariants.{Rest}
+use Rattle.blk_lock.specs.Rooms.{Measure, amount, IsWithin}
+use Rattle.blk_lock.specs.Stamps.{is_among, has_actor, is_by, IsOthers}
+use Rattle.blk_lock.specs.Stages.{IsLive, is_out}
+use Rattle.blk_lock.specs.Order.{StandsAt, MayGive, IsSound, AreApart, Has, rooms, IsHome, IsAway}
 use Rattle.blk_lock.specs.Plays.{without, list_of, split_known, fresh_known}
 use Rattle.blk_lock.proofs.Tests.{not_true, not_both, or_cases, is_among-here, is_among-one, has_actor-without}
 use Rattle.blk_lock.proofs.Histories.{All-then, All-later, OthersAdd-fewer}
-use Rattle.blk_lock.proofs.Passes.{total-set, total-push, AreApart-sym, on_each, on_pairs, on_all_pairs, makers_stay, at_inside}
+use Rattle.blk_lock.proofs.Passes.{total-set, total-push, AreApart-sym, on_each, on_pairs, on_all_pairs, makers_stay}
 use Rattle.blk_lock.proofs.Frames.{Rule, IsNamed}
 use Rattle.blk_lock.proofs.Puts.{amount-less, within}
 
@@ -44,8 +43,8 @@ taken_out : (xs : List ℕ) (b a : ℕ) → b ≡ a → has_actor (filter (λ x.
 taken_out [] b a same h = cc
 taken_out (x ∷ xs) b a same h =
     elim (eqb x b) as (λ t. eqb x b ≡ t → has_actor (cond (not t) (x ∷ filter (λ y. not (eqb y b)) xs) (filter (λ y. not (eqb y b)) xs)) a ≡ true → ⊥) [
-      true ↦ λ is there. taken_out xs b a same there
-    | false ↦ λ is there. ⊎_elim (λ (here : eqb x a ≡ true). let e : x ≡ b = eqb-true x a here ∙ sym same in not_both (eqb x b) (eq-eqb x b e) is) (λ later. taken_out xs b a same later) (or_cases (eqb x a) (has_actor (filter (λ y. not (eqb y b)) xs) a) there)
+      | true ↦ λ is there. taken_out xs b a same there
+      | false ↦ λ is there. ⊎_elim (λ (here : eqb x a ≡ true). let e : x ≡ b = eqb-true x a here ∙ sym same in not_both (eqb x b) (eq-eqb x b e) is) (λ later. taken_out xs b a same later) (or_cases (eqb x a) (has_actor (filter (λ y. not (eqb y b)) xs) a) there)
     ] refl h
 
 pub has_actor-one : (b a : ℕ) → has_actor (b ∷ []) a ≡ true → b ≡ a
@@ -76,17 +75,17 @@ module _ {E O : Type 0} where
         → ((i j : ℕ) (p q : Known E O) → i ≢ j → Has passes i p → Has passes j q → R p q)
         → (i j : ℕ) (p q : Known E O) → i ≢ j → Has (passes ++ u ∷ []) i p → Has (passes ++ u ∷ []) j q → R p q
     push_pairs R new turn old i j p q apart hi hj = ⊎_elim
-      (λ (s : Has passes i p). ⊎_elim (λ (t : Has passes j q). old i j p q apart s t) (λ (t : (j ≡ length passes) × (u ≡ q)). subst (λ (x : Known E O). R p x) t.1 (turn u p (new i p s))) (has_push j q hj))
-      (λ (s : (i ≡ length passes) × (u ≡ p)). ⊎_elim (λ (t : Has passes j q). subst (λ (x : Known E O). R x q) s.1 (new j q t)) (λ (t : (j ≡ length passes) × (u ≡ q)). absurd (apart (s.0 ∙ sym t.0))) (has_push j q hj))
-      (has_push i p hi)
+        (λ (s : Has passes i p). ⊎_elim (λ (t : Has passes j q). old i j p q apart s t) (λ (t : (j ≡ length passes) × (u ≡ q)). subst (λ (x : Known E O). R p x) t.1 (turn u p (new i p s))) (has_push j q hj))
+        (λ (s : (i ≡ length passes) × (u ≡ p)). ⊎_elim (λ (t : Has passes j q). subst (λ (x : Known E O). R x q) s.1 (new j q t)) (λ (t : (j ≡ length passes) × (u ≡ q)). absurd (apart (s.0 ∙ sym t.0))) (has_push j q hj))
+        (has_push i p hi)
 
     pub push_all_pairs : (R : Known E O → Known E O → Type 0) → R u u → ((j : ℕ) (q : Known E O) → Has passes j q → R u q × R q u)
         → ((i j : ℕ) (p q : Known E O) → Has passes i p → Has passes j q → R p q)
         → (i j : ℕ) (p q : Known E O) → Has (passes ++ u ∷ []) i p → Has (passes ++ u ∷ []) j q → R p q
     push_all_pairs R self new old i j p q hi hj = ⊎_elim
-      (λ (s : Has passes i p). ⊎_elim (λ (t : Has passes j q). old i j p q s t) (λ (t : (j ≡ length passes) × (u ≡ q)). subst (λ (x : Known E O). R p x) t.1 (new i p s).1) (has_push j q hj))
-      (λ (s : (i ≡ length passes) × (u ≡ p)). ⊎_elim (λ (t : Has passes j q). subst (λ (x : Known E O). R x q) s.1 (new j q t).0) (λ (t : (j ≡ length passes) × (u ≡ q)). subst (λ (x : Known E O × Known E O). R x.0 x.1) (λ k. (s.1 k, t.1 k)) self) (has_push j q hj))
-      (has_push i p hi)
+        (λ (s : Has passes i p). ⊎_elim (λ (t : Has passes j q). old i j p q s t) (λ (t : (j ≡ length passes) × (u ≡ q)). subst (λ (x : Known E O). R p x) t.1 (new i p s).1) (has_push j q hj))
+        (λ (s : (i ≡ length passes) × (u ≡ p)). ⊎_elim (λ (t : Has passes j q). subst (λ (x : Known E O). R x q) s.1 (new j q t).0) (λ (t : (j ≡ length passes) × (u ≡ q)). subst (λ (x : Known E O × Known E O). R x.0 x.1) (λ k. (s.1 k, t.1 k)) self) (has_push j q hj))
+        (has_push i p hi)
 
   -- the names that a pass may still give, after and before a split
   gives_less : (v : View E O) (n : List ℕ) → (k : ℕ) × (rest : List ℕ) × (v.splits + 1 < k) × (n ≡ v.name ++ k ∷ rest) → MayGive v n
@@ -187,8 +186,8 @@ module _ {W E O : Type 0} (history : W → List E) (actor : E → Option ℕ) (s
     not_given j q ne h n is g =
         let a = r.apart id j v q (λ e. ne (sym e)) here h in let its = r.sound j q h in
         ⊎_elim (λ (same : q.view.name ≡ v.view.name). a.names v.view.name mine.named (subst (λ (x : List ℕ). is_among q.view.names x ≡ true) same its.named))
-          (λ (t : (more : List ℕ) × (v.view.name ≡ q.view.name ++ g.0 ∷ more)). r.unnamed j id q v h here v.view.name mine.named (g.0, t.0, g.2, t.1))
-          (same_end q.view.name g.1 v.view.name g.0 (v.view.splits + 1) (sym g.3 ∙ sym is))
+        (λ (t : (more : List ℕ) × (v.view.name ≡ q.view.name ++ g.0 ∷ more)). r.unnamed j id q v h here v.view.name mine.named (g.0, t.0, g.2, t.1))
+        (same_end q.view.name g.1 v.view.name g.0 (v.view.splits + 1) (sym g.3 ∙ sym is))
 
     abbrev Unnamed : Known E O → Known E O → Type 0
     Unnamed p q = (n : List ℕ) → is_among q.view.names n ≡ true → MayGive p.view n → ⊥
@@ -200,9 +199,10 @@ module _ {W E O : Type 0} (history : W → List E) (actor : E → Option ℕ) (s
         r.unnamed
 
     unnamed_right : (j : ℕ) (q : Known E O) → Has passes j q → Unnamed right q × Unnamed q right
-    unnamed_right = on_each s.views id left (λ q. Unnamed right q × Unnamed q right)
-        ((λ n k g. r.unnamed id id v v here here n k (gives_through v.view n g)),
-          (λ n k g. let is = is_among-one n name k in let lt : v.view.splits + 1 < g.0 = g.2 in let e : v.view.splits + 1 ≡ g.0 = next_is_given v.view.name (v.view.splits + 1) g.0 g.1 (is ∙ g.3) in absurd (omega arith)))
+    unnamed_right = on_each s.views id left (λ q. Unnamed right q × Unnamed q right) (
+      (λ n k g. r.unnamed id id v v here here n k (gives_through v.view n g)),
+      (λ n k g. let is = is_among-one n name k in let lt : v.view.splits + 1 < g.0 = g.2 in let e : v.view.splits + 1 ≡ g.0 = next_is_given v.view.name (v.view.splits + 1) g.0 g.1 (is ∙ g.3) in absurd (omega arith)),
+    )
         (λ j q ne h. ((λ n k g. r.unnamed id j v q here h n k (gives_through v.view n g)), (λ n k g. not_given j q ne h n (is_among-one n name k) g)))
 
     unnamed_itself : Unnamed right right
@@ -224,9 +224,9 @@ module _ {W E O : Type 0} (history : W → List E) (actor : E → Option ℕ) (s
       opened = h.opened;
       has_room = λ k. let a = rooms_same k in let b = h.has_room k in omega arith;
       none_out = λ j q p. ⊎_elim
-        (λ (old : get_elem? passes j ≡ some q). ⊎_elim (λ (t : (j ≡ id) × (left ≡ q)). subst (λ (x : Known E O). is_out x.stage ≡ false) t.1 (ap is_out rest)) (λ (t : (j ≢ id) × (get_elem? s.views j ≡ some q)). h.none_out j q t.1) (at_set s.views id j left q old))
-        (λ (t : (j ≡ length passes) × (right ≡ q)). subst (λ (x : Known E O). is_out x.stage ≡ false) t.1 refl)
-        (at_push passes right q j p);
+          (λ (old : get_elem? passes j ≡ some q). ⊎_elim (λ (t : (j ≡ id) × (left ≡ q)). subst (λ (x : Known E O). is_out x.stage ≡ false) t.1 (ap is_out rest)) (λ (t : (j ≢ id) × (get_elem? s.views j ≡ some q)). h.none_out j q t.1) (at_set s.views id j left q old))
+          (λ (t : (j ≡ length passes) × (right ≡ q)). subst (λ (x : Known E O). is_out x.stage ≡ false) t.1 refl)
+          (at_push passes right q j p);
     }
     place (inr a) =
         let ne : a.holder ≢ id = λ e. not_both (is_out v.stage) (subst (λ (x : Known E O). is_out x.stage ≡ true) (some-injective a.pass v (sym a.there ∙ (ap (get_elem? s.views) e ∙ at))) a.out) (ap is_out rest) in
@@ -241,9 +241,9 @@ module _ {W E O : Type 0} (history : W → List E) (actor : E → Option ℕ) (s
           empty = a.empty;
           has_room = λ k. let e = rooms_same k in let b = a.has_room k in omega arith;
           alone = λ j q p o. ⊎_elim
-            (λ (old : get_elem? passes j ≡ some q). ⊎_elim (λ (t : (j ≡ id) × (left ≡ q)). not_both (is_out q.stage) o (subst (λ (x : Known E O). is_out x.stage ≡ false) t.1 (ap is_out rest))) (λ (t : (j ≢ id) × (get_elem? s.views j ≡ some q)). a.alone j q t.1 o) (at_set s.views id j left q old))
-            (λ (t : (j ≡ length passes) × (right ≡ q)). not_both (is_out q.stage) o (subst (λ (x : Known E O). is_out x.stage ≡ false) t.1 refl))
-            (at_push passes right q j p);
+              (λ (old : get_elem? passes j ≡ some q). ⊎_elim (λ (t : (j ≡ id) × (left ≡ q)). not_both (is_out q.stage) o (subst (λ (x : Known E O). is_out x.stage ≡ false) t.1 (ap is_out rest))) (λ (t : (j ≢ id) × (get_elem? s.views j ≡ some q)). a.alone j q t.1 o) (at_set s.views id j left q old))
+              (λ (t : (j ≡ length passes) × (right ≡ q)). not_both (is_out q.stage) o (subst (λ (x : Known E O). is_out x.stage ≡ false) t.1 refl))
+              (at_push passes right q j p);
         }
 
     splits_one : Lawful record { words = s.words; homes = s.homes; views = passes ++ right ∷ [] }

@@ -1,12 +1,12 @@
 -- Each step on a word keeps the rule, and tells what its `Play` says: drawing, taking and looking.
-use Rattle.std.proofs.Common.{◌≡◌, ◌≢◌, ℕ, zero, suc, ◌+◌, ◌-◌, ◌<◌, ◌≤◌, ◌^◌, ◌==◌, Bool, true, false, List, [], ◌∷◌, ◌++◌, length, get_or, set, eqb, All, Option, Some, None, IfSome, ◌⊎◌, inl, inr, ⊎_elim, refl, sym, ap, ◌∙◌, subst, arith}
-use mathlib.Core.Option.{none, some, some-injective, some-ne-none}
+use Rattle.std.proofs.Common.{◌≡◌, ◌≢◌, ℕ, ◌+◌, ◌<◌, ◌≤◌, ◌^◌, ◌==◌, true, false, List, get_or, set, Option, Some, IfSome, inr, ⊎_elim, refl, sym, ap, ◌∙◌, subst, arith}
+use mathlib.Core.Option.{none, some, some-injective}
 use mathlib.Core.Logic.{dite}
 use native.Mathlib.Decide.{ℕ_discrete}
 use lib.ListN.{get_elem?}
 use prog.Atomic.{either}
 use Rattle.atomic_table.specs.Table.{State, Me, Act, keeps, takes, Valid, Allows, step, stepped, carried_after}
-use Rattle.atomic_table.proofs.Lists.{at_set, set_else, set_here, exchanged}
+use Rattle.atomic_table.proofs.Lists.{at_set, set_here, exchanged}
 use Rattle.blk_base.specs.declared.memory.Room.{Room}
 use Rattle.blk_lock.specs.declared.known.Stamped.{Stamped}
 use Rattle.blk_lock.specs.declared.known.View.{View}
@@ -14,10 +14,9 @@ use Rattle.blk_lock.specs.declared.known.Known.{Known}
 use Rattle.blk_lock.specs.declared.known.Stage.{Stage}
 use Rattle.blk_lock.specs.declared.known.Stage.TheVariants.{Spent, Fresh, Joined, Rest, Waiting, Out, Counted}
 use Rattle.blk_lock.specs.Rooms.{Measure, in_entries, in_bytes, amount}
-use Rattle.blk_lock.specs.Stamps.{is_among, taken, OthersAdd}
 use Rattle.blk_lock.specs.Stages.{IsLive, ticket_of, is_out}
-use Rattle.blk_lock.specs.Order.{total, IsDrawn, StandsAt, IsSound, Has, rooms, IsHome, IsAway, InOrder}
-use Rattle.blk_lock.specs.Plays.{Draws, Takes, Watches, Looks}
+use Rattle.blk_lock.specs.Order.{IsDrawn, StandsAt, Has, rooms, IsHome, IsAway}
+use Rattle.blk_lock.specs.Plays.{Draws, Watches, Looks}
 use Rattle.blk_lock.proofs.Tests.{not_both}
 use Rattle.blk_lock.proofs.Histories.{OthersAdd-same}
 use Rattle.blk_lock.proofs.Passes.{total-at, moved, out_is_live, at_inside}
@@ -95,15 +94,15 @@ module _ {W E O : Type 0} (history : W → List E) (actor : E → Option ℕ) (s
         keeps,
         tt,
         moves history actor spare comes opening start s r id v at live v.stage r.log v.view.room v.view.turn live
-        (λ j q ne h t its qs. (r.apart id j v q (λ e. ne (sym e)) (at, live) h).tickets t its qs)
-        r.drawn r.served r.log (set s.words 2 (get_or s.words 2 0)) s.homes
-        (ap (λ l. set l 2 (get_or l 2 0)) r.words)
-        (OthersAdd-same actor v.view.names v.view.actors r.log)
-        (subst (StandsAt actor r.drawn r.log (record v.view { seen = r.log })) (sym rest) tt)
-        (λ j q ne h. r.sound j q h)
-        r.made
-        (λ k. let e = rooms_stay history actor spare comes opening start s r id v at live v.stage r.log v.view.room v.view.turn same k in let b = r.in_room k in omega arith)
-        (stays history actor spare comes opening start s r id v at live v.stage r.log v.view.room v.view.turn (ap is_out rest) (ap is_out rest) same r.place),
+            (λ j q ne h t its qs. (r.apart id j v q (λ e. ne (sym e)) (at, live) h).tickets t its qs)
+            r.drawn r.served r.log (set s.words 2 (get_or s.words 2 0)) s.homes
+            (ap (λ l. set l 2 (get_or l 2 0)) r.words)
+            (OthersAdd-same actor v.view.names v.view.actors r.log)
+            (subst (StandsAt actor r.drawn r.log (record v.view { seen = r.log })) (sym rest) tt)
+            (λ j q ne h. r.sound j q h)
+            r.made
+            (λ k. let e = rooms_stay history actor spare comes opening start s r id v at live v.stage r.log v.view.room v.view.turn same k in let b = r.in_room k in omega arith)
+            (stays history actor spare comes opening start s r id v at live v.stage r.log v.view.room v.view.turn (ap is_out rest) (ap is_out rest) same r.place),
         record { seen = r.log; after = refl; found_all = ap (λ l. get_or l 2 0) r.words; others = mine.goes_on },
       )
 
@@ -157,29 +156,35 @@ module _ {W E O : Type 0} (history : W → List E) (actor : E → Option ℕ) (s
       let mine = r.sound id v (at, live) in
       dite (ℕ_discrete n ticket)
       (λ now. let its : v.stage ≡ Waiting n = waits ∙ ap (λ (t : ℕ). Waiting t) (sym now) in
-        let served : r.served ≡ n = sym (ap (λ l. get_or l 1 0) r.words) in
-        let h : IsHome history spare comes opening r.log s.homes s.views = ⊎_elim (λ h. h) (λ a. absurd (served_home s r id n v (at, live) (ap is_out waits) (ap ticket_of its) served a)) r.place in (
-          moved v (Out n) r.log v.view.room (Some (spare h.world)),
-          takes 0 (Some h.world),
-          ap (λ l. get_elem? l 0) h.in_slot,
-          takes_one s r id n v me.1 at its refl h,
-          record {
-            served = λ _. record {
-              world = h.world;
-              taken = record {
-                seen = r.log;
-                after = refl;
-                told = h.told;
-                opened = subst (λ o. IfSome o (comes h.world)) (sym mine.opened) h.opened;
-                room = (room_for s id v h.world at h.has_room in_entries, room_for s id v h.world at h.has_room in_bytes);
-                others = mine.goes_on;
-              };
-              in_hand = refl;
+      let served : r.served ≡ n = sym (ap (λ l. get_or l 1 0) r.words) in
+      let h : IsHome history spare comes opening r.log s.homes s.views = ⊎_elim (λ h. h) (λ a. absurd (served_home s r id n v (at, live) (ap is_out waits) (ap ticket_of its) served a)) r.place in (
+        moved v (Out n) r.log v.view.room (Some (spare h.world)),
+        takes 0 (Some h.world),
+        ap (λ l. get_elem? l 0) h.in_slot,
+        takes_one s r id n v me.1 at its refl h,
+        record {
+          served = λ _. record {
+            world = h.world;
+            taken = record {
+              seen = r.log;
+              after = refl;
+              told = h.told;
+              opened = subst (λ o. IfSome o (comes h.world)) (sym mine.opened) h.opened;
+              room = (room_for s id v h.world at h.has_room in_entries, room_for s id v h.world at h.has_room in_bytes);
+              others = mine.goes_on;
             };
-            missed = λ ne. absurd (ne (ap ticket_of its));
-          },
-        ))
-      (λ other. (v, keeps, tt, unmoved history actor spare comes opening start s r 1 id me.1 v at, record {
-        served = λ is. absurd (other (let e : Some ticket ≡ Some n = sym (ap ticket_of waits) ∙ is in cc));
-        missed = λ _. refl;
-      }))
+            in_hand = refl;
+          };
+          missed = λ ne. absurd (ne (ap ticket_of its));
+        },
+      ))
+      (λ other. (
+        v,
+        keeps,
+        tt,
+        unmoved history actor spare comes opening start s r 1 id me.1 v at,
+        record {
+          served = λ is. absurd (other (let e : Some ticket ≡ Some n = sym (ap ticket_of waits) ∙ is in cc));
+          missed = λ _. refl;
+        },
+      ))

@@ -1,7 +1,7 @@
 -- The tests on names and actors, as facts.
-use Rattle.std.proofs.Common.{◌≡◌, ◌≢◌, ℕ, ◌+◌, ◌<◌, Bool, true, false, ◌||◌, ◌&&◌, not, cond, eqb, List, [], ◌∷◌, ◌++◌, filter, Option, Some, None, IfSome, ◌⊎◌, inl, inr, ⊎_elim, refl, sym, ap, ◌∙◌, subst, eq-eqb, eqb-true, arith, length, length-append}
-use Rattle.blk_lock.specs.Stamps.{same_name, is_among, has_actor, is_by, may_make}
-use Rattle.blk_lock.specs.Plays.{without, list_of}
+use Rattle.std.proofs.Common.{◌≡◌, ℕ, Bool, true, false, ◌||◌, ◌&&◌, not, cond, eqb, List, [], ◌∷◌, ◌++◌, filter, Option, Some, None, ◌⊎◌, inl, inr, ⊎_elim, refl, sym, ap, ◌∙◌, eq-eqb, eqb-true}
+use Rattle.blk_lock.specs.Stamps.{same_name, is_among, has_actor}
+use Rattle.blk_lock.specs.Plays.{without}
 
 pub not_true : (b : Bool) → (b ≡ true → ⊥) → b ≡ false
 not_true true never = absurd (never refl)
@@ -76,9 +76,9 @@ has_actor-cases (x ∷ xs) ys a h = ⊎_elim (λ here. inl (or_left _ _ here)) (
 filtered_has : (xs : List ℕ) (b a : ℕ) → has_actor (filter (λ x. not (eqb x b)) xs) a ≡ true → has_actor xs a ≡ true
 filtered_has [] b a h = h
 filtered_has (x ∷ xs) b a h = elim (eqb x b) as (λ t. has_actor (cond (not t) (x ∷ filter (λ y. not (eqb y b)) xs) (filter (λ y. not (eqb y b)) xs)) a ≡ true → has_actor (x ∷ xs) a ≡ true) [
-    true ↦ λ later. or_right _ _ (filtered_has xs b a later)
+  | true ↦ λ later. or_right _ _ (filtered_has xs b a later)
   | false ↦ λ there. ⊎_elim (or_left _ _) (λ later. or_right _ _ (filtered_has xs b a later)) (or_cases (eqb x a) (has_actor (filter (λ x. not (eqb x b)) xs) a) there)
-  ] h
+] h
 
 pub has_actor-without : (xs : List ℕ) (given : Option ℕ) (a : ℕ) → has_actor (without xs given) a ≡ true → has_actor xs a ≡ true
 has_actor-without xs None a h = h

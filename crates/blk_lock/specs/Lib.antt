@@ -3,5 +3,4 @@ pub mod Stamps
 pub mod Stages
 pub mod Views
 pub mod Order
-
 pub mod Plays

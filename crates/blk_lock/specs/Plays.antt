@@ -1,12 +1,11 @@
 -- What each atomic step tells the pass that makes it.
-use Rattle.std.specs.Prelude.{◌≡◌, ◌≢◌, ℕ, ◌+◌, ◌-◌, ◌==◌, not, true, List, [], ◌∷◌, ◌++◌, length, drop, filter, nat_lt, All, if◌then◌else◌, Option, Some, None, unwrap_or, IfSome}
+use Rattle.std.specs.Prelude.{◌≡◌, ◌≢◌, ℕ, ◌+◌, ◌-◌, ◌==◌, not, true, List, [], ◌∷◌, ◌++◌, length, drop, filter, nat_lt, if◌then◌else◌, Option, Some, None, unwrap_or, IfSome}
 use Rattle.atomic_table.specs.Table.{Me, Step}
 use Rattle.blk_base.specs.declared.memory.Room.{Room}
 use Rattle.blk_lock.specs.declared.known.Stamped.{Stamped}
 use Rattle.blk_lock.specs.declared.known.View.{View}
 use Rattle.blk_lock.specs.declared.known.Side.{Side}
 use Rattle.blk_lock.specs.declared.known.Known.{Known}
-use Rattle.blk_lock.specs.declared.known.Stage.{Stage}
 use Rattle.blk_lock.specs.declared.known.Stage.TheVariants.{Spent, Fresh, Joined, Rest, Waiting, Out, Counted}
 use Rattle.blk_lock.specs.Rooms.{no_room, plus, less, IsWithin}
 use Rattle.blk_lock.specs.Stamps.{is_among, entries_of, stamped, made_by, OthersAdd}

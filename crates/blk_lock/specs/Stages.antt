@@ -2,7 +2,7 @@
 use Rattle.std.specs.Prelude.{ℕ, Bool, true, false, List, [], ◌∷◌, Option, Some, None}
 use Rattle.blk_base.specs.declared.memory.Room.{Room}
 use Rattle.blk_lock.specs.declared.known.Stage.{Stage}
-use Rattle.blk_lock.specs.declared.known.Stage.TheVariants.{Spent, Fresh, Joined, Rest, Waiting, Out, Counted}
+use Rattle.blk_lock.specs.declared.known.Stage.TheVariants.{Spent, Rest, Waiting, Out, Counted}
 
 module _ {E : Type 0} where
   -- a pass that its owner holds rests, or has its turn out

@@ -1,7 +1,7 @@
 -- A history whose entries stand with their makers, and which of them are whose.
 -- A name is a list of numbers: that of a pass is its parent's followed by the number of the split that gave it.
 use Rattle.std.specs.Prelude.{◌≡◌, ℕ, ◌+◌, Bool, true, false, ◌&&◌, ◌||◌, ◌==◌, List, [], ◌∷◌, ◌++◌, map, filter, All, Option, Some, None}
-use Rattle.std.specs.List.{enumerate_from, list_any}
+use Rattle.std.specs.List.{enumerate_from}
 use Rattle.blk_base.specs.declared.memory.Room.{Room}
 use Rattle.blk_lock.specs.declared.known.Stamped.{Stamped}
 use Rattle.blk_lock.specs.Rooms.{Measure, amount_if}

@@ -1,5 +1,5 @@
 -- What clauses see of a pass and of its lock.
-use Rattle.std.specs.Prelude.{◌≡◌, ℕ, List}
+use Rattle.std.specs.Prelude.{ℕ, List}
 use Rattle.atomic_table.specs.Seated.{TableId}
 use Rattle.blk_lock.specs.declared.known.View.{View}
 use Rattle.blk_lock.specs.declared.logged.Logged.{Ghosts}

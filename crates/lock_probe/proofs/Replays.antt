@@ -1,5 +1,5 @@
 -- The replay after one more entry.
-use Rattle.std.proofs.Common.{◌≡◌, ℕ, ◌-◌, ◌<◌, ◌≤◌, List, [], ◌∷◌, ◌++◌, Option, Some, None, IfSome, ◌+◌, suc, add-one, append_assoc, Bool, true, false, cond, ◌||◌, eq-eqb, refl, sym, ap, ◌∙◌, subst, arith}
+use Rattle.std.proofs.Common.{◌≡◌, ℕ, ◌-◌, ◌<◌, List, [], ◌∷◌, ◌++◌, Option, Some, None, IfSome, ◌+◌, add-one, append_assoc, true, false, cond, ◌||◌, eq-eqb, refl, sym, ap, ◌∙◌, arith}
 use Rattle.blk_base.specs.declared.memory.Room.{Room}
 use Rattle.blk_lock.specs.declared.known.Stamped.{Stamped}
 use Rattle.blk_lock.specs.declared.known.View.{View}

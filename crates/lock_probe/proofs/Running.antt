@@ -1,5 +1,5 @@
 -- What a split leaves and gives is enough for the actors, and what they have done stands after the join.
-use Rattle.std.proofs.Common.{◌≡◌, ◌≢◌, ℕ, suc, ◌+◌, ◌-◌, ◌*◌, ◌<◌, ◌≤◌, ◌^◌, true, false, ◌||◌, List, [], ◌∷◌, ◌++◌, Some, None, refl, sym, ap, ◌∙◌, subst, arith, suc-mul, eq-eqb}
+use Rattle.std.proofs.Common.{◌≡◌, ◌≢◌, ℕ, suc, ◌+◌, ◌-◌, ◌*◌, ◌<◌, ◌≤◌, true, List, [], ◌∷◌, ◌++◌, Some, None, refl, sym, ap, ◌∙◌, subst, arith, suc-mul, eq-eqb}
 use mathlib.Core.Logic.{dite}
 use native.Mathlib.Decide.{ℕ_discrete}
 use Rattle.blk_base.specs.declared.memory.Room.{Room}
@@ -51,9 +51,9 @@ all_have_run v w u n first count rounds some may run written is on on_other =
       free = ap (λ (x : V). x.turn) is ∙ run.free;
       shares = (let a = ap (λ (x : V). x.shares) is in let b = run.shares in let c = ap (λ (x : V). x.shares) written.same in let d = may.shares in omega arith);
       actors = λ a held. subst (λ (l : List ℕ). has_actor l a ≡ true) (sym actors) (dite (ℕ_discrete a first)
-        (λ e. has_actor-right w.actors u.actors a (subst (λ (x : ℕ). has_actor u.actors x ≡ true) (sym e) mine))
-        (λ ne. has_actor-left w.actors u.actors a (run.actors a (kept_without v.actors first a ne held))));
+          (λ e. has_actor-right w.actors u.actors a (subst (λ (x : ℕ). has_actor u.actors x ≡ true) (sym e) mine))
+          (λ ne. has_actor-left w.actors u.actors a (run.actors a (kept_without v.actors first a ne held))));
       own = λ a low high. dite (ℕ_discrete a first)
-        (λ e. subst (λ (x : ℕ). done_by actor_of x n.seen ≡ done_by actor_of x v.seen ++ script x rounds) (sym e) (done_by_others actor_of u.names u.actors first u.seen n.seen on_other mine ∙ written.own))
-        (λ ne. done_by_others actor_of w.names w.actors a w.seen n.seen on (run.actors a (kept_without v.actors first a ne (may.actors a low high))) ∙ run.own a (omega arith) (omega arith));
+          (λ e. subst (λ (x : ℕ). done_by actor_of x n.seen ≡ done_by actor_of x v.seen ++ script x rounds) (sym e) (done_by_others actor_of u.names u.actors first u.seen n.seen on_other mine ∙ written.own))
+          (λ ne. done_by_others actor_of w.names w.actors a w.seen n.seen on (run.actors a (kept_without v.actors first a ne (may.actors a low high))) ∙ run.own a (omega arith) (omega arith));
     }

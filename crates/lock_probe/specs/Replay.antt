@@ -1,8 +1,8 @@
 -- What a register of one thread has after a history, and what an actor writes.
-use Rattle.std.specs.Prelude.{◌≡◌, ℕ, zero, suc, ◌+◌, List, [], ◌∷◌, ◌++◌, length, Option, Some, IfSome}
+use Rattle.std.specs.Prelude.{◌≡◌, ℕ, zero, suc, List, [], ◌∷◌, ◌++◌, length, filter, Option, Some, IfSome}
 use Rattle.blk_lock.specs.declared.known.Stamped.{Stamped}
 use Rattle.blk_lock.specs.declared.known.View.{View}
-use Rattle.blk_lock.specs.Stamps.{entries_of, OthersAdd}
+use Rattle.blk_lock.specs.Stamps.{is_by, entries_of, OthersAdd}
 use Rattle.blk_lock.specs.Views.{mine}
 use Rattle.lock_probe.specs.declared.register.Entry.{Entry}
 use Rattle.lock_probe.specs.declared.register.Opening.{Opening}
@@ -19,6 +19,10 @@ value_after value (e ∷ es) = value_after e.value es
 abbrev pub script : ℕ → ℕ → List Entry
 script actor zero = []
 script actor (suc turns) = script actor turns ++ record { actor = actor; value = turns } ∷ []
+
+-- what an actor wrote, in its order
+abbrev pub written_by : ℕ → List Entry → List Entry
+written_by actor es = filter (λ e. is_by (actor ∷ []) (actor_of e)) es
 
 -- one event: behind what others had made by then stands this entry, and the answer is what a register of one thread has at that place
 pub record Makes (v w : View Entry Opening) (entry : Entry) (answer : ℕ) : Type 0 where

@@ -1,11 +1,11 @@
 //! One call under the lock, and actors that make calls in threads.
-ghost use Rattle.std.specs.Prelude.{◌≡◌, ◌+◌, ◌-◌, ◌<◌, true, IfOk};
+ghost use Rattle.std.specs.Prelude.{◌≡◌, ℕ, ◌+◌, ◌-◌, ◌*◌, ◌^◌, ◌<◌, ◌≤◌, true, IfOk};
 ghost use Rattle.std.specs.Thread.{IsSync};
 ghost use Rattle.blk_lock.specs.Rooms.{less};
 ghost use Rattle.blk_lock.specs.Stamps.{has_actor};
 ghost use Rattle.blk_lock.specs.Views.{view, lock_of, lock_id};
 ghost use Rattle.lock_probe.specs.Face.{one_entry};
-ghost use Rattle.lock_probe.specs.Replay.{Makes};
+ghost use Rattle.lock_probe.specs.Replay.{script, written_by, Makes};
 ghost use Rattle.lock_probe.specs.Runs.{IsFirst, MayRun, HasRun, MayWrite, HasWritten};
 
 use crate::register::{Entry, Register};
@@ -110,4 +110,19 @@ pub fn run_actors<R: Threads + Wait + Sync>(
     );
     turns.join(&mut rest, one);
     rest
+}
+
+/// From the first entry to the last: a register under a lock, actors that each write their script in threads, and the register that comes back, in whose history the entries of each actor are its script.
+pub fn play<R: Threads + Wait + Sync>(
+    rt: &R,
+    alloc: Global,
+    count: u32,
+    rounds: usize,
+) -> Result<Register, NoMemory>
+    requires { (count ≤ 17) × (count * rounds < 2 ^ 64) }
+    ensures { IfOk result (λ r. (a : ℕ) → a < count → written_by a r.log ≡ script a rounds) }
+{
+    let (turns, pass) = open(alloc, 0, count as usize * rounds)?;
+    let pass = run_actors(rt, &turns, pass, 0, count, rounds as u64);
+    Ok(turns.close(pass))
 }

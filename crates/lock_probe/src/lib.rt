@@ -6,5 +6,5 @@ mod register;
 #[cfg(test)]
 mod tests;
 
-pub use calls::{exchange, open, run_actors};
+pub use calls::{exchange, open, play, run_actors};
 pub use register::{Entry, Opening, Register};

@@ -40,6 +40,7 @@ impl Model for Register {
 
 impl Logged for Register {
     type Entry = Entry;
+
     type Opening = Opening;
 
     ghost history = { λ r. r.log };

@@ -10,8 +10,8 @@ use super::Turns;
 use crate::birth::Named;
 use crate::logged::Logged;
 use crate::pass::Pass;
-use blk_base::NoMemory;
 use atomic_table::{Refused, Table};
+use blk_base::NoMemory;
 use std::alloc::Global;
 use std::snapshot::Snapshot;
 
@@ -54,9 +54,7 @@ impl<W: Logged> Turns<W> {
         let mut closed = table.close_with(seat);
         let world = closed.take(0);
         closed.free();
-        let Some(world) = world else {
-            unreachable!()
-        };
+        let Some(world) = world else { unreachable!() };
         world
     }
 }

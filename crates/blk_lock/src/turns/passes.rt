@@ -12,8 +12,8 @@ use crate::known::Known;
 use crate::logged::Logged;
 use crate::pass::Pass;
 use crate::plays::{Both, Cut, Part, Settle, Unite};
-use blk_base::Room;
 use atomic_table::Seat;
+use blk_base::Room;
 use std::marker::Brand;
 
 impl<W: Logged> Turns<W> {

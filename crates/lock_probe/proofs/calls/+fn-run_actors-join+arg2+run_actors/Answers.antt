@@ -1,4 +1,4 @@
-use Rattle.std.proofs.Common.{rules, ◌≡◌, ◌<◌, ◌+◌, ◌-◌, arith, sym, ap, subst}
+use Rattle.std.proofs.Common.{rules, ◌<◌, ◌+◌, ◌-◌, arith, sym, subst}
 use Rattle.blk_lock.specs.Views.{view}
 use Rattle.lock_probe.specs.Runs.{MayRun, HasRun, MayWrite, HasWritten}
 use Rattle.lock_probe.proofs.Running.{V, rest_may_run, first_may_write, all_have_run}

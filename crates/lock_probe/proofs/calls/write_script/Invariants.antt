@@ -9,5 +9,5 @@ invariant-loop-value g l = record {
   lock : lock_of l.pass ≡ lock_of l.initial.pass;
   same : view l.pass ≡ record (view l.initial.pass) { seen = (view l.pass).seen; room = (view l.pass).room };
   room : l.rounds ≤ (view l.pass).room.entries + l.value;
-  own : done_by actor_of l.actor (view l.pass).seen ≡ done_by actor_of l.actor (view l.initial.pass).seen ++ script l.actor l.value
+  own : done_by actor_of l.actor (view l.pass).seen ≡ done_by actor_of l.actor (view l.initial.pass).seen ++ script l.actor l.value;
 }

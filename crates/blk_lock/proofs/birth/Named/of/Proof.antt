@@ -1,5 +1,5 @@
 -- A `Named` has no bytes and owns nothing, so it can be made with whatever opening the caller names.
-use Rattle.atomic_table.proofs.Names.{◌≡◌, [], ◌∷◌, refl, a_type, Val, vstruct, vcons, vnil, inst_fn, SProp, emp, Fml, ‵, raw, ◌⊛◌, ◌$◌, ◌∵◌, !, qed, by, keep, split, use0, no_more, and_then, returns, enter, alloc_all, pass_all, free_all, look_at, get, sets, agg, tables, RattleType, owns, types_at, type_at, nothing, param, layouts, alive, Stays, walk_of, fact, fact_i, makes_shadow}
+use Rattle.atomic_table.proofs.Names.{◌≡◌, [], ◌∷◌, refl, a_type, Val, vstruct, vcons, vnil, inst_fn, SProp, emp, Fml, ‵, raw, ◌⊛◌, ◌$◌, ◌∵◌, !, qed, by, keep, split, use0, no_more, and_then, returns, enter, alloc_all, pass_all, free_all, look_at, get, sets, agg, tables, RattleType, owns, types_at, nothing, param, layouts, alive, Stays, walk_of, fact, fact_i, makes_shadow}
 use Rattle.atomic_table.proofs.Walks.{proved, leaves}
 use Rattle.blk_lock.specs.contracts.birth.Named as named
 use Rattle.blk_lock.specs.contracts.birth.Named.of.{ended, clauses}

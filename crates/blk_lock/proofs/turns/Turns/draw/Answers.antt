@@ -1,4 +1,4 @@
-use Rattle.std.proofs.Common.{rules, ap, ◌∙◌, arith}
+use Rattle.std.proofs.Common.{rules, ap, ◌∙◌}
 use Rattle.blk_lock.proofs.Steps.{draws}
 use Rattle.blk_lock.proofs.turns.Turns.draw.Goals as goal
 

@@ -1,4 +1,4 @@
-use Rattle.std.proofs.Common.{rules, ◌≡◌, ap, ◌∙◌, sym}
+use Rattle.std.proofs.Common.{rules, ap, ◌∙◌}
 use Rattle.blk_lock.specs.Stages.{in_hand}
 use Rattle.blk_lock.specs.Plays.{side_of}
 use Rattle.blk_lock.specs.Stamps.{OthersAdd}

@@ -1,4 +1,4 @@
-use Rattle.std.proofs.Common.{rules, ◌≡◌, ℕ, List, [], ◌∷◌, Option, Some, None, ap, ◌∙◌, sym}
+use Rattle.std.proofs.Common.{rules, [], ◌∷◌, None, ap, ◌∙◌, sym}
 use Rattle.atomic_table.specs.Table.{rest}
 use Rattle.blk_lock.specs.declared.known.Stage.TheVariants.{Rest}
 use Rattle.blk_lock.proofs.Calls.{taken_out, handed, counted_as, counted_named, MayPut, counts_held, serves_held}

@@ -1,4 +1,4 @@
-use Rattle.std.proofs.Common.{rules, ◌≡◌, List, [], ◌∷◌, Option, Some, ℕ, ap, ◌∙◌, sym}
+use Rattle.std.proofs.Common.{rules, ◌≡◌, ◌∷◌, Some, ap, ◌∙◌, sym}
 use Rattle.atomic_table.specs.Table.{rest}
 use Rattle.blk_lock.proofs.Calls.{taken_out, HasTaken-from}
 use Rattle.blk_lock.proofs.turns.Turns.take_world.Goals as goal
