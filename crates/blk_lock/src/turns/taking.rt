@@ -1,5 +1,5 @@
 //! How a turn is taken and given back.
-ghost use Rattle.std.specs.Prelude.{◌≡◌, ℕ, ◌+◌, ◌<◌, ◌≤◌, ◌^◌, true, List, [], ◌∷◌, ◌++◌, length, All, IfSome, IsSomeAnd, unwrap_or};
+ghost use Rattle.std.specs.Prelude.{◌≡◌, ℕ, ◌+◌, ◌<◌, ◌≤◌, ◌^◌, true, false, List, [], ◌∷◌, ◌++◌, length, All, IfSome, IsSomeAnd, unwrap_or};
 ghost use Rattle.std.specs.List.{enumerate_from};
 ghost use Rattle.blk_lock.specs.declared.known.Stage.TheVariants.{Rest, Waiting, Out};
 ghost use Rattle.blk_lock.specs.Rooms.{IsWithin, no_room, less};
@@ -17,6 +17,9 @@ use std::sync::Wait;
 use std::thread;
 
 type PassSeat<W> = Seat<Option<W>, Known<<W as Logged>::Entry, <W as Logged>::Opening>>;
+
+// How often a pass that waits looks before it lets other threads run.
+const LOOKS: u32 = 100;
 
 impl<W: Logged> Turns<W> {
     /// Waits until the turn is this pass's.
@@ -82,12 +85,28 @@ impl<W: Logged> Turns<W> {
         ensures taken { Takes W.history W.actor W.spare W.comes ticket seat.old.me seat.new.me }
     {
         for _ in rt.forever() {
-            if self.table.shared.load::<Watch>(seat, 1) == ticket {
+            if self.is_served(seat, ticket) {
                 return;
             }
             thread::yield_now();
         }
         unreachable!()
+    }
+
+    // Looks a few times, since a turn is mostly shorter than a thread's pause.
+    fn is_served(&self, seat: &mut PassSeat<W>, ticket: u64) -> bool
+        requires lock { seat.old.table_id ≡ self.now.table.shared.table_id }
+        requires waits { seat.old.me.0.stage ≡ Waiting ticket }
+        ensures lock { seat.new.table_id ≡ seat.old.table_id }
+        ensures taken { result ≡ true → Takes W.history W.actor W.spare W.comes ticket seat.old.me seat.new.me }
+        ensures missed { result ≡ false → seat.new.me ≡ seat.old.me }
+    {
+        for _ in 0..LOOKS {
+            if self.table.shared.load::<Watch>(seat, 1) == ticket {
+                return true;
+            }
+        }
+        false
     }
 
     /// Gives the turn back, and counts the entries that were made in it.
