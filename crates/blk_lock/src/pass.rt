@@ -7,6 +7,8 @@ use crate::logged::Logged;
 use atomic_table::Seat;
 
 /// A share of the right to make events. It has no bytes at run time.
+///
+/// Contracts see its `View`: what it has seen and made, its room, shares and actors. It can be let go where the value may be; its shares are then lost, and the lock is never closed.
 #[derive(Drop)]
 pub struct Pass<W: Logged> {
     pub(crate) seat: Seat<Option<W>, Known<W::Entry, W::Opening>>,

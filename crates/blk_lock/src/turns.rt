@@ -28,7 +28,9 @@ pub struct Turns<W: Logged> {
     ghost slots: { table.shared.table_id.slots ≡ 1 },
 }
 
-/// The value under the lock, while one pass has it out. It has to be given back by `put`.
+/// The value under the lock, while one pass has it out.
+///
+/// It has to be given back by `put`: it cannot be let go, nor taken apart elsewhere.
 pub struct Turn<W> {
     pub world: W,
     owed: Owed,

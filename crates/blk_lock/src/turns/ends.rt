@@ -16,6 +16,9 @@ use std::alloc::Global;
 use std::snapshot::Snapshot;
 
 impl<W: Logged> Turns<W> {
+    /// A lock over a value with an empty history, which comes of the opening that the caller names.
+    /// The first pass carries that opening, and has all the value's spare room, all 1,024 shares and the actors 0 to 16.
+    /// Where there is no memory, the value comes back.
     pub fn new(alloc: Global, world: W) -> Result<(Turns<W>, Pass<W>), (NoMemory, W)>
         ghost opening: { W.Opening }
         requires empty { W.history world ≡ [] }
@@ -40,6 +43,8 @@ impl<W: Logged> Turns<W> {
         }
     }
 
+    /// Gives the value back to the pass that has all 1,024 shares, so that there is no other.
+    /// All entries of its history are this pass's own.
     pub fn close(self, pass: Pass<W>) -> W
         requires lock { lock_of pass ≡ lock_id self }
         requires free { (view pass).turn ≡ None }

@@ -2,10 +2,10 @@
 ghost use Rattle.std.specs.Prelude.{◌≡◌, ◌≤◌, ◌⊎◌, ◌↔◌, true, [], IfSome, Contains};
 ghost use Rattle.blk_lock.specs.declared.known.Stage.TheVariants.{Rest};
 ghost use Rattle.blk_lock.specs.Rooms.{IsWithin};
-ghost use Rattle.blk_lock.specs.Stamps.{has_actor, made_by, OthersAdd};
+ghost use Rattle.blk_lock.specs.Stamps.{has_actor, made_by};
 ghost use Rattle.blk_lock.specs.Order.{HaveNoneInCommon};
 ghost use Rattle.blk_lock.specs.Plays.{after_split, split_off, after_join, split_known, fresh_known};
-ghost use Rattle.blk_lock.specs.Views.{view, lock_of, lock_id, mine};
+ghost use Rattle.blk_lock.specs.Views.{view, lock_of, lock_id, mine, SeesMore};
 
 use super::Turns;
 use crate::known::Known;
@@ -17,7 +17,8 @@ use blk_base::Room;
 use std::marker::Brand;
 
 impl<W: Logged> Turns<W> {
-    /// A second pass that has seen the same and has made nothing. What it is given is taken from the first.
+    /// A second pass that has seen the same and has made nothing, with one share.
+    /// The room, the actor and the share that it has are taken from the first. Its name is the first's, followed by the number of this split.
     pub fn split(&self, pass: &mut Pass<W>, room: Room, actor: Option<u32>) -> Pass<W>
         requires lock { lock_of pass.old ≡ lock_id self.now }
         requires free { (view pass.old).turn ≡ None }
@@ -54,15 +55,16 @@ impl<W: Logged> Turns<W> {
         self.table.shared.split_seat::<Cut<P>>(seat)
     }
 
-    /// The other pass ends. This one has then seen the longer of both histories, and what both have made is its own.
+    /// The other pass ends. This one has then seen the longer of both histories, with which both go on, and what both have made is its own.
+    /// It has the room, the shares and the actors of both.
     pub fn join(&self, pass: &mut Pass<W>, other: Pass<W>)
         requires lock { (lock_of pass.old ≡ lock_id self.now) × (lock_of other ≡ lock_id self.now) }
         requires free { ((view pass.old).turn ≡ None) × ((view other).turn ≡ None) }
         ensures lock { lock_of pass.new ≡ lock_of pass.old }
         ensures pass { view pass.new ≡ after_join (view pass.old) (view other) }
         ensures apart { HaveNoneInCommon (view pass.old).names (view pass.old).actors (view other).names (view other).actors }
-        ensures goes_on { OthersAdd W.actor (view pass.old).names (view pass.old).actors (view pass.old).seen (view pass.new).seen }
-        ensures other_goes_on { OthersAdd W.actor (view other).names (view other).actors (view other).seen (view pass.new).seen }
+        ensures goes_on { SeesMore W.actor (view pass.old) (view pass.new) }
+        ensures other_goes_on { SeesMore W.actor (view other) (view pass.new) }
         ensures own { made_by (view pass.old).names (view pass.new).seen ≡ mine (view pass.old) }
         ensures others_own { made_by (view other).names (view pass.new).seen ≡ mine (view other) }
         ensures mine { (made : _) → Contains (mine (view pass.new)) made ↔ (Contains (mine (view pass.old)) made ⊎ Contains (mine (view other)) made) }

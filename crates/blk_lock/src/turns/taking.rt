@@ -1,11 +1,11 @@
 //! How a turn is taken and given back.
-ghost use Rattle.std.specs.Prelude.{◌≡◌, ℕ, ◌+◌, ◌<◌, ◌≤◌, ◌^◌, true, false, List, [], ◌∷◌, ◌++◌, length, All, IfSome, IsSomeAnd, unwrap_or};
+ghost use Rattle.std.specs.Prelude.{◌≡◌, ℕ, ◌+◌, ◌<◌, ◌≤◌, ◌^◌, true, false, List, [], ◌∷◌, ◌++◌, length, IfSome, unwrap_or};
 ghost use Rattle.std.specs.List.{enumerate_from};
 ghost use Rattle.blk_lock.specs.declared.known.Stage.TheVariants.{Rest, Waiting, Out};
 ghost use Rattle.blk_lock.specs.Rooms.{IsWithin, no_room, less};
-ghost use Rattle.blk_lock.specs.Stamps.{is_among, entries_of, may_make, OthersAdd};
-ghost use Rattle.blk_lock.specs.Plays.{HasTaken, Takes, Looks, made_since, after_put, resting};
-ghost use Rattle.blk_lock.specs.Views.{view, lock_of, lock_id, mine};
+ghost use Rattle.blk_lock.specs.Stamps.{is_among, entries_of};
+ghost use Rattle.blk_lock.specs.Plays.{HasTaken, Takes, after_put, resting};
+ghost use Rattle.blk_lock.specs.Views.{view, lock_of, lock_id, mine, SeesMore, made_behind, BeginsWithSeen, HoldsActors, KeepsRoom, KeepsSpare};
 
 use super::{Owed, Turn, Turns};
 use crate::known::Known;
@@ -22,13 +22,14 @@ type PassSeat<W> = Seat<Option<W>, Known<<W as Logged>::Entry, <W as Logged>::Op
 const LOOKS: u32 = 100;
 
 impl<W: Logged> Turns<W> {
-    /// Waits until the turn is this pass's.
+    /// Waits until the turn is this pass's. The pass has then seen the whole history.
+    /// What it had not seen others made. After 2^64 - 1 turns it waits for ever.
     pub fn take<R: Wait>(&self, rt: &R, pass: &mut Pass<W>) -> Turn<W>
         requires lock { lock_of pass.old ≡ lock_id self.now }
         requires free { (view pass.old).turn ≡ None }
         ensures lock { lock_of pass.new ≡ lock_of pass.old }
         ensures pass { view pass.new ≡ record (view pass.old) { seen = (view pass.new).seen; turn = Some (W.spare result.world) } }
-        ensures seen { OthersAdd W.actor (view pass.old).names (view pass.old).actors (view pass.old).seen (view pass.new).seen }
+        ensures seen { SeesMore W.actor (view pass.old) (view pass.new) }
         ensures mine { mine (view pass.new) ≡ mine (view pass.old) }
         ensures history { W.history result.world ≡ entries_of (view pass.new).seen }
         ensures opened { IfSome (view pass.old).opening (W.comes result.world) }
@@ -55,7 +56,7 @@ impl<W: Logged> Turns<W> {
         world
     }
 
-    // After 2^64 - 1 turns it waits for ever.
+    // The last ticket is never drawn, so that the count of those served fits its word.
     fn draw<R: Wait>(&self, rt: &R, seat: &mut PassSeat<W>) -> u64
         requires lock { seat.old.table_id ≡ self.now.table.shared.table_id }
         requires rest { seat.old.me.0.stage ≡ Rest }
@@ -109,18 +110,19 @@ impl<W: Logged> Turns<W> {
         false
     }
 
-    /// Gives the turn back, and counts the entries that were made in it.
+    /// Gives the turn back, and counts the entries that were made in it, which are then this pass's own.
+    /// Its room falls by as much as the value's spare room has, and stays where that has not fallen.
     pub fn put(&self, pass: &mut Pass<W>, turn: Turn<W>)
         requires lock { lock_of pass.old ≡ lock_id self.now }
-        requires history { W.history turn.world ≡ entries_of (view pass.old).seen ++ made_since (view pass.old).seen (W.history turn.world) }
+        requires history { BeginsWithSeen (view pass.old) (W.history turn.world) }
         requires opened { IfSome (view pass.old).opening (W.comes turn.world) }
-        requires room { IsSomeAnd (view pass.old).turn (λ had. IsWithin (less had (W.spare turn.world)) (view pass.old).room) }
-        requires unspent { W.history turn.world ≡ entries_of (view pass.old).seen → IfSome (view pass.old).turn (λ had. IsWithin had (W.spare turn.world)) }
-        requires actors { All (λ e. may_make (view pass.old).actors (W.actor e) ≡ true) (made_since (view pass.old).seen (W.history turn.world)) }
+        requires room { KeepsRoom (view pass.old) (W.spare turn.world) }
+        requires unspent { W.history turn.world ≡ entries_of (view pass.old).seen → KeepsSpare (view pass.old) (W.spare turn.world) }
+        requires actors { HoldsActors W.actor (view pass.old) (made_behind (view pass.old) (W.history turn.world)) }
         ensures lock { lock_of pass.new ≡ lock_of pass.old }
-        ensures pass { view pass.new ≡ after_put (made_since (view pass.old).seen (W.history turn.world)) (W.spare turn.world) (view pass.old) }
+        ensures pass { view pass.new ≡ after_put (made_behind (view pass.old) (W.history turn.world)) (W.spare turn.world) (view pass.old) }
         ensures unspent { W.history turn.world ≡ entries_of (view pass.old).seen → (view pass.new).room ≡ (view pass.old).room }
-        ensures mine { mine (view pass.new) ≡ mine (view pass.old) ++ enumerate_from (length (view pass.old).seen) (made_since (view pass.old).seen (W.history turn.world)) }
+        ensures mine { mine (view pass.new) ≡ mine (view pass.old) ++ enumerate_from (length (view pass.old).seen) (made_behind (view pass.old) (W.history turn.world)) }
     {
         let Turn { world, owed } = turn;
         let Owed = owed;
@@ -131,12 +133,12 @@ impl<W: Logged> Turns<W> {
         requires lock { seat.old.table_id ≡ self.now.table.shared.table_id }
         requires out { (ticket : ℕ) × (seat.old.me.0.stage ≡ Out ticket) }
         requires in_hand { seat.old.me.1 ≡ (0, None) ∷ [] }
-        requires history { W.history world ≡ entries_of seat.old.me.0.view.seen ++ made_since seat.old.me.0.view.seen (W.history world) }
+        requires history { BeginsWithSeen seat.old.me.0.view (W.history world) }
         requires opened { IfSome seat.old.me.0.view.opening (W.comes world) }
         requires room { IsWithin (less (unwrap_or seat.old.me.0.view.turn no_room) (W.spare world)) seat.old.me.0.view.room }
-        requires actors { All (λ e. may_make seat.old.me.0.view.actors (W.actor e) ≡ true) (made_since seat.old.me.0.view.seen (W.history world)) }
+        requires actors { HoldsActors W.actor seat.old.me.0.view (made_behind seat.old.me.0.view (W.history world)) }
         ensures lock { seat.new.table_id ≡ seat.old.table_id }
-        ensures put { seat.new.me ≡ (resting (record seat.old.me.0 { view = after_put (made_since seat.old.me.0.view.seen (W.history world)) (W.spare world) seat.old.me.0.view }), []) }
+        ensures put { seat.new.me ≡ (resting (record seat.old.me.0 { view = after_put (made_behind seat.old.me.0.view (W.history world)) (W.spare world) seat.old.me.0.view }), []) }
         ensures named { is_among seat.old.me.0.view.names seat.old.me.0.view.name ≡ true }
     {
         let entries = world.entries();
@@ -146,13 +148,13 @@ impl<W: Logged> Turns<W> {
         let _ = self.table.shared.fetch_add::<Serve>(seat, 1, 1);
     }
 
-    /// The count of entries, with which the pass sees the history so far.
+    /// The count of entries, in one load. The pass has then seen so many.
     pub fn front(&self, pass: &mut Pass<W>) -> u64
         requires lock { lock_of pass.old ≡ lock_id self.now }
         requires free { (view pass.old).turn ≡ None }
         ensures lock { lock_of pass.new ≡ lock_of pass.old }
         ensures pass { view pass.new ≡ record (view pass.old) { seen = (view pass.new).seen } }
-        ensures seen { OthersAdd W.actor (view pass.old).names (view pass.old).actors (view pass.old).seen (view pass.new).seen }
+        ensures seen { SeesMore W.actor (view pass.old) (view pass.new) }
         ensures mine { mine (view pass.new) ≡ mine (view pass.old) }
         ensures count { result ≡ length (view pass.new).seen }
     {
