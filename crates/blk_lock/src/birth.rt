@@ -1,9 +1,10 @@
+//! What is told to the table once, when the lock is made.
 ghost use Rattle.std.specs.Prelude.{◌≡◌};
 ghost use base.Fml.{ftrue};
 
 use std::marker::{Model, PhantomData};
 
-/// An opening that was named. It has no bytes.
+/// An opening that a caller named. It has no bytes, and stands in clauses alone.
 pub struct Named<O> {
     marker: PhantomData<O>,
     pub ghost opening: { O },

@@ -51,6 +51,7 @@ impl<W: Logged> Turns<W> {
         ensures kept { seat.new.me ≡ (split_known room actor seat.old.me.0, []) }
         ensures given { result.me ≡ (fresh_known room actor seat.old.me.0, []) }
     {
+        // They are for the call's pick alone.
         let _ = (room, actor);
         self.table.shared.split_seat::<Cut<P>>(seat)
     }
