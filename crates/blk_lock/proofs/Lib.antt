@@ -1,0 +1,12 @@
+pub mod Tests
+pub mod Histories
+pub mod Made
+pub mod Passes
+pub mod Frames
+pub mod Steps
+pub mod Puts
+pub mod Splits
+pub mod Joins
+pub mod Ends
+pub mod Calls
+pub mod Callers

@@ -1,0 +1,3 @@
+pub mod Face
+pub mod Replay
+pub mod Runs
