@@ -1,0 +1,5 @@
+pub mod Edges
+pub mod Edits
+pub mod Paths
+pub mod Rule
+pub mod Graph

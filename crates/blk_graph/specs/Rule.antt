@@ -1,0 +1,63 @@
+-- The permission rule: what one edge asks of a node, every other edge into that node shares.
+use Rattle.std.specs.Prelude.{◌≡◌, ◌≢◌, ℕ, ◌+◌, ◌==◌, Bool, true, false, ◌&&◌, not, if◌then◌else◌, List, [], ◌∷◌, find, slice_get, Option, Some, None, IsTrue}
+use Rattle.std.specs.Option.{option_map}
+use Rattle.blk_graph.specs.declared.edge.Edge.{Edge}
+use Rattle.blk_graph.specs.declared.edge.Conflict.{Conflict}
+use Rattle.blk_graph.specs.declared.edge.Perms.{Perms}
+use Rattle.blk_graph.specs.declared.edge.Perm.{Perm}
+use Rattle.blk_graph.specs.declared.edge.Perm.TheVariants.{Read, Write, Unchanged}
+use Rattle.blk_graph.specs.declared.edge.Parent.TheVariants.{Guest}
+use Rattle.blk_graph.specs.Edges.{holds, IsWithin}
+
+-- for any two edges into one node, what the one asks lies within what the other shares
+abbrev pub KeepsPermissions : List Edge → Type 0
+KeepsPermissions edges = (i j : ℕ) (asking other : Edge)
+    → slice_get edges i ≡ Some asking → slice_get edges j ≡ Some other → i ≢ j
+    → asking.child ≡ other.child → IsWithin asking.perm other.shared
+
+-- where a guest may write a node, every other edge into that node shares write
+abbrev pub GuestsWriteAlone : List Edge → Type 0
+GuestsWriteAlone edges = (i j guest : ℕ) (drive other : Edge)
+    → slice_get edges i ≡ Some drive → slice_get edges j ≡ Some other → i ≢ j
+    → drive.child ≡ other.child → drive.parent ≡ Guest guest → IsTrue drive.perm.write
+    → IsTrue other.shared.write
+
+-- the first that is asked and isn't shared, in the order read, write, unchanged
+abbrev pub first_denied : Perms → Perms → Option Perm
+first_denied asked shared =
+    find (λ perm. holds asked perm && not (holds shared perm)) (Read ∷ Write ∷ Unchanged ∷ [])
+
+module _ {X Y : Type 0} where
+  -- the first answer that the elements of a list give
+  abbrev pub first_answer : (X → Option Y) → List X → Option Y
+  first_answer f [] = None
+  first_answer f (x ∷ xs) = elim (f x) as (λ _. Option Y) [ None ↦ first_answer f xs | Some y ↦ Some y ]
+
+  -- the first answer that the elements give, each with its place, where the first stands at k
+  abbrev pub first_answer_from : (ℕ → X → Option Y) → ℕ → List X → Option Y
+  first_answer_from f k [] = None
+  first_answer_from f k (x ∷ xs) =
+      elim (f k x) as (λ _. Option Y) [ None ↦ first_answer_from f (k + 1) xs | Some y ↦ Some y ]
+
+-- what the edge at i asks of a node and the edge at j, another one into the node, doesn't share
+abbrev pub conflict_between : ℕ → ℕ → Edge → ℕ → Edge → Option Conflict
+conflict_between node i asking j other =
+    if not (i == j) && other.child == node
+    then option_map (λ perm. record { node = node; asks = asking.parent; denies = other.parent; perm = perm })
+        (first_denied asking.perm other.shared)
+    else None
+
+-- the first conflict of what the edge at i asks, by the other edge's place
+abbrev pub conflict_of : List Edge → ℕ → ℕ → Edge → Option Conflict
+conflict_of edges node i asking =
+    if asking.child == node
+    then first_answer_from (conflict_between node i asking) 0 edges
+    else None
+
+-- the first conflict at a node, by the asking edge's place
+abbrev pub conflict_at : List Edge → ℕ → Option Conflict
+conflict_at edges node = first_answer_from (conflict_of edges node) 0 edges
+
+-- the first conflict at one of the nodes, by their order
+abbrev pub first_conflict : List ℕ → List Edge → Option Conflict
+first_conflict ids edges = first_answer (conflict_at edges) ids
