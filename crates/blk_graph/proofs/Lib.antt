@@ -1,2 +1,4 @@
 pub mod Members
 pub mod PathLemmas
+pub mod LengthLemmas
+pub mod EditLemmas
