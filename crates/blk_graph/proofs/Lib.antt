@@ -2,3 +2,5 @@ pub mod Members
 pub mod PathLemmas
 pub mod LengthLemmas
 pub mod EditLemmas
+pub mod CycleLemmas
+pub mod FilterLemmas
