@@ -4,3 +4,5 @@ pub mod LengthLemmas
 pub mod EditLemmas
 pub mod CycleLemmas
 pub mod FilterLemmas
+pub mod RuleLemmas
+pub mod InverseLemmas

@@ -15,6 +15,20 @@ KeepsPermissions edges = (i j : ℕ) (asking other : Edge)
     → slice_get edges i ≡ Some asking → slice_get edges j ≡ Some other → i ≢ j
     → asking.child ≡ other.child → IsWithin asking.perm other.shared
 
+-- the conflict names two edges into its node, and what the one asks and the other doesn't share
+pub record IsBroken (edges : List Edge) (conflict : Conflict) : Type 0 where
+  pub i : ℕ
+  pub j : ℕ
+  pub asking : Edge
+  pub other : Edge
+  pub asking_at : slice_get edges i ≡ Some asking
+  pub other_at : slice_get edges j ≡ Some other
+  pub differ : i ≢ j
+  pub same_child : (asking.child ≡ conflict.node) × (other.child ≡ conflict.node)
+  pub parents : (asking.parent ≡ conflict.asks) × (other.parent ≡ conflict.denies)
+  pub asked : IsTrue (holds asking.perm conflict.perm)
+  pub denied : holds other.shared conflict.perm ≡ false
+
 -- where a guest may write a node, every other edge into that node shares write
 abbrev pub GuestsWriteAlone : List Edge → Type 0
 GuestsWriteAlone edges = (i j guest : ℕ) (drive other : Edge)
@@ -39,12 +53,20 @@ module _ {X Y : Type 0} where
   first_answer_from f k (x ∷ xs) =
       elim (f k x) as (λ _. Option Y) [ None ↦ first_answer_from f (k + 1) xs | Some y ↦ Some y ]
 
+-- an edge asks of the node what another one doesn't share
+abbrev pub conflict_on : ℕ → Edge → Edge → Perm → Conflict
+conflict_on node asking other perm = record {
+  node = node;
+  asks = asking.parent;
+  denies = other.parent;
+  perm = perm;
+}
+
 -- what the edge at i asks of a node and the edge at j, another one into the node, doesn't share
 abbrev pub conflict_between : ℕ → ℕ → Edge → ℕ → Edge → Option Conflict
 conflict_between node i asking j other =
     if not (i == j) && other.child == node
-    then option_map (λ perm. record { node = node; asks = asking.parent; denies = other.parent; perm = perm })
-        (first_denied asking.perm other.shared)
+    then option_map (conflict_on node asking other) (first_denied asking.perm other.shared)
     else None
 
 -- the first conflict of what the edge at i asks, by the other edge's place
