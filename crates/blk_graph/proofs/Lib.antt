@@ -6,3 +6,4 @@ pub mod CycleLemmas
 pub mod FilterLemmas
 pub mod RuleLemmas
 pub mod InverseLemmas
+pub mod WalkLemmas

@@ -59,11 +59,15 @@ with_filter node filter perm shared edges =
 abbrev pub is_filters : ℕ → Edge → Bool
 is_filters filter edge = same_parent edge.parent (Node filter) && same_role edge.role Filtered
 
+-- the edges but the filter's own
+abbrev pub but_filters : ℕ → List Edge → List Edge
+but_filters node edges = filter (λ edge. not (is_filters node edge)) edges
+
 -- the filter's edge is gone, and its parents have its child
 abbrev pub without_filter : ℕ → List Edge → List Edge
 without_filter node edges = elim (find (is_filters node) edges) as (λ _. List Edge) [
   None ↦ edges
-  | Some edge ↦ map (moved node edge.child) (filter (λ other. not (is_filters node other)) edges)
+  | Some edge ↦ map (moved node edge.child) (but_filters node edges)
 ]
 
 -- a parent's edges are gone

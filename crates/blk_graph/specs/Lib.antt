@@ -3,3 +3,4 @@ pub mod Edits
 pub mod Paths
 pub mod Rule
 pub mod Graph
+pub mod Walk

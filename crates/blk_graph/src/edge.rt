@@ -1,5 +1,5 @@
 ghost use Rattle.std.specs.Prelude.{◌≡◌, ℕ, ◌<◌, ◌↔◌, IsTrue, true};
-ghost use Rattle.blk_graph.specs.Edges.{same_parent, holds};
+ghost use Rattle.blk_graph.specs.Edges.{same_parent, same_role, is_job, holds};
 
 use std::marker::Model;
 
@@ -91,17 +91,22 @@ impl NodeId {
 }
 
 impl Parent {
-    pub fn is(self, other: Parent) -> bool
-        ensures value { result ≡ same_parent self other }
-        ensures same { IsTrue result ↔ (self ≡ other) }
+    pub(crate) fn is(&self, other: &Parent) -> bool
+        ensures { result ≡ same_parent self.now other.now }
     {
         self == other
+    }
+
+    pub(crate) fn is_job(&self) -> bool
+        ensures { result ≡ is_job self.now }
+    {
+        matches!(self, Parent::Job(_))
     }
 }
 
 impl Role {
-    pub fn is(self, other: Role) -> bool
-        ensures same { IsTrue result ↔ (self ≡ other) }
+    pub(crate) fn is(&self, other: &Role) -> bool
+        ensures { result ≡ same_role self.now other.now }
     {
         self == other
     }

@@ -2,5 +2,8 @@
 #![tactic(auto)]
 
 mod edge;
+mod edit;
+mod rule;
+mod walk;
 
-pub use edge::{Conflict, Edge, NodeId, Parent, Perm, Perms, Role};
+pub use edge::{Conflict, Edge, MOST_NODES, NodeId, Parent, Perm, Perms, Role};
