@@ -1,10 +1,11 @@
 -- What one turn of the walk keeps, and what its end says.
 use Rattle.std.proofs.Common.{◌≡◌, ◌≢◌, ◌⊎◌, ℕ, zero, suc, ◌+◌, ◌-◌, ◌<◌, ◌≤◌, List, [], ◌∷◌, length, get_or, set, refl, sym, ◌∙◌, ap, inl, inr, arith, Bool, true, false, cond}
-use Rattle.std.specs.Prelude.{◌&&◌, ◌||◌, not, ◌==◌, count_by}
+use Rattle.std.specs.Prelude.{◌&&◌, ◌||◌, not, ◌==◌, count_by, replicate}
 use Rattle.std.specs.List.{Contains}
 use Rattle.std.proofs.lemmas.List.Sums.{sum_by-set}
 use Rattle.std.proofs.lemmas.Bool.{ne_eqb, eqb-true, eqb-false, eq-eqb}
-use Rattle.std.proofs.lemmas.List.{get_or-set_same, get_or-set_other}
+use Rattle.std.proofs.lemmas.List.{get_or-set_same, get_or-set_other, get_or_default}
+
 use Rattle.blk_graph.specs.declared.edge.Edge.{Edge}
 use Rattle.blk_graph.specs.declared.edge.Parent.{Parent}
 use Rattle.blk_graph.specs.declared.edge.Parent.TheVariants.{Node, Guest, Job}
@@ -80,3 +81,47 @@ pub marked_from_Reaches : (edges : List Edge) (from : ℕ) (marks : List Bool) �
 marked_from_Reaches edges from marks closed to h =
     marked_from_path edges from marks closed from to h.first h.rest
     (rw (eq-eqb from from refl) refl) h.path
+
+-- the step of a walk at an edge that leads on
+pub record Marked (edges : List Edge) (from : ℕ) (marks new : List Bool) : Type 0 where
+  pub reached : AllReached edges from new
+  pub grown : mark_count new ≡ mark_count marks + 1
+
+pub Marked-leads_on : (edges : List Edge) (from : ℕ) (marks : List Bool) (i : ℕ) (item : Edge) (child : ℕ)
+    → AllReached edges from marks → i < length edges → item ≡ get_or edges i item
+    → leads_on from marks item ≡ true → child ≡ item.child → child < length marks
+    → Marked edges from marks (set marks child true)
+Marked-leads_on edges from marks i item child reached within is leads same low =
+    let unmarked : is_marked marks child ≡ false
+        = rw same (not_marked (is_marked marks item.child)
+            (and-right (is_reached from marks item.parent) (not (is_marked marks item.child)) leads)) in
+    let there : Reaches edges from child
+        = rw same (Reaches-leads_on edges from marks item reached (i, within, sym is) leads) in
+    record {
+      reached = AllReached-set edges from marks child reached there;
+      grown = mark_count-set marks child low unmarked;
+    }
+  where
+    not_marked : (b : Bool) → not b ≡ true → b ≡ false
+    not_marked true h = cc
+    not_marked false h = refl
+
+-- what is true of each element before, and of this one
+pub below_next : (p : Edge → Bool) (edges : List Edge) (i : ℕ) (item : Edge) → i < length edges
+    → item ≡ get_or edges i item → p item ≡ false
+    → ((k : ℕ) (d : Edge) → k < i → p (get_or edges k d) ≡ false)
+    → (k : ℕ) (d : Edge) → k < i + 1 → p (get_or edges k d) ≡ false
+below_next p edges i item within is here below k d low = by_test (k == i) refl
+  where
+    by_test : (b : Bool) → (k == i) ≡ b → p (get_or edges k d) ≡ false
+    by_test true t =
+        let same : get_or edges k d ≡ item
+            = ap (λ n. get_or edges n d) (eqb-true k i t) ∙ get_or_default edges i d item within ∙ sym is in
+        rw same here
+    by_test false t = let differ : k ≢ i = eqb-false k i t in below k d (omega arith)
+
+-- at first no node has a mark
+pub unmarked_at_first : (n node : ℕ) → is_marked (replicate n false) node ≡ true → ⊥
+unmarked_at_first zero node h = cc
+unmarked_at_first (suc n) zero h = cc
+unmarked_at_first (suc n) (suc node) h = unmarked_at_first n node h
