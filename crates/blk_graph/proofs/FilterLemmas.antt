@@ -10,17 +10,12 @@ use Rattle.blk_graph.specs.declared.edge.Parent.{Parent}
 use Rattle.blk_graph.specs.declared.edge.Parent.TheVariants.{Node, Guest, Job}
 use Rattle.blk_graph.specs.declared.edge.Role.TheVariants.{Filtered}
 use Rattle.blk_graph.specs.Edges.{same_parent, same_role}
-use Rattle.blk_graph.specs.Edits.{with_child, moved, filter_edge, with_filter, is_filters, without_filter, without_parent}
+use Rattle.blk_graph.specs.Edits.{with_child, IsLone, moved, filter_edge, with_filter, is_filters, without_filter, without_parent}
 use Rattle.blk_graph.specs.Paths.{IsPath, Reaches, IsAcyclic}
 use Rattle.blk_graph.proofs.Members.{Contains-here, Contains-there, Contains-cases, Contains-nil, Contains-map, Contains-filter}
 use Rattle.blk_graph.proofs.PathLemmas.{Reaches-edge, Reaches-joined, IsAcyclic-covered, IsAcyclic-fewer}
 use Rattle.blk_graph.proofs.EditLemmas.{moved-parent, moved-cases}
 use Rattle.blk_graph.proofs.CycleLemmas.{and-left, and-right, same_parent-true}
-
--- no edge leaves or enters the node
-pub record IsLone (edges : List Edge) (node : ℕ) : Type 0 where
-  pub enters : (e : Edge) → Contains edges e → e.child ≢ node
-  pub leaves : (e : Edge) → Contains edges e → e.parent ≢ Node node
 
 -- where each node stood before the filter was set
 abbrev pub behind : ℕ → ℕ → ℕ → ℕ

@@ -9,11 +9,10 @@ use Rattle.blk_graph.specs.declared.edge.Parent.{Parent}
 use Rattle.blk_graph.specs.declared.edge.Parent.TheVariants.{Node, Guest, Job}
 use Rattle.blk_graph.specs.declared.edge.Role.TheVariants.{Filtered}
 use Rattle.blk_graph.specs.Edges.{same_parent, same_role}
-use Rattle.blk_graph.specs.Edits.{with_child, moved, filter_edge, with_filter, is_filters, without_filter}
+use Rattle.blk_graph.specs.Edits.{with_child, IsLone, moved, filter_edge, with_filter, is_filters, without_filter}
 use Rattle.blk_graph.proofs.Members.{Contains-here, Contains-there, Contains-map}
 use Rattle.blk_graph.proofs.EditLemmas.{moved-parent, moved-cases}
 use Rattle.blk_graph.proofs.CycleLemmas.{same_parent-true}
-use Rattle.blk_graph.proofs.FilterLemmas.{IsLone}
 
 module _ {X : Type 0} (p : X → Bool) (y : X) (last : p y ≡ true) where
   -- where only the last element passes, `find` finds it

@@ -1,5 +1,5 @@
 -- The edited lists of edges.
-use Rattle.std.specs.Prelude.{◌≡◌, ℕ, ◌==◌, Bool, true, false, ◌&&◌, ◌||◌, not, if◌then◌else◌, List, [], ◌∷◌, ◌++◌, map, filter, find, Option, Some, None}
+use Rattle.std.specs.Prelude.{◌≡◌, ◌≢◌, Contains, ℕ, ◌==◌, Bool, true, false, ◌&&◌, ◌||◌, not, if◌then◌else◌, List, [], ◌∷◌, ◌++◌, map, filter, find, Option, Some, None}
 use Rattle.blk_graph.specs.declared.edge.Edge.{Edge}
 use Rattle.blk_graph.specs.declared.edge.Perms.{Perms}
 use Rattle.blk_graph.specs.declared.edge.Parent.{Parent}
@@ -35,6 +35,11 @@ replaced from to but edge =
 
 abbrev pub with_replaced : ℕ → ℕ → Option Parent → List Edge → List Edge
 with_replaced from to but edges = map (replaced from to but) edges
+
+-- no edge enters or leaves the node
+pub record IsLone (edges : List Edge) (node : ℕ) : Type 0 where
+  pub enters : (edge : Edge) → Contains edges edge → edge.child ≢ node
+  pub leaves : (edge : Edge) → Contains edges edge → edge.parent ≢ Node node
 
 -- an edge into one node leads to another
 abbrev pub moved : ℕ → ℕ → Edge → Edge

@@ -4,3 +4,5 @@ pub mod Paths
 pub mod Rule
 pub mod Graph
 pub mod Walk
+pub mod Layout
+pub mod Judged
