@@ -10,30 +10,35 @@ use Rattle.blk_graph.specs.Edges.{same_parent, same_role}
 use Rattle.blk_graph.specs.Edits.{takes_place, with_edge, with_child, replaced, with_replaced}
 use Rattle.blk_graph.specs.Paths.{IsPath, Reaches, IsAcyclic, HasCycle, LeadsBack}
 use Rattle.blk_graph.proofs.Members.{Contains-here, Contains-there, Contains-cases, Contains-nil, Contains-map}
-use Rattle.blk_graph.proofs.PathLemmas.{Reaches-edge, Reaches-joined, Reaches-cons, Reaches-last, IsAcyclic-new_child}
+use Rattle.blk_graph.proofs.PathLemmas.{Reaches-edge, Reaches-joined, Reaches-cons, Reaches-last, Reaches-through}
 use Rattle.blk_graph.proofs.EditLemmas.{Contains-with_edge, Contains-with_edge_new, replaced-cases}
+
+-- all that is new where an edge is set leads to its child
+pub new_leads-with_edge : (new : Edge) (edges : List Edge) (e : Edge) → Contains (with_edge new edges) e
+    → Contains edges e ⊎ (e.child ≡ new.child)
+new_leads-with_edge new edges e h = elim (Contains-with_edge new edges e h) [
+  inl is_new ↦ inr (ap (λ (x : Edge). x.child) is_new)
+  | inr kept ↦ inl kept
+]
 
 -- an edge that is set makes a cycle only through its child
 pub IsAcyclic-with_edge : (new : Edge) (edges : List Edge) → IsAcyclic edges
     → (Reaches (with_edge new edges) new.child new.child → ⊥) → IsAcyclic (with_edge new edges)
-IsAcyclic-with_edge new edges =
-    IsAcyclic-new_child (with_edge new edges) edges new.child
-    (λ e h. elim (Contains-with_edge new edges e h) [
-      inl is_new ↦ inr (ap (λ (x : Edge). x.child) is_new)
-      | inr kept ↦ inl kept
-    ])
+IsAcyclic-with_edge new edges acyclic none node cycle =
+    none (Reaches-through (with_edge new edges) edges new.child (new_leads-with_edge new edges) acyclic node cycle)
 
 -- edges that are replaced make one only through their new child
 pub IsAcyclic-with_replaced : (from to : ℕ) (but : Option Parent) (edges : List Edge) → IsAcyclic edges
     → (Reaches (with_replaced from to but edges) to to → ⊥)
     → IsAcyclic (with_replaced from to but edges)
-IsAcyclic-with_replaced from to but edges =
-    IsAcyclic-new_child (with_replaced from to but edges) edges to
-    (λ e h. let r = Contains-map (replaced from to but) edges e h in
+IsAcyclic-with_replaced from to but edges acyclic none node cycle =
+    none (Reaches-through (with_replaced from to but edges) edges to
+      (λ e h. let r = Contains-map (replaced from to but) edges e h in
         elim (replaced-cases from to but r.0) [
           inl leads ↦ inr (ap (λ (x : Edge). x.child) r.2 ∙ leads)
           | inr same ↦ inl (rw (r.2 ∙ same) r.1)
         ])
+      acyclic node cycle)
 
 pub and-left : (a b : Bool) → (a && b) ≡ true → a ≡ true
 and-left true b h = refl
@@ -138,3 +143,14 @@ cycle_from_LeadsBack new edges h = by_parent new.parent refl h
             (Reaches-edge (with_edge new edges) n new (Contains-with_edge_new new edges) e)
     by_parent (Guest g) e h = absurd h
     by_parent (Job j) e h = absurd h
+
+-- some cycle, where the edge is set, is one through its child
+pub LeadsBack-from_HasCycle : (new : Edge) (edges : List Edge) → IsAcyclic edges
+    → HasCycle (with_edge new edges) → LeadsBack edges new.child new.parent
+LeadsBack-from_HasCycle new edges acyclic has =
+    LeadsBack-from_cycle new edges acyclic
+    (Reaches-through (with_edge new edges) edges new.child (new_leads-with_edge new edges) acyclic has.node has.cycle)
+
+pub HasCycle-from_LeadsBack : (new : Edge) (edges : List Edge) → LeadsBack edges new.child new.parent
+    → HasCycle (with_edge new edges)
+HasCycle-from_LeadsBack new edges back = record { node = new.child; cycle = cycle_from_LeadsBack new edges back }

@@ -11,7 +11,6 @@ use Rattle.blk_graph.specs.declared.edge.Parent.TheVariants.{Node, Guest, Job}
 use Rattle.blk_graph.specs.Edits.{takes_place, with_edge, with_child, stays, replaced, with_replaced, moved, filter_edge, with_filter, is_filters, without_filter, without_parent}
 use Rattle.blk_graph.specs.Paths.{IsPath, Reaches, IsAcyclic, HasCycle}
 use Rattle.blk_graph.proofs.Members.{Contains-here, Contains-there, Contains-cases, Contains-nil, Contains-map, map-Contains, Contains-filter}
-use Rattle.blk_graph.proofs.PathLemmas.{Reaches-edge, Reaches-joined, Reaches-cons, IsAcyclic-new_child, IsAcyclic-covered, IsAcyclic-fewer}
 
 -- an edge of the list with a new edge is that edge, or was there
 pub Contains-with_edge : (new : Edge) (edges : List Edge) (e : Edge) → Contains (with_edge new edges) e

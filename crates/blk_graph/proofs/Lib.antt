@@ -7,3 +7,5 @@ pub mod FilterLemmas
 pub mod RuleLemmas
 pub mod InverseLemmas
 pub mod WalkLemmas
+pub mod JudgeLemmas
+pub mod GraphLemmas

@@ -77,12 +77,12 @@ IsPath-by new old t new_lead a b (e ∷ p) h = elim (new_lead e h.0) [
       inr (to_t, p, from_t)
 ]
 
--- where each new edge leads to t, and t doesn't reach itself, there is no cycle
-pub IsAcyclic-new_child : (new old : List Edge) (t : ℕ)
+-- so a cycle leads through t
+pub Reaches-through : (new old : List Edge) (t : ℕ)
     → ((e : Edge) → Contains new e → Contains old e ⊎ (e.child ≡ t))
-    → IsAcyclic old → (Reaches new t t → ⊥) → IsAcyclic new
-IsAcyclic-new_child new old t new_lead acyclic none node cycle =
+    → IsAcyclic old → (node : ℕ) → Reaches new node node → Reaches new t t
+Reaches-through new old t new_lead acyclic node cycle =
     elim (IsPath-by new old t new_lead node node (cycle.first ∷ cycle.rest) cycle.path) [
-      inl old_path ↦ acyclic node (record { first = cycle.first; rest = cycle.rest; path = old_path })
-      | inr by_t ↦ none (Reaches-last new t node t by_t.1 by_t.2 by_t.0)
+      inl old_path ↦ absurd (acyclic node (record { first = cycle.first; rest = cycle.rest; path = old_path }))
+      | inr by_t ↦ Reaches-last new t node t by_t.1 by_t.2 by_t.0
     ]

@@ -1,5 +1,5 @@
 -- What an edit of the edges answers.
-use Rattle.std.specs.Prelude.{◌≡◌, ◌↔◌, ℕ, List, Result, Ok, Err, Option, Some, None, IsOk, map, filter, find, not, ◌==◌}
+use Rattle.std.specs.Prelude.{◌≡◌, ◌↔◌, ℕ, List, Result, Ok, Err, Option, Some, None, IsOk, IfErr, map, filter, find, not, ◌==◌}
 use Rattle.std.specs.Option.{option_map}
 use Rattle.blk_graph.specs.declared.edge.Edge.{Edge}
 use Rattle.blk_graph.specs.declared.edge.Conflict.{Conflict as Pair}
@@ -10,19 +10,19 @@ use Rattle.blk_graph.specs.Graph.{Graph, NodeRow, ids}
 use Rattle.blk_graph.specs.Paths.{HasCycle, IsAcyclic}
 use Rattle.blk_graph.specs.Rule.{KeepsPermissions, first_conflict}
 
--- an edit is refused for a cycle or a conflict and for nothing else
 abbrev pub IsEditStop : GraphStop → Type 0
 IsEditStop Cycle = Unit {0}
 IsEditStop (Conflict _) = Unit {0}
 IsEditStop _ = ⊥
 
 -- the edited list is refused where it has a cycle, else where it breaks the permission rule, and then
--- with the first broken pair; any other is taken
+-- with the first broken pair; any other is taken, and nothing else is answered
 pub record IsJudged (nodes : List ℕ) (edited : List Edge) (result : Result (Unit {0}) GraphStop) : Type 0 where
   pub cycle : (result ≡ Err Cycle) ↔ HasCycle edited
   pub conflict : (pair : Pair) → (result ≡ Err (Conflict pair))
       ↔ (IsAcyclic edited × (first_conflict nodes edited ≡ Some pair))
   pub ok : IsOk result ↔ (IsAcyclic edited × KeepsPermissions edited)
+  pub only : IfErr result IsEditStop
 
 -- the parent of the first edge into a node
 abbrev pub first_parent : ℕ → List Edge → Option Parent

@@ -3,9 +3,13 @@
 
 mod edge;
 mod edit;
+mod graph;
+mod judge;
+mod names;
 mod rule;
 mod stop;
 mod walk;
 
 pub use edge::{Conflict, Edge, MOST_NODES, NodeId, Parent, Perm, Perms, Role};
+pub use graph::{Graph, MOST_EDGES};
 pub use stop::GraphStop;

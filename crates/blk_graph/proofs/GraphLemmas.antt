@@ -1,0 +1,133 @@
+-- What is true of every graph stays true at each edit.
+use Rattle.std.proofs.Common.{◌≡◌, ◌≢◌, ◌⊎◌, ℕ, zero, suc, ◌+◌, ◌-◌, ◌<◌, ◌≤◌, List, [], ◌∷◌, ◌++◌, length, map, refl, sym, ◌∙◌, ap, inl, inr, arith, Bool, true, false, cond, Option, Some, None, Result, Ok, Err, length-append}
+use Rattle.std.specs.Prelude.{OnOk, OnErr}
+use Rattle.std.specs.List.{Contains, filter}
+use Rattle.std.proofs.lemmas.List.Elements.{Contains-push_cases}
+use Rattle.std.proofs.lemmas.List.{length-map}
+use Rattle.blk_base.specs.Written.{Written}
+use Rattle.slab.specs.Slab.{Slab}
+use Rattle.blk_graph.specs.declared.edge.Edge.{Edge}
+use Rattle.blk_graph.specs.declared.edge.Perms.{Perms}
+use Rattle.blk_graph.specs.declared.edge.Parent.{Parent}
+use Rattle.blk_graph.specs.declared.edge.Parent.TheVariants.{Node, Guest, Job}
+use Rattle.blk_graph.specs.declared.stop.GraphStop.{GraphStop}
+use Rattle.blk_graph.specs.Edits.{with_edge, with_replaced, replaced, moved, with_filter, filter_edge}
+use Rattle.blk_graph.specs.Graph.{NodeRow, Graph, ids, HasNode, HasParent, IsSound, PathsAreShort}
+use Rattle.blk_graph.specs.Layout.{row_of, graph_of, IsKept}
+use Rattle.blk_graph.specs.Paths.{IsPath, Reaches, IsAcyclic}
+use Rattle.blk_graph.specs.Judged.{IsJudged}
+use Rattle.blk_graph.proofs.Members.{Contains-map}
+use Rattle.blk_graph.proofs.EditLemmas.{Contains-with_edge, length-with_edge, moved-parent, moved-cases, replaced-parent, replaced-cases}
+use Rattle.blk_graph.proofs.LengthLemmas.{length-IsPath}
+
+-- the ids of the rows are the keys
+pub ids-graph_of : (names : Slab Written) (order : List ℕ) (edges : List Edge) → ids (graph_of names order edges) ≡ order
+ids-graph_of names [] edges = refl
+ids-graph_of names (id ∷ order) edges = ap (λ xs. id ∷ xs) (ids-graph_of names order edges)
+
+-- the ends of the edges are nodes
+pub record HasEnds (g : Graph) (edges : List Edge) : Type 0 where
+  pub parents : (e : Edge) → Contains edges e → HasParent g e.parent
+  pub children : (e : Edge) → Contains edges e → HasNode g e.child
+
+pub IsSound-edges : (g : Graph) (edges : List Edge) → IsSound g → length edges ≤ 2048 → HasEnds g edges
+    → IsAcyclic edges → IsSound (record g { edges = edges })
+IsSound-edges g edges sound few ends acyclic = record {
+  different_nodes = sound.different_nodes;
+  few_nodes = sound.few_nodes;
+  few_edges = few;
+  parents = ends.parents;
+  children = ends.children;
+  acyclic = acyclic;
+}
+
+pub HasEnds-with_edge : (g : Graph) (new : Edge) → IsSound g → HasParent g new.parent → HasNode g new.child
+    → HasEnds g (with_edge new g.edges)
+HasEnds-with_edge g new sound parent child = record {
+  parents = λ e h. elim (Contains-with_edge new g.edges e h) [
+    inl is_new ↦ rw is_new parent
+    | inr kept ↦ sound.parents e kept
+  ];
+  children = λ e h. elim (Contains-with_edge new g.edges e h) [
+    inl is_new ↦ rw is_new child
+    | inr kept ↦ sound.children e kept
+  ];
+}
+
+pub HasEnds-with_replaced : (g : Graph) (from to : ℕ) (but : Option Parent) → IsSound g → HasNode g to
+    → HasEnds g (with_replaced from to but g.edges)
+HasEnds-with_replaced g from to but sound child = record {
+  parents = λ e h. let r = Contains-map (replaced from to but) g.edges e h in
+      let same : e.parent ≡ r.0.parent = ap (λ (x : Edge). x.parent) r.2 ∙ replaced-parent from to but r.0 in
+      rw same (sound.parents r.0 r.1);
+  children = λ e h. let r = Contains-map (replaced from to but) g.edges e h in
+      elim (replaced-cases from to but r.0) [
+        inl leads ↦ rw (ap (λ (x : Edge). x.child) r.2 ∙ leads) child
+        | inr same ↦ rw (ap (λ (x : Edge). x.child) (r.2 ∙ same)) (sound.children r.0 r.1)
+      ];
+}
+
+pub HasEnds-moved : (g : Graph) (edges : List Edge) (from to : ℕ) → HasEnds g edges → HasNode g to
+    → HasEnds g (map (moved from to) edges)
+HasEnds-moved g edges from to ends child = record {
+  parents = λ e h. let r = Contains-map (moved from to) edges e h in
+      let same : e.parent ≡ r.0.parent = ap (λ (x : Edge). x.parent) r.2 ∙ moved-parent from to r.0 in
+      rw same (ends.parents r.0 r.1);
+  children = λ e h. let r = Contains-map (moved from to) edges e h in
+      elim (moved-cases from to r.0) [
+        inl leads ↦ rw (ap (λ (x : Edge). x.child) (r.2 ∙ leads.1)) child
+        | inr same ↦ rw (ap (λ (x : Edge). x.child) (r.2 ∙ same.1)) (ends.children r.0 r.1)
+      ];
+}
+
+pub HasEnds-with_filter : (g : Graph) (node over : ℕ) (perm shared : Perms) → IsSound g → HasNode g node
+    → HasNode g over → HasEnds g (with_filter node over perm shared g.edges)
+HasEnds-with_filter g node over perm shared sound child filter_node =
+    let moved_ends : HasEnds g (map (moved node over) g.edges)
+        = HasEnds-moved g g.edges node over
+            (record { parents = sound.parents; children = sound.children }) filter_node in
+    record {
+      parents = λ e h.
+          elim (Contains-push_cases (map (moved node over) g.edges) (filter_edge over node perm shared) e h) [
+            inl was ↦ moved_ends.parents e was
+            | inr is ↦ rw (← is) filter_node
+          ];
+      children = λ e h.
+          elim (Contains-push_cases (map (moved node over) g.edges) (filter_edge over node perm shared) e h) [
+            inl was ↦ moved_ends.children e was
+            | inr is ↦ rw (← is) child
+          ];
+    }
+
+-- an edited list that was judged stands in the place of the other, or the other stays
+pub IsKept-settled : (names : Slab Written) (order : List ℕ) (old edited new : List Edge)
+    (a b c b' c' : ℕ) (nodes : List ℕ) (result : Result (Unit {0}) GraphStop)
+    → IsKept names order old a b c → length edited ≤ 2048 → HasEnds (graph_of names order old) edited
+    → IsJudged nodes edited result → OnOk result (new ≡ edited) → OnErr result (new ≡ old)
+    → 2048 ≤ b' → 2048 ≤ c' → IsKept names order new a b' c'
+IsKept-settled names order old edited new a b c b' c' nodes (Ok u) kept few ends judged ok err room spare = record {
+  named = kept.named;
+  count = kept.count;
+  names_room = kept.names_room;
+  nodes_fit = kept.nodes_fit;
+  edges_fit = room;
+  staged_fit = spare;
+  sound = rw ok (IsSound-edges (graph_of names order old) edited kept.sound few ends (judged.ok.0 refl).0);
+}
+IsKept-settled names order old edited new a b c b' c' nodes (Err e) kept few ends judged ok err room spare = record {
+  named = kept.named;
+  count = kept.count;
+  names_room = kept.names_room;
+  nodes_fit = kept.nodes_fit;
+  edges_fit = room;
+  staged_fit = spare;
+  sound = rw err kept.sound;
+}
+
+-- no path of a graph is longer than its nodes
+pub PathsAreShort-from_IsSound : (g : Graph) → IsSound g → PathsAreShort g
+PathsAreShort-from_IsSound g sound from to path h =
+    let short : length path ≤ length (ids g) - 1
+        = length-IsPath g.edges (ids g) from to path sound.acyclic sound.children
+            (λ e a m is. let p : HasParent g e.parent = sound.parents e m in rw is at p) h in
+    omega (arith, short, length-map (λ (row : NodeRow). row.id) g.nodes)
