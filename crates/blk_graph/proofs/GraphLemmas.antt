@@ -3,7 +3,6 @@ use Rattle.std.proofs.Common.{◌≡◌, ◌≢◌, ◌⊎◌, ℕ, zero, suc, �
 use Rattle.std.specs.Prelude.{OnOk, OnErr}
 use Rattle.std.specs.List.{Contains, filter}
 use Rattle.std.proofs.lemmas.List.Elements.{Contains-push_cases}
-use Rattle.std.proofs.lemmas.List.{length-map}
 use Rattle.blk_base.specs.Written.{Written}
 use Rattle.slab.specs.Slab.{Slab}
 use Rattle.blk_graph.specs.declared.edge.Edge.{Edge}
@@ -124,10 +123,27 @@ IsKept-settled names order old edited new a b c b' c' nodes (Err e) kept few end
   sound = rw err kept.sound;
 }
 
+length-ids : (rows : List NodeRow) → length (map (λ row. row.id) rows) ≡ length rows
+length-ids [] = refl
+length-ids (row ∷ rows) = let h = length-ids rows in omega (arith, h)
+
+-- the nodes that a function reads are those that a contract sees
+pub Contains-slice : (names : Slab Written) (order : List ℕ) (edges : List Edge) (slice : List ℕ) → slice ≡ order
+    → (x : ℕ) → Contains (ids (graph_of names order edges)) x → Contains slice x
+Contains-slice names order edges slice is x h = rw is (rw (ids-graph_of names order edges) at h)
+
+-- what was judged of the fields, of what a contract sees
+pub IsJudged-seen : (names : Slab Written) (order : List ℕ) (old : List Edge) (value : Graph)
+    → graph_of names order old ≡ value → (nodes : List ℕ) → nodes ≡ order → (f : List Edge → List Edge)
+    (edited : List Edge) → edited ≡ f old → (result : Result (Unit {0}) GraphStop)
+    → IsJudged nodes edited result → IsJudged (ids value) (f value.edges) result
+IsJudged-seen names order old value view nodes nodes_are f edited edited_is result judged =
+    rw (sym view) (rw (ids-graph_of names order old) (rw (sym nodes_are) (rw (sym edited_is) judged)))
+
 -- no path of a graph is longer than its nodes
 pub PathsAreShort-from_IsSound : (g : Graph) → IsSound g → PathsAreShort g
 PathsAreShort-from_IsSound g sound from to path h =
     let short : length path ≤ length (ids g) - 1
         = length-IsPath g.edges (ids g) from to path sound.acyclic sound.children
             (λ e a m is. let p : HasParent g e.parent = sound.parents e m in rw is at p) h in
-    omega (arith, short, length-map (λ (row : NodeRow). row.id) g.nodes)
+    omega (arith, short, length-ids g.nodes)
