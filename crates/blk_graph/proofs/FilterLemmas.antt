@@ -12,7 +12,7 @@ use Rattle.blk_graph.specs.declared.edge.Role.TheVariants.{Filtered}
 use Rattle.blk_graph.specs.Edges.{same_parent, same_role}
 use Rattle.blk_graph.specs.Edits.{with_child, IsLone, moved, filter_edge, with_filter, is_filters, without_filter, without_parent}
 use Rattle.blk_graph.specs.Paths.{IsPath, Reaches, IsAcyclic}
-use Rattle.blk_graph.proofs.Members.{Contains-here, Contains-there, Contains-cases, Contains-nil, Contains-map, Contains-filter}
+use Rattle.blk_graph.proofs.Members.{Contains-here, Contains-there, Contains-cases, Contains-nil, Contains-map, Contains-filter, find-Some}
 use Rattle.blk_graph.proofs.PathLemmas.{Reaches-edge, Reaches-joined, IsAcyclic-covered, IsAcyclic-fewer}
 use Rattle.blk_graph.proofs.EditLemmas.{moved-parent, moved-cases}
 use Rattle.blk_graph.proofs.CycleLemmas.{and-left, and-right, same_parent-true}
@@ -87,17 +87,6 @@ module _ (edges : List Edge) (node filter : ℕ) (perm shared : Perms)
     inl was ↦ acyclic (behind node filter n) was
     | inr is ↦ differ (sym is.0 ∙ is.1)
   ]
-
--- what `find` finds is an element, and passes
-pub find-Some : {X : Type 0} (p : X → Bool) (xs : List X) (x : X) → find p xs ≡ Some x
-    → Contains xs x × (p x ≡ true)
-find-Some p [] x h = absurd cc
-find-Some {X} p (y ∷ xs) x h = by_test (p y) refl (find-Some p xs x) h
-  where
-    by_test : (b : Bool) → p y ≡ b → (find p xs ≡ Some x → Contains xs x × (p x ≡ true))
-        → cond b (Some y) (find p xs) ≡ Some x → Contains (y ∷ xs) x × (p x ≡ true)
-    by_test true t ih k = let same : x ≡ y = cc in (rw same (Contains-here y xs), ap p same ∙ t)
-    by_test false t ih k = let r = ih k in (Contains-there y xs x r.0, r.1)
 
 module _ (edges : List Edge) (filter_node : ℕ) where
   -- without a filter, each edge stands for a path that was there

@@ -10,13 +10,13 @@ use Rattle.blk_graph.specs.declared.edge.Perms.{Perms}
 use Rattle.blk_graph.specs.declared.edge.Parent.{Parent}
 use Rattle.blk_graph.specs.declared.edge.Parent.TheVariants.{Node, Guest, Job}
 use Rattle.blk_graph.specs.declared.stop.GraphStop.{GraphStop}
-use Rattle.blk_graph.specs.Edits.{with_edge, with_replaced, replaced, moved, with_filter, filter_edge}
+use Rattle.blk_graph.specs.Edits.{with_edge, with_replaced, replaced, moved, with_filter, filter_edge, without_filter}
 use Rattle.blk_graph.specs.Graph.{NodeRow, Graph, ids, HasNode, HasParent, IsSound, PathsAreShort}
 use Rattle.blk_graph.specs.Layout.{row_of, graph_of, IsKept}
 use Rattle.blk_graph.specs.Paths.{IsPath, Reaches, IsAcyclic}
 use Rattle.blk_graph.specs.Judged.{IsJudged}
 use Rattle.blk_graph.proofs.Members.{Contains-map}
-use Rattle.blk_graph.proofs.EditLemmas.{Contains-with_edge, length-with_edge, moved-parent, moved-cases, replaced-parent, replaced-cases}
+use Rattle.blk_graph.proofs.EditLemmas.{Contains-with_edge, length-with_edge, moved-parent, moved-cases, replaced-parent, replaced-cases, HasOldEnds, HasOldEnds-without_filter}
 use Rattle.blk_graph.proofs.LengthLemmas.{length-IsPath}
 
 -- the ids of the rows are the keys
@@ -98,6 +98,35 @@ HasEnds-with_filter g node over perm shared sound child filter_node =
           ];
     }
 
+pub HasEnds-without_filter : (g : Graph) (node : ℕ) → IsSound g → HasEnds g (without_filter node g.edges)
+HasEnds-without_filter g node sound = record {
+  parents = λ e h. let r = HasOldEnds-without_filter node g.edges e h in
+      rw r.parent (sound.parents r.from r.from_there);
+  children = λ e h. let r = HasOldEnds-without_filter node g.edges e h in
+      rw r.child (sound.children r.to r.to_there);
+}
+
+pub HasEnds-fewer : (g : Graph) (edges : List Edge) → IsSound g
+    → ((e : Edge) → Contains edges e → Contains g.edges e) → HasEnds g edges
+HasEnds-fewer g edges sound kept = record {
+  parents = λ e h. sound.parents e (kept e h);
+  children = λ e h. sound.children e (kept e h);
+}
+
+-- an edited list that can't be refused stands in the place of the other
+pub IsKept-edges : (names : Slab Written) (order : List ℕ) (old new : List Edge) (a b c b' c' : ℕ)
+    → IsKept names order old a b c → length new ≤ 2048 → HasEnds (graph_of names order old) new
+    → IsAcyclic new → 2048 ≤ b' → 2048 ≤ c' → IsKept names order new a b' c'
+IsKept-edges names order old new a b c b' c' kept few ends acyclic room spare = record {
+  named = kept.named;
+  count = kept.count;
+  names_room = kept.names_room;
+  nodes_fit = kept.nodes_fit;
+  edges_fit = room;
+  staged_fit = spare;
+  sound = IsSound-edges (graph_of names order old) new kept.sound few ends acyclic;
+}
+
 -- an edited list that was judged stands in the place of the other, or the other stays
 pub IsKept-settled : (names : Slab Written) (order : List ℕ) (old edited new : List Edge)
     (a b c b' c' : ℕ) (nodes : List ℕ) (result : Result (Unit {0}) GraphStop)
@@ -147,3 +176,7 @@ PathsAreShort-from_IsSound g sound from to path h =
         = length-IsPath g.edges (ids g) from to path sound.acyclic sound.children
             (λ e a m is. let p : HasParent g e.parent = sound.parents e m in rw is at p) h in
     omega (arith, short, length-ids g.nodes)
+
+pub OnOk-then : {T E : Type 0} (P Q : Type 0) (r : Result T E) → (P → Q) → OnOk r P → OnOk r Q
+OnOk-then P Q (Ok x) f h = f h
+OnOk-then P Q (Err e) f h = tt

@@ -1,6 +1,6 @@
 -- What a list contains, element by element.
-use Rattle.std.proofs.Common.{◌≡◌, ◌⊎◌, ℕ, zero, suc, ◌+◌, ◌<◌, List, [], ◌∷◌, ◌++◌, Bool, true, false, cond, length, get_or, map, refl, sym, ◌∙◌, ap, inl, inr, arith}
-use Rattle.std.specs.List.{Contains, filter}
+use Rattle.std.proofs.Common.{◌≡◌, ◌⊎◌, ℕ, zero, suc, ◌+◌, ◌<◌, List, [], ◌∷◌, ◌++◌, Bool, true, false, cond, Option, Some, None, length, get_or, map, refl, sym, ◌∙◌, ap, inl, inr, arith}
+use Rattle.std.specs.List.{Contains, filter, find}
 
 module _ {X : Type 0} where
   pub Contains-here : (x : X) (xs : List X) → Contains (x ∷ xs) x
@@ -52,3 +52,14 @@ module _ {X Y : Type 0} where
     inl here ↦ rw here (Contains-here (f y) (map f xs))
     | inr there ↦ Contains-there (f y) (map f xs) (f x) (map-Contains f xs x there)
   ]
+
+-- what `find` finds is an element, and passes
+pub find-Some : {X : Type 0} (p : X → Bool) (xs : List X) (x : X) → find p xs ≡ Some x
+    → Contains xs x × (p x ≡ true)
+find-Some p [] x h = absurd cc
+find-Some {X} p (y ∷ xs) x h = by_test (p y) refl (find-Some p xs x) h
+  where
+    by_test : (b : Bool) → p y ≡ b → (find p xs ≡ Some x → Contains xs x × (p x ≡ true))
+        → cond b (Some y) (find p xs) ≡ Some x → Contains (y ∷ xs) x × (p x ≡ true)
+    by_test true t ih k = let same : x ≡ y = cc in (rw same (Contains-here y xs), ap p same ∙ t)
+    by_test false t ih k = let r = ih k in (Contains-there y xs x r.0, r.1)

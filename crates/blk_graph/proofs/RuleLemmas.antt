@@ -1,6 +1,6 @@
 -- The first conflict is none exactly where the permission rule holds.
 use Rattle.std.proofs.Common.{◌≡◌, ◌≢◌, ◌⊎◌, ℕ, zero, suc, ◌+◌, ◌<◌, List, [], ◌∷◌, length, get_or, refl, sym, ◌∙◌, ap, inl, inr, arith, Bool, true, false, cond, Option, Some, None}
-use Rattle.std.specs.Prelude.{◌&&◌, not, ◌==◌, IsTrue}
+use Rattle.std.specs.Prelude.{◌&&◌, not, ◌==◌, IsTrue, ◌↔◌, IsNone, IfSome}
 use Rattle.std.specs.Option.{option_map}
 use Rattle.std.specs.List.{Contains, find, slice_get}
 use Rattle.std.proofs.lemmas.Bool.{ne_eqb, eqb-true, eqb-false, eq-eqb}
@@ -12,8 +12,7 @@ use Rattle.blk_graph.specs.declared.edge.Perm.{Perm}
 use Rattle.blk_graph.specs.declared.edge.Perm.TheVariants.{Read, Write, Unchanged}
 use Rattle.blk_graph.specs.Edges.{holds, IsWithin}
 use Rattle.blk_graph.specs.Rule.{KeepsPermissions, GuestsWriteAlone, IsBroken, first_denied, first_answer, first_answer_from, conflict_on, conflict_between, conflict_of, conflict_at, first_conflict}
-use Rattle.blk_graph.proofs.Members.{Contains-here, Contains-there, Contains-cases, Contains-nil}
-use Rattle.blk_graph.proofs.FilterLemmas.{find-Some}
+use Rattle.blk_graph.proofs.Members.{Contains-here, Contains-there, Contains-cases, Contains-nil, find-Some}
 use Rattle.blk_graph.proofs.CycleLemmas.{and-left, and-right}
 
 pub Contains-slice_get : {X : Type 0} (xs : List X) (i : ℕ) (x : X) → slice_get xs i ≡ Some x → Contains xs x
@@ -257,3 +256,27 @@ IsBroken-first ids edges c h =
 pub GuestsWriteAlone-from_rule : (edges : List Edge) → KeepsPermissions edges → GuestsWriteAlone edges
 GuestsWriteAlone-from_rule edges rule i j guest drive other at_i at_j differ same is_guest writes =
     rule i j drive other at_i at_j differ same Write writes
+
+-- what the look for a first conflict says
+pub record IsCheck (edges : List Edge) (result : Option Conflict) : Type 0 where
+  pub rule : IsNone result ↔ KeepsPermissions edges
+  pub pair : IfSome result (IsBroken edges)
+  pub guests : IsNone result → GuestsWriteAlone edges
+
+pub IsCheck-from_first : (ids : List ℕ) (edges : List Edge) (result : Option Conflict)
+    → ((e : Edge) → Contains edges e → Contains ids e.child)
+    → result ≡ first_conflict ids edges → IsCheck edges result
+IsCheck-from_first ids edges None children is =
+    let rule : KeepsPermissions edges = KeepsPermissions-from_None ids edges children (sym is) in
+    record {
+      rule = (λ _. rule, λ _. refl);
+      pair = tt;
+      guests = λ _. GuestsWriteAlone-from_rule edges rule;
+    }
+IsCheck-from_first ids edges (Some c) children is = record {
+  rule = (
+    λ h. absurd cc,
+    λ rule. let none : first_conflict ids edges ≡ None = None-from_KeepsPermissions ids edges rule in absurd cc);
+  pair = IsBroken-first ids edges c (sym is);
+  guests = λ h. absurd cc;
+}

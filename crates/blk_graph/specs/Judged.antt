@@ -24,6 +24,12 @@ pub record IsJudged (nodes : List ℕ) (edited : List Edge) (result : Result (Un
   pub ok : IsOk result ↔ (IsAcyclic edited × KeepsPermissions edited)
   pub only : IfErr result IsEditStop
 
+-- an addition is refused for these alone
+abbrev pub IsAdditionStop : GraphStop → Type 0
+IsAdditionStop NameTaken = Unit {0}
+IsAdditionStop TooManyNodes = Unit {0}
+IsAdditionStop _ = ⊥
+
 -- the parent of the first edge into a node
 abbrev pub first_parent : ℕ → List Edge → Option Parent
 first_parent node edges = option_map (λ edge. edge.parent) (find (λ edge. edge.child == node) edges)

@@ -82,6 +82,13 @@ pub struct Conflict {
 }
 
 impl NodeId {
+    pub(crate) fn new(key: usize) -> NodeId
+        requires { key < 64 }
+        ensures { result ≡ key }
+    {
+        NodeId { key: key as u8 }
+    }
+
     pub(crate) fn index(self) -> usize
         ensures value { result ≡ self }
         ensures small { result < 64 }

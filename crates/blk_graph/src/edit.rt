@@ -2,9 +2,10 @@
 ghost use Rattle.std.specs.Prelude.{◌≡◌, ◌+◌, ◌≤◌, [], ◌++◌, map, filter, not, length, find, vec_capacity};
 ghost use Rattle.std.specs.Option.{option_map};
 ghost use Rattle.blk_graph.specs.Edges.{same_parent, same_role, is_job};
-ghost use Rattle.blk_graph.specs.Edits.{takes_place, with_edge, with_child, stays, replaced, with_replaced, moved, is_filters, but_filters, without_parent};
+ghost use Rattle.blk_graph.specs.Edits.{takes_place, with_edge, with_child, stays, replaced, with_replaced, moved, is_filters, but_filters, with_filter, without_filter, without_parent};
+ghost use Rattle.blk_graph.specs.Judged.{first_parent};
 
-use crate::edge::{Edge, NodeId, Parent, Role};
+use crate::edge::{Edge, NodeId, Parent, Perms, Role};
 
 /// Whether a new edge takes an old one's place.
 fn takes_place(new: &Edge, old: &Edge) -> bool
@@ -90,7 +91,7 @@ pub(crate) fn replace(edges: &[Edge], from: NodeId, to: NodeId, but: &Option<Par
 }
 
 /// The list with all edges into one node leading to another.
-pub(crate) fn move_all(edges: &[Edge], from: NodeId, to: NodeId, out: &mut Vec<Edge>)
+fn move_all(edges: &[Edge], from: NodeId, to: NodeId, out: &mut Vec<Edge>)
     requires empty { out.old.items ≡ [] }
     requires room { length edges.now ≤ vec_capacity out.old }
     ensures items { out.new.items ≡ map (moved from to) edges.now }
@@ -101,8 +102,26 @@ pub(crate) fn move_all(edges: &[Edge], from: NodeId, to: NodeId, out: &mut Vec<E
     }
 }
 
+/// The list with a filter between a node and its parents.
+pub(crate) fn put_filter(edges: &[Edge], node: NodeId, filter: NodeId, perm: Perms, shared: Perms, out: &mut Vec<Edge>)
+    requires empty { out.old.items ≡ [] }
+    requires room { length edges.now + 1 ≤ vec_capacity out.old }
+    ensures items { out.new.items ≡ with_filter node filter perm shared edges.now }
+    ensures capacity { vec_capacity out.new ≡ vec_capacity out.old }
+{
+    let own = Edge {
+        parent: Parent::Node(filter),
+        role: Role::Filtered,
+        child: node,
+        perm,
+        shared,
+    };
+    move_all(edges, node, filter, out);
+    out.push_reserved(own);
+}
+
 /// The child of a filter.
-pub(crate) fn filtered_child(edges: &[Edge], filter: NodeId) -> Option<NodeId>
+fn filtered_child(edges: &[Edge], filter: NodeId) -> Option<NodeId>
     ensures { result ≡ option_map (λ edge. edge.child) (find (is_filters filter) edges.now) }
 {
     for edge in edges {
@@ -114,7 +133,7 @@ pub(crate) fn filtered_child(edges: &[Edge], filter: NodeId) -> Option<NodeId>
 }
 
 /// The list without a filter's edge, its parents leading to another node.
-pub(crate) fn unfilter(edges: &[Edge], filter: NodeId, to: NodeId, out: &mut Vec<Edge>)
+fn unfilter(edges: &[Edge], filter: NodeId, to: NodeId, out: &mut Vec<Edge>)
     requires empty { out.old.items ≡ [] }
     requires room { length edges.now ≤ vec_capacity out.old }
     ensures items { out.new.items ≡ map (moved filter to) (but_filters filter edges.now) }
@@ -124,6 +143,30 @@ pub(crate) fn unfilter(edges: &[Edge], filter: NodeId, to: NodeId, out: &mut Vec
         if !is_filters(edge, filter) {
             out.push_reserved(moved(edge, filter, to));
         }
+    }
+}
+
+fn copy_all(edges: &[Edge], out: &mut Vec<Edge>)
+    requires empty { out.old.items ≡ [] }
+    requires room { length edges.now ≤ vec_capacity out.old }
+    ensures items { out.new.items ≡ edges.now }
+    ensures capacity { vec_capacity out.new ≡ vec_capacity out.old }
+{
+    for edge in edges {
+        out.push_reserved(*edge);
+    }
+}
+
+/// The list without a filter between its child and its parents.
+pub(crate) fn drop_filter(edges: &[Edge], filter: NodeId, out: &mut Vec<Edge>)
+    requires empty { out.old.items ≡ [] }
+    requires room { length edges.now ≤ vec_capacity out.old }
+    ensures items { out.new.items ≡ without_filter filter edges.now }
+    ensures capacity { vec_capacity out.new ≡ vec_capacity out.old }
+{
+    match filtered_child(edges, filter) {
+        None => copy_all(edges, out),
+        Some(child) => unfilter(edges, filter, child, out),
     }
 }
 
@@ -139,4 +182,16 @@ pub(crate) fn drop_parent(edges: &[Edge], parent: &Parent, out: &mut Vec<Edge>)
             out.push_reserved(*edge);
         }
     }
+}
+
+/// The parent of the first edge into a node.
+pub(crate) fn first_parent(edges: &[Edge], node: NodeId) -> Option<Parent>
+    ensures { result ≡ first_parent node edges.now }
+{
+    for edge in edges {
+        if edge.child == node {
+            return Some(edge.parent);
+        }
+    }
+    None
 }

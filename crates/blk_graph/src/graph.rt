@@ -3,11 +3,11 @@ ghost use Rattle.std.specs.Prelude.{◌≡◌, ◌≢◌, ◌↔◌, ℕ, ◌+�
 ghost use Rattle.blk_graph.specs.declared.edge.Edge.{Edge as Use};
 ghost use Rattle.blk_graph.specs.Edits.{with_edge, with_replaced, with_filter, IsLone, without_filter, without_parent};
 ghost use Rattle.blk_graph.specs.Graph.{ids, HasNode, HasParent, HasName, IsSound, PathsAreShort};
-ghost use Rattle.blk_graph.specs.Judged.{IsJudged, first_parent, without_node};
+ghost use Rattle.blk_graph.specs.Judged.{IsAdditionStop, IsJudged, first_parent, without_node};
 ghost use Rattle.blk_graph.specs.Paths.{Reaches, LeadsBack};
 ghost use Rattle.blk_graph.specs.Rule.{KeepsPermissions, GuestsWriteAlone, IsBroken, first_conflict};
 
-use crate::edge::{Conflict, Edge, MOST_NODES, NodeId, Parent, Perms, Role};
+use crate::edge::{Conflict, Edge, MOST_NODES, NodeId, Parent, Perms};
 use crate::edit;
 use crate::judge::settle;
 use crate::names;
@@ -18,6 +18,7 @@ use blk_base::{NoMemory, Text};
 use slab::Slab;
 use std::alloc::Global;
 use std::marker::Model;
+use std::mem;
 
 /// The most edges that a graph has at once.
 pub const MOST_EDGES: usize = 2048;
@@ -118,5 +119,112 @@ impl Graph {
         self.staged.clear();
         edit::put_edge(self.edges.as_slice(), edge, &mut self.staged);
         settle(self.order.as_slice(), &mut self.edges, &mut self.staged, child)
+    }
+
+    /// Moves all edges into one node, but those of jobs and of `but`, to another node.
+    pub fn replace_child(&mut self, from: NodeId, to: NodeId, but: Option<Parent>) -> Result<(), GraphStop>
+        requires { HasNode self.old to }
+        ensures judged { IsJudged (ids self.old) (with_replaced from to but self.old.edges) result }
+        ensures ok { OnOk result (self.new ≡ record self.old { edges = with_replaced from to but self.old.edges }) }
+        ensures err { OnErr result (self.new ≡ self.old) }
+    {
+        self.staged.clear();
+        edit::replace(self.edges.as_slice(), from, to, &but, &mut self.staged);
+        settle(self.order.as_slice(), &mut self.edges, &mut self.staged, to)
+    }
+
+    /// Puts a filter between a node and its parents.
+    pub fn insert_filter(&mut self, node: NodeId, filter: NodeId, perm: Perms, shared: Perms) -> Result<(), GraphStop>
+        requires room { length self.old.edges < 2048 }
+        requires node { HasNode self.old node }
+        requires filter { HasNode self.old filter }
+        requires differ { filter ≢ node }
+        requires lone { IsLone self.old.edges filter }
+        ensures judged { IsJudged (ids self.old) (with_filter node filter perm shared self.old.edges) result }
+        ensures no_cycle { result ≢ Err GraphStop.Cycle }
+        ensures ok { OnOk result (self.new ≡ record self.old { edges = with_filter node filter perm shared self.old.edges }) }
+
+        // taking the filter away again gives back the list
+        ensures undone { OnOk result (without_filter filter self.new.edges ≡ self.old.edges) }
+        ensures err { OnErr result (self.new ≡ self.old) }
+    {
+        self.staged.clear();
+        edit::put_filter(self.edges.as_slice(), node, filter, perm, shared, &mut self.staged);
+        settle(self.order.as_slice(), &mut self.edges, &mut self.staged, filter)
+    }
+
+    /// Takes a filter from between its child and its parents.
+    pub fn remove_filter(&mut self, filter: NodeId)
+        ensures { self.new ≡ record self.old { edges = without_filter filter self.old.edges } }
+    {
+        self.staged.clear();
+        edit::drop_filter(self.edges.as_slice(), filter, &mut self.staged);
+        mem::swap(&mut self.edges, &mut self.staged);
+    }
+
+    /// Removes all edges of a parent.
+    pub fn clear_edges(&mut self, parent: Parent)
+        ensures { self.new ≡ record self.old { edges = without_parent parent self.old.edges } }
+    {
+        self.staged.clear();
+        edit::drop_parent(self.edges.as_slice(), &parent, &mut self.staged);
+        mem::swap(&mut self.edges, &mut self.staged);
+    }
+
+    /// The name of a node.
+    pub fn name(&self, node: NodeId) -> &str
+        requires { HasNode self.now node }
+        ensures { Contains self.now.nodes (record { id = node; name = result.now }) }
+    {
+        names::name_at(&self.names, node)
+    }
+
+    /// The node of that name.
+    pub fn node_named(&self, name: &str) -> Option<NodeId>
+        ensures found { IfSome result (λ id. Contains self.now.nodes (record { id = id; name = name.now })) }
+        ensures none { IfNone result (¬ HasName self.now name.now) }
+    {
+        names::node_named(&self.names, self.order.as_slice(), name)
+    }
+
+    /// Adds a node. It may get the id of one that was removed.
+    pub fn add_node(&mut self, name: Text) -> Result<NodeId, GraphStop>
+        ensures taken { (result ≡ Err GraphStop.NameTaken) ↔ HasName self.old name.bytes }
+        ensures full { (result ≡ Err GraphStop.TooManyNodes) ↔ ((length self.old.nodes ≡ 64) × ¬ HasName self.old name.bytes) }
+        ensures only { IfErr result IsAdditionStop }
+        ensures ok { IfOk result (λ id. self.new ≡ record self.old { nodes = self.old.nodes ++ (record { id = id; name = name.bytes }) ∷ [] }) }
+        ensures fresh { IfOk result (λ id. ¬ HasNode self.old id) }
+        ensures err { OnErr result (self.new ≡ self.old) }
+    {
+        if names::node_named(&self.names, self.order.as_slice(), name.as_str()).is_some() {
+            return Err(GraphStop::NameTaken);
+        }
+        if self.order.len() == MOST_NODES {
+            return Err(GraphStop::TooManyNodes);
+        }
+        let node = NodeId::new(self.names.insert_reserved(name));
+        self.order.push_reserved(node);
+        Ok(node)
+    }
+
+    /// Removes a node that no edge leads to, with the edges that it makes.
+    pub fn remove_node(&mut self, node: NodeId) -> Result<(), GraphStop>
+        requires { HasNode self.old node }
+        ensures answer { MatchOption (first_parent node self.old.edges) (result ≡ Ok tt) (λ parent. result ≡ Err (GraphStop.InUse parent)) }
+        ensures ok { OnOk result (self.new ≡ record {
+          nodes = without_node node self.old.nodes;
+          edges = without_parent (Parent.Node node) self.old.edges;
+        }) }
+        ensures err { OnErr result (self.new ≡ self.old) }
+    {
+        if let Some(parent) = edit::first_parent(self.edges.as_slice(), node) {
+            return Err(GraphStop::InUse(parent));
+        }
+        self.staged.clear();
+        edit::drop_parent(self.edges.as_slice(), &Parent::Node(node), &mut self.staged);
+        mem::swap(&mut self.edges, &mut self.staged);
+        names::drop_node(&mut self.order, node);
+        self.names.remove(node.index());
+        Ok(())
     }
 }

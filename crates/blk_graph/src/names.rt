@@ -1,5 +1,5 @@
 //! Nodes and their names, as the graph keeps them.
-ghost use Rattle.std.specs.Prelude.{◌≡◌, ◌≢◌, ℕ, Contains, IfSome, IfNone};
+ghost use Rattle.std.specs.Prelude.{◌≡◌, ◌≢◌, ◌==◌, ℕ, Contains, IfSome, IfNone, filter, not, vec_capacity};
 ghost use Rattle.slab.specs.Slab.{ContainsKey};
 ghost use Rattle.blk_graph.specs.Layout.{name_of, HasNames};
 
@@ -27,4 +27,12 @@ pub(crate) fn node_named(names: &Slab<Text>, order: &[NodeId], name: &str) -> Op
         }
     }
     None
+}
+
+/// Takes a node out of the order.
+pub(crate) fn drop_node(order: &mut Vec<NodeId>, node: NodeId)
+    ensures items { order.new.items ≡ filter (λ id. not (id == node)) order.old.items }
+    ensures capacity { vec_capacity order.new ≡ vec_capacity order.old }
+{
+    order.retain(|other| *other != node);
 }
