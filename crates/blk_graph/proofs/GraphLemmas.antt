@@ -1,6 +1,7 @@
 -- What is true of every graph stays true at each edit.
 use Rattle.std.proofs.Common.{◌≡◌, ◌≢◌, ◌⊎◌, ℕ, zero, suc, ◌+◌, ◌-◌, ◌<◌, ◌≤◌, List, [], ◌∷◌, ◌++◌, length, map, refl, sym, ◌∙◌, ap, inl, inr, arith, Bool, true, false, cond, Option, Some, None, Result, Ok, Err, length-append}
-use Rattle.std.specs.Prelude.{OnOk, OnErr}
+use Rattle.std.specs.Prelude.{OnOk, OnErr, not, ◌==◌}
+use Rattle.blk_graph.specs.Edges.{same_parent}
 use Rattle.std.specs.List.{Contains, filter}
 use Rattle.std.proofs.lemmas.List.Elements.{Contains-push_cases}
 use Rattle.blk_base.specs.Written.{Written}
@@ -10,13 +11,15 @@ use Rattle.blk_graph.specs.declared.edge.Perms.{Perms}
 use Rattle.blk_graph.specs.declared.edge.Parent.{Parent}
 use Rattle.blk_graph.specs.declared.edge.Parent.TheVariants.{Node, Guest, Job}
 use Rattle.blk_graph.specs.declared.stop.GraphStop.{GraphStop}
-use Rattle.blk_graph.specs.Edits.{with_edge, with_replaced, replaced, moved, with_filter, filter_edge, without_filter}
+use Rattle.blk_graph.specs.Edits.{with_edge, with_replaced, replaced, moved, with_filter, filter_edge, without_filter, without_parent}
 use Rattle.blk_graph.specs.Graph.{NodeRow, Graph, ids, HasNode, HasParent, IsSound, PathsAreShort}
 use Rattle.blk_graph.specs.Layout.{row_of, graph_of, IsKept}
 use Rattle.blk_graph.specs.Paths.{IsPath, Reaches, IsAcyclic}
 use Rattle.blk_graph.specs.Judged.{IsJudged}
-use Rattle.blk_graph.proofs.Members.{Contains-map}
-use Rattle.blk_graph.proofs.EditLemmas.{Contains-with_edge, length-with_edge, moved-parent, moved-cases, replaced-parent, replaced-cases, HasOldEnds, HasOldEnds-without_filter}
+use Rattle.blk_graph.proofs.Members.{Contains-map, Contains-filter, Contains-cases, Contains-here, Contains-there, Contains-nil, map-Contains}
+use Rattle.blk_graph.proofs.EditLemmas.{Contains-with_edge, length-with_edge, moved-parent, moved-cases, replaced-parent, replaced-cases, HasOldEnds, HasOldEnds-without_filter, length-filter-le, length-without_filter}
+use Rattle.blk_graph.proofs.PathLemmas.{IsAcyclic-fewer}
+use Rattle.blk_graph.proofs.FilterLemmas.{IsAcyclic-without_filter}
 use Rattle.blk_graph.proofs.LengthLemmas.{length-IsPath}
 
 -- the ids of the rows are the keys
@@ -126,6 +129,25 @@ IsKept-edges names order old new a b c b' c' kept few ends acyclic room spare = 
   staged_fit = spare;
   sound = IsSound-edges (graph_of names order old) new kept.sound few ends acyclic;
 }
+
+pub IsKept-without_parent : (names : Slab Written) (order : List ℕ) (old : List Edge) (a b c b' c' : ℕ) (parent : Parent)
+    → IsKept names order old a b c → 2048 ≤ b' → 2048 ≤ c' → IsKept names order (without_parent parent old) a b' c'
+IsKept-without_parent names order old a b c b' c' parent kept =
+    let test : Edge → Bool = λ edge. not (same_parent edge.parent parent) in
+    let there : (e : Edge) → Contains (without_parent parent old) e → Contains old e
+        = λ e h. (Contains-filter test old e h).0 in
+    IsKept-edges names order old (without_parent parent old) a b c b' c' kept
+    (omega (arith, length-filter-le test old, kept.sound.few_edges))
+    (HasEnds-fewer (graph_of names order old) (without_parent parent old) kept.sound there)
+    (IsAcyclic-fewer (without_parent parent old) old there kept.sound.acyclic)
+
+pub IsKept-without_filter : (names : Slab Written) (order : List ℕ) (old : List Edge) (a b c b' c' node : ℕ)
+    → IsKept names order old a b c → 2048 ≤ b' → 2048 ≤ c' → IsKept names order (without_filter node old) a b' c'
+IsKept-without_filter names order old a b c b' c' node kept =
+    IsKept-edges names order old (without_filter node old) a b c b' c' kept
+    (omega (arith, length-without_filter node old, kept.sound.few_edges))
+    (HasEnds-without_filter (graph_of names order old) node kept.sound)
+    (IsAcyclic-without_filter old node kept.sound.acyclic)
 
 -- an edited list that was judged stands in the place of the other, or the other stays
 pub IsKept-settled : (names : Slab Written) (order : List ℕ) (old edited new : List Edge)
