@@ -174,7 +174,7 @@ IsKept-settled names order old edited new a b c b' c' nodes (Err e) kept few end
   sound = rw err kept.sound;
 }
 
-length-ids : (rows : List NodeRow) → length (map (λ row. row.id) rows) ≡ length rows
+pub length-ids : (rows : List NodeRow) → length (map (λ row. row.id) rows) ≡ length rows
 length-ids [] = refl
 length-ids (row ∷ rows) = let h = length-ids rows in omega (arith, h)
 

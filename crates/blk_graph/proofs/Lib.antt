@@ -9,3 +9,4 @@ pub mod InverseLemmas
 pub mod WalkLemmas
 pub mod JudgeLemmas
 pub mod GraphLemmas
+pub mod NodeLemmas
