@@ -202,3 +202,9 @@ PathsAreShort-from_IsSound g sound from to path h =
 pub OnOk-then : {T E : Type 0} (P Q : Type 0) (r : Result T E) → (P → Q) → OnOk r P → OnOk r Q
 OnOk-then P Q (Ok x) f h = f h
 OnOk-then P Q (Err e) f h = tt
+
+-- whichever list stands at the end
+pub settled_room : {T E : Type 0} (r : Result T E) (new edited old : List Edge) (n : ℕ) → length edited ≤ n → length old ≤ n
+    → OnOk r (new ≡ edited) → OnErr r (new ≡ old) → length new ≤ n
+settled_room (Ok x) new edited old n short _ ok err = rw ok short
+settled_room (Err e) new edited old n _ short ok err = rw err short

@@ -1,6 +1,6 @@
 -- The first conflict is none exactly where the permission rule holds.
 use Rattle.std.proofs.Common.{◌≡◌, ◌≢◌, ◌⊎◌, ℕ, zero, suc, ◌+◌, ◌<◌, List, [], ◌∷◌, length, get_or, refl, sym, ◌∙◌, ap, inl, inr, arith, Bool, true, false, cond, Option, Some, None}
-use Rattle.std.specs.Prelude.{◌&&◌, not, ◌==◌, IsTrue, ◌↔◌, IsNone, IfSome}
+use Rattle.std.specs.Prelude.{◌&&◌, not, ◌==◌, IsTrue, ◌↔◌, IsNone, IfSome, is_some}
 use Rattle.std.specs.Option.{option_map}
 use Rattle.std.specs.List.{Contains, find, slice_get}
 use Rattle.std.proofs.lemmas.Bool.{ne_eqb, eqb-true, eqb-false, eq-eqb}
@@ -11,7 +11,7 @@ use Rattle.blk_graph.specs.declared.edge.Perms.{Perms}
 use Rattle.blk_graph.specs.declared.edge.Perm.{Perm}
 use Rattle.blk_graph.specs.declared.edge.Perm.TheVariants.{Read, Write, Unchanged}
 use Rattle.blk_graph.specs.Edges.{holds, IsWithin}
-use Rattle.blk_graph.specs.Rule.{KeepsPermissions, GuestsWriteAlone, IsBroken, first_denied, first_answer, first_answer_from, conflict_on, conflict_between, conflict_of, conflict_at, first_conflict}
+use Rattle.blk_graph.specs.Rule.{KeepsPermissions, GuestsWriteAlone, IsBroken, AllShare, first_denied, first_answer, first_answer_from, conflict_on, conflict_between, conflict_of, conflict_at, first_conflict}
 use Rattle.blk_graph.proofs.Members.{Contains-here, Contains-there, Contains-cases, Contains-nil, find-Some}
 use Rattle.blk_graph.proofs.CycleLemmas.{and-left, and-right}
 
@@ -280,3 +280,37 @@ IsCheck-from_first ids edges (Some c) children is = record {
   pair = IsBroken-first ids edges c (sym is);
   guests = λ h. absurd cc;
 }
+
+-- what every edge shares is in conflict with none
+pub None-from_AllShare : (edges : List Edge) (node i : ℕ) (asking : Edge) (common : Perms) → AllShare edges node common
+    → first_denied asking.perm common ≡ None → conflict_of edges node i asking ≡ None
+None-from_AllShare edges node i asking common all none = by_own (asking.child == node)
+  where
+    by_between : (j : ℕ) (other : Edge) → slice_get edges j ≡ Some other
+        → (b : Bool) → (not (i == j) && other.child == node) ≡ b
+        → cond b (option_map (conflict_on node asking other) (first_denied asking.perm other.shared)) None ≡ None
+    by_between j other at_j true t =
+        let there : other.child ≡ node = eqb-true other.child node (and-right (not (i == j)) (other.child == node) t) in
+        let within : IsWithin asking.perm other.shared
+            = λ perm asked. all other (Contains-slice_get edges j other at_j) there perm
+                (IsWithin-from_None asking.perm common none perm asked) in
+        rw (None-from_IsWithin asking.perm other.shared within) refl
+    by_between j other at_j false t = refl
+    by_own : (b : Bool) → cond b (first_answer_from (conflict_between node i asking) 0 edges) None ≡ None
+    by_own true =
+        first_answer_from-none (conflict_between node i asking) 0 edges (λ j other at_j.
+          let at : 0 + j ≡ j = omega arith in
+          rw at (by_between j other at_j (not (i == j) && other.child == node) refl))
+    by_own false = refl
+
+pub None-from_other_child : (edges : List Edge) (node i : ℕ) (asking : Edge) → not (asking.child == node) ≡ true
+    → conflict_of edges node i asking ≡ None
+None-from_other_child edges node i asking other = rw (is_shared (asking.child == node) other) refl
+
+pub None-from_is_none : {X : Type 0} (o : Option X) → is_some o ≡ false → o ≡ None
+None-from_is_none None h = refl
+None-from_is_none (Some x) h = cc
+
+pub is_some_from_is_none : {X : Type 0} (o : Option X) (b : Bool) → is_some o ≡ not b → b ≡ true → is_some o ≡ false
+is_some_from_is_none o true h e = h
+is_some_from_is_none o false h e = absurd cc

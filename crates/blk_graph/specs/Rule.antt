@@ -1,5 +1,5 @@
 -- The permission rule: what one edge asks of a node, every other edge into that node shares.
-use Rattle.std.specs.Prelude.{◌≡◌, ◌≢◌, ℕ, ◌+◌, ◌==◌, Bool, true, false, ◌&&◌, not, if◌then◌else◌, List, [], ◌∷◌, find, slice_get, Option, Some, None, IsTrue}
+use Rattle.std.specs.Prelude.{◌≡◌, ◌≢◌, ℕ, ◌+◌, ◌==◌, Bool, true, false, ◌&&◌, not, if◌then◌else◌, List, [], ◌∷◌, find, slice_get, Contains, Option, Some, None, IsTrue}
 use Rattle.std.specs.Option.{option_map}
 use Rattle.blk_graph.specs.declared.edge.Edge.{Edge}
 use Rattle.blk_graph.specs.declared.edge.Conflict.{Conflict}
@@ -35,6 +35,10 @@ GuestsWriteAlone edges = (i j guest : ℕ) (drive other : Edge)
     → slice_get edges i ≡ Some drive → slice_get edges j ≡ Some other → i ≢ j
     → drive.child ≡ other.child → drive.parent ≡ Guest guest → IsTrue drive.perm.write
     → IsTrue other.shared.write
+
+-- every edge into the node shares these
+abbrev pub AllShare : List Edge → ℕ → Perms → Type 0
+AllShare edges node common = (edge : Edge) → Contains edges edge → edge.child ≡ node → IsWithin common edge.shared
 
 -- the first that is asked and isn't shared, in the order read, write, unchanged
 abbrev pub first_denied : Perms → Perms → Option Perm

@@ -113,6 +113,7 @@ impl Graph {
         ensures judged { IsJudged (ids self.old) (with_edge edge self.old.edges) result }
         ensures cycle { (result ≡ Err GraphStop.Cycle) ↔ LeadsBack self.old.edges edge.child edge.parent }
         ensures ok { OnOk result (self.new ≡ record self.old { edges = with_edge edge self.old.edges }) }
+        ensures room { length self.new.edges ≤ length self.old.edges + 1 }
         ensures err { OnErr result (self.new ≡ self.old) }
     {
         let child = edge.child;
@@ -194,6 +195,7 @@ impl Graph {
         ensures only { IfErr result IsAdditionStop }
         ensures ok { IfOk result (λ id. self.new ≡ record self.old { nodes = self.old.nodes ++ (record { id = id; name = name.bytes }) ∷ [] }) }
         ensures fresh { IfOk result (λ id. ¬ HasNode self.old id) }
+        ensures there { IfOk result (λ id. HasNode self.new id) }
         ensures err { OnErr result (self.new ≡ self.old) }
     {
         if names::node_named(&self.names, self.order.as_slice(), name.as_str()).is_some() {

@@ -8,6 +8,8 @@ mod judge;
 mod names;
 mod rule;
 mod stop;
+#[cfg(test)]
+mod tests;
 mod walk;
 
 pub use edge::{Conflict, Edge, MOST_NODES, NodeId, Parent, Perm, Perms, Role};

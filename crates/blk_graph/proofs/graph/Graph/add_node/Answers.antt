@@ -3,6 +3,8 @@ use Rattle.std.specs.Vec.{vec_len}
 use Rattle.blk_graph.specs.Graph.{Graph, HasName, HasNode, NodeRow}
 use Rattle.blk_graph.specs.Layout.{graph_of, row_of}
 use Rattle.std.proofs.lemmas.List.{length-map}
+use Rattle.std.proofs.lemmas.List.Elements.{Contains-push}
+use Rattle.blk_graph.proofs.GraphLemmas.{ids-graph_of}
 use Rattle.blk_graph.proofs.NodeLemmas.{taken_name, free_name, rows_added, IsKept-added, vacant_apart, Contains-order}
 use Rattle.blk_graph.proofs.graph.Graph.add_node.Goals as goal
 
@@ -71,3 +73,8 @@ returns-clause-fresh c = λ h.
     c.insert_reserved.ensures.was_vacant
     (Contains-order c.self.inside.names c.self.inside.order.items c.self.inside.edges.items c.insert_reserved.result
       (rw (← c.self.view_is) at (rw c.new-node.ensures at h)))
+
+pub returns-clause-there : goal.returns-clause-there
+returns-clause-there c =
+    rw (ids-graph_of c.insert_reserved.new.self c.push_reserved.new.self.items c.self.inside.edges.items, c.push_reserved.ensures.items)
+    (Contains-push c.self.inside.order.items c.new-node.result)

@@ -1,4 +1,4 @@
-use Rattle.std.proofs.Common.{◌≡◌, ℕ, List, length, sym, ◌∙◌, ap, arith, ◌≤◌, ◌<◌}
+use Rattle.std.proofs.Common.{◌≡◌, ℕ, List, length, sym, ◌∙◌, ap, arith, ◌≤◌, ◌<◌, ◌+◌}
 use Rattle.std.specs.Vec.{vec_capacity}
 use Rattle.blk_graph.specs.declared.edge.Edge.{Edge}
 use Rattle.blk_graph.specs.Edits.{with_edge}
@@ -8,7 +8,7 @@ use Rattle.blk_graph.specs.Judged.{IsJudged}
 use Rattle.blk_graph.specs.Paths.{Reaches, IsAcyclic, HasCycle, LeadsBack}
 use Rattle.blk_graph.proofs.EditLemmas.{length-with_edge}
 use Rattle.blk_graph.proofs.CycleLemmas.{IsAcyclic-with_edge, LeadsBack-from_HasCycle, HasCycle-from_LeadsBack}
-use Rattle.blk_graph.proofs.GraphLemmas.{ids-graph_of, HasEnds, HasEnds-with_edge, IsKept-settled, Contains-slice, IsJudged-seen}
+use Rattle.blk_graph.proofs.GraphLemmas.{ids-graph_of, HasEnds, HasEnds-with_edge, IsKept-settled, Contains-slice, IsJudged-seen, settled_room}
 use Rattle.blk_graph.proofs.graph.Graph.set_edge.Goals as goal
 
 pub settle-requires-clause-through : goal.settle-requires-clause-through
@@ -63,3 +63,15 @@ returns-clause-cycle c =
       λ e. LeadsBack-from_HasCycle c.args.edge c.args.self.now.edges acyclic ((judged c).cycle.0 e),
       λ back. (judged c).cycle.1 (HasCycle-from_LeadsBack c.args.edge c.args.self.now.edges back)
     )
+
+pub returns-clause-room : goal.returns-clause-room
+returns-clause-room c =
+    let is : c.put_edge.new.out.items ≡ with_edge c.args.edge c.args.self.now.edges
+        = c.put_edge.ensures.items ∙ ap (with_edge c.args.edge) c.as_slice.ensures.value
+          ∙ ap (λ (g : Graph). with_edge c.args.edge g.edges) c.self.view_is in
+    settled_room c.settle.result c.settle.new.edges.items c.put_edge.new.out.items c.self.inside.edges.items
+    (length c.args.self.now.edges + 1)
+    (rw is (length-with_edge c.args.edge c.args.self.now.edges))
+    (let same : length c.self.inside.edges.items ≡ length c.args.self.now.edges
+        = ap (λ (g : Graph). length g.edges) c.self.view_is in omega (arith, same))
+    c.settle.ensures.ok c.settle.ensures.err

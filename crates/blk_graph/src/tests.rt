@@ -1,0 +1,348 @@
+ghost use Rattle.std.specs.Prelude.{◌≡◌, ◌<◌, ◌≤◌, length, IfOk, IsTrue};
+ghost use Rattle.blk_graph.specs.Edits.{IsLone};
+ghost use Rattle.blk_graph.specs.Graph.{HasNode};
+
+use crate::edge::{Conflict, Edge, NodeId, Parent, Perm, Perms, Role};
+use crate::graph::{Graph, MOST_EDGES};
+use crate::stop::GraphStop;
+use blk_base::Text;
+use std::alloc::Global;
+use std::test::Fail;
+
+const NONE: Perms = Perms {
+    read: false,
+    write: false,
+    unchanged: false,
+};
+const R: Perms = Perms {
+    read: true,
+    write: false,
+    unchanged: false,
+};
+const U: Perms = Perms {
+    read: false,
+    write: false,
+    unchanged: true,
+};
+const RW: Perms = Perms {
+    read: true,
+    write: true,
+    unchanged: false,
+};
+const RU: Perms = Perms {
+    read: true,
+    write: false,
+    unchanged: true,
+};
+const WU: Perms = Perms {
+    read: false,
+    write: true,
+    unchanged: true,
+};
+const RWU: Perms = Perms {
+    read: true,
+    write: true,
+    unchanged: true,
+};
+
+// What each kind of edge asks and shares. Then, for each kind in the same order, the first permission
+// that it asks and that such an edge does not share: r, w or u, and a dot for none.
+const TABLE: [(Perms, Perms, &str); 16] = [
+    // a guest's drive that may write; read-only; the same with others' writes shared
+    (RW, RU, "ww..www.ww.rrr.w"),
+    (R, RU, "...........rrr.."),
+    (RW, RWU, "ww..www.ww.rrr.w"),
+    (R, RWU, "...........rrr.."),
+    // the file of a node that may be written; of a read-only one
+    (RW, R, "ww..www.ww.rrr.w"),
+    (R, R, "...........rrr.."),
+    // the backing node of an overlay that is read; of one that is not
+    (R, RU, "...........rrr.."),
+    (NONE, RWU, "................"),
+    // a copy-on-read node's child and a filter's child, under a guest that may write
+    (RWU, RU, "ww..www.ww.rrr.w"),
+    (RW, RU, "ww..www.ww.rrr.w"),
+    // a commit's top, also under its filter; a job's target; a commit's middle; its base
+    (NONE, RWU, "................"),
+    (RW, NONE, "ww..www.ww.rrr.w"),
+    (NONE, WU, "................"),
+    (RW, U, "ww..www.ww.rrr.w"),
+    // a stream's top; a node below it
+    (U, RWU, "....uu.....u...."),
+    (R, RU, "...........rrr.."),
+];
+
+fn letter(perm: Perm) -> u8 {
+    match perm {
+        Perm::Read => b'r',
+        Perm::Write => b'w',
+        Perm::Unchanged => b'u',
+    }
+}
+
+// A graph with one node.
+fn lone_node(alloc: Global) -> Result<(Graph, NodeId), Fail>
+    ensures there { IfOk result (λ made. HasNode made.0 made.1) }
+    ensures none { IfOk result (λ made. length made.0.edges ≡ 0) }
+{
+    let mut graph = Graph::new(alloc)?;
+    let node = graph.add_node(Text::copied(alloc, "disk")?)?;
+    Ok((graph, node))
+}
+
+fn drive(guest: u32, node: NodeId, perm: Perms, shared: Perms) -> Edge
+    ensures child { result.child ≡ node }
+    ensures parent { result.parent ≡ Parent.Guest guest }
+{
+    Edge {
+        parent: Parent::Guest(guest),
+        role: Role::Drive,
+        child: node,
+        perm,
+        shared,
+    }
+}
+
+// Who asks what, where the second of two edges into a node is refused.
+fn refused(alloc: Global, first: (Perms, Perms), second: (Perms, Perms)) -> Result<Option<(Parent, u8)>, Fail> {
+    let (mut graph, node) = lone_node(alloc)?;
+    graph.set_edge(drive(0, node, first.0, first.1))?;
+    match graph.set_edge(drive(1, node, second.0, second.1)) {
+        Ok(()) => Ok(None),
+        Err(GraphStop::Conflict(pair)) => Ok(Some((pair.asks, letter(pair.perm)))),
+        Err(other) => Err(other)?,
+    }
+}
+
+#[test]
+fn the_table_of_permissions(rt: HostRuntime) -> Result<(), Fail> {
+    for (i, (perm, shared, asked)) in TABLE.iter().enumerate() {
+        for (j, (other_perm, other_shared, other_asked)) in TABLE.iter().enumerate() {
+            let answer = refused(rt.alloc(), (*perm, *shared), (*other_perm, *other_shared))?;
+            let there = asked.as_bytes().get(j).copied().unwrap_or(b'?');
+            let back = other_asked.as_bytes().get(i).copied().unwrap_or(b'?');
+            let expected = if there != b'.' {
+                Some((Parent::Guest(0), there))
+            } else if back != b'.' {
+                Some((Parent::Guest(1), back))
+            } else {
+                None
+            };
+            assert_eq!(rt; answer, expected, "edges {i} and {j}");
+        }
+    }
+    Ok(())
+}
+
+// The node at a place in the order of addition.
+fn nth(graph: &Graph, k: usize) -> Result<NodeId, Fail>
+    ensures { IfOk result (λ id. HasNode graph.now id) }
+{
+    let nodes = graph.nodes();
+    if k < nodes.len() {
+        Ok(nodes[k])
+    } else {
+        Err("no such node")?
+    }
+}
+
+// Sets an edge between nodes at places, which asks nothing and shares all.
+fn link(graph: &mut Graph, from: usize, to: usize, role: Role) -> Result<Result<(), GraphStop>, Fail> {
+    if graph.edges().len() >= MOST_EDGES {
+        Err("no room")?;
+    }
+    let parent = nth(graph, from)?;
+    let child = nth(graph, to)?;
+    Ok(graph.set_edge(Edge {
+        parent: Parent::Node(parent),
+        role,
+        child,
+        perm: NONE,
+        shared: RWU,
+    }))
+}
+
+// Sets an edge of a job to the node at a place.
+fn hold(graph: &mut Graph, job: u32, role: Role, to: usize) -> Result<Result<(), GraphStop>, Fail> {
+    if graph.edges().len() >= MOST_EDGES {
+        Err("no room")?;
+    }
+    let child = nth(graph, to)?;
+    Ok(graph.set_edge(Edge {
+        parent: Parent::Job(job),
+        role,
+        child,
+        perm: R,
+        shared: RWU,
+    }))
+}
+
+// A graph with so many nodes, named n0, n1 and so on.
+fn nodes(alloc: Global, count: usize) -> Result<Graph, Fail> {
+    let mut graph = Graph::new(alloc)?;
+    for k in 0..count {
+        let name = format!(in alloc; "n{k}")?;
+        graph.add_node(Text::from_string(name))?;
+    }
+    Ok(graph)
+}
+
+#[test]
+fn nodes_have_names(rt: HostRuntime) -> Result<(), Fail> {
+    let alloc = rt.alloc();
+    let mut graph = nodes(alloc, 64)?;
+    let again = graph.add_node(Text::copied(alloc, "n7")?);
+    assert_eq!(rt; again, Err(GraphStop::NameTaken));
+    let more = graph.add_node(Text::copied(alloc, "n64")?);
+    assert_eq!(rt; more, Err(GraphStop::TooManyNodes));
+    let seventh = nth(&graph, 7)?;
+    assert_eq!(rt; graph.name(seventh), "n7");
+    assert_eq!(rt; graph.node_named("n7"), Some(seventh));
+    assert_eq!(rt; graph.node_named("n64"), None);
+    assert_eq!(rt; graph.remove_node(seventh), Ok(()));
+    assert_eq!(rt; graph.node_named("n7"), None);
+    assert_eq!(rt; graph.nodes().len(), 63);
+    Ok(())
+}
+
+#[test]
+fn a_chain_of_all_nodes(rt: HostRuntime) -> Result<(), Fail> {
+    let mut graph = nodes(rt.alloc(), 64)?;
+    for k in 0..63 {
+        // set from the end, so that the walk goes against the order of the edges
+        let from = 62 - k;
+        assert_eq!(rt; link(&mut graph, from, from + 1, Role::Backing)?, Ok(()));
+    }
+    let first = nth(&graph, 0)?;
+    let last = nth(&graph, 63)?;
+    assert!(rt; graph.reaches(first, last));
+    assert!(rt; !graph.reaches(last, first));
+    assert!(rt; !graph.reaches(first, first));
+    assert_eq!(rt; link(&mut graph, 63, 0, Role::Backing)?, Err(GraphStop::Cycle));
+    assert_eq!(rt; link(&mut graph, 5, 5, Role::File)?, Err(GraphStop::Cycle));
+    assert_eq!(rt; graph.edges().len(), 63);
+    let second = nth(&graph, 1)?;
+    assert_eq!(rt; graph.remove_node(second), Err(GraphStop::InUse(Parent::Node(first))));
+    graph.clear_edges(Parent::Node(first));
+    assert_eq!(rt; graph.edges().len(), 62);
+    assert!(rt; !graph.reaches(first, last));
+    assert_eq!(rt; graph.remove_node(second), Ok(()));
+    assert_eq!(rt; graph.edges().len(), 61);
+    Ok(())
+}
+
+// What the edges lead to, by the nodes' places, as letters from a on.
+fn children(alloc: Global, graph: &Graph) -> Result<String, Fail> {
+    let mut letters = String::new(alloc);
+    for edge in graph.edges() {
+        let mut letter = b'a';
+        for node in graph.nodes() {
+            if *node == edge.child {
+                letters.push(char::from(letter))?;
+            }
+            letter = letter.wrapping_add(1);
+        }
+    }
+    Ok(letters)
+}
+
+// Puts a filter that asks to read, and shares all but writes, between nodes at places.
+fn filter(graph: &mut Graph, node: usize, filter: usize) -> Result<Result<(), GraphStop>, Fail> {
+    if graph.edges().len() >= MOST_EDGES {
+        Err("no room")?;
+    }
+    let below = nth(graph, node)?;
+    let above = nth(graph, filter)?;
+    if below == above || !is_lone(graph.edges(), above) {
+        Err("no such filter")?;
+    }
+    Ok(graph.insert_filter(below, above, R, RU))
+}
+
+fn is_lone(edges: &[Edge], node: NodeId) -> bool
+    ensures { IsTrue result → IsLone edges.now node }
+{
+    for edge in edges {
+        if edge.child == node || edge.parent == Parent::Node(node) {
+            return false;
+        }
+    }
+    true
+}
+
+#[test]
+fn a_filter_and_back(rt: HostRuntime) -> Result<(), Fail> {
+    let alloc = rt.alloc();
+    let mut graph = nodes(alloc, 4)?;
+    let base = nth(&graph, 1)?;
+    assert_eq!(rt; graph.set_edge(drive(0, base, RW, RU)), Ok(()));
+    assert_eq!(rt; link(&mut graph, 0, 1, Role::Backing)?, Ok(()));
+    assert_eq!(rt; link(&mut graph, 1, 2, Role::File)?, Ok(()));
+    assert_eq!(rt; children(alloc, &graph)?.as_str(), "bbc");
+    assert_eq!(rt; filter(&mut graph, 1, 3)?, Ok(()));
+    assert_eq!(rt; children(alloc, &graph)?.as_str(), "ddcb");
+    let over = nth(&graph, 3)?;
+    graph.remove_filter(over);
+    assert_eq!(rt; children(alloc, &graph)?.as_str(), "bbc");
+    assert_eq!(rt; graph.check_perms(), None);
+    Ok(())
+}
+
+#[test]
+fn a_filter_is_refused(rt: HostRuntime) -> Result<(), Fail> {
+    let alloc = rt.alloc();
+    let mut graph = nodes(alloc, 3)?;
+    let base = nth(&graph, 0)?;
+    let over = nth(&graph, 2)?;
+    // a guest that may write above the filter, and later one beside it
+    assert_eq!(rt; graph.set_edge(drive(0, over, RW, RWU)), Ok(()));
+    assert_eq!(rt; graph.set_edge(drive(1, base, RW, RWU)), Ok(()));
+    let refused = filter(&mut graph, 0, 1)?;
+    assert_eq!(rt; refused, Ok(()));
+    assert_eq!(rt; children(alloc, &graph)?.as_str(), "cba");
+    // the filter shares no writes, so that no second writer comes below it
+    let conflict = Conflict {
+        node: base,
+        asks: Parent::Guest(2),
+        denies: Parent::Node(nth(&graph, 1)?),
+        perm: Perm::Write,
+    };
+    assert_eq!(rt; graph.set_edge(drive(2, base, RW, RWU)), Err(GraphStop::Conflict(conflict)));
+    assert_eq!(rt; children(alloc, &graph)?.as_str(), "cba");
+    Ok(())
+}
+
+#[test]
+fn parents_move_but_jobs(rt: HostRuntime) -> Result<(), Fail> {
+    let alloc = rt.alloc();
+    let mut graph = nodes(alloc, 3)?;
+    let from = nth(&graph, 0)?;
+    let to = nth(&graph, 1)?;
+    assert_eq!(rt; hold(&mut graph, 0, Role::Source, 0)?, Ok(()));
+    assert_eq!(rt; graph.set_edge(drive(0, from, R, RWU)), Ok(()));
+    assert_eq!(rt; graph.set_edge(drive(1, from, R, RWU)), Ok(()));
+    assert_eq!(rt; link(&mut graph, 2, 0, Role::Backing)?, Ok(()));
+    assert_eq!(rt; graph.replace_child(from, to, Some(Parent::Guest(1))), Ok(()));
+    assert_eq!(rt; children(alloc, &graph)?.as_str(), "abab");
+    // with b above a and c above b, b can't lead to c
+    assert_eq!(rt; link(&mut graph, 1, 0, Role::File)?, Ok(()));
+    let above = nth(&graph, 2)?;
+    assert_eq!(rt; graph.replace_child(from, above, None), Err(GraphStop::Cycle));
+    assert_eq!(rt; children(alloc, &graph)?.as_str(), "ababa");
+    Ok(())
+}
+
+#[test]
+fn as_many_edges_as_there_may_be(rt: HostRuntime) -> Result<(), Fail> {
+    let mut graph = nodes(rt.alloc(), 64)?;
+    for job in 0..32 {
+        for node in 0..64 {
+            assert_eq!(rt; hold(&mut graph, job, Role::Between, node)?, Ok(()));
+        }
+    }
+    assert_eq!(rt; graph.edges().len(), MOST_EDGES);
+    assert_eq!(rt; graph.check_perms(), None);
+    graph.clear_edges(Parent::Job(7));
+    assert_eq!(rt; graph.edges().len(), MOST_EDGES - 64);
+    Ok(())
+}
