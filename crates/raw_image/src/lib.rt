@@ -1,0 +1,6 @@
+//! A raw image: a disk that is a part of a file, byte for byte.
+#![tactic(auto)]
+
+mod image;
+
+pub use image::RawImage;
