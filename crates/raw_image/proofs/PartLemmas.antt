@@ -1,7 +1,7 @@
 -- Reading and writing a part is reading and writing the file.
 use Rattle.std.proofs.Common.{◌≡◌, ◌⊎◌, ℕ, ◌+◌, ◌-◌, ◌<◌, ◌≤◌, List, [], ◌∷◌, length, get_or, refl, sym, ◌∙◌, ap, arith, inl, inr}
 use Rattle.std.proofs.lemmas.Bool.{cases_lt}
-use Rattle.blk_base.specs.Content.{bytes_at, with_bytes}
+use Rattle.blk_base.specs.Content.{bytes_at, with_bytes, size_with}
 use Rattle.std.proofs.lemmas.List.{length-take}
 use Rattle.std.proofs.Common.{Result, Ok, Err}
 use Rattle.std.specs.Prelude.{OnOk}
@@ -64,3 +64,8 @@ length-taken (Err stop) bytes = omega (arith, length-take stop.done bytes)
 pub OnOk-then : {T E : Type 0} (P Q : Type 0) (r : Result T E) → (P → Q) → OnOk r P → OnOk r Q
 OnOk-then P Q (Ok x) f h = f h
 OnOk-then P Q (Err e) f h = tt
+
+-- a write that ends within the file leaves its length
+pub size_stays : (size offset : ℕ) (xs : List ℕ) → offset + length xs ≤ size → size ≡ size_with size offset xs
+size_stays size offset [] within = refl
+size_stays size offset (x ∷ xs) within = omega (arith, within)

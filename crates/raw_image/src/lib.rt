@@ -2,5 +2,7 @@
 #![tactic(auto)]
 
 mod image;
+#[cfg(test)]
+mod tests;
 
 pub use image::RawImage;
