@@ -1,6 +1,6 @@
 -- Taking away the filter that was set gives back the list.
-use Rattle.std.proofs.Common.{◌≡◌, ◌≢◌, ◌⊎◌, ℕ, List, [], ◌∷◌, ◌++◌, map, refl, sym, ◌∙◌, ap, subst, inl, inr, Bool, true, false, cond, Option, Some, None}
-use Rattle.std.specs.Prelude.{◌&&◌, not, ◌==◌}
+use Rattle.std.proofs.Common.{◌≡◌, ◌≢◌, ◌⊎◌, ℕ, ◌<◌, length, get_or, List, [], ◌∷◌, ◌++◌, map, refl, sym, ◌∙◌, ap, subst, inl, inr, Bool, true, false, cond, Option, Some, None}
+use Rattle.std.specs.Prelude.{◌&&◌, ◌||◌, not, ◌==◌}
 use Rattle.std.specs.List.{Contains, filter, find}
 use Rattle.std.proofs.lemmas.Bool.{ne_eqb, eqb-true, eqb-false, eq-eqb}
 use Rattle.blk_graph.specs.declared.edge.Edge.{Edge}
@@ -9,7 +9,7 @@ use Rattle.blk_graph.specs.declared.edge.Parent.{Parent}
 use Rattle.blk_graph.specs.declared.edge.Parent.TheVariants.{Node, Guest, Job}
 use Rattle.blk_graph.specs.declared.edge.Role.TheVariants.{Filtered}
 use Rattle.blk_graph.specs.Edges.{same_parent, same_role}
-use Rattle.blk_graph.specs.Edits.{with_child, IsLone, moved, filter_edge, with_filter, is_filters, without_filter}
+use Rattle.blk_graph.specs.Edits.{with_child, IsLone, moved, filter_edge, with_filter, is_filters, without_filter, touches}
 use Rattle.blk_graph.proofs.Members.{Contains-here, Contains-there, Contains-map}
 use Rattle.blk_graph.proofs.EditLemmas.{moved-parent, moved-cases}
 use Rattle.blk_graph.proofs.CycleLemmas.{same_parent-true}
@@ -87,3 +87,28 @@ without_filter-with_filter edges node over perm shared lone =
     ap (rest (others ++ new ∷ [])) (find-push (is_filters over) new is_last others none)
     ∙ ap (map (moved over node)) (filter-push (is_filters over) new is_last others none)
     ∙ map-moved_back node over edges lone.enters
+
+-- edges that don't touch the node leave it alone
+pub IsLone-untouched : (edges : List Edge) (node : ℕ)
+    → ((k : ℕ) (d : Edge) → k < length edges → touches node (get_or edges k d) ≡ false) → IsLone edges node
+IsLone-untouched edges node each = record {
+  enters = λ e h is.
+      let free : touches node e ≡ false = rw h.2 at (each h.0 e h.1) in
+      let hit : touches node e ≡ true = rw (eq-eqb e.child node is) refl in cc;
+  leaves = λ e h is.
+      let free : touches node e ≡ false = rw h.2 at (each h.0 e h.1) in
+      let same : same_parent e.parent (Node node) ≡ true = rw is (same_parent-refl (Node node)) in
+      let hit : touches node e ≡ true = either (e.child == node) (same_parent e.parent (Node node)) same in cc;
+}
+  where
+    either : (a b : Bool) → b ≡ true → (a || b) ≡ true
+    either true b h = refl
+    either false b h = h
+
+pub touched_not_lone : (edges : List Edge) (node : ℕ) (e : Edge) → Contains edges e → touches node e ≡ true
+    → IsLone edges node → ⊥
+touched_not_lone edges node e h hit lone = by_test (e.child == node) refl hit
+  where
+    by_test : (a : Bool) → (e.child == node) ≡ a → (a || same_parent e.parent (Node node)) ≡ true → ⊥
+    by_test true is hit = lone.enters e h (eqb-true e.child node is)
+    by_test false is hit = lone.leaves e h (same_parent-true e.parent (Node node) hit)

@@ -11,7 +11,7 @@ use Rattle.blk_graph.specs.declared.edge.Perms.{Perms}
 use Rattle.blk_graph.specs.declared.edge.Perm.{Perm}
 use Rattle.blk_graph.specs.declared.edge.Perm.TheVariants.{Read, Write, Unchanged}
 use Rattle.blk_graph.specs.Edges.{holds, IsWithin}
-use Rattle.blk_graph.specs.Rule.{KeepsPermissions, GuestsWriteAlone, IsBroken, AllShare, first_denied, first_answer, first_answer_from, conflict_on, conflict_between, conflict_of, conflict_at, first_conflict}
+use Rattle.blk_graph.specs.Rule.{KeepsPermissions, GuestsWriteAlone, IsBroken, AllShare, IsCalm, EachShares, RestIsCalm, first_denied, first_answer, first_answer_from, conflict_on, conflict_between, conflict_of, conflict_at, first_conflict}
 use Rattle.blk_graph.proofs.Members.{Contains-here, Contains-there, Contains-cases, Contains-nil, find-Some}
 use Rattle.blk_graph.proofs.CycleLemmas.{and-left, and-right}
 
@@ -314,3 +314,23 @@ None-from_is_none (Some x) h = cc
 pub is_some_from_is_none : {X : Type 0} (o : Option X) (b : Bool) → is_some o ≡ not b → b ≡ true → is_some o ≡ false
 is_some_from_is_none o true h e = h
 is_some_from_is_none o false h e = absurd cc
+
+-- a calm node has no conflict
+pub None-from_IsCalm : (edges : List Edge) (node : ℕ) (common : Perms) → AllShare edges node common
+    → IsCalm edges node common → conflict_at edges node ≡ None
+None-from_IsCalm edges node common all calm =
+    first_answer_from-none (conflict_of edges node) 0 edges (λ i asking at_i.
+      let at : 0 + i ≡ i = omega arith in
+      rw at (by_own i asking at_i (asking.child == node) refl))
+  where
+    by_own : (i : ℕ) (asking : Edge) → slice_get edges i ≡ Some asking → (b : Bool) → (asking.child == node) ≡ b
+        → conflict_of edges node i asking ≡ None
+    by_own i asking at_i true t =
+        None-from_AllShare edges node i asking common all
+        (calm asking (Contains-slice_get edges i asking at_i) (eqb-true asking.child node t))
+    by_own i asking at_i false t = None-from_other_child edges node i asking (ap not t)
+
+-- what is shared by the edges up to a place
+abbrev pub SharedBelow : List Edge → List Perms → ℕ → Type 0
+SharedBelow edges shares i = (k : ℕ) (d : Edge) (e : Perms) → k < i → k < length edges
+    → IsWithin (get_or shares (get_or edges k d).child e) (get_or edges k d).shared

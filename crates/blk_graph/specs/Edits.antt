@@ -41,6 +41,10 @@ pub record IsLone (edges : List Edge) (node : ℕ) : Type 0 where
   pub enters : (edge : Edge) → Contains edges edge → edge.child ≢ node
   pub leaves : (edge : Edge) → Contains edges edge → edge.parent ≢ Node node
 
+-- whether the edge enters or leaves the node
+abbrev pub touches : ℕ → Edge → Bool
+touches node edge = edge.child == node || same_parent edge.parent (Node node)
+
 -- an edge into one node leads to another
 abbrev pub moved : ℕ → ℕ → Edge → Edge
 moved from to edge = if edge.child == from then with_child to edge else edge

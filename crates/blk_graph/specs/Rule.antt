@@ -45,6 +45,20 @@ abbrev pub first_denied : Perms → Perms → Option Perm
 first_denied asked shared =
     find (λ perm. holds asked perm && not (holds shared perm)) (Read ∷ Write ∷ Unchanged ∷ [])
 
+-- no edge into the node asks what isn't among these
+abbrev pub IsCalm : List Edge → ℕ → Perms → Type 0
+IsCalm edges node common =
+    (edge : Edge) → Contains edges edge → edge.child ≡ node → first_denied edge.perm common ≡ None
+
+-- what stands at each node's number is shared by every edge into the node
+abbrev pub EachShares : List Edge → List Perms → Type 0
+EachShares edges shares = (node : ℕ) (common : Perms) → slice_get shares node ≡ Some common → AllShare edges node common
+
+-- a node without a mark is calm
+abbrev pub RestIsCalm : List Edge → List Perms → List Bool → Type 0
+RestIsCalm edges shares marks = (node : ℕ) (common : Perms) → slice_get shares node ≡ Some common
+    → slice_get marks node ≡ Some false → IsCalm edges node common
+
 module _ {X Y : Type 0} where
   -- the first answer that the elements of a list give
   abbrev pub first_answer : (X → Option Y) → List X → Option Y

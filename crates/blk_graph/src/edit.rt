@@ -1,8 +1,8 @@
 //! The edited lists of edges, each written behind what is in `out`, whose room is there.
-ghost use Rattle.std.specs.Prelude.{◌≡◌, ◌+◌, ◌≤◌, [], ◌++◌, map, filter, not, length, find, vec_capacity};
+ghost use Rattle.std.specs.Prelude.{◌≡◌, ◌↔◌, ◌+◌, ◌≤◌, IsTrue, [], ◌++◌, map, filter, not, length, find, vec_capacity};
 ghost use Rattle.std.specs.Option.{option_map};
 ghost use Rattle.blk_graph.specs.Edges.{same_parent, same_role, is_job};
-ghost use Rattle.blk_graph.specs.Edits.{takes_place, with_edge, with_child, stays, replaced, with_replaced, moved, is_filters, but_filters, with_filter, without_filter, without_parent};
+ghost use Rattle.blk_graph.specs.Edits.{takes_place, with_edge, with_child, stays, replaced, with_replaced, moved, is_filters, but_filters, with_filter, without_filter, without_parent, IsLone, touches};
 ghost use Rattle.blk_graph.specs.Judged.{first_parent};
 
 use crate::edge::{Edge, NodeId, Parent, Perms, Role};
@@ -194,4 +194,22 @@ pub(crate) fn first_parent(edges: &[Edge], node: NodeId) -> Option<Parent>
         }
     }
     None
+}
+
+/// Whether no edge enters or leaves a node.
+pub(crate) fn is_lone(edges: &[Edge], node: NodeId) -> bool
+    ensures { IsTrue result ↔ IsLone edges.now node }
+{
+    for edge in edges {
+        if touches(edge, node) {
+            return false;
+        }
+    }
+    true
+}
+
+fn touches(edge: &Edge, node: NodeId) -> bool
+    ensures { result ≡ touches node edge.now }
+{
+    edge.child == node || edge.parent.is(&Parent::Node(node))
 }

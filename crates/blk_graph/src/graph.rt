@@ -134,6 +134,13 @@ impl Graph {
         settle(self.order.as_slice(), &mut self.edges, &mut self.staged, to)
     }
 
+    /// Whether no edge enters or leaves a node.
+    pub fn is_lone(&self, node: NodeId) -> bool
+        ensures { IsTrue result ↔ IsLone self.now.edges node }
+    {
+        edit::is_lone(self.edges.as_slice(), node)
+    }
+
     /// Puts a filter between a node and its parents.
     pub fn insert_filter(&mut self, node: NodeId, filter: NodeId, perm: Perms, shared: Perms) -> Result<(), GraphStop>
         requires room { length self.old.edges < 2048 }

@@ -1,9 +1,9 @@
 //! The look for the first pair of edges that breaks the permission rule.
-ghost use Rattle.std.specs.Prelude.{◌≡◌, ◌<◌, ◌≤◌, ◌^◌, length};
+ghost use Rattle.std.specs.Prelude.{◌≡◌, length, IsTrue};
 ghost use Rattle.blk_graph.specs.Edges.{IsWithin};
-ghost use Rattle.blk_graph.specs.Rule.{AllShare, first_denied, conflict_between, conflict_of, conflict_at, first_conflict};
+ghost use Rattle.blk_graph.specs.Rule.{AllShare, IsCalm, EachShares, RestIsCalm, first_denied, conflict_between, conflict_of, conflict_at, first_conflict};
 
-use crate::edge::{Conflict, Edge, NodeId, Perm, Perms};
+use crate::edge::{Conflict, Edge, MOST_NODES, NodeId, Perm, Perms};
 
 fn first_denied(asked: Perms, shared: Perms) -> Option<Perm>
     ensures { result ≡ first_denied asked shared }
@@ -35,21 +35,29 @@ fn conflict_between(node: NodeId, i: usize, asking: Edge, j: usize, other: Edge)
     })
 }
 
-/// What every edge into a node shares.
-fn shared_by_all(edges: &[Edge], node: NodeId) -> Perms
-    ensures { AllShare edges.now node result }
+/// What all edges into a node share, for each node by its number.
+fn share(edges: &[Edge], common: &mut [Perms])
+    requires { length common.old ≡ 64 }
+    ensures { EachShares edges.now common.new }
 {
-    let mut common = Perms {
-        read: true,
-        write: true,
-        unchanged: true,
-    };
     for edge in edges {
-        if edge.child == node {
-            common = both(common, edge.shared);
+        let child = edge.child.index();
+        common[child] = both(common[child], edge.shared);
+    }
+}
+
+/// Marks the nodes into which an edge asks what not all edges share.
+fn suspect(edges: &[Edge], common: &[Perms], suspects: &mut [bool])
+    requires nodes { length common.now ≡ 64 }
+    requires marks { length suspects.old ≡ 64 }
+    ensures { RestIsCalm edges.now common.now suspects.new }
+{
+    for edge in edges {
+        let child = edge.child.index();
+        if first_denied(edge.perm, common[child]).is_some() {
+            suspects[child] = true;
         }
     }
-    common
 }
 
 fn both(a: Perms, b: Perms) -> Perms
@@ -82,10 +90,10 @@ fn conflict_of(edges: &[Edge], node: NodeId, i: usize, asking: Edge, common: Per
 }
 
 /// The first conflict at a node, by the asking edge's place.
-fn conflict_at(edges: &[Edge], node: NodeId) -> Option<Conflict>
+fn conflict_at(edges: &[Edge], node: NodeId, common: Perms) -> Option<Conflict>
+    requires { AllShare edges.now node common }
     ensures { result ≡ conflict_at edges.now node }
 {
-    let common = shared_by_all(edges, node);
     for (i, asking) in edges.iter().enumerate() {
         let found = conflict_of(edges, node, i, *asking, common);
         if found.is_some() {
@@ -95,15 +103,49 @@ fn conflict_at(edges: &[Edge], node: NodeId) -> Option<Conflict>
     None
 }
 
-/// The first conflict, by the nodes' order.
+const ALL: Perms = Perms {
+    read: true,
+    write: true,
+    unchanged: true,
+};
+
+/// The first conflict, by the nodes' order. Two looks over the edges tell at which nodes there may be
+/// one, and pairs are looked at there alone.
 pub(crate) fn first_conflict(nodes: &[NodeId], edges: &[Edge]) -> Option<Conflict>
     ensures { result ≡ first_conflict nodes.now edges.now }
 {
+    let mut common = [ALL; MOST_NODES];
+    share(edges, &mut common);
+    let mut suspects = [false; MOST_NODES];
+    suspect(edges, &common, &mut suspects);
+    conflict_among(nodes, edges, &common, &suspects)
+}
+
+fn conflict_among(nodes: &[NodeId], edges: &[Edge], common: &[Perms], suspects: &[bool]) -> Option<Conflict>
+    requires nodes { length common.now ≡ 64 }
+    requires marks { length suspects.now ≡ 64 }
+    requires shares { EachShares edges.now common.now }
+    requires calm { RestIsCalm edges.now common.now suspects.now }
+    ensures { result ≡ first_conflict nodes.now edges.now }
+{
     for node in nodes {
-        let found = conflict_at(edges, *node);
+        let found = conflict_unless(edges, *node, common[node.index()], !suspects[node.index()]);
         if found.is_some() {
             return found;
         }
     }
     None
+}
+
+/// The first conflict at a node, which is known to have none where it is calm.
+fn conflict_unless(edges: &[Edge], node: NodeId, common: Perms, calm: bool) -> Option<Conflict>
+    requires shares { AllShare edges.now node common }
+    requires calm { IsTrue calm → IsCalm edges.now node common }
+    ensures { result ≡ conflict_at edges.now node }
+{
+    if calm {
+        None
+    } else {
+        conflict_at(edges, node, common)
+    }
 }
