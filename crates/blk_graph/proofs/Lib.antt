@@ -10,3 +10,4 @@ pub mod WalkLemmas
 pub mod JudgeLemmas
 pub mod GraphLemmas
 pub mod NodeLemmas
+pub mod ShareLemmas

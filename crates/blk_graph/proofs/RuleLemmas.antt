@@ -329,8 +329,3 @@ None-from_IsCalm edges node common all calm =
         None-from_AllShare edges node i asking common all
         (calm asking (Contains-slice_get edges i asking at_i) (eqb-true asking.child node t))
     by_own i asking at_i false t = None-from_other_child edges node i asking (ap not t)
-
--- what is shared by the edges up to a place
-abbrev pub SharedBelow : List Edge → List Perms → ℕ → Type 0
-SharedBelow edges shares i = (k : ℕ) (d : Edge) (e : Perms) → k < i → k < length edges
-    → IsWithin (get_or shares (get_or edges k d).child e) (get_or edges k d).shared
