@@ -30,7 +30,7 @@ pub Counted-push : (change : ℕ → ℕ) (done : List ℕ) (old mid : List Gues
     → Counted change (done ++ guest ∷ []) old (set mid guest row)
 Counted-push change done old mid guest row counted within fresh drains request = record {
   named = λ g h. elim (Contains-push_cases done guest g h) [
-    inl was ↦
+    | inl was ↦
         let apart : g ≢ guest = λ e. fresh (rw e at was) in
         ap (λ r. r.drains) (get_or-set_other mid guest g row idle apart) ∙ counted.named g was
     | inr here ↦ rw (← here) (own_count ∙ ap change (counted.others guest fresh))
@@ -44,8 +44,10 @@ Counted-push change done old mid guest row counted within fresh drains request =
   where
     own : row_of (set mid guest row) guest ≡ row
     own = get_or-set_same mid guest row idle within
+
     own_count : drain_count (set mid guest row) guest ≡ change (drain_count mid guest)
     own_count = ap (λ r. r.drains) own ∙ drains
+
     by_test : (g : ℕ) (b : Bool) → (g == guest) ≡ b → in_flight (set mid guest row) g ≡ in_flight old g
     by_test g true e =
         let same : g ≡ guest = eqb-true g guest e in

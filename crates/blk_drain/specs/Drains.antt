@@ -43,6 +43,6 @@ fallen count = count - 1
 abbrev pub readiness : List GuestRow → List ℕ → Readiness
 readiness rows [] = Drained
 readiness rows (guest ∷ guests) = elim (in_flight rows guest) as (λ _. Readiness) [
-  None ↦ readiness rows guests
+  | None ↦ readiness rows guests
   | Some request ↦ Waiting guest request
 ]

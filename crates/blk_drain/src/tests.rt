@@ -9,7 +9,13 @@ fn a_drain_of_two_guests(rt: HostRuntime) -> Result<(), Fail> {
     assert_eq!(rt; drains.admit(6, 30), Gate1::Admitted);
     drains.begin(&[5, 4]);
     drains.begin(&[4]);
-    assert_eq!(rt; drains.ready(&[4, 5, 3]), Readiness::Waiting { guest: 5, request: 20 });
+    assert_eq!(rt;
+        drains.ready(&[4, 5, 3]),
+        Readiness::Waiting {
+            guest: 5,
+            request: 20
+        }
+    );
     drains.retire(5);
     assert_eq!(rt; drains.ready(&[5, 4]), Readiness::Drained);
     assert_eq!(rt; drains.admit(5, 21), Gate1::Held);

@@ -17,7 +17,7 @@ use Rattle.blk_graph.proofs.EditLemmas.{Contains-with_edge, Contains-with_edge_n
 pub new_leads-with_edge : (new : Edge) (edges : List Edge) (e : Edge) → Contains (with_edge new edges) e
     → Contains edges e ⊎ (e.child ≡ new.child)
 new_leads-with_edge new edges e h = elim (Contains-with_edge new edges e h) [
-  inl is_new ↦ inr (ap (λ (x : Edge). x.child) is_new)
+  | inl is_new ↦ inr (ap (λ (x : Edge). x.child) is_new)
   | inr kept ↦ inl kept
 ]
 
@@ -33,12 +33,12 @@ pub IsAcyclic-with_replaced : (from to : ℕ) (but : Option Parent) (edges : Lis
     → IsAcyclic (with_replaced from to but edges)
 IsAcyclic-with_replaced from to but edges acyclic none node cycle =
     none (Reaches-through (with_replaced from to but edges) edges to
-      (λ e h. let r = Contains-map (replaced from to but) edges e h in
-        elim (replaced-cases from to but r.0) [
-          inl leads ↦ inr (ap (λ (x : Edge). x.child) r.2 ∙ leads)
-          | inr same ↦ inl (rw (r.2 ∙ same) r.1)
-        ])
-      acyclic node cycle)
+    (λ e h. let r = Contains-map (replaced from to but) edges e h in
+    elim (replaced-cases from to but r.0) [
+      | inl leads ↦ inr (ap (λ (x : Edge). x.child) r.2 ∙ leads)
+      | inr same ↦ inl (rw (r.2 ∙ same) r.1)
+    ])
+    acyclic node cycle)
 
 pub and-left : (a b : Bool) → (a && b) ≡ true → a ≡ true
 and-left true b h = refl
@@ -73,7 +73,7 @@ pub Contains-with_edge_other : (new : Edge) (edges : List Edge) (e : Edge) → C
 Contains-with_edge_other new [] e h other = absurd (Contains-nil e h)
 Contains-with_edge_other new (old ∷ edges) e h other =
     by_test (takes_place new old) refl (λ there. Contains-with_edge_other new edges e there other)
-        (Contains-cases old edges e h)
+    (Contains-cases old edges e h)
   where
     by_test : (b : Bool) → takes_place new old ≡ b → (Contains edges e → Contains (with_edge new edges) e)
         → (e ≡ old) ⊎ Contains edges e → Contains (cond b (new ∷ edges) (old ∷ with_edge new edges)) e
@@ -100,9 +100,11 @@ IsPath-with_edge new edges to is_to from (e ∷ p) h =
       e ∷ ih.0,
       (
         Contains-with_edge_other new edges e h.0
-        (λ same. eqb-false from to t (Node-injective from to (sym h.1 ∙ same ∙ is_to))),
+            (λ same. eqb-false from to t (Node-injective from to (sym h.1 ∙ same ∙ is_to))),
         h.1,
-        ih.1))
+        ih.1,
+      ),
+    )
 
 -- a path in the list with a new edge is one without it, or leads to its parent
 pub IsPath-without_edge : (new : Edge) (edges : List Edge) (from to : ℕ) (p : List Edge)
@@ -110,13 +112,17 @@ pub IsPath-without_edge : (new : Edge) (edges : List Edge) (from to : ℕ) (p : 
     → IsPath edges from p to ⊎ ((n : ℕ) × (new.parent ≡ Node n) × ((from ≡ n) ⊎ Reaches edges from n))
 IsPath-without_edge new edges from to [] h = inl h
 IsPath-without_edge new edges from to (e ∷ p) h = elim (Contains-with_edge new edges e h.0) [
-  inl is_new ↦ inr (from, ap (λ (x : Edge). x.parent) (sym is_new) ∙ h.1, inl refl)
+  | inl is_new ↦ inr (from, ap (λ (x : Edge). x.parent) (sym is_new) ∙ h.1, inl refl)
   | inr kept ↦ elim (IsPath-without_edge new edges e.child to p h.2) [
-    inl rest ↦ inl (kept, h.1, rest)
-    | inr by_new ↦ inr (by_new.0, by_new.1, elim by_new.2 [
-      inl here ↦ inr (rw here at (Reaches-edge edges from e kept h.1))
-      | inr further ↦ inr (Reaches-joined edges from e.child by_new.0 (Reaches-edge edges from e kept h.1) further)
-    ])
+    | inl rest ↦ inl (kept, h.1, rest)
+    | inr by_new ↦ inr (
+      by_new.0,
+      by_new.1,
+      elim by_new.2 [
+        | inl here ↦ inr (rw here at (Reaches-edge edges from e kept h.1))
+        | inr further ↦ inr (Reaches-joined edges from e.child by_new.0 (Reaches-edge edges from e kept h.1) further)
+      ],
+    )
   ]
 ]
 
@@ -125,7 +131,7 @@ pub LeadsBack-from_cycle : (new : Edge) (edges : List Edge) → IsAcyclic edges
     → Reaches (with_edge new edges) new.child new.child → LeadsBack edges new.child new.parent
 LeadsBack-from_cycle new edges acyclic h =
     elim (IsPath-without_edge new edges new.child new.child (h.first ∷ h.rest) h.path) [
-      inl old_path ↦ absurd (acyclic new.child (record { first = h.first; rest = h.rest; path = old_path }))
+      | inl old_path ↦ absurd (acyclic new.child (record { first = h.first; rest = h.rest; path = old_path }))
       | inr by_new ↦ let goal : LeadsBack edges new.child (Node by_new.0) = by_new.2 in rw by_new.1 goal
     ]
 
@@ -140,7 +146,7 @@ cycle_from_LeadsBack new edges h = by_parent new.parent refl h
     by_parent (Node n) e (inr further) =
         let q = IsPath-with_edge new edges n e new.child (further.first ∷ further.rest) further.path in
         Reaches-last (with_edge new edges) new.child n new.child q.0 q.1
-            (Reaches-edge (with_edge new edges) n new (Contains-with_edge_new new edges) e)
+        (Reaches-edge (with_edge new edges) n new (Contains-with_edge_new new edges) e)
     by_parent (Guest g) e h = absurd h
     by_parent (Job j) e h = absurd h
 

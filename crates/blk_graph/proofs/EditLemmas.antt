@@ -17,7 +17,7 @@ use Rattle.blk_graph.proofs.Members.{Contains-here, Contains-there, Contains-cas
 pub Contains-with_edge : (new : Edge) (edges : List Edge) (e : Edge) → Contains (with_edge new edges) e
     → (e ≡ new) ⊎ Contains edges e
 Contains-with_edge new [] e h = elim (Contains-cases new [] e h) [
-  inl here ↦ inl here
+  | inl here ↦ inl here
   | inr there ↦ inr there
 ]
 Contains-with_edge new (old ∷ edges) e h = by_test (takes_place new old) (Contains-with_edge new edges e) h
@@ -25,13 +25,13 @@ Contains-with_edge new (old ∷ edges) e h = by_test (takes_place new old) (Cont
     by_test : (b : Bool) → (Contains (with_edge new edges) e → (e ≡ new) ⊎ Contains edges e)
         → Contains (cond b (new ∷ edges) (old ∷ with_edge new edges)) e → (e ≡ new) ⊎ Contains (old ∷ edges) e
     by_test true ih k = elim (Contains-cases new edges e k) [
-      inl here ↦ inl here
+      | inl here ↦ inl here
       | inr there ↦ inr (Contains-there old edges e there)
     ]
     by_test false ih k = elim (Contains-cases old (with_edge new edges) e k) [
-      inl here ↦ inr (rw here (Contains-here old edges))
+      | inl here ↦ inr (rw here (Contains-here old edges))
       | inr there ↦ elim (ih there) [
-        inl is_new ↦ inl is_new
+        | inl is_new ↦ inl is_new
         | inr kept ↦ inr (Contains-there old edges e kept)
       ]
     ]
@@ -69,7 +69,7 @@ moved-cases from to e = by_test (e.child == from) refl
   where
     by_test : (b : Bool) → (e.child == from) ≡ b
         → ((e.child ≡ from) × (cond b (with_child to e) e ≡ with_child to e))
-            ⊎ ((e.child ≢ from) × (cond b (with_child to e) e ≡ e))
+        ⊎ ((e.child ≢ from) × (cond b (with_child to e) e ≡ e))
     by_test true h = inl (eqb-true e.child from h, refl)
     by_test false h = inr (eqb-false e.child from h, refl)
 
@@ -118,7 +118,7 @@ HasOldEnds-without_filter node edges e h = by_found (find (is_filters node) edge
   where
     by_found : (found : Option Edge) → find (is_filters node) edges ≡ found
         → Contains (elim found as (λ _. List Edge) [
-          None ↦ edges
+          | None ↦ edges
           | Some edge ↦ map (moved node edge.child) (but_filters node edges)
         ]) e → HasOldEnds edges e
     by_found None is k = record { from = e; to = e; from_there = k; to_there = k; parent = refl; child = refl }
@@ -127,9 +127,9 @@ HasOldEnds-without_filter node edges e h = by_found (find (is_filters node) edge
         let was : Contains edges r.0 = (Contains-filter (λ other. not (is_filters node other)) edges r.0 r.1).0 in
         let own : Contains edges edge = (find-Some (is_filters node) edges edge is).0 in
         let from : e.parent ≡ r.0.parent
-            = ap (λ (x : Edge). x.parent) r.2 ∙ moved-parent node edge.child r.0 in
+        = ap (λ (x : Edge). x.parent) r.2 ∙ moved-parent node edge.child r.0 in
         elim (moved-cases node edge.child r.0) [
-          inl at ↦ record {
+          | inl at ↦ record {
             from = r.0;
             to = edge;
             from_there = was;
@@ -151,10 +151,13 @@ pub length-without_filter : (node : ℕ) (edges : List Edge) → length (without
 length-without_filter node edges = by_found (find (is_filters node) edges)
   where
     by_found : (found : Option Edge) → length (elim found as (λ _. List Edge) [
-          None ↦ edges
-          | Some edge ↦ map (moved node edge.child) (but_filters node edges)
-        ]) ≤ length edges
+      | None ↦ edges
+      | Some edge ↦ map (moved node edge.child) (but_filters node edges)
+    ]) ≤ length edges
     by_found None = omega arith
     by_found (Some edge) =
-        omega (arith, length-map (but_filters node edges) (moved node edge.child),
-          length-filter-le (λ other. not (is_filters node other)) edges)
+        omega (
+          arith,
+          length-map (but_filters node edges) (moved node edge.child),
+          length-filter-le (λ other. not (is_filters node other)) edges,
+        )

@@ -35,18 +35,18 @@ module _ (edges : List Edge) (node filter : ℕ) (perm shared : Perms)
       → ((a ≡ filter) × (e.child ≡ node)) ⊎ Reaches edges (behind node filter a) (behind node filter e.child)
   filter_step a e h k =
       elim (Contains-push_cases (map (moved node filter) edges) (filter_edge filter node perm shared) e h) [
-        inl was ↦
+        | inl was ↦
             let r = Contains-map (moved node filter) edges e was in
             let parent : r.0.parent ≡ Node a = sym (moved-parent node filter r.0) ∙ ap (λ (x : Edge). x.parent) (sym r.2) ∙ k in
             let from : behind node filter a ≡ a
-                = behind-other node filter a (λ same. lone.leaves r.0 r.1 (parent ∙ ap Node same)) in
+            = behind-other node filter a (λ same. lone.leaves r.0 r.1 (parent ∙ ap Node same)) in
             let to : behind node filter e.child ≡ r.0.child
-                = elim (moved-cases node filter r.0) [
-                    inl is ↦ behind-filter node filter e.child (ap (λ (x : Edge). x.child) (r.2 ∙ is.1)) ∙ sym is.0
-                    | inr is ↦
-                        let same : e.child ≡ r.0.child = ap (λ (x : Edge). x.child) (r.2 ∙ is.1) in
-                        behind-other node filter e.child (λ q. lone.enters r.0 r.1 (sym same ∙ q)) ∙ same
-                  ] in
+            = elim (moved-cases node filter r.0) [
+              | inl is ↦ behind-filter node filter e.child (ap (λ (x : Edge). x.child) (r.2 ∙ is.1)) ∙ sym is.0
+              | inr is ↦
+                  let same : e.child ≡ r.0.child = ap (λ (x : Edge). x.child) (r.2 ∙ is.1) in
+                  behind-other node filter e.child (λ q. lone.enters r.0 r.1 (sym same ∙ q)) ∙ same
+            ] in
             inr (rw (from, to) (Reaches-edge edges a r.0 r.1 parent))
         | inr is_filter ↦
             let parent : Node a ≡ Node filter = sym k ∙ ap (λ (x : Edge). x.parent) (sym is_filter) in
@@ -59,24 +59,24 @@ module _ (edges : List Edge) (node filter : ℕ) (perm shared : Perms)
       → IsPath (with_filter node filter perm shared edges) a (e ∷ p) b
       → Reaches edges (behind node filter a) (behind node filter b) ⊎ ((a ≡ filter) × (b ≡ node))
   filter_path a b e [] h = elim (filter_step a e h.0 h.1) [
-    inl is ↦ inr (is.0, sym h.2 ∙ is.1)
+    | inl is ↦ inr (is.0, sym h.2 ∙ is.1)
     | inr was ↦ inl (rw (sym h.2) was)
   ]
   filter_path a b e (f ∷ p) h = elim (filter_step a e h.0 h.1) [
-    inl is ↦ elim (filter_path e.child b f p h.2) [
-      inl rest ↦
+    | inl is ↦ elim (filter_path e.child b f p h.2) [
+      | inl rest ↦
           let same : behind node filter a ≡ behind node filter e.child
-              = behind-filter node filter a is.0
-                ∙ sym (behind-other node filter e.child (λ q. differ (sym q ∙ is.1)) ∙ is.1) in
+          = behind-filter node filter a is.0
+          ∙ sym (behind-other node filter e.child (λ q. differ (sym q ∙ is.1)) ∙ is.1) in
           inl (rw same rest)
       | inr at_filter ↦ absurd (differ (sym at_filter.0 ∙ is.1))
     ]
     | inr was ↦ elim (filter_path e.child b f p h.2) [
-      inl rest ↦ inl (Reaches-joined edges (behind node filter a) (behind node filter e.child) (behind node filter b) was rest)
+      | inl rest ↦ inl (Reaches-joined edges (behind node filter a) (behind node filter e.child) (behind node filter b) was rest)
       | inr at_filter ↦
           let same : behind node filter b ≡ behind node filter e.child
-              = behind-other node filter b (λ q. differ (sym q ∙ at_filter.1)) ∙ at_filter.1
-                ∙ sym (behind-filter node filter e.child at_filter.0) in
+          = behind-other node filter b (λ q. differ (sym q ∙ at_filter.1)) ∙ at_filter.1
+          ∙ sym (behind-filter node filter e.child at_filter.0) in
           inl (rw same was)
     ]
   ]
@@ -84,7 +84,7 @@ module _ (edges : List Edge) (node filter : ℕ) (perm shared : Perms)
   -- a filter makes no cycle
   pub IsAcyclic-with_filter : IsAcyclic edges → IsAcyclic (with_filter node filter perm shared edges)
   IsAcyclic-with_filter acyclic n cycle = elim (filter_path n n cycle.first cycle.rest cycle.path) [
-    inl was ↦ acyclic (behind node filter n) was
+    | inl was ↦ acyclic (behind node filter n) was
     | inr is ↦ differ (sym is.0 ∙ is.1)
   ]
 
@@ -95,31 +95,31 @@ module _ (edges : List Edge) (filter_node : ℕ) where
     where
       by_found : (found : Option Edge) → find (is_filters filter_node) edges ≡ found
           → IsAcyclic (elim found as (λ _. List Edge) [
-            None ↦ edges
+            | None ↦ edges
             | Some edge ↦ map (moved filter_node edge.child) (filter (λ other. not (is_filters filter_node other)) edges)
           ])
       by_found None e = acyclic
       by_found (Some edge) e =
           let is = find-Some (is_filters filter_node) edges edge e in
           let parent : edge.parent ≡ Node filter_node
-              = same_parent-true edge.parent (Node filter_node)
-                  (and-left (same_parent edge.parent (Node filter_node)) (same_role edge.role Filtered) is.1) in
+          = same_parent-true edge.parent (Node filter_node)
+          (and-left (same_parent edge.parent (Node filter_node)) (same_role edge.role Filtered) is.1) in
           IsAcyclic-covered
           (map (moved filter_node edge.child) (filter (λ other. not (is_filters filter_node other)) edges)) edges
           (λ a x h k.
-            let r = Contains-map (moved filter_node edge.child)
-                    (filter (λ other. not (is_filters filter_node other)) edges) x h in
-            let was : Contains edges r.0
-                = (Contains-filter (λ other. not (is_filters filter_node other)) edges r.0 r.1).0 in
-            let from : r.0.parent ≡ Node a
-                = sym (moved-parent filter_node edge.child r.0) ∙ ap (λ (y : Edge). y.parent) (sym r.2) ∙ k in
-            elim (moved-cases filter_node edge.child r.0) [
-              inl at_filter ↦
-                  let to : x.child ≡ edge.child = ap (λ (y : Edge). y.child) (r.2 ∙ at_filter.1) in
-                  let first : Reaches edges a filter_node = rw (← at_filter.0) (Reaches-edge edges a r.0 was from) in
-                  rw to (Reaches-joined edges a filter_node edge.child first (Reaches-edge edges filter_node edge is.0 parent))
-              | inr other ↦
-                  let to : x.child ≡ r.0.child = ap (λ (y : Edge). y.child) (r.2 ∙ other.1) in
-                  rw to (Reaches-edge edges a r.0 was from)
-            ])
+          let r = Contains-map (moved filter_node edge.child)
+          (filter (λ other. not (is_filters filter_node other)) edges) x h in
+          let was : Contains edges r.0
+          = (Contains-filter (λ other. not (is_filters filter_node other)) edges r.0 r.1).0 in
+          let from : r.0.parent ≡ Node a
+          = sym (moved-parent filter_node edge.child r.0) ∙ ap (λ (y : Edge). y.parent) (sym r.2) ∙ k in
+          elim (moved-cases filter_node edge.child r.0) [
+            | inl at_filter ↦
+                let to : x.child ≡ edge.child = ap (λ (y : Edge). y.child) (r.2 ∙ at_filter.1) in
+                let first : Reaches edges a filter_node = rw (← at_filter.0) (Reaches-edge edges a r.0 was from) in
+                rw to (Reaches-joined edges a filter_node edge.child first (Reaches-edge edges filter_node edge is.0 parent))
+            | inr other ↦
+                let to : x.child ≡ r.0.child = ap (λ (y : Edge). y.child) (r.2 ∙ other.1) in
+                rw to (Reaches-edge edges a r.0 was from)
+          ])
           acyclic

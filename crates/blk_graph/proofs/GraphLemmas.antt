@@ -47,11 +47,11 @@ pub HasEnds-with_edge : (g : Graph) (new : Edge) → IsSound g → HasParent g n
     → HasEnds g (with_edge new g.edges)
 HasEnds-with_edge g new sound parent child = record {
   parents = λ e h. elim (Contains-with_edge new g.edges e h) [
-    inl is_new ↦ rw is_new parent
+    | inl is_new ↦ rw is_new parent
     | inr kept ↦ sound.parents e kept
   ];
   children = λ e h. elim (Contains-with_edge new g.edges e h) [
-    inl is_new ↦ rw is_new child
+    | inl is_new ↦ rw is_new child
     | inr kept ↦ sound.children e kept
   ];
 }
@@ -64,7 +64,7 @@ HasEnds-with_replaced g from to but sound child = record {
       rw same (sound.parents r.0 r.1);
   children = λ e h. let r = Contains-map (replaced from to but) g.edges e h in
       elim (replaced-cases from to but r.0) [
-        inl leads ↦ rw (ap (λ (x : Edge). x.child) r.2 ∙ leads) child
+        | inl leads ↦ rw (ap (λ (x : Edge). x.child) r.2 ∙ leads) child
         | inr same ↦ rw (ap (λ (x : Edge). x.child) (r.2 ∙ same)) (sound.children r.0 r.1)
       ];
 }
@@ -77,7 +77,7 @@ HasEnds-moved g edges from to ends child = record {
       rw same (ends.parents r.0 r.1);
   children = λ e h. let r = Contains-map (moved from to) edges e h in
       elim (moved-cases from to r.0) [
-        inl leads ↦ rw (ap (λ (x : Edge). x.child) (r.2 ∙ leads.1)) child
+        | inl leads ↦ rw (ap (λ (x : Edge). x.child) (r.2 ∙ leads.1)) child
         | inr same ↦ rw (ap (λ (x : Edge). x.child) (r.2 ∙ same.1)) (ends.children r.0 r.1)
       ];
 }
@@ -86,17 +86,17 @@ pub HasEnds-with_filter : (g : Graph) (node over : ℕ) (perm shared : Perms) �
     → HasNode g over → HasEnds g (with_filter node over perm shared g.edges)
 HasEnds-with_filter g node over perm shared sound child filter_node =
     let moved_ends : HasEnds g (map (moved node over) g.edges)
-        = HasEnds-moved g g.edges node over
-            (record { parents = sound.parents; children = sound.children }) filter_node in
+    = HasEnds-moved g g.edges node over
+    (record { parents = sound.parents; children = sound.children }) filter_node in
     record {
       parents = λ e h.
           elim (Contains-push_cases (map (moved node over) g.edges) (filter_edge over node perm shared) e h) [
-            inl was ↦ moved_ends.parents e was
+            | inl was ↦ moved_ends.parents e was
             | inr is ↦ rw (← is) filter_node
           ];
       children = λ e h.
           elim (Contains-push_cases (map (moved node over) g.edges) (filter_edge over node perm shared) e h) [
-            inl was ↦ moved_ends.children e was
+            | inl was ↦ moved_ends.children e was
             | inr is ↦ rw (← is) child
           ];
     }
@@ -135,7 +135,7 @@ pub IsKept-without_parent : (names : Slab Written) (order : List ℕ) (old : Lis
 IsKept-without_parent names order old a b c b' c' parent kept =
     let test : Edge → Bool = λ edge. not (same_parent edge.parent parent) in
     let there : (e : Edge) → Contains (without_parent parent old) e → Contains old e
-        = λ e h. (Contains-filter test old e h).0 in
+    = λ e h. (Contains-filter test old e h).0 in
     IsKept-edges names order old (without_parent parent old) a b c b' c' kept
     (omega (arith, length-filter-le test old, kept.sound.few_edges))
     (HasEnds-fewer (graph_of names order old) (without_parent parent old) kept.sound there)
@@ -195,8 +195,8 @@ IsJudged-seen names order old value view nodes nodes_are f edited edited_is resu
 pub PathsAreShort-from_IsSound : (g : Graph) → IsSound g → PathsAreShort g
 PathsAreShort-from_IsSound g sound from to path h =
     let short : length path ≤ length (ids g) - 1
-        = length-IsPath g.edges (ids g) from to path sound.acyclic sound.children
-            (λ e a m is. let p : HasParent g e.parent = sound.parents e m in rw is at p) h in
+    = length-IsPath g.edges (ids g) from to path sound.acyclic sound.children
+    (λ e a m is. let p : HasParent g e.parent = sound.parents e m in rw is at p) h in
     omega (arith, short, length-ids g.nodes)
 
 pub OnOk-then : {T E : Type 0} (P Q : Type 0) (r : Result T E) → (P → Q) → OnOk r P → OnOk r Q

@@ -44,18 +44,18 @@ same_parent-refl (Job a) = eq-eqb a a refl
 -- an edge that was moved to the filter and back
 pub moved-back : (node over : ℕ) (e : Edge) → e.child ≢ over → moved over node (moved node over e) ≡ e
 moved-back node over e lone = elim (moved-cases node over e) [
-  inl is ↦
+  | inl is ↦
       let back : moved over node (with_child over e) ≡ with_child node (with_child over e)
-          = elim (moved-cases over node (with_child over e)) [
-              inl at ↦ at.1
-              | inr away ↦ absurd (away.0 refl)
-            ] in
+      = elim (moved-cases over node (with_child over e)) [
+        | inl at ↦ at.1
+        | inr away ↦ absurd (away.0 refl)
+      ] in
       let same : with_child node (with_child over e) ≡ e = ap (λ n. with_child n e) (sym is.0) in
       ap (moved over node) is.1 ∙ back ∙ same
   | inr is ↦ ap (moved over node) is.1 ∙ elim (moved-cases over node e) [
-      inl at ↦ absurd (lone at.0)
-      | inr away ↦ away.1
-    ]
+    | inl at ↦ absurd (lone at.0)
+    | inr away ↦ away.1
+  ]
 ]
 
 pub map-moved_back : (node over : ℕ) (edges : List Edge) → ((e : Edge) → Contains edges e → e.child ≢ over)
@@ -63,7 +63,7 @@ pub map-moved_back : (node over : ℕ) (edges : List Edge) → ((e : Edge) → C
 map-moved_back node over [] lone = refl
 map-moved_back node over (e ∷ edges) lone =
     ap (λ x. x ∷ map (moved over node) (map (moved node over) edges))
-        (moved-back node over e (lone e (Contains-here e edges)))
+    (moved-back node over e (lone e (Contains-here e edges)))
     ∙ ap (λ xs. e ∷ xs) (map-moved_back node over edges (λ x h. lone x (Contains-there e edges x h)))
 
 pub without_filter-with_filter : (edges : List Edge) (node over : ℕ) (perm shared : Perms)
@@ -72,18 +72,18 @@ without_filter-with_filter edges node over perm shared lone =
     let new : Edge = filter_edge over node perm shared in
     let others : List Edge = map (moved node over) edges in
     let none : (e : Edge) → Contains others e → is_filters over e ≡ false
-        = λ e h.
-          let r = Contains-map (moved node over) edges e h in
-          let parent : e.parent ≢ Node over
-              = λ is. lone.leaves r.0 r.1
-                  (sym (moved-parent node over r.0) ∙ ap (λ (x : Edge). x.parent) (sym r.2) ∙ is) in
-          rw (same_parent-false e.parent (Node over) parent) refl in
+    = λ e h.
+    let r = Contains-map (moved node over) edges e h in
+    let parent : e.parent ≢ Node over
+    = λ is. lone.leaves r.0 r.1
+    (sym (moved-parent node over r.0) ∙ ap (λ (x : Edge). x.parent) (sym r.2) ∙ is) in
+    rw (same_parent-false e.parent (Node over) parent) refl in
     let is_last : is_filters over new ≡ true = rw (same_parent-refl (Node over)) refl in
     let rest : List Edge → Option Edge → List Edge
-        = λ all found. elim found as (λ _. List Edge) [
-            None ↦ all
-            | Some edge ↦ map (moved over edge.child) (filter (λ other. not (is_filters over other)) all)
-          ] in
+    = λ all found. elim found as (λ _. List Edge) [
+      | None ↦ all
+      | Some edge ↦ map (moved over edge.child) (filter (λ other. not (is_filters over other)) all)
+    ] in
     ap (rest (others ++ new ∷ [])) (find-push (is_filters over) new is_last others none)
     ∙ ap (map (moved over node)) (filter-push (is_filters over) new is_last others none)
     ∙ map-moved_back node over edges lone.enters

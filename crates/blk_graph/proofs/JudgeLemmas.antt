@@ -25,10 +25,12 @@ IsJudged-conflict nodes edited pair acyclic found = record {
   cycle = (λ e. absurd cc, λ has. absurd (acyclic has.node has.cycle));
   conflict = λ other. (
     λ e. (acyclic, let same : pair ≡ other = cc in rw (← same) found),
-    λ h. let same : Some pair ≡ Some other = sym found ∙ h.1 in cc);
+    λ h. let same : Some pair ≡ Some other = sym found ∙ h.1 in cc,
+  );
   ok = (
     λ is. absurd cc,
-    λ h. let none : first_conflict nodes edited ≡ None = None-from_KeepsPermissions nodes edited h.1 in absurd cc);
+    λ h. let none : first_conflict nodes edited ≡ None = None-from_KeepsPermissions nodes edited h.1 in absurd cc,
+  );
   only = tt;
 }
 

@@ -47,11 +47,11 @@ pub visited-within : (edges : List Edge) (ids : List ℕ) (from to : ℕ) (p : L
     → Contains ids from → IsPath edges from p to
     → (q : ℕ) → Contains (visited from p) q → Contains ids q
 visited-within edges ids from to [] ends h k q m = elim (Contains-cases from [] q m) [
-  inl here ↦ rw here h
+  | inl here ↦ rw here h
   | inr there ↦ absurd (Contains-nil q there)
 ]
 visited-within edges ids from to (e ∷ p) ends h k q m = elim (Contains-cases from (visited e.child p) q m) [
-  inl here ↦ rw here h
+  | inl here ↦ rw here h
   | inr there ↦ visited-within edges ids e.child to p ends (ends e k.0) k.2 q there
 ]
 
@@ -65,10 +65,10 @@ length-IsPath edges ids from to [] acyclic children parents k = omega arith
 length-IsPath edges ids from to (e ∷ p) acyclic children parents k =
     let start : Contains ids from = parents e from k.0 k.1 in
     let within : (q : ℕ) → is_member nat_eq (visited from (e ∷ p)) q ≡ true → is_member nat_eq ids q ≡ true
-        = λ q m. (is_member-Decides unsigned_Decides ids q).1
-            (visited-within edges ids from to (e ∷ p) children start k q
-            ((is_member-Decides unsigned_Decides (visited from (e ∷ p)) q).0 m)) in
+    = λ q m. (is_member-Decides unsigned_Decides ids q).1
+    (visited-within edges ids from to (e ∷ p) children start k q
+    ((is_member-Decides unsigned_Decides (visited from (e ∷ p)) q).0 m)) in
     let fewer : length (visited from (e ∷ p)) ≤ length ids
-        = length-le_from_is_member nat_eq_equiv (visited from (e ∷ p)) ids
-            (visited-distinct edges from to (e ∷ p) acyclic k) within in
+    = length-le_from_is_member nat_eq_equiv (visited from (e ∷ p)) ids
+    (visited-distinct edges from to (e ∷ p) acyclic k) within in
     omega (arith, fewer, length-visited from (e ∷ p))

@@ -31,7 +31,7 @@ module _ {X : Type 0} where
           → Contains (cond b (y ∷ filter p xs) (filter p xs)) x
           → Contains (y ∷ xs) x × (p x ≡ true)
       by_test true e ih k = elim (Contains-cases y (filter p xs) x k) [
-        inl here ↦ (rw here (Contains-here y xs), ap p here ∙ e)
+        | inl here ↦ (rw here (Contains-here y xs), ap p here ∙ e)
         | inr there ↦ let r = ih there in (Contains-there y xs x r.0, r.1)
       ]
       by_test false e ih k = let r = ih k in (Contains-there y xs x r.0, r.1)
@@ -42,14 +42,14 @@ module _ {X Y : Type 0} where
       → (x : X) × Contains xs x × (y ≡ f x)
   Contains-map f [] y h = absurd (Contains-nil y h)
   Contains-map f (x ∷ xs) y h = elim (Contains-cases (f x) (map f xs) y h) [
-    inl here ↦ (x, Contains-here x xs, here)
+    | inl here ↦ (x, Contains-here x xs, here)
     | inr there ↦ let r = Contains-map f xs y there in (r.0, Contains-there x xs r.0 r.1, r.2)
   ]
 
   pub map-Contains : (f : X → Y) (xs : List X) (x : X) → Contains xs x → Contains (map f xs) (f x)
   map-Contains f [] x h = absurd (Contains-nil x h)
   map-Contains f (y ∷ xs) x h = elim (Contains-cases y xs x h) [
-    inl here ↦ rw here (Contains-here (f y) (map f xs))
+    | inl here ↦ rw here (Contains-here (f y) (map f xs))
     | inr there ↦ Contains-there (f y) (map f xs) (f x) (map-Contains f xs x there)
   ]
 

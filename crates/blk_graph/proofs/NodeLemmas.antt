@@ -100,8 +100,8 @@ pub rows_kept : (old new : Slab Written) (order : List ℕ)
 rows_kept old new [] same = refl
 rows_kept old new (id ∷ order) same =
     let here : row_of new id ≡ row_of old id
-        = ap (λ text. record { id = id; name = elim text as (λ _. List ℕ) [ None ↦ [] | Some t ↦ t.bytes ] })
-            (same id (Contains-here id order)) in
+    = ap (λ text. record { id = id; name = elim text as (λ _. List ℕ) [ None ↦ [] | Some t ↦ t.bytes ] })
+    (same id (Contains-here id order)) in
     ap (λ row. row ∷ map (row_of new) order) here
     ∙ ap (λ rows. row_of old id ∷ rows) (rows_kept old new order (λ x h. same x (Contains-there id order x h)))
 
@@ -116,9 +116,9 @@ pub rows_added : (old new : Slab Written) (order : List ℕ) (key : ℕ) (text :
     → map (row_of new) (order ++ key ∷ []) ≡ map (row_of old) order ++ (record { id = key; name = text.bytes }) ∷ []
 rows_added old new order key text named vacant updates =
     let same : (id : ℕ) → Contains order id → get new id ≡ get old id
-        = λ id h. updates.others id (λ e. vacant_apart old order key named vacant (rw e at h)) in
+    = λ id h. updates.others id (λ e. vacant_apart old order key named vacant (rw e at h)) in
     let last : row_of new key ≡ record { id = key; name = text.bytes }
-        = ap (λ found. record { id = key; name = elim found as (λ _. List ℕ) [ None ↦ [] | Some t ↦ t.bytes ] }) updates.changed in
+    = ap (λ found. record { id = key; name = elim found as (λ _. List ℕ) [ None ↦ [] | Some t ↦ t.bytes ] }) updates.changed in
     map-append (row_of new) order (key ∷ [])
     ∙ ap (λ rows. rows ++ row_of new key ∷ []) (rows_kept old new order same)
     ∙ ap (λ row. map (row_of old) order ++ row ∷ []) last
@@ -145,12 +145,12 @@ IsKept-added old new order edges key text a b c kept few vacant updates count ro
     let at_most : length order ≤ 64 = omega (arith, kept.sound.few_nodes, length-map order (row_of old)) in
     let longer : length (order ++ key ∷ []) ≡ length order + 1 = omega (arith, length-append order (key ∷ [])) in
     let stays : (n : ℕ) → HasNode before n → HasNode after n
-        = λ n h. rw (ids-graph_of new (order ++ key ∷ []) edges)
-            (Contains-append_left order (key ∷ []) n (Contains-order old order edges n h)) in
+    = λ n h. rw (ids-graph_of new (order ++ key ∷ []) edges)
+    (Contains-append_left order (key ∷ []) n (Contains-order old order edges n h)) in
     let apart : Contains order key → ⊥ = vacant_apart old order key kept.named vacant in
     record {
       named = λ id h. elim (Contains-push_cases order key id h) [
-        inl was ↦ rw (updates.others id (λ e. apart (rw e at was))) (kept.named id was)
+        | inl was ↦ rw (updates.others id (λ e. apart (rw e at was))) (kept.named id was)
         | inr is ↦ rw (← is, updates.changed) refl
       ];
       count = omega (arith, longer, kept.count);
@@ -160,7 +160,7 @@ IsKept-added old new order edges key text a b c kept few vacant updates count ro
       staged_fit = kept.staged_fit;
       sound = record {
         different_nodes = rw (ids-graph_of new (order ++ key ∷ []) edges)
-          (IsDistinct-push nat_eq_equiv order key (rw (ids-graph_of old order edges) at kept.sound.different_nodes)
+            (IsDistinct-push nat_eq_equiv order key (rw (ids-graph_of old order edges) at kept.sound.different_nodes)
             (not_member order key apart));
         few_nodes = omega (arith, at_most, longer, length-map (order ++ key ∷ []) (row_of new));
         few_edges = kept.sound.few_edges;
@@ -193,7 +193,7 @@ length_removed node (x ∷ xs) distinct h =
         → length (cond (not b) (x ∷ filter (is_other node) xs) (filter (is_other node) xs)) + 1 ≡ length (x ∷ xs)
     by_test true e ih m =
         let same : filter (is_other node) xs ≡ xs
-            = filter_apart x node xs (eqb-true x node e) (IsDistinct-head nat_eq x xs distinct) in
+        = filter_apart x node xs (eqb-true x node e) (IsDistinct-head nat_eq x xs distinct) in
         omega (arith, ap length same)
     by_test false e ih (inl here) = absurd (eqb-false x node e (sym here))
     by_test false e ih (inr there) = omega (arith, ih there)
@@ -224,12 +224,12 @@ rows_removed old new node (id ∷ order) same = by_test (id == node) refl (rows_
     by_test : (b : Bool) → (id == node) ≡ b
         → map (row_of new) (filter (is_other node) order) ≡ without_node node (map (row_of old) order)
         → map (row_of new) (cond (not b) (id ∷ filter (is_other node) order) (filter (is_other node) order))
-          ≡ cond (not b) (row_of old id ∷ without_node node (map (row_of old) order)) (without_node node (map (row_of old) order))
+        ≡ cond (not b) (row_of old id ∷ without_node node (map (row_of old) order)) (without_node node (map (row_of old) order))
     by_test true e ih = ih
     by_test false e ih =
         let here : row_of new id ≡ row_of old id
-            = ap (λ text. record { id = id; name = elim text as (λ _. List ℕ) [ None ↦ [] | Some t ↦ t.bytes ] })
-                (same id (eqb-false id node e)) in
+        = ap (λ text. record { id = id; name = elim text as (λ _. List ℕ) [ None ↦ [] | Some t ↦ t.bytes ] })
+        (same id (eqb-false id node e)) in
         ap (λ row. row ∷ map (row_of new) (filter (is_other node) order)) here ∙ ap (λ rows. row_of old id ∷ rows) ih
 
 option_map-none : {X Y : Type 0} (f : X → Y) (o : Option X) → option_map f o ≡ None → o ≡ None
@@ -242,7 +242,7 @@ pub no_child_from_None : (node : ℕ) (edges : List Edge) → first_parent node 
 no_child_from_None node edges none e h =
     eqb-false e.child node
     (find-None (λ edge. edge.child == node) edges
-      (option_map-none (λ edge. edge.parent) (find (λ edge. edge.child == node) edges) none) e h)
+    (option_map-none (λ edge. edge.parent) (find (λ edge. edge.child == node) edges) none) e h)
 
 HasParent-unless : (g h : Graph) (node : ℕ) → ((n : ℕ) → n ≢ node → HasNode g n → HasNode h n) → (parent : Parent)
     → parent ≢ Node node → HasParent g parent → HasParent h parent
@@ -280,8 +280,8 @@ IsKept-removed old new order edges node a b c kept there no_child no_parent upda
     let fewer : length (filter (is_other node) order) + 1 ≡ length order = length_removed node order distinct there in
     let at_most : length order ≤ 64 = omega (arith, kept.sound.few_nodes, length-map order (row_of old)) in
     let stays : (n : ℕ) → n ≢ node → HasNode before n → HasNode after n
-        = λ n apart h. rw (ids-graph_of new (filter (is_other node) order) edges)
-            (filter-Contains (is_other node) order n (Contains-order old order edges n h) (apart-other node n apart)) in
+    = λ n apart h. rw (ids-graph_of new (filter (is_other node) order) edges)
+    (filter-Contains (is_other node) order n (Contains-order old order edges n h) (apart-other node n apart)) in
     record {
       named = λ id h.
           let r = Contains-filter (is_other node) order id h in
@@ -305,7 +305,9 @@ IsKept-removed old new order edges node a b c kept there no_child no_parent upda
 pub without_parent-apart : (parent : Parent) (edges : List Edge) (e : Edge) → Contains (without_parent parent edges) e
     → Contains edges e × (e.parent ≢ parent)
 without_parent-apart parent edges e h =
-    let r = Contains-filter (λ edge. not (same_parent edge.parent parent)) edges e h in
-    (r.0, λ is.
-      let same : same_parent e.parent parent ≡ true = rw is (same_parent-refl parent) in
-      let no : not true ≡ true = rw same at r.1 in cc)
+    let r = Contains-filter (λ edge. not (same_parent edge.parent parent)) edges e h in (
+      r.0,
+      λ is.
+          let same : same_parent e.parent parent ≡ true = rw is (same_parent-refl parent) in
+          let no : not true ≡ true = rw same at r.1 in cc,
+    )

@@ -67,8 +67,8 @@ pub IsPath-by : (new old : List Edge) (t : ℕ)
     → IsPath old a p b ⊎ (Reaches new a t × (q : List Edge) × IsPath new t q b)
 IsPath-by new old t new_lead a b [] h = inl h
 IsPath-by new old t new_lead a b (e ∷ p) h = elim (new_lead e h.0) [
-  inl kept ↦ elim (IsPath-by new old t new_lead e.child b p h.2) [
-    inl rest ↦ inl (kept, h.1, rest)
+  | inl kept ↦ elim (IsPath-by new old t new_lead e.child b p h.2) [
+    | inl rest ↦ inl (kept, h.1, rest)
     | inr rest ↦ inr (Reaches-joined new a e.child t (Reaches-edge new a e h.0 h.1) rest.0, rest.1, rest.2)
   ]
   | inr leads ↦
@@ -83,6 +83,6 @@ pub Reaches-through : (new old : List Edge) (t : ℕ)
     → IsAcyclic old → (node : ℕ) → Reaches new node node → Reaches new t t
 Reaches-through new old t new_lead acyclic node cycle =
     elim (IsPath-by new old t new_lead node node (cycle.first ∷ cycle.rest) cycle.path) [
-      inl old_path ↦ absurd (acyclic node (record { first = cycle.first; rest = cycle.rest; path = old_path }))
+      | inl old_path ↦ absurd (acyclic node (record { first = cycle.first; rest = cycle.rest; path = old_path }))
       | inr by_t ↦ Reaches-last new t node t by_t.1 by_t.2 by_t.0
     ]

@@ -73,7 +73,7 @@ module _ {X Y : Type 0} where
       let at : k + 0 ≡ k = omega arith in
       let here : f k y ≡ None = rw at at (h 0 y refl) in
       rw (here, first_answer_from) (first_answer_from-none f (k + 1) xs
-        (λ i x m. let to : k + 1 + i ≡ k + suc i = omega arith in rw to (h (suc i) x m)))
+      (λ i x m. let to : k + 1 + i ≡ k + suc i = omega arith in rw to (h (suc i) x m)))
 
   pub first_answer_from-Some : (f : ℕ → X → Option Y) (k : ℕ) (xs : List X) (z : Y)
       → first_answer_from f k xs ≡ Some z
@@ -83,7 +83,7 @@ module _ {X Y : Type 0} where
     where
       by_answer : (o : Option Y) → f k y ≡ o
           → (first_answer_from f (k + 1) xs ≡ Some z
-            → (i : ℕ) × (x : X) × (slice_get xs i ≡ Some x) × (f (k + 1 + i) x ≡ Some z))
+          → (i : ℕ) × (x : X) × (slice_get xs i ≡ Some x) × (f (k + 1 + i) x ≡ Some z))
           → elim o as (λ _. Option Y) [ None ↦ first_answer_from f (k + 1) xs | Some w ↦ Some w ] ≡ Some z
           → (i : ℕ) × (x : X) × (slice_get (y ∷ xs) i ≡ Some x) × (f (k + i) x ≡ Some z)
       by_answer None e ih l =
@@ -144,9 +144,10 @@ None-from_IsWithin asked shared h =
 pub denied_from_Some : (asked shared : Perms) (perm : Perm) → first_denied asked shared ≡ Some perm
     → (holds asked perm ≡ true) × (holds shared perm ≡ false)
 denied_from_Some asked shared perm h =
-    let is = (find-Some (is_denied asked shared) (Read ∷ Write ∷ Unchanged ∷ []) perm h).1 in
-    (and-left (holds asked perm) (not (holds shared perm)) is,
-      is_shared (holds shared perm) (and-right (holds asked perm) (not (holds shared perm)) is))
+    let is = (find-Some (is_denied asked shared) (Read ∷ Write ∷ Unchanged ∷ []) perm h).1 in (
+      and-left (holds asked perm) (not (holds shared perm)) is,
+      is_shared (holds shared perm) (and-right (holds asked perm) (not (holds shared perm)) is),
+    )
 
 option_map-None : {X Y : Type 0} (f : X → Y) (o : Option X) → option_map f o ≡ None → o ≡ None
 option_map-None f None h = refl
@@ -164,15 +165,15 @@ pub KeepsPermissions-from_None : (ids : List ℕ) (edges : List Edge)
 KeepsPermissions-from_None ids edges children h i j asking other at_i at_j differ same =
     let node : ℕ = asking.child in
     let at_node : conflict_at edges node ≡ None
-        = first_answer-None (conflict_at edges) ids h node (children asking (Contains-slice_get edges i asking at_i)) in
+    = first_answer-None (conflict_at edges) ids h node (children asking (Contains-slice_get edges i asking at_i)) in
     let of_i : conflict_of edges node i asking ≡ None
-        = (let at : 0 + i ≡ i = omega arith in
-          rw at at (first_answer_from-None (conflict_of edges node) 0 edges at_node i asking at_i)) in
+    = (let at : 0 + i ≡ i = omega arith in
+    rw at at (first_answer_from-None (conflict_of edges node) 0 edges at_node i asking at_i)) in
     let own : (asking.child == node) ≡ true = eq-eqb asking.child node refl in
     let all : first_answer_from (conflict_between node i asking) 0 edges ≡ None = rw own at of_i in
     let between : conflict_between node i asking j other ≡ None
-        = (let at : 0 + j ≡ j = omega arith in
-          rw at at (first_answer_from-None (conflict_between node i asking) 0 edges all j other at_j)) in
+    = (let at : 0 + j ≡ j = omega arith in
+    rw at at (first_answer_from-None (conflict_between node i asking) 0 edges all j other at_j)) in
     let apart : (i == j) ≡ false = ne_eqb i j differ in
     let there : (other.child == node) ≡ true = eq-eqb other.child node (sym same) in
     IsWithin-from_None asking.perm other.shared (option_map-None _ _ (rw (apart, there) at between))
@@ -182,29 +183,30 @@ pub None-from_KeepsPermissions : (ids : List ℕ) (edges : List Edge) → KeepsP
     → first_conflict ids edges ≡ None
 None-from_KeepsPermissions ids edges rule =
     first_answer-none (conflict_at edges) ids (λ node _.
-      first_answer_from-none (conflict_of edges node) 0 edges (λ i asking at_i.
-        let at : 0 + i ≡ i = omega arith in
-        rw at (by_own node i asking at_i (asking.child == node) refl)))
+    first_answer_from-none (conflict_of edges node) 0 edges (λ i asking at_i.
+    let at : 0 + i ≡ i = omega arith in
+    rw at (by_own node i asking at_i (asking.child == node) refl)))
   where
     by_between : (node i : ℕ) (asking : Edge) → slice_get edges i ≡ Some asking → asking.child ≡ node
         → (j : ℕ) (other : Edge) → slice_get edges j ≡ Some other
         → (b : Bool) → (not (i == j) && other.child == node) ≡ b
         → cond b (option_map (conflict_on node asking other)
-            (first_denied asking.perm other.shared)) None ≡ None
+        (first_denied asking.perm other.shared)) None ≡ None
     by_between node i asking at_i own j other at_j true t =
         let apart : i ≢ j = eqb-false i j (is_shared (i == j) (and-left (not (i == j)) (other.child == node) t)) in
         let there : other.child ≡ node = eqb-true other.child node (and-right (not (i == j)) (other.child == node) t) in
         rw (None-from_IsWithin asking.perm other.shared
-            (rule i j asking other at_i at_j apart (own ∙ sym there))) refl
+        (rule i j asking other at_i at_j apart (own ∙ sym there))) refl
     by_between node i asking at_i own j other at_j false t = refl
+
     by_own : (node i : ℕ) (asking : Edge) → slice_get edges i ≡ Some asking
         → (b : Bool) → (asking.child == node) ≡ b
         → cond b (first_answer_from (conflict_between node i asking) 0 edges) None ≡ None
     by_own node i asking at_i true t =
         first_answer_from-none (conflict_between node i asking) 0 edges (λ j other at_j.
-          let at : 0 + j ≡ j = omega arith in
-          rw at (by_between node i asking at_i (eqb-true asking.child node t) j other at_j
-            (not (i == j) && other.child == node) refl))
+        let at : 0 + j ≡ j = omega arith in
+        rw at (by_between node i asking at_i (eqb-true asking.child node t) j other at_j
+        (not (i == j) && other.child == node) refl))
     by_own node i asking at_i false t = refl
 
 -- a conflict that is found is a broken pair
@@ -215,17 +217,17 @@ IsBroken-first ids edges c h =
     let node : ℕ = at_node.0 in
     let of_i = first_answer_from-Some (conflict_of edges node) 0 edges c at_node.1 in
     by_own node of_i.0 of_i.1 of_i.2 (of_i.1.child == node) refl
-      (let at : 0 + of_i.0 ≡ of_i.0 = omega arith in rw at at of_i.3)
+    (let at : 0 + of_i.0 ≡ of_i.0 = omega arith in rw at at of_i.3)
   where
     by_between : (node i : ℕ) (asking : Edge) → slice_get edges i ≡ Some asking → asking.child ≡ node
         → (j : ℕ) (other : Edge) → slice_get edges j ≡ Some other
         → (b : Bool) → (not (i == j) && other.child == node) ≡ b
         → cond b (option_map (conflict_on node asking other)
-            (first_denied asking.perm other.shared)) None ≡ Some c
+        (first_denied asking.perm other.shared)) None ≡ Some c
         → IsBroken edges c
     by_between node i asking at_i own j other at_j true t h =
         let r = option_map-Some (conflict_on node asking other)
-            (first_denied asking.perm other.shared) c h in
+        (first_denied asking.perm other.shared) c h in
         let d = denied_from_Some asking.perm other.shared r.0 r.1 in
         rw (sym r.2) (record {
           i = i;
@@ -241,6 +243,7 @@ IsBroken-first ids edges c h =
           denied = d.1;
         })
     by_between node i asking at_i own j other at_j false t h = absurd cc
+
     by_own : (node i : ℕ) (asking : Edge) → slice_get edges i ≡ Some asking
         → (b : Bool) → (asking.child == node) ≡ b
         → cond b (first_answer_from (conflict_between node i asking) 0 edges) None ≡ Some c
@@ -248,8 +251,8 @@ IsBroken-first ids edges c h =
     by_own node i asking at_i true t h =
         let of_j = first_answer_from-Some (conflict_between node i asking) 0 edges c h in
         by_between node i asking at_i (eqb-true asking.child node t) of_j.0 of_j.1 of_j.2
-          (not (i == of_j.0) && of_j.1.child == node) refl
-          (let at : 0 + of_j.0 ≡ of_j.0 = omega arith in rw at at of_j.3)
+        (not (i == of_j.0) && of_j.1.child == node) refl
+        (let at : 0 + of_j.0 ≡ of_j.0 = omega arith in rw at at of_j.3)
     by_own node i asking at_i false t h = absurd cc
 
 -- a guest that may write is alone among those that don't share write
@@ -276,7 +279,8 @@ IsCheck-from_first ids edges None children is =
 IsCheck-from_first ids edges (Some c) children is = record {
   rule = (
     λ h. absurd cc,
-    λ rule. let none : first_conflict ids edges ≡ None = None-from_KeepsPermissions ids edges rule in absurd cc);
+    λ rule. let none : first_conflict ids edges ≡ None = None-from_KeepsPermissions ids edges rule in absurd cc,
+  );
   pair = IsBroken-first ids edges c (sym is);
   guests = λ h. absurd cc;
 }
@@ -292,15 +296,16 @@ None-from_AllShare edges node i asking common all none = by_own (asking.child ==
     by_between j other at_j true t =
         let there : other.child ≡ node = eqb-true other.child node (and-right (not (i == j)) (other.child == node) t) in
         let within : IsWithin asking.perm other.shared
-            = λ perm asked. all other (Contains-slice_get edges j other at_j) there perm
-                (IsWithin-from_None asking.perm common none perm asked) in
+        = λ perm asked. all other (Contains-slice_get edges j other at_j) there perm
+        (IsWithin-from_None asking.perm common none perm asked) in
         rw (None-from_IsWithin asking.perm other.shared within) refl
     by_between j other at_j false t = refl
+
     by_own : (b : Bool) → cond b (first_answer_from (conflict_between node i asking) 0 edges) None ≡ None
     by_own true =
         first_answer_from-none (conflict_between node i asking) 0 edges (λ j other at_j.
-          let at : 0 + j ≡ j = omega arith in
-          rw at (by_between j other at_j (not (i == j) && other.child == node) refl))
+        let at : 0 + j ≡ j = omega arith in
+        rw at (by_between j other at_j (not (i == j) && other.child == node) refl))
     by_own false = refl
 
 pub None-from_other_child : (edges : List Edge) (node i : ℕ) (asking : Edge) → not (asking.child == node) ≡ true
@@ -320,8 +325,8 @@ pub None-from_IsCalm : (edges : List Edge) (node : ℕ) (common : Perms) → All
     → IsCalm edges node common → conflict_at edges node ≡ None
 None-from_IsCalm edges node common all calm =
     first_answer_from-none (conflict_of edges node) 0 edges (λ i asking at_i.
-      let at : 0 + i ≡ i = omega arith in
-      rw at (by_own i asking at_i (asking.child == node) refl))
+    let at : 0 + i ≡ i = omega arith in
+    rw at (by_own i asking at_i (asking.child == node) refl))
   where
     by_own : (i : ℕ) (asking : Edge) → slice_get edges i ≡ Some asking → (b : Bool) → (asking.child == node) ≡ b
         → conflict_of edges node i asking ≡ None

@@ -52,14 +52,15 @@ SharedBelow-next edges shares i item old new below within is there less own k d 
     by_child differ true e =
         let same : (get_or edges k d).child ≡ item.child = eqb-true (get_or edges k d).child item.child e in
         let is_new : common ≡ new
-            = slice_get-set_same shares item.child new common (rw same at found) in
+        = slice_get-set_same shares item.child new common (rw same at found) in
         let before : IsWithin old (get_or edges k d).shared
-            = below k d old (omega arith) inside (rw same there) in
+        = below k d old (omega arith) inside (rw same there) in
         rw is_new (λ perm asked. before perm (less perm asked))
     by_child differ false e =
         let apart : (get_or edges k d).child ≢ item.child = eqb-false (get_or edges k d).child item.child e in
         below k d common (omega arith) inside
-          (sym (slice_get-set_other shares item.child (get_or edges k d).child new apart) ∙ found)
+        (sym (slice_get-set_other shares item.child (get_or edges k d).child new apart) ∙ found)
+
     by_place : (b : Bool) → (k == i) ≡ b → IsWithin common (get_or edges k d).shared
     by_place true e =
         let same : get_or edges k d ≡ item = at_place edges i k item d within is (eqb-true k i e) in
@@ -94,6 +95,7 @@ CalmBelow-marked edges shares marks i item below within is k d c low inside foun
     marked : (get_or edges k d).child ≡ item.child → ⊥
     marked same =
         let is_true : false ≡ true = slice_get-set_same marks item.child true false (rw same at free) in cc
+
     by_place : (b : Bool) → (k == i) ≡ b → first_denied (get_or edges k d).perm c ≡ None
     by_place true e =
         let same : get_or edges k d ≡ item = at_place edges i k item d within is (eqb-true k i e) in
@@ -101,7 +103,7 @@ CalmBelow-marked edges shares marks i item below within is k d c low inside foun
     by_place false e =
         let differ : k ≢ i = eqb-false k i e in
         below k d c (omega arith) inside found
-          (sym (slice_get-set_other marks item.child (get_or edges k d).child true marked) ∙ free)
+        (sym (slice_get-set_other marks item.child (get_or edges k d).child true marked) ∙ free)
 
 pub RestIsCalm-at_end : (edges : List Edge) (shares : List Perms) (marks : List Bool) (i : ℕ) → length edges ≤ i
     → CalmBelow edges shares marks i → RestIsCalm edges shares marks

@@ -5,7 +5,6 @@ use Rattle.std.specs.List.{Contains}
 use Rattle.std.proofs.lemmas.List.Sums.{sum_by-set}
 use Rattle.std.proofs.lemmas.Bool.{ne_eqb, eqb-true, eqb-false, eq-eqb}
 use Rattle.std.proofs.lemmas.List.{get_or-set_same, get_or-set_other, get_or_default}
-
 use Rattle.blk_graph.specs.declared.edge.Edge.{Edge}
 use Rattle.blk_graph.specs.declared.edge.Parent.{Parent}
 use Rattle.blk_graph.specs.declared.edge.Parent.TheVariants.{Node, Guest, Job}
@@ -25,7 +24,7 @@ Reaches-leads_on edges from marks e reached h leads = by_parent e.parent refl (a
   where
     by_parent : (parent : Parent) → e.parent ≡ parent → is_reached from marks parent ≡ true → Reaches edges from e.child
     by_parent (Node a) is t = elim (or-cases (a == from) (is_marked marks a) t) [
-      inl start ↦ Reaches-edge edges from e h (rw (eqb-true a from start) at is)
+      | inl start ↦ Reaches-edge edges from e h (rw (eqb-true a from start) at is)
       | inr marked ↦ Reaches-joined edges from a e.child (reached a marked) (Reaches-edge edges a e h is)
     ]
     by_parent (Guest g) is t = absurd cc
@@ -66,13 +65,13 @@ pub marked_from_path : (edges : List Edge) (from : ℕ) (marks : List Bool) → 
     → IsPath edges a (e ∷ p) b → is_marked marks b ≡ true
 marked_from_path edges from marks closed a b e [] start h =
     let child : is_marked marks e.child ≡ true
-        = unmarked_from_closed (is_reached from marks e.parent) (is_marked marks e.child) (closed e h.0)
-            (rw h.1 start) in
+    = unmarked_from_closed (is_reached from marks e.parent) (is_marked marks e.child) (closed e h.0)
+    (rw h.1 start) in
     rw h.2 at child
 marked_from_path edges from marks closed a b e (f ∷ p) start h =
     let child : is_marked marks e.child ≡ true
-        = unmarked_from_closed (is_reached from marks e.parent) (is_marked marks e.child) (closed e h.0)
-            (rw h.1 start) in
+    = unmarked_from_closed (is_reached from marks e.parent) (is_marked marks e.child) (closed e h.0)
+    (rw h.1 start) in
     marked_from_path edges from marks closed e.child b f p
     (or-right (e.child == from) (is_marked marks e.child) child) h.2
 
@@ -93,10 +92,10 @@ pub Marked-leads_on : (edges : List Edge) (from : ℕ) (marks : List Bool) (i : 
     → Marked edges from marks (set marks child true)
 Marked-leads_on edges from marks i item child reached within is leads same low =
     let unmarked : is_marked marks child ≡ false
-        = rw same (not_marked (is_marked marks item.child)
-            (and-right (is_reached from marks item.parent) (not (is_marked marks item.child)) leads)) in
+    = rw same (not_marked (is_marked marks item.child)
+    (and-right (is_reached from marks item.parent) (not (is_marked marks item.child)) leads)) in
     let there : Reaches edges from child
-        = rw same (Reaches-leads_on edges from marks item reached (i, within, sym is) leads) in
+    = rw same (Reaches-leads_on edges from marks item reached (i, within, sym is) leads) in
     record {
       reached = AllReached-set edges from marks child reached there;
       grown = mark_count-set marks child low unmarked;
@@ -116,7 +115,7 @@ below_next p edges i item within is here below k d low = by_test (k == i) refl
     by_test : (b : Bool) → (k == i) ≡ b → p (get_or edges k d) ≡ false
     by_test true t =
         let same : get_or edges k d ≡ item
-            = ap (λ n. get_or edges n d) (eqb-true k i t) ∙ get_or_default edges i d item within ∙ sym is in
+        = ap (λ n. get_or edges n d) (eqb-true k i t) ∙ get_or_default edges i d item within ∙ sym is in
         rw same here
     by_test false t = let differ : k ≢ i = eqb-false k i t in below k d (omega arith)
 

@@ -75,7 +75,7 @@ but_filters node edges = filter (λ edge. not (is_filters node edge)) edges
 -- the filter's edge is gone, and its parents have its child
 abbrev pub without_filter : ℕ → List Edge → List Edge
 without_filter node edges = elim (find (is_filters node) edges) as (λ _. List Edge) [
-  None ↦ edges
+  | None ↦ edges
   | Some edge ↦ map (moved node edge.child) (but_filters node edges)
 ]
 

@@ -14,6 +14,7 @@ pub struct NodeId {
 
 impl Model for NodeId {
     ghost use Rattle.std.specs.Prelude.{ℕ, ◌<◌};
+
     ghost Value = { ℕ };
 
     ghost view = { λ n. n.key };

@@ -79,7 +79,13 @@ pub(crate) fn put_edge(edges: &[Edge], new: Edge, out: &mut Vec<Edge>)
 }
 
 /// The list with all edges into one node leading to another, but those of jobs and of one parent.
-pub(crate) fn replace(edges: &[Edge], from: NodeId, to: NodeId, but: &Option<Parent>, out: &mut Vec<Edge>)
+pub(crate) fn replace(
+    edges: &[Edge],
+    from: NodeId,
+    to: NodeId,
+    but: &Option<Parent>,
+    out: &mut Vec<Edge>,
+)
     requires empty { out.old.items ≡ [] }
     requires room { length edges.now ≤ vec_capacity out.old }
     ensures items { out.new.items ≡ with_replaced from to but.now edges.now }
@@ -103,7 +109,14 @@ fn move_all(edges: &[Edge], from: NodeId, to: NodeId, out: &mut Vec<Edge>)
 }
 
 /// The list with a filter between a node and its parents.
-pub(crate) fn put_filter(edges: &[Edge], node: NodeId, filter: NodeId, perm: Perms, shared: Perms, out: &mut Vec<Edge>)
+pub(crate) fn put_filter(
+    edges: &[Edge],
+    node: NodeId,
+    filter: NodeId,
+    perm: Perms,
+    shared: Perms,
+    out: &mut Vec<Edge>,
+)
     requires empty { out.old.items ≡ [] }
     requires room { length edges.now + 1 ≤ vec_capacity out.old }
     ensures items { out.new.items ≡ with_filter node filter perm shared edges.now }

@@ -8,12 +8,9 @@ ghost use Rattle.blk_graph.specs.Paths.{Reaches, LeadsBack};
 ghost use Rattle.blk_graph.specs.Rule.{KeepsPermissions, GuestsWriteAlone, IsBroken, first_conflict};
 
 use crate::edge::{Conflict, Edge, MOST_NODES, NodeId, Parent, Perms};
-use crate::edit;
 use crate::judge::settle;
-use crate::names;
-use crate::rule;
 use crate::stop::GraphStop;
-use crate::walk;
+use crate::{edit, names, rule, walk};
 use blk_base::{NoMemory, Text};
 use slab::Slab;
 use std::alloc::Global;
@@ -119,11 +116,21 @@ impl Graph {
         let child = edge.child;
         self.staged.clear();
         edit::put_edge(self.edges.as_slice(), edge, &mut self.staged);
-        settle(self.order.as_slice(), &mut self.edges, &mut self.staged, child)
+        settle(
+            self.order.as_slice(),
+            &mut self.edges,
+            &mut self.staged,
+            child,
+        )
     }
 
     /// Moves all edges into one node, but those of jobs and of `but`, to another node.
-    pub fn replace_child(&mut self, from: NodeId, to: NodeId, but: Option<Parent>) -> Result<(), GraphStop>
+    pub fn replace_child(
+        &mut self,
+        from: NodeId,
+        to: NodeId,
+        but: Option<Parent>,
+    ) -> Result<(), GraphStop>
         requires { HasNode self.old to }
         ensures judged { IsJudged (ids self.old) (with_replaced from to but self.old.edges) result }
         ensures ok { OnOk result (self.new ≡ record self.old { edges = with_replaced from to but self.old.edges }) }
@@ -142,7 +149,13 @@ impl Graph {
     }
 
     /// Puts a filter between a node and its parents.
-    pub fn insert_filter(&mut self, node: NodeId, filter: NodeId, perm: Perms, shared: Perms) -> Result<(), GraphStop>
+    pub fn insert_filter(
+        &mut self,
+        node: NodeId,
+        filter: NodeId,
+        perm: Perms,
+        shared: Perms,
+    ) -> Result<(), GraphStop>
         requires room { length self.old.edges < 2048 }
         requires node { HasNode self.old node }
         requires filter { HasNode self.old filter }
@@ -157,8 +170,20 @@ impl Graph {
         ensures err { OnErr result (self.new ≡ self.old) }
     {
         self.staged.clear();
-        edit::put_filter(self.edges.as_slice(), node, filter, perm, shared, &mut self.staged);
-        settle(self.order.as_slice(), &mut self.edges, &mut self.staged, filter)
+        edit::put_filter(
+            self.edges.as_slice(),
+            node,
+            filter,
+            perm,
+            shared,
+            &mut self.staged,
+        );
+        settle(
+            self.order.as_slice(),
+            &mut self.edges,
+            &mut self.staged,
+            filter,
+        )
     }
 
     /// Takes a filter from between its child and its parents.

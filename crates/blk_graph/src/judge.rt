@@ -27,7 +27,12 @@ fn judge(nodes: &[NodeId], edited: &[Edge], through: NodeId) -> Result<(), Graph
 }
 
 /// Takes the edited list for the graph's, unless it is refused.
-pub(crate) fn settle(nodes: &[NodeId], edges: &mut Vec<Edge>, edited: &mut Vec<Edge>, through: NodeId) -> Result<(), GraphStop>
+pub(crate) fn settle(
+    nodes: &[NodeId],
+    edges: &mut Vec<Edge>,
+    edited: &mut Vec<Edge>,
+    through: NodeId,
+) -> Result<(), GraphStop>
     requires through { (Reaches edited.old.items through through → ⊥) → IsAcyclic edited.old.items }
     requires children { (edge : Use) → Contains edited.old.items edge → Contains nodes.now edge.child }
     ensures judged { IsJudged nodes.now edited.old.items result }

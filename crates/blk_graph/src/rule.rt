@@ -73,7 +73,13 @@ fn both(a: Perms, b: Perms) -> Perms
 
 /// The first conflict of what the edge at place `i` asks, by the other edge's place. Nothing has to be
 /// looked for where all edges share what is asked.
-fn conflict_of(edges: &[Edge], node: NodeId, i: usize, asking: Edge, common: Perms) -> Option<Conflict>
+fn conflict_of(
+    edges: &[Edge],
+    node: NodeId,
+    i: usize,
+    asking: Edge,
+    common: Perms,
+) -> Option<Conflict>
     requires { AllShare edges.now node common }
     ensures { result ≡ conflict_of edges.now node i asking }
 {
@@ -121,7 +127,12 @@ pub(crate) fn first_conflict(nodes: &[NodeId], edges: &[Edge]) -> Option<Conflic
     conflict_among(nodes, edges, &common, &suspects)
 }
 
-fn conflict_among(nodes: &[NodeId], edges: &[Edge], common: &[Perms], suspects: &[bool]) -> Option<Conflict>
+fn conflict_among(
+    nodes: &[NodeId],
+    edges: &[Edge],
+    common: &[Perms],
+    suspects: &[bool],
+) -> Option<Conflict>
     requires nodes { length common.now ≡ 64 }
     requires marks { length suspects.now ≡ 64 }
     requires shares { EachShares edges.now common.now }

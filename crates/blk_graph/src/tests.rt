@@ -13,31 +13,37 @@ const NONE: Perms = Perms {
     write: false,
     unchanged: false,
 };
+
 const R: Perms = Perms {
     read: true,
     write: false,
     unchanged: false,
 };
+
 const U: Perms = Perms {
     read: false,
     write: false,
     unchanged: true,
 };
+
 const RW: Perms = Perms {
     read: true,
     write: true,
     unchanged: false,
 };
+
 const RU: Perms = Perms {
     read: true,
     write: false,
     unchanged: true,
 };
+
 const WU: Perms = Perms {
     read: false,
     write: true,
     unchanged: true,
 };
+
 const RWU: Perms = Perms {
     read: true,
     write: true,
@@ -105,7 +111,11 @@ fn drive(guest: u32, node: NodeId, perm: Perms, shared: Perms) -> Edge
 }
 
 // Who asks what, where the second of two edges into a node is refused.
-fn refused(alloc: Global, first: (Perms, Perms), second: (Perms, Perms)) -> Result<Option<(Parent, u8)>, Fail> {
+fn refused(
+    alloc: Global,
+    first: (Perms, Perms),
+    second: (Perms, Perms),
+) -> Result<Option<(Parent, u8)>, Fail> {
     let (mut graph, node) = lone_node(alloc)?;
     if graph.set_edge(drive(0, node, first.0, first.1)).is_err() {
         Err("no edge")?;
@@ -193,6 +203,37 @@ fn hold(graph: &mut Graph, job: u32, role: Role, to: usize) -> Result<&'static s
     })))
 }
 
+// Sets a guest's drive on the node at a place.
+fn attach(
+    graph: &mut Graph,
+    guest: u32,
+    to: usize,
+    perm: Perms,
+    shared: Perms,
+) -> Result<&'static str, Fail> {
+    if graph.edges().len() >= MOST_EDGES {
+        Err("no room")?;
+    }
+    let child = nth(graph, to)?;
+    Ok(word(graph.set_edge(drive(guest, child, perm, shared))))
+}
+
+fn replace(
+    graph: &mut Graph,
+    from: usize,
+    to: usize,
+    but: Option<Parent>,
+) -> Result<&'static str, Fail> {
+    let old = nth(graph, from)?;
+    let new = nth(graph, to)?;
+    Ok(word(graph.replace_child(old, new, but)))
+}
+
+fn remove(graph: &mut Graph, k: usize) -> Result<&'static str, Fail> {
+    let node = nth(graph, k)?;
+    Ok(word(graph.remove_node(node)))
+}
+
 // A graph with so many nodes, named n0, n1 and so on.
 fn nodes(alloc: Global, count: usize) -> Result<Graph, Fail> {
     let mut graph = Graph::new(alloc)?;
@@ -217,7 +258,7 @@ fn nodes_have_names(rt: HostRuntime) -> Result<(), Fail> {
     assert_eq!(rt; graph.name(seventh), "n7");
     assert_eq!(rt; graph.node_named("n7"), Some(seventh));
     assert_eq!(rt; graph.node_named("n64"), None);
-    assert_eq!(rt; word(graph.remove_node(seventh)), "ok");
+    assert_eq!(rt; remove(&mut graph, 7)?, "ok");
     assert_eq!(rt; graph.node_named("n7"), None);
     assert_eq!(rt; graph.nodes().len(), 63);
     Ok(())
@@ -239,12 +280,11 @@ fn a_chain_of_all_nodes(rt: HostRuntime) -> Result<(), Fail> {
     assert_eq!(rt; link(&mut graph, 63, 0, Role::Backing)?, "cycle");
     assert_eq!(rt; link(&mut graph, 5, 5, Role::File)?, "cycle");
     assert_eq!(rt; graph.edges().len(), 63);
-    let second = nth(&graph, 1)?;
-    assert_eq!(rt; word(graph.remove_node(second)), "in use");
+    assert_eq!(rt; remove(&mut graph, 1)?, "in use");
     graph.clear_edges(Parent::Node(first));
     assert_eq!(rt; graph.edges().len(), 62);
     assert!(rt; !graph.reaches(first, last));
-    assert_eq!(rt; word(graph.remove_node(second)), "ok");
+    assert_eq!(rt; remove(&mut graph, 1)?, "ok");
     assert_eq!(rt; graph.edges().len(), 61);
     Ok(())
 }
@@ -281,8 +321,7 @@ fn filter(graph: &mut Graph, node: usize, filter: usize) -> Result<&'static str,
 fn a_filter_and_back(rt: HostRuntime) -> Result<(), Fail> {
     let alloc = rt.alloc();
     let mut graph = nodes(alloc, 4)?;
-    let base = nth(&graph, 1)?;
-    assert_eq!(rt; word(graph.set_edge(drive(0, base, RW, RU))), "ok");
+    assert_eq!(rt; attach(&mut graph, 0, 1, RW, RU)?, "ok");
     assert_eq!(rt; link(&mut graph, 0, 1, Role::Backing)?, "ok");
     assert_eq!(rt; link(&mut graph, 1, 2, Role::File)?, "ok");
     assert_eq!(rt; children(alloc, &graph)?.as_str(), "bbc");
@@ -299,16 +338,14 @@ fn a_filter_and_back(rt: HostRuntime) -> Result<(), Fail> {
 fn a_filter_is_refused(rt: HostRuntime) -> Result<(), Fail> {
     let alloc = rt.alloc();
     let mut graph = nodes(alloc, 3)?;
-    let base = nth(&graph, 0)?;
-    let over = nth(&graph, 2)?;
     // a guest that may write above the filter, and later one beside it
-    assert_eq!(rt; word(graph.set_edge(drive(0, over, RW, RWU))), "ok");
-    assert_eq!(rt; word(graph.set_edge(drive(1, base, RW, RWU))), "ok");
+    assert_eq!(rt; attach(&mut graph, 0, 2, RW, RWU)?, "ok");
+    assert_eq!(rt; attach(&mut graph, 1, 0, RW, RWU)?, "ok");
     let refused = filter(&mut graph, 0, 1)?;
     assert_eq!(rt; refused, "ok");
     assert_eq!(rt; children(alloc, &graph)?.as_str(), "cba");
     // the filter shares no writes, so that no second writer comes below it
-    assert_eq!(rt; word(graph.set_edge(drive(2, base, RW, RWU))), "conflict");
+    assert_eq!(rt; attach(&mut graph, 2, 0, RW, RWU)?, "conflict");
     assert_eq!(rt; children(alloc, &graph)?.as_str(), "cba");
     Ok(())
 }
@@ -317,18 +354,18 @@ fn a_filter_is_refused(rt: HostRuntime) -> Result<(), Fail> {
 fn parents_move_but_jobs(rt: HostRuntime) -> Result<(), Fail> {
     let alloc = rt.alloc();
     let mut graph = nodes(alloc, 3)?;
-    let from = nth(&graph, 0)?;
-    let to = nth(&graph, 1)?;
     assert_eq!(rt; hold(&mut graph, 0, Role::Source, 0)?, "ok");
-    assert_eq!(rt; word(graph.set_edge(drive(0, from, R, RWU))), "ok");
-    assert_eq!(rt; word(graph.set_edge(drive(1, from, R, RWU))), "ok");
+    assert_eq!(rt; attach(&mut graph, 0, 0, R, RWU)?, "ok");
+    assert_eq!(rt; attach(&mut graph, 1, 0, R, RWU)?, "ok");
     assert_eq!(rt; link(&mut graph, 2, 0, Role::Backing)?, "ok");
-    assert_eq!(rt; word(graph.replace_child(from, to, Some(Parent::Guest(1)))), "ok");
+    assert_eq!(rt;
+        replace(&mut graph, 0, 1, Some(Parent::Guest(1)))?,
+        "ok"
+    );
     assert_eq!(rt; children(alloc, &graph)?.as_str(), "abab");
     // with b above a and c above b, b can't lead to c
     assert_eq!(rt; link(&mut graph, 1, 0, Role::File)?, "ok");
-    let above = nth(&graph, 2)?;
-    assert_eq!(rt; word(graph.replace_child(from, above, None)), "cycle");
+    assert_eq!(rt; replace(&mut graph, 0, 2, None)?, "cycle");
     assert_eq!(rt; children(alloc, &graph)?.as_str(), "ababa");
     Ok(())
 }

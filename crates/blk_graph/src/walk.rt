@@ -4,7 +4,7 @@ ghost use Rattle.std.specs.Bool.{MatchBool};
 ghost use Rattle.blk_graph.specs.Paths.{Reaches};
 ghost use Rattle.blk_graph.specs.Walk.{leads_on, AllReached, IsClosed, mark_count};
 
-use crate::edge::{Edge, NodeId, Parent, MOST_NODES};
+use crate::edge::{Edge, MOST_NODES, NodeId, Parent};
 
 /// Whether the edge leads from where the walk has come to a node without a mark.
 fn leads_on(edge: &Edge, from: NodeId, marks: &[bool]) -> bool

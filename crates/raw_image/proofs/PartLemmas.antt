@@ -16,19 +16,19 @@ bytes_at-part b offset size start n within =
     bytes_at-by_place b (bytes_at (bytes_at b offset size) start n) (offset + start) n
     (length-bytes_at (bytes_at b offset size) start n)
     (λ k below.
-      let low : start + k < size = omega (arith, below) in
-      let further : offset + (start + k) ≡ offset + start + k = omega arith in
-      get_or-bytes_at (bytes_at b offset size) start n k below
-      ∙ get_or-bytes_at b offset size (start + k) low ∙ ap (λ at. get_or b at 0) further)
+    let low : start + k < size = omega (arith, below) in
+    let further : offset + (start + k) ≡ offset + start + k = omega arith in
+    get_or-bytes_at (bytes_at b offset size) start n k below
+    ∙ get_or-bytes_at b offset size (start + k) low ∙ ap (λ at. get_or b at 0) further)
 
 -- a write of the part is that write of the file, further on
 pub with_bytes-part : (b : List ℕ) (offset size start : ℕ) (xs : List ℕ) → start + length xs ≤ size
     → bytes_at (with_bytes b (offset + start) xs) offset size ≡ with_bytes (bytes_at b offset size) start xs
 with_bytes-part b offset size start xs within =
     sym (bytes_at-by_place (with_bytes b (offset + start) xs) (with_bytes (bytes_at b offset size) start xs) offset size
-      (length-with_bytes_within (bytes_at b offset size) start xs (omega (arith, length-bytes_at b offset size))
-        ∙ length-bytes_at b offset size)
-      each)
+    (length-with_bytes_within (bytes_at b offset size) start xs (omega (arith, length-bytes_at b offset size))
+    ∙ length-bytes_at b offset size)
+    each)
   where
     outside : (k : ℕ) → k < size → (k < start) ⊎ (start + length xs ≤ k)
         → (offset + k < offset + start) ⊎ (offset + start + length xs ≤ offset + k)
@@ -36,6 +36,7 @@ with_bytes-part b offset size start xs within =
     outside k low apart further =
         get_or-with_bytes_outside (bytes_at b offset size) start xs k apart ∙ get_or-bytes_at b offset size k low
         ∙ sym (get_or-with_bytes_outside b (offset + start) xs (offset + k) further)
+
     inside : (k : ℕ) → start ≤ k → k < start + length xs
         → get_or (with_bytes (bytes_at b offset size) start xs) k 0 ≡ get_or (with_bytes b (offset + start) xs) (offset + k) 0
     inside k from to =
@@ -46,12 +47,13 @@ with_bytes-part b offset size start xs within =
         ∙ get_or-with_bytes_inside (bytes_at b offset size) start xs (k - start) low
         ∙ sym (get_or-with_bytes_inside b (offset + start) xs (k - start) low)
         ∙ ap (λ i. get_or (with_bytes b (offset + start) xs) i 0) (sym place)
+
     each : (k : ℕ) → k < size
         → get_or (with_bytes (bytes_at b offset size) start xs) k 0 ≡ get_or (with_bytes b (offset + start) xs) (offset + k) 0
     each k low = elim (cases_lt k start) [
-      inl before ↦ outside k low (inl before) (inl (omega (arith, before)))
+      | inl before ↦ outside k low (inl before) (inl (omega (arith, before)))
       | inr from ↦ elim (cases_lt k (start + length xs)) [
-        inl to ↦ inside k from to
+        | inl to ↦ inside k from to
         | inr past ↦ outside k low (inr past) (inr (omega (arith, past)))
       ]
     ]

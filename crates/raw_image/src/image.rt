@@ -14,7 +14,12 @@ pub struct RawImage {
 
 impl RawImage {
     /// Reads a span of the disk, and answers as the device does.
-    pub fn read_raw<D: Device>(&self, dev: &mut D, span: Span, buf: &mut [u8]) -> Result<(), DevFault>
+    pub fn read_raw<D: Device>(
+        &self,
+        dev: &mut D,
+        span: Span,
+        buf: &mut [u8],
+    ) -> Result<(), DevFault>
         requires within { IsWithin self.now span }
         requires whole { length buf.old ≡ span.len }
         ensures disk { OnOk result ((b : List ℕ) → D.content dev.old ≡ Some b → buf.new ≡ bytes_at (disk_of self.now b) span.start span.len) }
@@ -31,7 +36,12 @@ impl RawImage {
     }
 
     /// Writes a span of the disk, and answers as the device does.
-    pub fn write_raw<D: Device>(&self, dev: &mut D, span: Span, bytes: &[u8]) -> Result<(), WriteStop>
+    pub fn write_raw<D: Device>(
+        &self,
+        dev: &mut D,
+        span: Span,
+        bytes: &[u8],
+    ) -> Result<(), WriteStop>
         requires within { IsWithin self.now span }
         requires whole { length bytes.now ≡ span.len }
         ensures disk { (b c : List ℕ) → D.content dev.old ≡ Some b → D.content dev.new ≡ Some c →

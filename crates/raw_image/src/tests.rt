@@ -76,9 +76,7 @@ impl Device for Tape {
 
 #[test]
 fn a_part_of_a_file(rt: HostRuntime) -> Result<(), Fail> {
-    let mut tape = Tape {
-        bytes: [7; 32],
-    };
+    let mut tape = Tape { bytes: [7; 32] };
     let part = RawImage {
         offset: 9,
         size: 12,
@@ -95,6 +93,12 @@ fn a_part_of_a_file(rt: HostRuntime) -> Result<(), Fail> {
         size: 12,
     };
     let refused = beyond.write_raw(&mut tape, Span { start: 7, len: 2 }, &[1, 2]);
-    assert_eq!(rt; refused, Err(WriteStop { done: 0, why: Stop::NoSpace }));
+    assert_eq!(rt;
+        refused,
+        Err(WriteStop {
+            done: 0,
+            why: Stop::NoSpace
+        })
+    );
     Ok(())
 }

@@ -13,4 +13,4 @@ loop-guest-preserved c =
     let within : guest < length c.loop-guest.rows = (let low = c.requires.known i 0 c.loop-guest-test.true in omega arith) in
     rw (take_next guests i guest c.loop-guest-test.true is)
     (Counted-push risen (take i guests) c.args.rows.now c.loop-guest.rows guest _ c.loop-guest.invariant within
-      (fresh_at guests i guest c.requires.different c.loop-guest-test.true is) c.saturating_add-row.ensures refl)
+    (fresh_at guests i guest c.requires.different c.loop-guest-test.true is) c.saturating_add-row.ensures refl)

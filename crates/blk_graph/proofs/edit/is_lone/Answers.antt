@@ -6,5 +6,5 @@ pub returns-then-touches : goal.returns-then-touches
 returns-then-touches c = (
   λ h. absurd cc,
   λ lone. absurd (touched_not_lone c.args.edges.now c.args.node c.edge-item.result
-    (c.loop-edge.edge-index, c.loop-edge-test.true, sym c.edge-item.is) (sym c.touches.ensures ∙ c.if-touches.true) lone)
+      (c.loop-edge.edge-index, c.loop-edge-test.true, sym c.edge-item.is) (sym c.touches.ensures ∙ c.if-touches.true) lone),
 )

@@ -14,5 +14,5 @@ pub returns : goal.returns
 returns c = (
   λ marked. c.loop-from-test.ensures.reached c.args.to (rw c.index.ensures.value at marked),
   λ reaches. rw c.index.ensures.value
-    (marked_from_Reaches c.args.edges.now c.args.from c.spread.new.marks c.loop-from-test.ensures.more c.args.to reaches)
+      (marked_from_Reaches c.args.edges.now c.args.from c.spread.new.marks c.loop-from-test.ensures.more c.args.to reaches),
 )

@@ -9,7 +9,7 @@ use Rattle.blk_graph.proofs.graph.Graph.check_perms.Goals as goal
 first : goal.returns-clause-first
 first c =
     let fields : c.first_conflict.result ≡ first_conflict c.self.inside.order.items c.self.inside.edges.items
-        = rw (← c.as_slice.ensures.value, ← c.as_slice-2.ensures.value) c.first_conflict.ensures in
+    = rw (← c.as_slice.ensures.value, ← c.as_slice-2.ensures.value) c.first_conflict.ensures in
     rw (sym c.self.view_is)
     (rw (ids-graph_of c.self.inside.names c.self.inside.order.items c.self.inside.edges.items) fields)
 

@@ -23,7 +23,7 @@ settle-requires-clause-through c =
 
 ends : (c : goal.After-settle-arg-2-1)
     → HasEnds (graph_of c.self.inside.names c.self.inside.order.items c.self.inside.edges.items)
-        (with_filter c.args.node c.args.filter c.args.perm c.args.shared c.self.inside.edges.items)
+    (with_filter c.args.node c.args.filter c.args.perm c.args.shared c.self.inside.edges.items)
 ends c = HasEnds-with_filter _ c.args.node c.args.filter c.args.perm c.args.shared c.self.invariant.sound
     (rw (← c.self.view_is) at c.requires.node) (rw (← c.self.view_is) at c.requires.filter)
 
@@ -36,18 +36,18 @@ settle-requires-clause-children c = λ e h.
 pub invariant_of-self : goal.invariant_of-self
 invariant_of-self c =
     let is : c.put_filter.new.out.items ≡ with_filter c.args.node c.args.filter c.args.perm c.args.shared c.self.inside.edges.items
-        = c.put_filter.ensures.items ∙ ap (with_filter c.args.node c.args.filter c.args.perm c.args.shared) c.as_slice.ensures.value in
+    = c.put_filter.ensures.items ∙ ap (with_filter c.args.node c.args.filter c.args.perm c.args.shared) c.as_slice.ensures.value in
     let room : length c.self.inside.edges.items < 2048 = rw (← c.self.view_is) at c.requires.room in
     let few : length (with_filter c.args.node c.args.filter c.args.perm c.args.shared c.self.inside.edges.items) ≤ 2048
-        = omega (arith, room, length-with_filter c.args.node c.args.filter c.args.perm c.args.shared c.self.inside.edges.items) in
+    = omega (arith, room, length-with_filter c.args.node c.args.filter c.args.perm c.args.shared c.self.inside.edges.items) in
     let spare : 2048 ≤ vec_capacity c.put_filter.new.out
-        = rw (c.put_filter.ensures.capacity, c.clear.ensures.capacity) c.self.invariant.staged_fit in
+    = rw (c.put_filter.ensures.capacity, c.clear.ensures.capacity) c.self.invariant.staged_fit in
     IsKept-settled c.self.inside.names c.self.inside.order.items c.self.inside.edges.items c.put_filter.new.out.items
     c.settle.new.edges.items (vec_capacity c.self.inside.order) (vec_capacity c.self.inside.edges)
     (vec_capacity c.self.inside.staged) (vec_capacity c.settle.new.edges) (vec_capacity c.settle.new.edited)
     c.as_slice-2.result.now c.settle.result c.self.invariant (rw is few)
     (rw is (HasEnds-with_filter _ c.args.node c.args.filter c.args.perm c.args.shared c.self.invariant.sound
-      (rw (← c.self.view_is) at c.requires.node) (rw (← c.self.view_is) at c.requires.filter)))
+    (rw (← c.self.view_is) at c.requires.node) (rw (← c.self.view_is) at c.requires.filter)))
     c.settle.ensures.judged c.settle.ensures.ok c.settle.ensures.err
     (c.settle.ensures.room 2048 c.self.invariant.edges_fit spare)
     (c.settle.ensures.spare 2048 c.self.invariant.edges_fit spare)
@@ -64,21 +64,21 @@ pub returns-clause-no_cycle : goal.returns-clause-no_cycle
 returns-clause-no_cycle c = λ e.
     let has = (judged c).cycle.0 e in
     let none : IsAcyclic (with_filter c.args.node c.args.filter c.args.perm c.args.shared c.args.self.now.edges)
-        = rw (sym c.self.view_is) (IsAcyclic-with_filter c.self.inside.edges.items c.args.node c.args.filter c.args.perm
-          c.args.shared c.requires.differ (rw (← c.self.view_is) at c.requires.lone) c.self.invariant.sound.acyclic) in
+    = rw (sym c.self.view_is) (IsAcyclic-with_filter c.self.inside.edges.items c.args.node c.args.filter c.args.perm
+    c.args.shared c.requires.differ (rw (← c.self.view_is) at c.requires.lone) c.self.invariant.sound.acyclic) in
     none has.node has.cycle
 
 pub returns-clause-undone : goal.returns-clause-undone
 returns-clause-undone c =
     let is : c.put_filter.new.out.items
-            ≡ with_filter c.args.node c.args.filter c.args.perm c.args.shared c.self.inside.edges.items
-        = c.put_filter.ensures.items
-          ∙ ap (with_filter c.args.node c.args.filter c.args.perm c.args.shared) c.as_slice.ensures.value in
+    ≡ with_filter c.args.node c.args.filter c.args.perm c.args.shared c.self.inside.edges.items
+    = c.put_filter.ensures.items
+    ∙ ap (with_filter c.args.node c.args.filter c.args.perm c.args.shared) c.as_slice.ensures.value in
     let back : without_filter c.args.filter c.put_filter.new.out.items ≡ c.args.self.now.edges
-        = ap (without_filter c.args.filter) is
-          ∙ without_filter-with_filter c.self.inside.edges.items c.args.node c.args.filter c.args.perm c.args.shared
-            (rw (← c.self.view_is) at c.requires.lone)
-          ∙ ap (λ (g : Graph). g.edges) c.self.view_is in
+    = ap (without_filter c.args.filter) is
+    ∙ without_filter-with_filter c.self.inside.edges.items c.args.node c.args.filter c.args.perm c.args.shared
+    (rw (← c.self.view_is) at c.requires.lone)
+    ∙ ap (λ (g : Graph). g.edges) c.self.view_is in
     OnOk-then (c.settle.new.edges.items ≡ c.put_filter.new.out.items)
     (without_filter c.args.filter c.settle.new.edges.items ≡ c.args.self.now.edges) c.settle.result
     (λ e. ap (without_filter c.args.filter) e ∙ back) c.settle.ensures.ok

@@ -10,6 +10,6 @@ name_at-requires c =
 pub returns : goal.returns
 returns c =
     let there = Contains-order c.self.inside.names c.self.inside.order.items c.self.inside.edges.items c.args.node
-        (rw (← c.self.view_is) at c.requires) in
+    (rw (← c.self.view_is) at c.requires) in
     rw (sym c.self.view_is, c.name_at.ensures)
     (Contains-row c.self.inside.names c.self.inside.order.items c.self.inside.edges.items c.args.node there)

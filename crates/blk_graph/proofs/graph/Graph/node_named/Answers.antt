@@ -6,10 +6,10 @@ pub returns-clause-found : goal.returns-clause-found
 returns-clause-found c =
     rw (sym c.self.view_is)
     (found_row c.self.inside.names c.self.inside.order.items c.self.inside.edges.items c.as_slice.result.now c.args.name.now
-      c.node_named.result c.as_slice.ensures.value c.node_named.ensures.found c.node_named.ensures.named)
+    c.node_named.result c.as_slice.ensures.value c.node_named.ensures.found c.node_named.ensures.named)
 
 pub returns-clause-none : goal.returns-clause-none
 returns-clause-none c =
     rw (sym c.self.view_is)
     (no_row c.self.inside.names c.self.inside.order.items c.self.inside.edges.items c.as_slice.result.now c.args.name.now
-      c.node_named.result c.as_slice.ensures.value c.node_named.ensures.none)
+    c.node_named.result c.as_slice.ensures.value c.node_named.ensures.none)

@@ -18,7 +18,7 @@ settle-requires-clause-through c =
 
 ends : (c : goal.After-settle-arg-2-1)
     → HasEnds (graph_of c.self.inside.names c.self.inside.order.items c.self.inside.edges.items)
-        (with_replaced c.args.from c.args.to c.args.but c.self.inside.edges.items)
+    (with_replaced c.args.from c.args.to c.args.but c.self.inside.edges.items)
 ends c = HasEnds-with_replaced _ c.args.from c.args.to c.args.but c.self.invariant.sound (rw (← c.self.view_is) at c.requires)
 
 pub settle-requires-clause-children : goal.settle-requires-clause-children
@@ -30,12 +30,15 @@ settle-requires-clause-children c = λ e h.
 pub invariant_of-self : goal.invariant_of-self
 invariant_of-self c =
     let is : c.replace.new.out.items ≡ with_replaced c.args.from c.args.to c.args.but c.self.inside.edges.items
-        = c.replace.ensures.items ∙ ap (with_replaced c.args.from c.args.to c.args.but) c.as_slice.ensures.value in
+    = c.replace.ensures.items ∙ ap (with_replaced c.args.from c.args.to c.args.but) c.as_slice.ensures.value in
     let few : length (with_replaced c.args.from c.args.to c.args.but c.self.inside.edges.items) ≤ 2048
-        = omega (arith, length-map c.self.inside.edges.items (replaced c.args.from c.args.to c.args.but),
-          c.self.invariant.sound.few_edges) in
+    = omega (
+      arith,
+      length-map c.self.inside.edges.items (replaced c.args.from c.args.to c.args.but),
+      c.self.invariant.sound.few_edges,
+    ) in
     let spare : 2048 ≤ vec_capacity c.replace.new.out
-        = rw (c.replace.ensures.capacity, c.clear.ensures.capacity) c.self.invariant.staged_fit in
+    = rw (c.replace.ensures.capacity, c.clear.ensures.capacity) c.self.invariant.staged_fit in
     IsKept-settled c.self.inside.names c.self.inside.order.items c.self.inside.edges.items c.replace.new.out.items
     c.settle.new.edges.items (vec_capacity c.self.inside.order) (vec_capacity c.self.inside.edges)
     (vec_capacity c.self.inside.staged) (vec_capacity c.settle.new.edges) (vec_capacity c.settle.new.edited)
