@@ -335,18 +335,22 @@ fn a_filter_and_back(rt: HostRuntime) -> Result<(), Fail> {
 }
 
 #[test]
-fn a_filter_is_refused(rt: HostRuntime) -> Result<(), Fail> {
+fn no_writer_beside_a_filter(rt: HostRuntime) -> Result<(), Fail> {
     let alloc = rt.alloc();
-    let mut graph = nodes(alloc, 3)?;
-    // a guest that may write above the filter, and later one beside it
-    assert_eq!(rt; attach(&mut graph, 0, 2, RW, RWU)?, "ok");
-    assert_eq!(rt; attach(&mut graph, 1, 0, RW, RWU)?, "ok");
-    let refused = filter(&mut graph, 0, 1)?;
-    assert_eq!(rt; refused, "ok");
-    assert_eq!(rt; children(alloc, &graph)?.as_str(), "cba");
-    // the filter shares no writes, so that no second writer comes below it
+    let mut graph = nodes(alloc, 2)?;
+    assert_eq!(rt; filter(&mut graph, 0, 1)?, "ok");
+    assert_eq!(rt; attach(&mut graph, 0, 1, RW, RU)?, "ok");
+    assert_eq!(rt; attach(&mut graph, 1, 0, R, RU)?, "ok");
+    // the filter shares no writes
     assert_eq!(rt; attach(&mut graph, 2, 0, RW, RWU)?, "conflict");
-    assert_eq!(rt; children(alloc, &graph)?.as_str(), "cba");
+    assert_eq!(rt; children(alloc, &graph)?.as_str(), "aba");
+    // without it the writer stands beside a reader that shares none
+    let over = nth(&graph, 1)?;
+    graph.remove_filter(over);
+    assert_eq!(rt; children(alloc, &graph)?.as_str(), "aa");
+    assert!(rt; graph.check_perms().is_some());
+    assert_eq!(rt; filter(&mut graph, 0, 1)?, "conflict");
+    assert_eq!(rt; children(alloc, &graph)?.as_str(), "aa");
     Ok(())
 }
 
@@ -358,10 +362,7 @@ fn parents_move_but_jobs(rt: HostRuntime) -> Result<(), Fail> {
     assert_eq!(rt; attach(&mut graph, 0, 0, R, RWU)?, "ok");
     assert_eq!(rt; attach(&mut graph, 1, 0, R, RWU)?, "ok");
     assert_eq!(rt; link(&mut graph, 2, 0, Role::Backing)?, "ok");
-    assert_eq!(rt;
-        replace(&mut graph, 0, 1, Some(Parent::Guest(1)))?,
-        "ok"
-    );
+    assert_eq!(rt; replace(&mut graph, 0, 1, Some(Parent::Guest(1)))?, "ok");
     assert_eq!(rt; children(alloc, &graph)?.as_str(), "abab");
     // with b above a and c above b, b can't lead to c
     assert_eq!(rt; link(&mut graph, 1, 0, Role::File)?, "ok");
