@@ -1,0 +1,13 @@
+pub mod Members
+pub mod PathLemmas
+pub mod LengthLemmas
+pub mod EditLemmas
+pub mod CycleLemmas
+pub mod FilterLemmas
+pub mod RuleLemmas
+pub mod InverseLemmas
+pub mod WalkLemmas
+pub mod JudgeLemmas
+pub mod GraphLemmas
+pub mod NodeLemmas
+pub mod ShareLemmas

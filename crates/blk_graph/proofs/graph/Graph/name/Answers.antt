@@ -1,0 +1,15 @@
+use Rattle.std.proofs.Common.{◌≡◌, ap, sym}
+use Rattle.blk_graph.proofs.NodeLemmas.{Contains-order, Contains-row}
+use Rattle.blk_graph.proofs.graph.Graph.name.Goals as goal
+
+pub name_at-requires : goal.name_at-requires
+name_at-requires c =
+    c.self.invariant.named c.args.node
+    (Contains-order c.self.inside.names c.self.inside.order.items c.self.inside.edges.items c.args.node (rw (← c.self.view_is) at c.requires))
+
+pub returns : goal.returns
+returns c =
+    let there = Contains-order c.self.inside.names c.self.inside.order.items c.self.inside.edges.items c.args.node
+    (rw (← c.self.view_is) at c.requires) in
+    rw (sym c.self.view_is, c.name_at.ensures)
+    (Contains-row c.self.inside.names c.self.inside.order.items c.self.inside.edges.items c.args.node there)

@@ -1,0 +1,42 @@
+-- Who makes an edge, what it is for, and what it asks and shares.
+use Rattle.std.specs.Prelude.{◌≡◌, ℕ, ◌==◌, Bool, true, false, IsTrue}
+use Rattle.blk_graph.specs.declared.edge.Parent.{Parent}
+use Rattle.blk_graph.specs.declared.edge.Parent.TheVariants.{Node, Guest, Job}
+use Rattle.blk_graph.specs.declared.edge.Role.{Role}
+use Rattle.blk_graph.specs.declared.edge.Role.TheVariants.{Drive, File, Backing, Filtered, Source, Target, Between, Base}
+use Rattle.blk_graph.specs.declared.edge.Perms.{Perms}
+use Rattle.blk_graph.specs.declared.edge.Perm.{Perm}
+use Rattle.blk_graph.specs.declared.edge.Perm.TheVariants.{Read, Write, Unchanged}
+
+-- whether both are the same node, guest or job
+abbrev pub same_parent : Parent → Parent → Bool
+same_parent (Node a) (Node b) = a == b
+same_parent (Guest a) (Guest b) = a == b
+same_parent (Job a) (Job b) = a == b
+same_parent _ _ = false
+
+abbrev pub is_job : Parent → Bool
+is_job (Job _) = true
+is_job _ = false
+
+-- whether both are the same role
+abbrev pub same_role : Role → Role → Bool
+same_role Drive Drive = true
+same_role File File = true
+same_role Backing Backing = true
+same_role Filtered Filtered = true
+same_role Source Source = true
+same_role Target Target = true
+same_role Between Between = true
+same_role Base Base = true
+same_role _ _ = false
+
+-- whether a permission is one of these
+abbrev pub holds : Perms → Perm → Bool
+holds perms Read = perms.read
+holds perms Write = perms.write
+holds perms Unchanged = perms.unchanged
+
+-- each permission that is asked is shared
+abbrev pub IsWithin : Perms → Perms → Type 0
+IsWithin asked shared = (perm : Perm) → IsTrue (holds asked perm) → IsTrue (holds shared perm)

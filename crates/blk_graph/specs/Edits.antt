@@ -1,0 +1,84 @@
+-- The edited lists of edges.
+use Rattle.std.specs.Prelude.{◌≡◌, ◌≢◌, Contains, ℕ, ◌==◌, Bool, true, false, ◌&&◌, ◌||◌, not, if◌then◌else◌, List, [], ◌∷◌, ◌++◌, map, filter, find, Option, Some, None}
+use Rattle.blk_graph.specs.declared.edge.Edge.{Edge}
+use Rattle.blk_graph.specs.declared.edge.Perms.{Perms}
+use Rattle.blk_graph.specs.declared.edge.Parent.{Parent}
+use Rattle.blk_graph.specs.declared.edge.Parent.TheVariants.{Node}
+use Rattle.blk_graph.specs.declared.edge.Role.TheVariants.{Between, Filtered}
+use Rattle.blk_graph.specs.Edges.{same_parent, same_role, is_job}
+
+-- whether a new edge takes an old one's place: a parent has one edge of a role, but of the role
+-- Between one to each child
+abbrev pub takes_place : Edge → Edge → Bool
+takes_place new old = same_parent new.parent old.parent && same_role new.role old.role
+    && (not (same_role new.role Between) || new.child == old.child)
+
+-- the edge stands in the place that it takes, or else at the end
+abbrev pub with_edge : Edge → List Edge → List Edge
+with_edge new [] = new ∷ []
+with_edge new (old ∷ edges) =
+    if takes_place new old then new ∷ edges else old ∷ with_edge new edges
+
+-- the edge, to another child
+abbrev pub with_child : ℕ → Edge → Edge
+with_child to edge = record edge { child = to }
+
+-- whether a parent stays behind
+abbrev pub stays : Option Parent → Parent → Bool
+stays None parent = is_job parent
+stays (Some but) parent = is_job parent || same_parent but parent
+
+-- all edges into `from`, but those of jobs and of one parent, lead to `to`
+abbrev pub replaced : ℕ → ℕ → Option Parent → Edge → Edge
+replaced from to but edge =
+    if edge.child == from && not (stays but edge.parent) then with_child to edge else edge
+
+abbrev pub with_replaced : ℕ → ℕ → Option Parent → List Edge → List Edge
+with_replaced from to but edges = map (replaced from to but) edges
+
+-- no edge enters or leaves the node
+pub record IsLone (edges : List Edge) (node : ℕ) : Type 0 where
+  pub enters : (edge : Edge) → Contains edges edge → edge.child ≢ node
+  pub leaves : (edge : Edge) → Contains edges edge → edge.parent ≢ Node node
+
+-- whether the edge enters or leaves the node
+abbrev pub touches : ℕ → Edge → Bool
+touches node edge = edge.child == node || same_parent edge.parent (Node node)
+
+-- an edge into one node leads to another
+abbrev pub moved : ℕ → ℕ → Edge → Edge
+moved from to edge = if edge.child == from then with_child to edge else edge
+
+-- a filter's edge to its child
+abbrev pub filter_edge : ℕ → ℕ → Perms → Perms → Edge
+filter_edge filter child perm shared = record {
+  parent = Node filter;
+  role = Filtered;
+  child = child;
+  perm = perm;
+  shared = shared;
+}
+
+-- the node's parents have the filter as child, and the filter has the node
+abbrev pub with_filter : ℕ → ℕ → Perms → Perms → List Edge → List Edge
+with_filter node filter perm shared edges =
+    map (moved node filter) edges ++ filter_edge filter node perm shared ∷ []
+
+-- whether the edge is that of a filter to its child
+abbrev pub is_filters : ℕ → Edge → Bool
+is_filters filter edge = same_parent edge.parent (Node filter) && same_role edge.role Filtered
+
+-- the edges but the filter's own
+abbrev pub but_filters : ℕ → List Edge → List Edge
+but_filters node edges = filter (λ edge. not (is_filters node edge)) edges
+
+-- the filter's edge is gone, and its parents have its child
+abbrev pub without_filter : ℕ → List Edge → List Edge
+without_filter node edges = elim (find (is_filters node) edges) as (λ _. List Edge) [
+  | None ↦ edges
+  | Some edge ↦ map (moved node edge.child) (but_filters node edges)
+]
+
+-- a parent's edges are gone
+abbrev pub without_parent : Parent → List Edge → List Edge
+without_parent parent edges = filter (λ edge. not (same_parent edge.parent parent)) edges
