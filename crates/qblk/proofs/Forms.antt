@@ -18,4 +18,5 @@ pub is-io : (ws : List Written) (a b c d : Written) (image trace : List ℕ) →
 is-io ws a b c d image trace len i j k l io raw im tr good fine = record {
   form = ap texts_of (four ws a b c d len i j k l) ∙ rw (io, raw, im, tr) refl;
   image_name = good;
-  trace_name = fine }
+  trace_name = fine;
+}

@@ -203,9 +203,14 @@ piece-made w v outcome can puts = piece-of w v outcome w.guest.flight refl can p
 -- a run begins at its opening
 pub comes-start : (o : Opening) (log : Recorded) → log.events ≡ [] → Comes o (record { disk = o.disk; faults = o.faults; capacity = o.capacity; size = o.size; guest = new_guest; log = log })
 comes-start o log empty = record {
-  size = refl; capacity = refl; faults = omega arith; on_image = refl; may_write = refl;
+  size = refl;
+  capacity = refl;
+  faults = omega arith;
+  on_image = refl;
+  may_write = refl;
   licensed = record { risen = rw empty tt; last = (o.faults, rw empty refl, omega arith); space = rw empty tt };
   lines = rw empty tt;
   replay = rw empty refl;
   told = λ bytes is. rw is refl;
-  legal = λ bytes is. rw empty tt }
+  legal = λ bytes is. rw empty tt;
+}

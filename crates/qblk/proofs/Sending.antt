@@ -56,20 +56,23 @@ named-by names e named line = rw (named, line.whose) (lit< tt)
 pub line-kept : (old : Option (List ℕ)) (before now : Written) (more : List ℕ) (room : ℕ) → IsBuffer before → Appends before now more room → length now.bytes < 65536 → SendsPart old old (before.bytes ++ more) now
 line-kept old before now more room buffer appends short = record {
   part = ([], appends.bytes, nothing-sent old);
-  buffer = record { short = short; room = let had = buffer.room in let memory = appends.memory in omega arith } }
+  buffer = record { short = short; room = let had = buffer.room in let memory = appends.memory in omega arith };
+}
 
 -- and one that goes out
 pub line-sent : (old new : Option (List ℕ)) (before mid now : Written) (more : List ℕ) (room : ℕ) → IsBuffer before → Appends before mid more room
     → new ≡ option_map (λ s. s ++ mid.bytes) old → now.bytes ≡ [] → memory_of now ≡ memory_of mid → SendsPart old new (before.bytes ++ more) now
 line-sent old new before mid now more room buffer appends sent empty same = record {
   part = (mid.bytes, ap (λ bs. mid.bytes ++ bs) empty ∙ append-nil mid.bytes ∙ appends.bytes, sent);
-  buffer = record { short = rw empty (lit< tt); room = let had = buffer.room in let memory = appends.memory in omega arith } }
+  buffer = record { short = rw empty (lit< tt); room = let had = buffer.room in let memory = appends.memory in omega arith };
+}
 
 pub line-front : (old new : Option (List ℕ)) (before mid : Written) (more : List ℕ) (room b n : ℕ) → Appends before mid more room
     → SendsFront old new mid.bytes b n → SendsFront old new (before.bytes ++ more) b n
 line-front old new before mid more room b n appends front = record {
   part = (front.part.0, front.part.1, front.part.2 ∙ appends.bytes, front.part.3);
-  rose = front.rose }
+  rose = front.rose;
+}
 
 pub at-ok : {T E : Type 0} (r : Result T E) (x : T) (P : Type 0) → r ≡ Ok x → OnOk r P → P
 at-ok (Ok y) x P is p = p
@@ -98,23 +101,31 @@ lines-all (x ∷ es) (suc n) = append_assoc (line_of guest_names x) (lines (take
 -- one part after another
 pub part-next : (old mid new : Option (List ℕ)) (whole more : List ℕ) (before now : Written) → SendsPart old mid whole before → SendsPart mid new (before.bytes ++ more) now → SendsPart old new (whole ++ more) now
 part-next old mid new whole more before now first then = record {
-  part = (first.part.0 ++ then.part.0,
+  part = (
+    first.part.0 ++ then.part.0,
     append_assoc first.part.0 then.part.0 now.bytes ∙ ap (λ bs. first.part.0 ++ bs) then.part.1 ∙ sym (append_assoc first.part.0 before.bytes more) ∙ ap (λ bs. bs ++ more) first.part.1,
-    sent-after old mid new first.part.0 then.part.0 first.part.2 then.part.2);
-  buffer = then.buffer }
+    sent-after old mid new first.part.0 then.part.0 first.part.2 then.part.2,
+  );
+  buffer = then.buffer;
+}
 
 -- a part, and then a front of what follows
 pub part-front : (old mid new : Option (List ℕ)) (whole more : List ℕ) (before : Written) (a b c : ℕ) → SendsPart old mid whole before → SendsFront mid new (before.bytes ++ more) b c → a ≤ b → SendsFront old new (whole ++ more) a c
 part-front old mid new whole more before a b c first then le = record {
-  part = (first.part.0 ++ then.part.0, then.part.1,
+  part = (
+    first.part.0 ++ then.part.0,
+    then.part.1,
     append_assoc first.part.0 then.part.0 then.part.1 ∙ ap (λ bs. first.part.0 ++ bs) then.part.2 ∙ sym (append_assoc first.part.0 before.bytes more) ∙ ap (λ bs. bs ++ more) first.part.1,
-    sent-after old mid new first.part.0 then.part.0 first.part.2 then.part.3);
-  rose = let r = then.rose in omega arith }
+    sent-after old mid new first.part.0 then.part.0 first.part.2 then.part.3,
+  );
+  rose = let r = then.rose in omega arith;
+}
 
 front-more : (old new : Option (List ℕ)) (whole more : List ℕ) (a b : ℕ) → SendsFront old new whole a b → SendsFront old new (whole ++ more) a b
 front-more old new whole more a b front = record {
   part = (front.part.0, front.part.1 ++ more, sym (append_assoc front.part.0 front.part.1 more) ∙ ap (λ bs. bs ++ more) front.part.2, front.part.3);
-  rose = front.rose }
+  rose = front.rose;
+}
 
 -- at a line that failed, a front of the whole transcript is out
 pub line-failed : (es : List Event) (at : ℕ) (e : Event) (old mid new : Option (List ℕ)) (before : Written) (a b c : ℕ) → slice_get es at ≡ Some e → SendsPart old mid (lines (take at es)) before

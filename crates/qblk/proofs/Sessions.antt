@@ -31,7 +31,12 @@ made-run d n w log ops bytes fault fits text is empty made content capacity faul
   ops = is ∙ ap (λ asked. Ok asked) (sym (asked-all (begun d log) w ops empty made));
   comes = made.comes (opening_of d) (comes-start (opening_of d) log empty);
   idle = made.idle;
-  content = content; capacity = capacity; faults = faults; tells = tells; flushed = flushed }
+  content = content;
+  capacity = capacity;
+  faults = faults;
+  tells = tells;
+  flushed = flushed;
+}
 
 pub flushed-as : (n : Seen) (faults : ℕ) (disk : Option (List ℕ)) (fault : Option FaultAt) → n.content ≡ disk
     → MatchOption fault ((bytes : List ℕ) → disk ≡ Some bytes → n.is_flushed ≡ Some true) (λ f. (f.from ≡ Dev (record { 0 = 0 })) × Rose faults f.count × (f.count ≡ n.faults))

@@ -105,7 +105,8 @@ tells-disk image bytes d n w fault files new f told made returned =
       legal = subst L machine (made.comes.legal f.bytes told.content);
       retired = rw replayed (idle-all w.guest made.idle);
       space = subst C told.capacity (subst N machine made.comes.licensed.space);
-      disk = (disk.0, rw replayed disk.1, flag.0, flag-good n w.faults fault disk.0 flag.0 made.flushed content flag.1, returned ∙ returned-told image n.content n.capacity n.is_flushed files disk.0 f.capacity flag.0 content capacity flag.1) }
+      disk = (disk.0, rw replayed disk.1, flag.0, flag-good n w.faults fault disk.0 flag.0 made.flushed content flag.1, returned ∙ returned-told image n.content n.capacity n.is_flushed files disk.0 f.capacity flag.0 content capacity flag.1);
+    }
 
 -- the inputs were as they have to be
 inputs : (image trace bytes : List ℕ) (read : TraceRead) (d n : Seen) (w : Face) (fault : Option FaultAt) (files : List File) (f : File)
@@ -140,13 +141,16 @@ was-run image trace bytes read d n w fault flushed old new k flag sized none dev
         opened = opened ∙ back-opened image old.opened d.faults n.faults none;
         risen = made.comes.licensed.risen;
         last = (last.0, last.1, let le = last.2 in let more = made.faults in omega arith);
-        told = on-run old.files files device };
-      sent = sent }
+        told = on-run old.files files device;
+      };
+      sent = sent;
+    }
   where
     on-told : (fs : Option (List File)) → ((told : List File) → IsDeviceOf (Some told) image d.content d.capacity d.is_flushed → IsReadOf trace read told → HasImage image told × HasTrace trace (asked_by 0 w.log.events) told)
         → IsDeviceOf fs image d.content d.capacity d.is_flushed → IfTold fs (IsReadOf trace read) → IfTold fs (λ told. HasImage image told × HasTrace trace (asked_by 0 w.log.events) told)
     on-told None f device read-is = tt
     on-told (Some told) f device read-is = f told device read-is
+
     on-run : (fs : Option (List File)) → new.files ≡ files_with_returned image n.content n.capacity n.is_flushed fs → IsDeviceOf fs image d.content d.capacity d.is_flushed
         → IfTold fs (λ told. (f : File) × TellsDisk image w.log.events flushed told new.files f)
     on-run None files device = tt
@@ -177,14 +181,25 @@ pub ends : (image trace bytes : List ℕ) (read : TraceRead) (d n : Seen) (w : F
     → new.opened ≡ given_back image n.faults (old.opened ++ record { name = image; faults = d.faults; returned = None } ∷ [])
     → EndsAs fault old.sent new.sent (transcript guest_names w.log.events) old.sink_faults new.sink_faults status
     → Answers image trace old new status
-ends image trace bytes read d n w None old new Done sized none device read-is is made files opened end =
-    (asked_by 0 w.log.events, w.log.events, d.faults, n.faults,
-        was-run image trace bytes read d n w None true old new (length (transcript guest_names w.log.events)) refl sized none device read-is is made files opened (whole-taken old.sent new.sent _ end))
+ends image trace bytes read d n w None old new Done sized none device read-is is made files opened end = (
+  asked_by 0 w.log.events,
+  w.log.events,
+  d.faults,
+  n.faults,
+  was-run image trace bytes read d n w None true old new (length (transcript guest_names w.log.events)) refl sized none device read-is is made files opened (whole-taken old.sent new.sent _ end),
+)
 ends image trace bytes read d n w None old new (Fault from count) sized none device read-is is made files opened end =
     let front = end.1.part in
-    let faulty : IsFaulty image trace old new Sink count = (asked_by 0 w.log.events, w.log.events, d.faults, n.faults, length front.0,
-        was-run image trace bytes read d n w None true old new (length front.0) refl sized none device read-is is made files opened (front-taken old.sent new.sent front.0 front.1 _ front.2 front.3),
-        (let rose = end.1.rose in let same = end.2 in omega arith), end.2) in
+    let faulty : IsFaulty image trace old new Sink count = (
+      asked_by 0 w.log.events,
+      w.log.events,
+      d.faults,
+      n.faults,
+      length front.0,
+      was-run image trace bytes read d n w None true old new (length front.0) refl sized none device read-is is made files opened (front-taken old.sent new.sent front.0 front.1 _ front.2 front.3),
+      (let rose = end.1.rose in let same = end.2 in omega arith),
+      end.2,
+    ) in
     let F : FaultFrom → Type 0 = λ f. IsFaulty image trace old new f count in
     subst F (sym end.0) faulty
 ends image trace bytes read d n w (Some fault) old new (Fault from count) sized none device read-is is made files opened end =
@@ -194,8 +209,15 @@ ends image trace bytes read d n w (Some fault) old new (Fault from count) sized 
     let R : ℕ → Type 0 = λ c. WasRun image trace false old new (asked_by 0 w.log.events) w.log.events d.faults c (length end.2) in
     let run = was-run image trace bytes read d n w (Some fault) false old new (length end.2) refl sized none device read-is is made files opened (front-taken old.sent new.sent end.2 end.3 _ end.4 end.5) in
     let last = made.comes.licensed.last in
-    let faulty : IsFaulty image trace old new (Dev (record { 0 = 0 })) count = (refl, asked_by 0 w.log.events, w.log.events, d.faults, length end.2, subst R (sym same) run,
-        (let rose = flushed.1 in let named = end.1 in let before = made.comes.faults in omega arith)) in
+    let faulty : IsFaulty image trace old new (Dev (record { 0 = 0 })) count = (
+      refl,
+      asked_by 0 w.log.events,
+      w.log.events,
+      d.faults,
+      length end.2,
+      subst R (sym same) run,
+      (let rose = flushed.1 in let named = end.1 in let before = made.comes.faults in omega arith),
+    ) in
     subst F (sym (end.0 ∙ flushed.0)) faulty
 ends image trace bytes read d n w fault old new status sized none device read-is is made files opened end = absurd end
 

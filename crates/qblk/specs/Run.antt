@@ -49,7 +49,7 @@ pub record TellsDisk (image : List ℕ) (h : List Event) (flushed : Bool) (files
   -- a piece had no space only where it would have ended above the file's capacity
   pub space : Each after (HadNoSpace f.capacity) (machine_of f.bytes) h
   pub disk : (bytes : List ℕ) × (disk_in (replay (machine_of f.bytes) h).disks 1 ≡ Some bytes)
-    × (fl : Bool) × (flushed ≡ true → fl ≡ true) × (new ≡ Some (put_file (record { name = image; bytes = bytes; capacity = f.capacity; is_flushed = fl }) files))
+      × (fl : Bool) × (flushed ≡ true → fl ≡ true) × (new ≡ Some (put_file (record { name = image; bytes = bytes; capacity = f.capacity; is_flushed = fl }) files))
 
 -- A history of these requests on that image: each stands once, in order, and the faults it names are rises of the
 -- device's count, each named once.

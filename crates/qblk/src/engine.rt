@@ -160,8 +160,14 @@ impl<D: Device> Engine<D> {
     /// A guest that has asked for nothing yet, on a device that was opened.
     pub(crate) fn new(device: D, size: u64, history: History, buffer: Vec<u8>) -> Self
         requires block { length buffer.items ≡ 65536 }
-        ensures { result ≡ record { disk = D.content device; faults = D.faults device; capacity = D.capacity device; size = size;
-            guest = new_guest; log = history } }
+        ensures { result ≡ record {
+          disk = D.content device;
+          faults = D.faults device;
+          capacity = D.capacity device;
+          size = size;
+          guest = new_guest;
+          log = history;
+        } }
     {
         Engine {
             device,

@@ -15,10 +15,9 @@ mod store;
 mod transfer;
 mod words;
 
+use blk_base::{NoMemory, Text};
 pub use run::{qblk, run_io};
 pub use status::{InputWhy, Status};
-
-use blk_base::{NoMemory, Text};
 use std::alloc::Global;
 use std::process::ExitCode;
 use std::rt::Env;

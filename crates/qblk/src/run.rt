@@ -11,7 +11,12 @@ use blk_base::{Sink, Store, Text};
 use std::alloc::Global;
 
 /// Runs the trace of `io raw IMAGE TRACE` on the image, and puts the transcript.
-pub fn run_io<S: Store, K: Sink>(alloc: Global, words: &[Text], store: S, out: &mut K) -> (Status, S)
+pub fn run_io<S: Store, K: Sink>(
+    alloc: Global,
+    words: &[Text],
+    store: S,
+    out: &mut K,
+) -> (Status, S)
     requires form { (image : List ℕ) × (trace : List ℕ) × IsIo (texts_of words.now) image trace }
     requires none_out { NoneOut (S.opened store) }
     ensures { (image trace : List ℕ) → IsIo (texts_of words.now) image trace → Answers image trace

@@ -88,7 +88,7 @@ fn make_run<D: Device>(
 ) -> (Result<Made, Status>, D)
     ensures made { IfOk result.0 (λ made. (bytes : List ℕ) × (w : Face) × (read ≡ TraceRead.Whole bytes)
         × IsMade bytes (record { content = D.content device; is_flushed = D.is_flushed device; faults = D.faults device; capacity = D.capacity device; size = D.size device })
-            (record { content = D.content result.1; is_flushed = D.is_flushed result.1; faults = D.faults result.1; capacity = D.capacity result.1; size = D.size result.1 }) w made.fault
+        (record { content = D.content result.1; is_flushed = D.is_flushed result.1; faults = D.faults result.1; capacity = D.capacity result.1; size = D.size result.1 }) w made.fault
         × (made.history ≡ w.log) × (made.names ≡ guest_names) × (made.line.bytes ≡ []) × (393476 ≤ made.line.spare)) }
     ensures stop { IfErr result.0 (IsRunStop image.now trace.now read (D.size device)) }
     ensures untouched { OnErr result.0 (result.1 ≡ device) }

@@ -36,7 +36,10 @@ pub enum Status {
         why: InputWhy,
     },
     /// The first fault of the store, a device or the sink, and its count afterwards.
-    Fault { from: FaultFrom, count: u64 },
+    Fault {
+        from: FaultFrom,
+        count: u64,
+    },
     /// Want of memory. Nothing was put to the sink.
     NoMemory,
 }

@@ -9,4 +9,4 @@ returns-in-Err-clause-failed g c =
     let partly = c.in-Err.ensures.partly in
     let bytes : c.as_bytes.result.now ≡ c.args.line.now.bytes = c.as_bytes.ensures.value ∙ c.as_str.ensures in
     front-sent (g.K.Sink.sent c.args.out.now) (g.K.Sink.sent c.put.new.self) c.args.line.now.bytes partly.0 (g.K.Sink.faults c.args.out.now) (g.K.Sink.faults c.put.new.self)
-        (partly.1 ∙ ap (λ (bs : List ℕ). option_map (λ s. s ++ take partly.0 bs) (g.K.Sink.sent c.args.out.now)) bytes) c.in-Err.ensures.failed
+    (partly.1 ∙ ap (λ (bs : List ℕ). option_map (λ s. s ++ take partly.0 bs) (g.K.Sink.sent c.args.out.now)) bytes) c.in-Err.ensures.failed

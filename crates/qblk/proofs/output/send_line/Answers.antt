@@ -27,10 +27,10 @@ pub returns-clause-ok : goal.returns-clause-ok
 returns-clause-ok g c = λ e is.
     let appends = appended c.args.names.now e c.args.line.now c.line.new.out c.requires.named (at-ok c.line.result c.unwrap.result _ c.unwrap.ensures (c.line.ensures.ok e is)) in
     on-ok c.send.result _ _ _ _ c.send.ensures.sent c.send.ensures.empty c.send.ensures.memory
-        (λ sent empty memory. line-sent (g.K.Sink.sent c.args.out.now) (g.K.Sink.sent c.send.new.out) c.args.line.now c.line.new.out c.send.new.line (line_of guest_names e) (line_room guest_names e) c.requires.buffer appends sent empty memory)
+    (λ sent empty memory. line-sent (g.K.Sink.sent c.args.out.now) (g.K.Sink.sent c.send.new.out) c.args.line.now c.line.new.out c.send.new.line (line_of guest_names e) (line_room guest_names e) c.requires.buffer appends sent empty memory)
 
 pub returns-clause-failed : goal.returns-clause-failed
 returns-clause-failed g c = λ e is.
     let appends = appended c.args.names.now e c.args.line.now c.line.new.out c.requires.named (at-ok c.line.result c.unwrap.result _ c.unwrap.ensures (c.line.ensures.ok e is)) in
     on-err c.send.result _ _ c.send.ensures.failed
-        (λ front. line-front (g.K.Sink.sent c.args.out.now) (g.K.Sink.sent c.send.new.out) c.args.line.now c.line.new.out (line_of guest_names e) (line_room guest_names e) (g.K.Sink.faults c.args.out.now) (g.K.Sink.faults c.send.new.out) appends front)
+    (λ front. line-front (g.K.Sink.sent c.args.out.now) (g.K.Sink.sent c.send.new.out) c.args.line.now c.line.new.out (line_of guest_names e) (line_room guest_names e) (g.K.Sink.faults c.args.out.now) (g.K.Sink.faults c.send.new.out) appends front)

@@ -6,4 +6,5 @@ abbrev pub invariant-loop-op : goal.invariant-loop-op
 invariant-loop-op l = record {
   entries : l.room.entries + entries_for (drop l.op-index l.ops) ≡ entries_for l.ops;
   bytes : l.room.bytes + bytes_for (drop l.op-index l.ops) ≡ bytes_for l.ops;
-  pieces : HaveNumbers (drop l.op-index l.ops) → HaveNumbers l.ops }
+  pieces : HaveNumbers (drop l.op-index l.ops) → HaveNumbers l.ops;
+}

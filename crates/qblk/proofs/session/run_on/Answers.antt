@@ -31,7 +31,7 @@ returns-in-Ok-made g c =
     let files1 : S.files c.read_trace_file.new.store ≡ old.files = c.in-Ok.ensures.files in
     let files2 : S.files c.open_image.new.store ≡ old.files = c.in-Ok-open_image.ensures.files ∙ files1 in
     let opened1 : S.opened c.open_image.new.store ≡ old.opened ++ record { name = c.args.image.now; faults = D.faults dev; returned = None } ∷ [] =
-        c.in-Ok-open_image.ensures.opened ∙ ap (λ (os : List Opened). os ++ record { name = c.args.image.now; faults = D.faults dev; returned = None } ∷ []) c.in-Ok.ensures.opened in
+    c.in-Ok-open_image.ensures.opened ∙ ap (λ (os : List Opened). os ++ record { name = c.args.image.now; faults = D.faults dev; returned = None } ∷ []) c.in-Ok.ensures.opened in
     let P : Option (List File) → Type 0 = λ fs. IsDeviceOf fs c.args.image.now d.content d.capacity d.is_flushed in
     let device = subst P files1 c.in-Ok-open_image.ensures.device in
     let made = rw c.in-Ok-made.is at c.make_run-made.ensures.made in
@@ -58,7 +58,7 @@ returns-in-Err-made g c =
     let files1 : S.files c.read_trace_file.new.store ≡ old.files = c.in-Ok.ensures.files in
     let files2 : S.files c.open_image.new.store ≡ old.files = c.in-Ok-open_image.ensures.files ∙ files1 in
     let opened1 : S.opened c.open_image.new.store ≡ old.opened ++ record { name = c.args.image.now; faults = D.faults dev; returned = None } ∷ [] =
-        c.in-Ok-open_image.ensures.opened ∙ ap (λ (os : List Opened). os ++ record { name = c.args.image.now; faults = D.faults dev; returned = None } ∷ []) c.in-Ok.ensures.opened in
+    c.in-Ok-open_image.ensures.opened ∙ ap (λ (os : List Opened). os ++ record { name = c.args.image.now; faults = D.faults dev; returned = None } ∷ []) c.in-Ok.ensures.opened in
     let P : Option (List File) → Type 0 = λ fs. IsDeviceOf fs c.args.image.now d.content d.capacity d.is_flushed in
     let device = subst P files1 c.in-Ok-open_image.ensures.device in
     let stop = rw c.in-Err-made.is at c.make_run-made.ensures.stop in

@@ -6,5 +6,5 @@ use Rattle.qblk.proofs.words.io_names.Goals as goal
 pub returns-then-names_file-2 : goal.returns-then-names_file-2
 returns-then-names_file-2 c =
     is-io c.args.words.now c.io-item.result c.raw-item.result c.image-item.result c.trace-item.result c.as_str-image.result.now c.as_str-trace.result.now (omega arith) c.io-item.is c.raw-item.is c.image-item.is c.trace-item.is
-        ((bytes_eq-Decides _ _).0 (sym c.is_word.ensures ∙ c.if-is_word.true)) ((bytes_eq-Decides _ _).0 (sym c.is_word-then-is_word.ensures ∙ c.if-is_word-2.true))
-        c.as_str-image.ensures c.as_str-trace.ensures (sym c.names_file.ensures ∙ c.if-names_file.true) (sym c.names_file-then-names_file.ensures ∙ c.if-names_file-2.true)
+    ((bytes_eq-Decides _ _).0 (sym c.is_word.ensures ∙ c.if-is_word.true)) ((bytes_eq-Decides _ _).0 (sym c.is_word-then-is_word.ensures ∙ c.if-is_word-2.true))
+    c.as_str-image.ensures c.as_str-trace.ensures (sym c.names_file.ensures ∙ c.if-names_file.true) (sym c.names_file-then-names_file.ensures ∙ c.if-names_file-2.true)
