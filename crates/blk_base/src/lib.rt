@@ -10,6 +10,8 @@ mod names;
 mod sink;
 mod span;
 mod store;
+#[cfg(test)]
+mod tests;
 mod text;
 
 pub use device::{DevFault, Device, Stop, WriteStop};

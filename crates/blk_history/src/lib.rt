@@ -7,6 +7,8 @@ mod event;
 mod history;
 mod line;
 mod rows;
+#[cfg(test)]
+mod tests;
 
 pub use asked::Asked;
 pub use entry::{Entry, Refused};
