@@ -1,6 +1,6 @@
 -- What a contract sees of drained sections: for each guest how many drains hold it, and its request in
 -- flight.
-use Rattle.std.specs.Prelude.{◌≡◌, ℕ, ◌+◌, ◌-◌, ◌^◌, ◌↔◌, min, List, [], ◌∷◌, slice_index_or, slice_set, Contains, Option, Some, None}
+use Rattle.std.specs.Prelude.{◌≡◌, ℕ, ◌+◌, ◌-◌, ◌^◌, min, List, [], ◌∷◌, slice_index_or, slice_set, Contains, Option, Some, None}
 use Rattle.blk_drain.specs.declared.drains.GuestRow.{GuestRow}
 use Rattle.blk_drain.specs.declared.drains.Readiness.{Readiness}
 use Rattle.blk_drain.specs.declared.drains.Readiness.TheVariants.{Drained, Waiting}

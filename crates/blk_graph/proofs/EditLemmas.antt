@@ -1,17 +1,14 @@
 -- What the edited lists contain, and that they keep the graph without cycles.
-use Rattle.std.proofs.Common.{◌≡◌, ◌≢◌, ◌⊎◌, ℕ, zero, suc, ◌+◌, ◌-◌, ◌<◌, ◌≤◌, List, [], ◌∷◌, ◌++◌, length, map, refl, sym, ◌∙◌, ap, inl, inr, arith, Bool, true, false, cond, eqb, Option, Some, None}
-use Rattle.std.specs.Prelude.{nat_eq, ◌==◌, ◌&&◌, not, if◌then◌else◌}
+use Rattle.std.proofs.Common.{◌≡◌, ◌≢◌, ◌⊎◌, ℕ, ◌+◌, ◌≤◌, List, [], ◌∷◌, length, map, refl, ◌∙◌, ap, inl, inr, arith, Bool, true, false, cond, Option, Some, None}
+use Rattle.std.specs.Prelude.{◌==◌, ◌&&◌, not}
 use Rattle.std.specs.List.{Contains, filter, find}
-use Rattle.std.proofs.lemmas.Bool.{ne_eqb, eqb-true, eqb-false, eq-eqb}
+use Rattle.std.proofs.lemmas.Bool.{eqb-true, eqb-false}
 use Rattle.std.proofs.lemmas.List.{length-append, length-map}
-use Rattle.std.proofs.lemmas.List.Elements.{Contains-append_cases, Contains-append_left, Contains-append_right, Contains-push}
 use Rattle.blk_graph.specs.declared.edge.Edge.{Edge}
 use Rattle.blk_graph.specs.declared.edge.Perms.{Perms}
 use Rattle.blk_graph.specs.declared.edge.Parent.{Parent}
-use Rattle.blk_graph.specs.declared.edge.Parent.TheVariants.{Node, Guest, Job}
-use Rattle.blk_graph.specs.Edits.{takes_place, with_edge, with_child, stays, replaced, with_replaced, moved, filter_edge, with_filter, is_filters, but_filters, without_filter, without_parent}
-use Rattle.blk_graph.specs.Paths.{IsPath, Reaches, IsAcyclic, HasCycle}
-use Rattle.blk_graph.proofs.Members.{Contains-here, Contains-there, Contains-cases, Contains-nil, Contains-map, map-Contains, Contains-filter, find-Some}
+use Rattle.blk_graph.specs.Edits.{takes_place, with_edge, with_child, stays, replaced, moved, filter_edge, with_filter, is_filters, but_filters, without_filter}
+use Rattle.blk_graph.proofs.Members.{Contains-here, Contains-there, Contains-cases, Contains-map, Contains-filter, find-Some}
 
 -- an edge of the list with a new edge is that edge, or was there
 pub Contains-with_edge : (new : Edge) (edges : List Edge) (e : Edge) → Contains (with_edge new edges) e

@@ -1,21 +1,20 @@
 -- Filters: set above a node, and taken away again.
-use Rattle.std.proofs.Common.{◌≡◌, ◌≢◌, ◌⊎◌, ℕ, zero, suc, ◌+◌, ◌<◌, ◌≤◌, List, [], ◌∷◌, ◌++◌, length, map, refl, sym, ◌∙◌, ap, subst, inl, inr, arith, Bool, true, false, cond, Option, Some, None, length-append}
-use Rattle.std.specs.Prelude.{◌&&◌, ◌||◌, not, ◌==◌}
+use Rattle.std.proofs.Common.{◌≡◌, ◌≢◌, ◌⊎◌, ℕ, List, [], ◌∷◌, map, refl, sym, ◌∙◌, ap, inl, inr, cond, Option, Some, None}
+use Rattle.std.specs.Prelude.{not, ◌==◌}
 use Rattle.std.specs.List.{Contains, filter, find}
-use Rattle.std.proofs.lemmas.Bool.{ne_eqb, eqb-true, eqb-false, eq-eqb}
-use Rattle.std.proofs.lemmas.List.Elements.{Contains-append_cases, Contains-append_left, Contains-append_right, Contains-push_cases}
+use Rattle.std.proofs.lemmas.Bool.{ne_eqb, eq-eqb}
+use Rattle.std.proofs.lemmas.List.Elements.{Contains-push_cases}
 use Rattle.blk_graph.specs.declared.edge.Edge.{Edge}
 use Rattle.blk_graph.specs.declared.edge.Perms.{Perms}
-use Rattle.blk_graph.specs.declared.edge.Parent.{Parent}
-use Rattle.blk_graph.specs.declared.edge.Parent.TheVariants.{Node, Guest, Job}
+use Rattle.blk_graph.specs.declared.edge.Parent.TheVariants.{Node}
 use Rattle.blk_graph.specs.declared.edge.Role.TheVariants.{Filtered}
 use Rattle.blk_graph.specs.Edges.{same_parent, same_role}
-use Rattle.blk_graph.specs.Edits.{with_child, IsLone, moved, filter_edge, with_filter, is_filters, without_filter, without_parent}
+use Rattle.blk_graph.specs.Edits.{IsLone, moved, filter_edge, with_filter, is_filters, without_filter}
 use Rattle.blk_graph.specs.Paths.{IsPath, Reaches, IsAcyclic}
-use Rattle.blk_graph.proofs.Members.{Contains-here, Contains-there, Contains-cases, Contains-nil, Contains-map, Contains-filter, find-Some}
-use Rattle.blk_graph.proofs.PathLemmas.{Reaches-edge, Reaches-joined, IsAcyclic-covered, IsAcyclic-fewer}
+use Rattle.blk_graph.proofs.Members.{Contains-map, Contains-filter, find-Some}
+use Rattle.blk_graph.proofs.PathLemmas.{Reaches-edge, Reaches-joined, IsAcyclic-covered}
 use Rattle.blk_graph.proofs.EditLemmas.{moved-parent, moved-cases}
-use Rattle.blk_graph.proofs.CycleLemmas.{and-left, and-right, same_parent-true}
+use Rattle.blk_graph.proofs.CycleLemmas.{and-left, same_parent-true}
 
 -- where each node stood before the filter was set
 abbrev pub behind : ℕ → ℕ → ℕ → ℕ

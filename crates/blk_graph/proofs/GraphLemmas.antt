@@ -1,23 +1,22 @@
 -- What is true of every graph stays true at each edit.
-use Rattle.std.proofs.Common.{◌≡◌, ◌≢◌, ◌⊎◌, ℕ, zero, suc, ◌+◌, ◌-◌, ◌<◌, ◌≤◌, List, [], ◌∷◌, ◌++◌, length, map, refl, sym, ◌∙◌, ap, inl, inr, arith, Bool, true, false, cond, Option, Some, None, Result, Ok, Err, length-append}
-use Rattle.std.specs.Prelude.{OnOk, OnErr, not, ◌==◌}
+use Rattle.std.proofs.Common.{◌≡◌, ℕ, ◌-◌, ◌≤◌, List, [], ◌∷◌, length, map, refl, sym, ◌∙◌, ap, inl, inr, arith, Bool, Option, Result, Ok, Err}
+use Rattle.std.specs.Prelude.{OnOk, OnErr, not}
 use Rattle.blk_graph.specs.Edges.{same_parent}
-use Rattle.std.specs.List.{Contains, filter}
+use Rattle.std.specs.List.{Contains}
 use Rattle.std.proofs.lemmas.List.Elements.{Contains-push_cases}
 use Rattle.blk_base.specs.Written.{Written}
 use Rattle.slab.specs.Slab.{Slab}
 use Rattle.blk_graph.specs.declared.edge.Edge.{Edge}
 use Rattle.blk_graph.specs.declared.edge.Perms.{Perms}
 use Rattle.blk_graph.specs.declared.edge.Parent.{Parent}
-use Rattle.blk_graph.specs.declared.edge.Parent.TheVariants.{Node, Guest, Job}
 use Rattle.blk_graph.specs.declared.stop.GraphStop.{GraphStop}
 use Rattle.blk_graph.specs.Edits.{with_edge, with_replaced, replaced, moved, with_filter, filter_edge, without_filter, without_parent}
 use Rattle.blk_graph.specs.Graph.{NodeRow, Graph, ids, HasNode, HasParent, IsSound, PathsAreShort}
-use Rattle.blk_graph.specs.Layout.{row_of, graph_of, IsKept}
-use Rattle.blk_graph.specs.Paths.{IsPath, Reaches, IsAcyclic}
+use Rattle.blk_graph.specs.Layout.{graph_of, IsKept}
+use Rattle.blk_graph.specs.Paths.{IsAcyclic}
 use Rattle.blk_graph.specs.Judged.{IsJudged}
-use Rattle.blk_graph.proofs.Members.{Contains-map, Contains-filter, Contains-cases, Contains-here, Contains-there, Contains-nil, map-Contains}
-use Rattle.blk_graph.proofs.EditLemmas.{Contains-with_edge, length-with_edge, moved-parent, moved-cases, replaced-parent, replaced-cases, HasOldEnds, HasOldEnds-without_filter, length-filter-le, length-without_filter}
+use Rattle.blk_graph.proofs.Members.{Contains-map, Contains-filter}
+use Rattle.blk_graph.proofs.EditLemmas.{Contains-with_edge, moved-parent, moved-cases, replaced-parent, replaced-cases, HasOldEnds-without_filter, length-filter-le, length-without_filter}
 use Rattle.blk_graph.proofs.PathLemmas.{IsAcyclic-fewer}
 use Rattle.blk_graph.proofs.FilterLemmas.{IsAcyclic-without_filter}
 use Rattle.blk_graph.proofs.LengthLemmas.{length-IsPath}

@@ -1,14 +1,13 @@
 -- Taking away the filter that was set gives back the list.
-use Rattle.std.proofs.Common.{◌≡◌, ◌≢◌, ◌⊎◌, ℕ, ◌<◌, length, get_or, List, [], ◌∷◌, ◌++◌, map, refl, sym, ◌∙◌, ap, subst, inl, inr, Bool, true, false, cond, Option, Some, None}
-use Rattle.std.specs.Prelude.{◌&&◌, ◌||◌, not, ◌==◌}
+use Rattle.std.proofs.Common.{◌≡◌, ◌≢◌, ℕ, ◌<◌, length, get_or, List, [], ◌∷◌, ◌++◌, map, refl, sym, ◌∙◌, ap, inl, inr, Bool, true, false, Option, Some, None}
+use Rattle.std.specs.Prelude.{◌||◌, not, ◌==◌}
 use Rattle.std.specs.List.{Contains, filter, find}
-use Rattle.std.proofs.lemmas.Bool.{ne_eqb, eqb-true, eqb-false, eq-eqb}
+use Rattle.std.proofs.lemmas.Bool.{eqb-true, eq-eqb}
 use Rattle.blk_graph.specs.declared.edge.Edge.{Edge}
 use Rattle.blk_graph.specs.declared.edge.Perms.{Perms}
 use Rattle.blk_graph.specs.declared.edge.Parent.{Parent}
 use Rattle.blk_graph.specs.declared.edge.Parent.TheVariants.{Node, Guest, Job}
-use Rattle.blk_graph.specs.declared.edge.Role.TheVariants.{Filtered}
-use Rattle.blk_graph.specs.Edges.{same_parent, same_role}
+use Rattle.blk_graph.specs.Edges.{same_parent}
 use Rattle.blk_graph.specs.Edits.{with_child, IsLone, moved, filter_edge, with_filter, is_filters, without_filter, touches}
 use Rattle.blk_graph.proofs.Members.{Contains-here, Contains-there, Contains-map}
 use Rattle.blk_graph.proofs.EditLemmas.{moved-parent, moved-cases}

@@ -1,12 +1,11 @@
 -- The three ways in which an edited list is judged.
-use Rattle.std.proofs.Common.{◌≡◌, ◌↔◌, ℕ, List, Option, Some, None, Result, Ok, Err, IsOk, refl, sym, ◌∙◌}
+use Rattle.std.proofs.Common.{◌≡◌, ℕ, List, Some, None, Ok, Err, refl, sym, ◌∙◌}
 use Rattle.std.specs.List.{Contains}
 use Rattle.blk_graph.specs.declared.edge.Edge.{Edge}
 use Rattle.blk_graph.specs.declared.edge.Conflict.{Conflict as Pair}
-use Rattle.blk_graph.specs.declared.stop.GraphStop.{GraphStop}
 use Rattle.blk_graph.specs.declared.stop.GraphStop.TheVariants.{Cycle, Conflict}
-use Rattle.blk_graph.specs.Paths.{Reaches, IsAcyclic, HasCycle}
-use Rattle.blk_graph.specs.Rule.{KeepsPermissions, IsBroken, first_conflict}
+use Rattle.blk_graph.specs.Paths.{Reaches, IsAcyclic}
+use Rattle.blk_graph.specs.Rule.{first_conflict}
 use Rattle.blk_graph.specs.Judged.{IsJudged}
 use Rattle.blk_graph.proofs.RuleLemmas.{KeepsPermissions-from_None, None-from_KeepsPermissions}
 

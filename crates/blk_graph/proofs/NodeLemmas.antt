@@ -1,29 +1,28 @@
 -- Nodes are named, added and removed.
-use Rattle.std.proofs.Common.{◌≡◌, ◌≢◌, ◌⊎◌, ℕ, zero, suc, ◌+◌, ◌-◌, ◌<◌, ◌≤◌, List, [], ◌∷◌, ◌++◌, length, map, refl, sym, ◌∙◌, ap, inl, inr, arith, Bool, true, false, cond, Option, Some, None, length-append}
-use Rattle.std.specs.Prelude.{not, ◌==◌, nat_eq, IfSome, IfNone, IsSome, is_some}
+use Rattle.std.proofs.Common.{◌≡◌, ◌≢◌, ◌⊎◌, ℕ, ◌+◌, ◌≤◌, List, [], ◌∷◌, ◌++◌, length, map, refl, sym, ◌∙◌, ap, inl, inr, arith, Bool, true, false, cond, Option, Some, None, length-append}
+use Rattle.std.specs.Prelude.{not, ◌==◌, nat_eq, IfSome, IfNone, is_some}
 use Rattle.std.specs.List.{Contains, filter, find, IsDistinct, AllByRecursion, list_any}
 use Rattle.std.specs.Option.{option_map}
 use Rattle.std.specs.Cmp.{nat_eq_equiv, unsigned_Decides}
-use Rattle.std.specs.Set.{is_member}
 use Rattle.std.proofs.lemmas.Bool.{ne_eqb, eqb-true, eqb-false, eq-eqb}
 use Rattle.std.proofs.lemmas.List.{map-append, length-map}
-use Rattle.std.proofs.lemmas.List.Elements.{Contains-push_cases, Contains-append_left, Contains-append_right, Contains-push}
+use Rattle.std.proofs.lemmas.List.Elements.{Contains-push_cases, Contains-append_left}
 use Rattle.std.proofs.lemmas.Map.Keys.{IsDistinct-push, IsDistinct-cons, IsDistinct-head, IsDistinct-tail}
 use Rattle.std.proofs.lemmas.Map.Made.{is_member-Decides}
 use Rattle.blk_base.specs.Written.{Written}
-use Rattle.slab.specs.Slab.{Slab, get, ContainsKey, slab_len, Updates}
+use Rattle.slab.specs.Slab.{Slab, get, slab_len, Updates}
 use Rattle.blk_graph.specs.declared.edge.Edge.{Edge}
 use Rattle.blk_graph.specs.declared.edge.Parent.{Parent}
 use Rattle.blk_graph.specs.declared.edge.Parent.TheVariants.{Node, Guest, Job}
 use Rattle.blk_graph.specs.Edges.{same_parent}
 use Rattle.blk_graph.specs.Edits.{without_parent}
-use Rattle.blk_graph.specs.Graph.{NodeRow, Graph, ids, HasNode, HasParent, HasName, IsSound}
+use Rattle.blk_graph.specs.Graph.{NodeRow, Graph, HasNode, HasParent, HasName}
 use Rattle.blk_graph.specs.Judged.{first_parent, without_node}
 use Rattle.blk_graph.specs.Layout.{name_of, row_of, graph_of, HasNames, IsKept}
 use Rattle.blk_graph.proofs.Members.{Contains-here, Contains-there, Contains-cases, Contains-nil, Contains-map, map-Contains, Contains-filter}
 use Rattle.blk_graph.proofs.InverseLemmas.{same_parent-refl}
 use Rattle.blk_graph.proofs.RuleLemmas.{find-None}
-use Rattle.blk_graph.proofs.GraphLemmas.{ids-graph_of, length-ids, IsKept-without_parent}
+use Rattle.blk_graph.proofs.GraphLemmas.{ids-graph_of}
 
 distinct-nil : IsDistinct nat_eq []
 unfolding IsDistinct

@@ -1,11 +1,9 @@
 -- Paths: joined, covered by others, and cut where they come to a node.
-use Rattle.std.proofs.Common.{◌≡◌, ◌≢◌, ◌⊎◌, ℕ, zero, suc, ◌+◌, ◌-◌, ◌<◌, ◌≤◌, List, [], ◌∷◌, ◌++◌, length, map, refl, sym, ◌∙◌, ap, subst, inl, inr, arith, cond, Bool, true, false, eqb}
-use Rattle.std.specs.List.{Contains, IsDistinct, AllByRecursion}
+use Rattle.std.proofs.Common.{◌≡◌, ◌⊎◌, ℕ, List, [], ◌∷◌, ◌++◌, refl, sym, inl, inr}
+use Rattle.std.specs.List.{Contains}
 use Rattle.blk_graph.specs.declared.edge.Edge.{Edge}
-use Rattle.blk_graph.specs.declared.edge.Parent.{Parent}
-use Rattle.blk_graph.specs.declared.edge.Parent.TheVariants.{Node, Guest, Job}
-use Rattle.blk_graph.specs.Paths.{IsPath, Reaches, IsAcyclic, HasCycle}
-use Rattle.blk_graph.proofs.Members.{Contains-here, Contains-there, Contains-cases, Contains-nil}
+use Rattle.blk_graph.specs.declared.edge.Parent.TheVariants.{Node}
+use Rattle.blk_graph.specs.Paths.{IsPath, Reaches, IsAcyclic}
 
 -- two paths, one after the other
 pub IsPath-append : (edges : List Edge) (a b c : ℕ) (p q : List Edge)

@@ -1,6 +1,6 @@
 -- The first conflict is none exactly where the permission rule holds.
-use Rattle.std.proofs.Common.{◌≡◌, ◌≢◌, ◌⊎◌, ℕ, zero, suc, ◌+◌, ◌<◌, List, [], ◌∷◌, length, get_or, refl, sym, ◌∙◌, ap, inl, inr, arith, Bool, true, false, cond, Option, Some, None}
-use Rattle.std.specs.Prelude.{◌&&◌, not, ◌==◌, IsTrue, ◌↔◌, IsNone, IfSome, is_some}
+use Rattle.std.proofs.Common.{◌≡◌, ◌≢◌, ◌⊎◌, ℕ, zero, suc, ◌+◌, List, [], ◌∷◌, refl, sym, ◌∙◌, ap, inl, inr, arith, Bool, true, false, cond, Option, Some, None}
+use Rattle.std.specs.Prelude.{◌&&◌, not, ◌==◌, ◌↔◌, IsNone, IfSome, is_some}
 use Rattle.std.specs.Option.{option_map}
 use Rattle.std.specs.List.{Contains, find, slice_get}
 use Rattle.std.proofs.lemmas.Bool.{ne_eqb, eqb-true, eqb-false, eq-eqb}
@@ -11,7 +11,7 @@ use Rattle.blk_graph.specs.declared.edge.Perms.{Perms}
 use Rattle.blk_graph.specs.declared.edge.Perm.{Perm}
 use Rattle.blk_graph.specs.declared.edge.Perm.TheVariants.{Read, Write, Unchanged}
 use Rattle.blk_graph.specs.Edges.{holds, IsWithin}
-use Rattle.blk_graph.specs.Rule.{KeepsPermissions, GuestsWriteAlone, IsBroken, AllShare, IsCalm, EachShares, RestIsCalm, first_denied, first_answer, first_answer_from, conflict_on, conflict_between, conflict_of, conflict_at, first_conflict}
+use Rattle.blk_graph.specs.Rule.{KeepsPermissions, GuestsWriteAlone, IsBroken, AllShare, IsCalm, first_denied, first_answer, first_answer_from, conflict_on, conflict_between, conflict_of, conflict_at, first_conflict}
 use Rattle.blk_graph.proofs.Members.{Contains-here, Contains-there, Contains-cases, Contains-nil, find-Some}
 use Rattle.blk_graph.proofs.CycleLemmas.{and-left, and-right}
 

@@ -1,5 +1,5 @@
 -- Who makes an edge, what it is for, and what it asks and shares.
-use Rattle.std.specs.Prelude.{◌≡◌, ℕ, ◌==◌, Bool, true, false, IsTrue}
+use Rattle.std.specs.Prelude.{◌==◌, Bool, true, false, IsTrue}
 use Rattle.blk_graph.specs.declared.edge.Parent.{Parent}
 use Rattle.blk_graph.specs.declared.edge.Parent.TheVariants.{Node, Guest, Job}
 use Rattle.blk_graph.specs.declared.edge.Role.{Role}

@@ -1,12 +1,12 @@
 -- What an edit of the edges answers.
-use Rattle.std.specs.Prelude.{◌≡◌, ◌↔◌, ℕ, List, Result, Ok, Err, Option, Some, None, IsOk, IfErr, map, filter, find, not, ◌==◌}
+use Rattle.std.specs.Prelude.{◌≡◌, ◌↔◌, ℕ, List, Result, Err, Option, Some, IsOk, IfErr, filter, find, not, ◌==◌}
 use Rattle.std.specs.Option.{option_map}
 use Rattle.blk_graph.specs.declared.edge.Edge.{Edge}
 use Rattle.blk_graph.specs.declared.edge.Conflict.{Conflict as Pair}
 use Rattle.blk_graph.specs.declared.edge.Parent.{Parent}
 use Rattle.blk_graph.specs.declared.stop.GraphStop.{GraphStop}
-use Rattle.blk_graph.specs.declared.stop.GraphStop.TheVariants.{NameTaken, Cycle, InUse, Conflict, TooManyNodes, NoMemory}
-use Rattle.blk_graph.specs.Graph.{Graph, NodeRow, ids}
+use Rattle.blk_graph.specs.declared.stop.GraphStop.TheVariants.{NameTaken, Cycle, Conflict, TooManyNodes}
+use Rattle.blk_graph.specs.Graph.{NodeRow}
 use Rattle.blk_graph.specs.Paths.{HasCycle, IsAcyclic}
 use Rattle.blk_graph.specs.Rule.{KeepsPermissions, first_conflict}
 

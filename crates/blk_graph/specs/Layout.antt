@@ -1,6 +1,6 @@
 -- How a graph keeps its nodes: their names in a slab by key, the keys in order of addition. No public
 -- clause cites this module.
-use Rattle.std.specs.Prelude.{◌≡◌, ℕ, ◌≤◌, List, [], length, map, Contains, Option, Some, None}
+use Rattle.std.specs.Prelude.{◌≡◌, ℕ, ◌≤◌, List, [], length, map, Contains, Some, None}
 use Rattle.blk_base.specs.Written.{Written}
 use Rattle.slab.specs.Slab.{Slab, get, ContainsKey, slab_len}
 use Rattle.blk_graph.specs.declared.edge.Edge.{Edge}

@@ -1,4 +1,5 @@
-//! The block graph.
+//! The block graph: nodes by name, and what each parent (a node, a guest or a job) asks of a node and lets
+//! others ask of it.
 #![tactic(auto)]
 
 mod edge;

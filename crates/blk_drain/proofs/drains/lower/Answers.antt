@@ -1,6 +1,6 @@
-use Rattle.std.proofs.Common.{◌≡◌, ◌<◌, ℕ, List, length, get_or, take, refl, sym, ◌∙◌, arith, Contains}
+use Rattle.std.proofs.Common.{◌≡◌, ◌<◌, ℕ, List, length, get_or, take, refl, arith}
 use Rattle.std.proofs.lemmas.List.{get_or_default}
-use Rattle.blk_drain.specs.Drains.{idle, Counted, drain_count, fallen}
+use Rattle.blk_drain.specs.Drains.{fallen}
 use Rattle.blk_drain.proofs.DrainLemmas.{Counted-push, fresh_at, take_next}
 use Rattle.blk_drain.proofs.drains.lower.Goals as goal
 

@@ -1,5 +1,5 @@
-use Rattle.std.proofs.Common.{◌≡◌, ◌+◌, ◌≤◌, ◌<◌, ◌++◌, drop, map, length, vec_capacity, vec_len}
-use Rattle.blk_graph.specs.Edits.{without_parent, but_filters}
+use Rattle.std.proofs.Common.{◌≡◌, ◌≤◌, ◌++◌, drop, vec_capacity, vec_len}
+use Rattle.blk_graph.specs.Edits.{without_parent}
 use Rattle.blk_graph.proofs.edit.drop_parent.Given as goal
 
 abbrev pub invariant-loop-edge : goal.invariant-loop-edge

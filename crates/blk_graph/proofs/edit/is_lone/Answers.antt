@@ -1,4 +1,4 @@
-use Rattle.std.proofs.Common.{◌≡◌, sym, ◌∙◌}
+use Rattle.std.proofs.Common.{sym, ◌∙◌}
 use Rattle.blk_graph.proofs.InverseLemmas.{touched_not_lone}
 use Rattle.blk_graph.proofs.edit.is_lone.Goals as goal
 

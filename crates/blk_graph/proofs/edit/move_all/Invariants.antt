@@ -1,5 +1,5 @@
-use Rattle.std.proofs.Common.{◌≡◌, ◌+◌, ◌≤◌, ◌<◌, ◌++◌, drop, map, length, vec_capacity, vec_len}
-use Rattle.blk_graph.specs.Edits.{moved, but_filters}
+use Rattle.std.proofs.Common.{◌≡◌, ◌≤◌, ◌++◌, drop, map, vec_capacity, vec_len}
+use Rattle.blk_graph.specs.Edits.{moved}
 use Rattle.blk_graph.proofs.edit.move_all.Given as goal
 
 abbrev pub invariant-loop-edge : goal.invariant-loop-edge

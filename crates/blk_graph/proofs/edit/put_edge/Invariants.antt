@@ -1,4 +1,4 @@
-use Rattle.std.proofs.Common.{◌≡◌, ◌+◌, ◌≤◌, ◌<◌, ◌++◌, drop, length, vec_capacity, vec_len, true, false, cond}
+use Rattle.std.proofs.Common.{◌≡◌, ◌++◌, drop, vec_capacity, vec_len, cond}
 use Rattle.blk_graph.specs.Edits.{with_edge}
 use Rattle.blk_graph.proofs.edit.put_edge.Given as goal
 

@@ -1,5 +1,5 @@
-use Rattle.std.proofs.Common.{◌≡◌, ◌+◌, ◌≤◌, ◌<◌, ◌++◌, drop, map, length, vec_capacity, vec_len}
-use Rattle.blk_graph.specs.Edits.{replaced, but_filters}
+use Rattle.std.proofs.Common.{◌≡◌, ◌≤◌, ◌++◌, drop, map, vec_capacity, vec_len}
+use Rattle.blk_graph.specs.Edits.{replaced}
 use Rattle.blk_graph.proofs.edit.replace.Given as goal
 
 abbrev pub invariant-loop-edge : goal.invariant-loop-edge

@@ -1,4 +1,4 @@
-use Rattle.std.proofs.Common.{◌≡◌, ◌+◌, ◌≤◌, ◌<◌, ◌++◌, drop, map, length, vec_capacity, vec_len}
+use Rattle.std.proofs.Common.{◌≡◌, ◌≤◌, ◌++◌, drop, map, vec_capacity, vec_len}
 use Rattle.blk_graph.specs.Edits.{moved, but_filters}
 use Rattle.blk_graph.proofs.edit.unfilter.Given as goal
 

@@ -1,6 +1,6 @@
-use Rattle.std.proofs.Common.{◌≡◌, sym, ◌∙◌, false, true, Bool}
-use Rattle.blk_graph.proofs.JudgeLemmas.{IsJudged-cycle, IsJudged-conflict, IsJudged-ok}
-use Rattle.blk_graph.specs.Paths.{Reaches, IsAcyclic}
+use Rattle.std.proofs.Common.{◌≡◌, sym, ◌∙◌, true}
+use Rattle.blk_graph.proofs.JudgeLemmas.{IsJudged-conflict, IsJudged-ok}
+use Rattle.blk_graph.specs.Paths.{Reaches}
 use Rattle.blk_graph.proofs.judge.judge.Goals as goal
 
 pub returns-in-None : goal.returns-in-None

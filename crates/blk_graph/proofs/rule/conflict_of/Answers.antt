@@ -1,6 +1,4 @@
-use Rattle.std.proofs.Common.{◌≡◌, sym, ◌∙◌, ap, None}
-use Rattle.std.specs.Prelude.{not}
-use Rattle.blk_graph.specs.Rule.{first_denied, conflict_of}
+use Rattle.std.proofs.Common.{sym, ◌∙◌}
 use Rattle.blk_graph.proofs.RuleLemmas.{None-from_AllShare, None-from_other_child, None-from_is_none, is_some_from_is_none}
 use Rattle.blk_graph.proofs.rule.conflict_of.Goals as goal
 use Rattle.blk_graph.proofs.rule.conflict_of.Goals.{then-ne-via-then-ne, then-ne-via-else-ne+then-is_none}

@@ -1,6 +1,4 @@
-use Rattle.std.proofs.Common.{◌≡◌, true, false, ℕ, length, sym, ◌∙◌, ap, get_or, refl}
-use Rattle.blk_graph.specs.Paths.{Reaches}
-use Rattle.blk_graph.specs.Walk.{is_marked, AllReached, IsClosed, mark_count}
+use Rattle.std.proofs.Common.{refl}
 use Rattle.blk_graph.proofs.WalkLemmas.{unmarked_at_first, marked_from_Reaches}
 use Rattle.blk_graph.proofs.walk.reaches.Goals as goal
 

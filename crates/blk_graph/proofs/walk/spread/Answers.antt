@@ -1,8 +1,6 @@
-use Rattle.std.proofs.Common.{◌≡◌, ◌<◌, ◌≤◌, true, false, Bool, length, ℕ, ◌+◌, slice_index_or, get_or, set, arith, below_more, sym, ◌∙◌}
-use Rattle.blk_graph.specs.declared.edge.Edge.{Edge}
-use Rattle.blk_graph.specs.Paths.{Reaches}
-use Rattle.blk_graph.specs.Walk.{leads_on, is_marked, AllReached, IsClosed, mark_count}
-use Rattle.blk_graph.proofs.WalkLemmas.{AllReached-set, Reaches-leads_on, mark_count-set, Marked-leads_on, below_next}
+use Rattle.std.proofs.Common.{◌≡◌, ◌<◌, false, length, ◌+◌, arith, sym, ◌∙◌}
+use Rattle.blk_graph.specs.Walk.{leads_on, mark_count}
+use Rattle.blk_graph.proofs.WalkLemmas.{Marked-leads_on, below_next}
 use Rattle.blk_graph.proofs.walk.spread.Goals as goal
 use Rattle.blk_graph.proofs.walk.spread.Goals.{then-leads_on, else-leads_on}
 

@@ -1,4 +1,4 @@
-use Rattle.std.proofs.Common.{◌≡◌, sym, ◌∙◌, ap, drop, List, [], refl, length, arith, ◌≤◌, ℕ}
+use Rattle.std.proofs.Common.{◌≡◌, refl}
 use Rattle.blk_drain.specs.declared.drains.Readiness.TheVariants.{Drained}
 use Rattle.blk_drain.specs.Drains.{readiness}
 use Rattle.blk_drain.proofs.DrainLemmas.{none_in_flight, drained_at_end}

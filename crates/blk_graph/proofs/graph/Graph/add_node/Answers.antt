@@ -1,7 +1,6 @@
-use Rattle.std.proofs.Common.{◌≡◌, ◌≢◌, ap, sym, ◌∙◌, arith, length, List, ℕ, refl, ◌++◌, ◌∷◌, [], Option, Some, None, map}
-use Rattle.std.specs.Vec.{vec_len}
-use Rattle.blk_graph.specs.Graph.{Graph, HasName, HasNode, NodeRow}
-use Rattle.blk_graph.specs.Layout.{graph_of, row_of}
+use Rattle.std.proofs.Common.{◌≡◌, ◌≢◌, ap, sym, ◌∙◌, length, List, refl, ◌++◌, ◌∷◌, []}
+use Rattle.blk_graph.specs.Graph.{Graph, HasName, NodeRow}
+use Rattle.blk_graph.specs.Layout.{row_of}
 use Rattle.std.proofs.lemmas.List.{length-map}
 use Rattle.std.proofs.lemmas.List.Elements.{Contains-push}
 use Rattle.blk_graph.proofs.GraphLemmas.{ids-graph_of}

@@ -1,7 +1,6 @@
-use Rattle.std.proofs.Common.{◌≡◌, sym, ◌∙◌, Option, Some, None}
-use Rattle.blk_graph.specs.declared.edge.Conflict.{Conflict}
-use Rattle.blk_graph.specs.Graph.{ids, IsSound}
-use Rattle.blk_graph.specs.Rule.{KeepsPermissions, GuestsWriteAlone, IsBroken, first_conflict}
+use Rattle.std.proofs.Common.{◌≡◌, sym}
+use Rattle.blk_graph.specs.Graph.{ids}
+use Rattle.blk_graph.specs.Rule.{first_conflict}
 use Rattle.blk_graph.proofs.GraphLemmas.{ids-graph_of}
 use Rattle.blk_graph.proofs.RuleLemmas.{IsCheck, IsCheck-from_first}
 use Rattle.blk_graph.proofs.graph.Graph.check_perms.Goals as goal

@@ -1,4 +1,4 @@
-use Rattle.std.proofs.Common.{◌≡◌, sym}
+use Rattle.std.proofs.Common.{sym}
 use Rattle.blk_graph.proofs.GraphLemmas.{PathsAreShort-from_IsSound}
 use Rattle.blk_graph.proofs.graph.Graph.edges.Goals as goal
 

@@ -1,15 +1,14 @@
-use Rattle.std.proofs.Common.{◌≡◌, ℕ, List, length, sym, ◌∙◌, ap, arith, ◌≤◌, ◌<◌}
+use Rattle.std.proofs.Common.{◌≡◌, length, sym, ◌∙◌, ap, arith, ◌≤◌, ◌<◌}
 use Rattle.std.specs.Vec.{vec_capacity}
-use Rattle.blk_graph.specs.declared.edge.Edge.{Edge}
-use Rattle.blk_graph.specs.Edits.{with_filter, without_filter, IsLone}
-use Rattle.blk_graph.specs.Graph.{Graph, ids, HasNode, HasParent, IsSound}
-use Rattle.blk_graph.specs.Layout.{graph_of, IsKept}
+use Rattle.blk_graph.specs.Edits.{with_filter, without_filter}
+use Rattle.blk_graph.specs.Graph.{Graph, ids}
+use Rattle.blk_graph.specs.Layout.{graph_of}
 use Rattle.blk_graph.specs.Judged.{IsJudged}
-use Rattle.blk_graph.specs.Paths.{Reaches, IsAcyclic, HasCycle, LeadsBack}
+use Rattle.blk_graph.specs.Paths.{IsAcyclic}
 use Rattle.blk_graph.proofs.EditLemmas.{length-with_filter}
 use Rattle.blk_graph.proofs.FilterLemmas.{IsAcyclic-with_filter}
 use Rattle.blk_graph.proofs.InverseLemmas.{without_filter-with_filter}
-use Rattle.blk_graph.proofs.GraphLemmas.{ids-graph_of, HasEnds, HasEnds-with_filter, IsKept-settled, OnOk-then, Contains-slice, IsJudged-seen}
+use Rattle.blk_graph.proofs.GraphLemmas.{HasEnds, HasEnds-with_filter, IsKept-settled, OnOk-then, Contains-slice, IsJudged-seen}
 use Rattle.blk_graph.proofs.graph.Graph.insert_filter.Goals as goal
 
 acyclic : (c : goal.After-settle-arg-2-1)

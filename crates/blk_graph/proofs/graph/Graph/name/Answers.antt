@@ -1,4 +1,4 @@
-use Rattle.std.proofs.Common.{◌≡◌, ap, sym}
+use Rattle.std.proofs.Common.{sym}
 use Rattle.blk_graph.proofs.NodeLemmas.{Contains-order, Contains-row}
 use Rattle.blk_graph.proofs.graph.Graph.name.Goals as goal
 

@@ -1,7 +1,5 @@
-use Rattle.std.proofs.Common.{◌≡◌, ◌∙◌, sym, ap, arith, ◌≤◌, ℕ}
+use Rattle.std.proofs.Common.{◌∙◌, sym, arith, ◌≤◌}
 use Rattle.std.specs.Vec.{vec_capacity}
-use Rattle.slab.specs.Slab.{Slab}
-use Rattle.blk_base.specs.Written.{Written}
 use Rattle.blk_graph.proofs.NodeLemmas.{IsKept-empty}
 use Rattle.blk_graph.proofs.graph.Graph.new.Goals as goal
 

@@ -1,4 +1,4 @@
-use Rattle.std.proofs.Common.{◌≡◌, ap, sym}
+use Rattle.std.proofs.Common.{sym}
 use Rattle.blk_graph.proofs.NodeLemmas.{found_row, no_row}
 use Rattle.blk_graph.proofs.graph.Graph.node_named.Goals as goal
 

@@ -1,4 +1,4 @@
-use Rattle.std.proofs.Common.{◌≡◌, sym, ◌∙◌}
+use Rattle.std.proofs.Common.{sym, ◌∙◌}
 use Rattle.blk_graph.proofs.GraphLemmas.{ids-graph_of}
 use Rattle.blk_graph.proofs.graph.Graph.nodes.Goals as goal
 

@@ -1,13 +1,11 @@
-use Rattle.std.proofs.Common.{◌≡◌, ◌≢◌, ap, sym, ◌∙◌, length, List, ℕ, ◌≤◌, Option, Some, None}
+use Rattle.std.proofs.Common.{◌≡◌, ◌≢◌, ap, sym, ◌∙◌, List, ℕ, ◌≤◌, None}
 use Rattle.std.specs.List.{Contains}
 use Rattle.std.specs.Vec.{vec_capacity}
 use Rattle.slab.specs.Slab.{get}
-use Rattle.blk_graph.specs.declared.edge.Edge.{Edge}
 use Rattle.blk_graph.specs.declared.edge.Parent.TheVariants.{Node}
 use Rattle.blk_graph.specs.Edits.{without_parent}
-use Rattle.blk_graph.specs.Graph.{Graph, HasNode, NodeRow}
-use Rattle.blk_graph.specs.Judged.{first_parent, without_node}
-use Rattle.blk_graph.specs.Layout.{graph_of, row_of}
+use Rattle.blk_graph.specs.Graph.{Graph, NodeRow}
+use Rattle.blk_graph.specs.Judged.{first_parent}
 use Rattle.blk_graph.proofs.GraphLemmas.{IsKept-without_parent}
 use Rattle.blk_graph.proofs.NodeLemmas.{Contains-order, IsKept-removed, rows_removed, no_child_from_None, without_parent-apart}
 use Rattle.blk_graph.proofs.graph.Graph.remove_node.Goals as goal

@@ -1,14 +1,12 @@
-use Rattle.std.proofs.Common.{◌≡◌, ℕ, List, length, sym, ◌∙◌, ap, arith, ◌≤◌, ◌<◌}
+use Rattle.std.proofs.Common.{◌≡◌, length, ◌∙◌, ap, arith, ◌≤◌}
 use Rattle.std.specs.Vec.{vec_capacity}
-use Rattle.blk_graph.specs.declared.edge.Edge.{Edge}
 use Rattle.blk_graph.specs.Edits.{with_replaced, replaced}
-use Rattle.blk_graph.specs.Graph.{Graph, ids, HasNode, HasParent, IsSound}
-use Rattle.blk_graph.specs.Layout.{graph_of, IsKept}
+use Rattle.blk_graph.specs.Graph.{ids}
+use Rattle.blk_graph.specs.Layout.{graph_of}
 use Rattle.blk_graph.specs.Judged.{IsJudged}
-use Rattle.blk_graph.specs.Paths.{Reaches, IsAcyclic, HasCycle, LeadsBack}
 use Rattle.std.proofs.lemmas.List.{length-map}
 use Rattle.blk_graph.proofs.CycleLemmas.{IsAcyclic-with_replaced}
-use Rattle.blk_graph.proofs.GraphLemmas.{ids-graph_of, HasEnds, HasEnds-with_replaced, IsKept-settled, Contains-slice, IsJudged-seen}
+use Rattle.blk_graph.proofs.GraphLemmas.{HasEnds, HasEnds-with_replaced, IsKept-settled, Contains-slice, IsJudged-seen}
 use Rattle.blk_graph.proofs.graph.Graph.replace_child.Goals as goal
 
 pub settle-requires-clause-through : goal.settle-requires-clause-through

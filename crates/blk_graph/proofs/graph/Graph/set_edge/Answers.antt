@@ -1,14 +1,13 @@
-use Rattle.std.proofs.Common.{◌≡◌, ℕ, List, length, sym, ◌∙◌, ap, arith, ◌≤◌, ◌<◌, ◌+◌}
+use Rattle.std.proofs.Common.{◌≡◌, length, sym, ◌∙◌, ap, arith, ◌≤◌, ◌<◌, ◌+◌}
 use Rattle.std.specs.Vec.{vec_capacity}
-use Rattle.blk_graph.specs.declared.edge.Edge.{Edge}
 use Rattle.blk_graph.specs.Edits.{with_edge}
-use Rattle.blk_graph.specs.Graph.{Graph, ids, HasNode, HasParent, IsSound}
-use Rattle.blk_graph.specs.Layout.{graph_of, IsKept}
+use Rattle.blk_graph.specs.Graph.{Graph, ids}
+use Rattle.blk_graph.specs.Layout.{graph_of}
 use Rattle.blk_graph.specs.Judged.{IsJudged}
-use Rattle.blk_graph.specs.Paths.{Reaches, IsAcyclic, HasCycle, LeadsBack}
+use Rattle.blk_graph.specs.Paths.{IsAcyclic}
 use Rattle.blk_graph.proofs.EditLemmas.{length-with_edge}
 use Rattle.blk_graph.proofs.CycleLemmas.{IsAcyclic-with_edge, LeadsBack-from_HasCycle, HasCycle-from_LeadsBack}
-use Rattle.blk_graph.proofs.GraphLemmas.{ids-graph_of, HasEnds, HasEnds-with_edge, IsKept-settled, Contains-slice, IsJudged-seen, settled_room}
+use Rattle.blk_graph.proofs.GraphLemmas.{HasEnds, HasEnds-with_edge, IsKept-settled, Contains-slice, IsJudged-seen, settled_room}
 use Rattle.blk_graph.proofs.graph.Graph.set_edge.Goals as goal
 
 pub settle-requires-clause-through : goal.settle-requires-clause-through

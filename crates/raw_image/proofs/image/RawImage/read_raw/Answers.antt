@@ -1,7 +1,7 @@
 use Rattle.std.proofs.Common.{◌≡◌, ◌+◌, ℕ, List, length, Some, sym, ◌∙◌, ap}
 use Rattle.blk_base.specs.Content.{bytes_at}
 use Rattle.blk_base.specs.Pieces.{Extent}
-use Rattle.raw_image.specs.Part.{disk_of, place_of}
+use Rattle.raw_image.specs.Part.{disk_of}
 use Rattle.raw_image.proofs.PartLemmas.{bytes_at-part, OnOk-then}
 use Rattle.raw_image.proofs.image.RawImage.read_raw.Goals as goal
 

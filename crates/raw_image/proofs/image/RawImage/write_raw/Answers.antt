@@ -1,9 +1,9 @@
-use Rattle.std.proofs.Common.{◌≡◌, ◌+◌, ◌≤◌, ℕ, List, length, Option, Some, sym, ◌∙◌, ap, arith}
+use Rattle.std.proofs.Common.{◌≡◌, ◌+◌, ◌≤◌, ℕ, List, length, Some, sym, ◌∙◌, ap, arith}
 use Rattle.std.specs.Option.{option_map}
-use Rattle.blk_base.specs.Content.{bytes_at, with_bytes}
+use Rattle.blk_base.specs.Content.{with_bytes}
 use Rattle.blk_base.specs.Counts.{taken}
 use Rattle.blk_base.specs.Pieces.{Extent}
-use Rattle.raw_image.specs.Part.{disk_of, place_of}
+use Rattle.raw_image.specs.Part.{disk_of}
 use Rattle.raw_image.proofs.PartLemmas.{with_bytes-part, length-taken}
 use Rattle.raw_image.proofs.image.RawImage.write_raw.Goals as goal
 
