@@ -36,10 +36,9 @@ fn texts_grow(rt: HostRuntime) -> Result<(), Fail> {
     let mut text = Text::with_room(rt.alloc(), 64)?;
     assert!(rt; text.is_empty());
     text.push_str("dev");
-    text.push_number(u64::MAX);
     text.push_ascii(b'\n');
-    assert_eq!(rt; text.as_str(), "dev18446744073709551615\n");
-    assert_eq!(rt; text.len(), 24);
+    assert_eq!(rt; text.as_str(), "dev\n");
+    assert_eq!(rt; text.len(), 4);
     text.clear();
     assert_eq!(rt; text.as_str(), "");
     assert!(rt; text.spare() >= 64);

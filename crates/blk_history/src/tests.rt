@@ -1,102 +1,134 @@
+ghost use Rattle.std.specs.Prelude.{◌≡◌, ◌<◌, [], length, IfOk};
+ghost use Rattle.blk_history.specs.Recorded.{event_of, PointsWithin};
+ghost use Rattle.blk_history.specs.Line.{guest_of};
+
 use super::*;
-use blk_base::{DevNo, Names1, NoMemory, Outcome, Room, Span, Text};
+use blk_base::{DevNo, Names1, Outcome, Room, Span, Text};
 use std::test::Fail;
 use trace_codec::{Op, Payload};
 
-fn names(rt: &HostRuntime) -> Result<Rows, Fail> {
+const NOTHING: Span = Span { start: 0, len: 0 };
+
+fn names(rt: &HostRuntime) -> Result<Rows, Fail>
+    ensures { IfOk result (λ rows. length rows.guests ≡ 2) }
+{
     let mut guests = Vec::new(rt.alloc());
-    for name in ["a", "guest2"] {
-        guests.push(Text::copied(rt.alloc(), name)?)?;
-    }
+    guests.push(Text::copied(rt.alloc(), "a")?)?;
+    guests.push(Text::copied(rt.alloc(), "guest2")?)?;
     Ok(Rows::new(Names1::from_vec(guests)))
 }
 
-fn read(start: u64, len: u64) -> Asked {
-    Asked::new(Op::Read(Span { start, len }))
+fn read(start: u32, len: u32) -> Asked {
+    Asked::new(Op::Read(Span {
+        start: u64::from(start),
+        len: u64::from(len),
+    }))
 }
 
-fn write(start: u64, len: u64) -> Asked {
-    Asked::new(Op::Write(Span { start, len }, Payload::Fill(0x55)))
+fn write(start: u32, len: u32) -> Asked {
+    let span = Span {
+        start: u64::from(start),
+        len: u64::from(len),
+    };
+    Asked::new(Op::Write(span, Payload::Fill(0x55)))
 }
 
-fn piece(request: u32, k: u32, outcome: Outcome, got: Span) -> Entry {
+fn piece(k: u32, outcome: Outcome) -> Entry
+    ensures named { guest_of (event_of [] result) < 2 }
+    ensures within { PointsWithin 0 result }
+{
     Entry::Piece {
         guest: 1,
-        request,
+        request: 9,
         k,
         outcome,
-        got,
+        got: NOTHING,
     }
 }
 
-// What the transcript's lines of a history are, one behind the other.
-fn lines(rt: &HostRuntime, history: &History) -> Result<Text, Fail> {
-    let rows = names(rt)?;
+// The line of a history's only entry, where reads gave these bytes.
+fn line(rt: &HostRuntime, entry: Entry, got: &[u8]) -> Result<Text, Fail>
+    requires named { guest_of (event_of got.now entry) < 2 }
+    requires within { PointsWithin (length got.now) entry }
+{
+    let room = Room {
+        entries: 1,
+        bytes: got.len() as u64,
+    };
+    let mut history = History::with_room(rt.alloc(), room)?;
+    history.push_read(got);
+    history.push(entry);
     let mut out = Text::new(rt.alloc());
-    for at in 0..history.len() {
-        history.line(at, &rows, &mut out)?;
-    }
+    history.line(0, &names(rt)?, &mut out)?;
     Ok(out)
 }
 
 #[test]
-fn one_line_for_each_entry(rt: HostRuntime) -> Result<(), Fail> {
-    let mut history = History::with_room(
-        rt.alloc(),
-        Room {
-            entries: 9,
-            bytes: 6,
-        },
-    )?;
-    let nothing = Span { start: 0, len: 0 };
-    let dev = DevNo(3);
-    history.push(Entry::Admit {
+fn lines_of_requests(rt: HostRuntime) -> Result<(), Fail> {
+    let entry = Entry::Admit {
         guest: 0,
         request: 0,
         op: write(65_530, 12),
-    });
-    history.push(Entry::Refuse {
+    };
+    assert_eq!(rt; line(&rt, entry, &[])?.as_str(), "admit a 0 write 65530 12\n");
+    let entry = Entry::Refuse {
         guest: 1,
         request: 7,
         op: read(1_048_576, 1),
         why: Refused::Range,
-    });
-    history.push(Entry::Refuse {
+    };
+    assert_eq!(rt; line(&rt, entry, &[])?.as_str(), "refuse guest2 7 read 1048576 1 range\n");
+    let entry = Entry::Refuse {
         guest: 1,
         request: 8,
         op: write(0, 2_097_152),
         why: Refused::ReadOnly,
-    });
-    history.push(piece(9, 0, Outcome::Good, nothing));
-    let got = history.push_read(&[0x55, 0x55, 0x55, 0, 0, 0xab]);
-    history.push(piece(9, 1, Outcome::Good, got));
-    history.push(piece(9, 2, Outcome::Io { dev, count: 5 }, nothing));
-    history.push(piece(
-        9,
-        3,
-        Outcome::Torn {
-            done: 512,
-            dev,
-            count: u64::MAX,
-        },
-        nothing,
-    ));
-    history.push(piece(9, 4, Outcome::NoSpace { dev }, nothing));
-    history.push(Entry::Retire {
-        guest: 1,
-        request: 9,
-    });
+    };
     assert_eq!(rt;
-        lines(&rt, &history)?.as_str(),
-        "admit a 0 write 65530 12\n\
-         refuse guest2 7 read 1048576 1 range\n\
-         refuse guest2 8 write 0 2097152 readonly\n\
-         piece guest2 9 0 ok\n\
-         piece guest2 9 1 ok 55*3 00*2 ab*1\n\
-         piece guest2 9 2 io dev3 5\n\
-         piece guest2 9 3 torn 512 dev3 18446744073709551615\n\
-         piece guest2 9 4 nospace dev3\n\
-         retire guest2 9\n"
+        line(&rt, entry, &[])?.as_str(),
+        "refuse guest2 8 write 0 2097152 readonly\n"
+    );
+    let entry = Entry::Retire {
+        guest: 1,
+        request: 4_294_967_295,
+    };
+    assert_eq!(rt; line(&rt, entry, &[])?.as_str(), "retire guest2 4294967295\n");
+    Ok(())
+}
+
+#[test]
+fn lines_of_pieces(rt: HostRuntime) -> Result<(), Fail> {
+    let dev = DevNo(3);
+    let good = piece(0, Outcome::Good);
+    assert_eq!(rt; line(&rt, good, &[])?.as_str(), "piece guest2 9 0 ok\n");
+    let failed = piece(1, Outcome::Io { dev, count: 5 });
+    assert_eq!(rt; line(&rt, failed, &[])?.as_str(), "piece guest2 9 1 io dev3 5\n");
+    let torn = Outcome::Torn {
+        done: 512,
+        dev,
+        count: u64::MAX,
+    };
+    assert_eq!(rt;
+        line(&rt, piece(2, torn), &[])?.as_str(),
+        "piece guest2 9 2 torn 512 dev3 18446744073709551615\n"
+    );
+    let full = piece(3, Outcome::NoSpace { dev });
+    assert_eq!(rt; line(&rt, full, &[])?.as_str(), "piece guest2 9 3 nospace dev3\n");
+    Ok(())
+}
+
+#[test]
+fn line_of_a_read(rt: HostRuntime) -> Result<(), Fail> {
+    let entry = Entry::Piece {
+        guest: 0,
+        request: 1,
+        k: 2,
+        outcome: Outcome::Good,
+        got: Span { start: 1, len: 6 },
+    };
+    assert_eq!(rt;
+        line(&rt, entry, &[9, 0x55, 0x55, 0x55, 0, 0, 0xab, 9])?.as_str(),
+        "piece a 1 2 ok 55*3 00*2 ab*1\n"
     );
     Ok(())
 }

@@ -36,7 +36,7 @@ last-next counts before now (Some n) last le licensed = (n.count, rw (last.1, li
 
 rose-next : (counts : List ℕ) (before now : ℕ) (named : Option Named) → Last counts before → IsLicensed before now named → RoseSince counts named
 rose-next counts before now None last licensed = tt
-rose-next counts before now (Some n) last licensed = rw (last.1, licensed.0) (omega arith)
+rose-next counts before now (Some n) last licensed = rw (last.1, licensed.0) (omega arith, omega arith)
 
 -- what one entry more has to be
 record Adds (w v : Face) (e : Event) : Type 0 where

@@ -7,3 +7,4 @@ pub mod Sending
 pub mod Whole
 pub mod Forms
 pub mod Returned
+pub mod Quiet

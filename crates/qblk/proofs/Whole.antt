@@ -21,6 +21,7 @@ use Rattle.blk_history.specs.Legal.{Legal}
 use Rattle.blk_history.specs.Owned.{asked_by, IsIdle}
 use Rattle.blk_history.specs.Transcript.{transcript}
 use Rattle.blk_history.specs.declared.event.Event.{Event}
+use Rattle.qblk.proofs.Quiet.{quiet}
 use Rattle.qblk.specs.Face.{Face, state_with, new_guest, state_of}
 use Rattle.qblk.specs.Comes.{Opening, opening_state, HadNoSpace, Comes}
 use Rattle.qblk.specs.Output.{SendsFront}
@@ -141,6 +142,7 @@ was-run image trace bytes read d n w fault flushed old new k flag sized none dev
         opened = opened ∙ back-opened image old.opened d.faults n.faults none;
         risen = made.comes.licensed.risen;
         last = (last.0, last.1, let le = last.2 in let more = made.faults in omega arith);
+        quiet = λ same below. quiet d.faults last.0 w.log.events made.comes.licensed.risen last.1 (let le = last.2 in let more = made.faults in omega arith) below;
         told = on-run old.files files device;
       };
       sent = sent;

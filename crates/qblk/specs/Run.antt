@@ -15,7 +15,7 @@ use Rattle.blk_history.specs.Fold.{Each}
 use Rattle.blk_history.specs.Machine.{State, disk_in, after, replay}
 use Rattle.blk_history.specs.Legal.{Legal}
 use Rattle.blk_history.specs.Owned.{asked_by, IsIdle}
-use Rattle.blk_history.specs.Licence.{counted, HaveRisen}
+use Rattle.blk_history.specs.Licence.{counted, HaveRisen, NameNone}
 use Rattle.blk_history.specs.Transcript.{RowNames, transcript}
 use Rattle.blk_history.specs.declared.event.Event.{Event}
 use Rattle.qblk.specs.Face.{state_with, new_guest}
@@ -58,6 +58,8 @@ pub record IsRun (image : List ℕ) (ops : List Op) (flushed : Bool) (old new : 
   pub opened : new.opened ≡ old.opened ++ record { name = image; faults = before; returned = Some now } ∷ []
   pub risen : HaveRisen (before ∷ []) h
   pub last : (count : ℕ) × (counted (before ∷ []) h ≡ count ∷ []) × (count ≤ now)
+  -- where the count has not risen, no piece was stopped by a fault
+  pub quiet : now ≡ before → before < 18446744073709551615 → NameNone h
   pub told : IfTold old.files (λ files. (f : File) × TellsDisk image h flushed files new.files f)
 
 -- the image is there and not too large
