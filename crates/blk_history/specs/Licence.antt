@@ -1,5 +1,5 @@
 -- The causes of faults: each one named is a rise of that device's count, and no rise is named twice.
-use Rattle.std.specs.Prelude.{◌≡◌, ℕ, ◌<◌, List, length, All, set, get_or, Option, Some, None}
+use Rattle.std.specs.Prelude.{◌≡◌, ℕ, ◌<◌, List, [], ◌∷◌, length, set, get_or, Option, Some, None}
 use Rattle.blk_base.specs.Counts.{Rose}
 use Rattle.blk_base.specs.declared.fault.Outcome.{Outcome}
 use Rattle.blk_base.specs.declared.fault.Outcome.TheVariants.{Good, Torn, Io, NoSpace}
@@ -43,4 +43,5 @@ HaveRisen = Each (λ counts e. last_named counts (named_in e)) (λ counts e. Ros
 
 -- no entry names a fault
 abbrev pub NameNone : List Event → Type 0
-NameNone = All (λ e. named_in e ≡ None)
+NameNone [] = Unit {0}
+NameNone (e ∷ es) = (named_in e ≡ None) × NameNone es

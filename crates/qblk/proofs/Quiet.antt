@@ -1,6 +1,6 @@
 -- A device whose count has not risen is named by no entry.
 use Rattle.std.proofs.Common.{◌≡◌, ℕ, ◌+◌, ◌<◌, ◌≤◌, List, [], ◌∷◌, refl, ap, subst, sym, arith, Option, Some, None}
-use Rattle.std.specs.Prelude.{All, min, set, get_or}
+use Rattle.std.specs.Prelude.{min, set, get_or}
 use Rattle.blk_base.specs.Counts.{Rose}
 use Rattle.blk_history.specs.Licence.{Named, named_in, last_named, RoseSince, counted, HaveRisen, NameNone}
 use Rattle.blk_history.specs.declared.event.Event.{Event}
@@ -41,7 +41,6 @@ grows c count (e ∷ es) risen same =
     omega arith
 
 pub quiet : (c count : ℕ) (h : List Event) → HaveRisen (c ∷ []) h → counted (c ∷ []) h ≡ count ∷ [] → count ≤ c → c < 18446744073709551615 → NameNone h
-unfolding All
 quiet c count [] risen same le below = tt
 quiet c count (e ∷ es) risen same le below =
     let s = step-of c (named_in e) risen.0 in
