@@ -1,11 +1,12 @@
 -- Writes in a log, and bytes that a log tells.
-use Rattle.std.proofs.Common.{◌≡◌, ℕ, zero, suc, ◌+◌, ◌-◌, ◌<◌, ◌≤◌, Bool, true, false, cond, List, [], ◌∷◌, ◌++◌, length, map, get_or, take, drop, refl, sym, ◌∙◌, ap, arith, Some, length-append, length-drop}
+use Rattle.std.proofs.Common.{◌≡◌, ℕ, zero, suc, ◌+◌, ◌-◌, ◌<◌, ◌≤◌, Bool, true, false, cond, List, [], ◌∷◌, ◌++◌, length, map, get_or, take, drop, refl, sym, subst, ◌∙◌, ap, arith, Some, IsTrue, length-append, length-drop}
 use Rattle.std.specs.Prelude.{◌&&◌, ltb, leb, slice_range, slice_get}
 use Rattle.std.proofs.lemmas.List.{take-append-le, drop-append-le, drop_at, take_all}
+use Rattle.std.proofs.lemmas.Bool.Decides.{nat_tests}
 use Rattle.blk_base.specs.Content.{Write, after_writes, with_bytes}
 use Rattle.blk_fakes.specs.declared.log.Row.{Row}
 use Rattle.blk_fakes.specs.Rows.{write_of, AllWithin}
-use Rattle.blk_fakes.specs.Disk.{LogState, logged_with, told_by}
+use Rattle.blk_fakes.specs.Disk.{LogState, goes_in, with_write, logged_with, told_by}
 
 -- a part of the front of a list
 range-append : (bytes more : List ℕ) (i j : ℕ) → i ≤ j → j ≤ length bytes → slice_range (bytes ++ more) i j ≡ slice_range bytes i j
@@ -27,15 +28,19 @@ pub within_push : (n m : ℕ) (rows : List Row) (r : Row) → AllWithin n rows �
 within_push n m [] r all le order end = (order, end, tt)
 within_push n m (x ∷ rows) r all le order end = (all.0, omega arith, within_push n m rows r all.2 le order end)
 
-pub within_at : (n : ℕ) (rows : List Row) (k : ℕ) (d : Row) → AllWithin n rows → k < length rows → ((get_or rows k d).from ≤ (get_or rows k d).to) × ((get_or rows k d).to ≤ n)
-within_at n [] k d all below = absurd (omega arith)
-within_at n (x ∷ rows) zero d all below = (all.0, all.1)
-within_at n (x ∷ rows) (suc k) d all below = within_at n rows k d all.2 (omega arith)
+pub within_read : (n : ℕ) (rows : List Row) (k : ℕ) (r : Row) → AllWithin n rows → k < length rows → r ≡ get_or rows k r → (r.from ≤ r.to) × (r.to ≤ n)
+within_read n [] k r all below read = absurd (omega arith)
+within_read n (x ∷ rows) zero r all below read = let P : Row → Type 0 = λ v. (v.from ≤ v.to) × (v.to ≤ n) in subst P (sym read) (all.0, all.1)
+within_read n (x ∷ rows) (suc k) r all below read = within_read n rows k r all.2 (omega arith) read
 
-pub write_read : (bytes : List ℕ) (rows : List Row) (k : ℕ) (d : Row) → k < length rows → slice_get (map (write_of bytes) rows) k ≡ Some (write_of bytes (get_or rows k d))
-write_read bytes [] k d below = absurd (omega arith)
-write_read bytes (x ∷ rows) zero d below = refl
-write_read bytes (x ∷ rows) (suc k) d below = write_read bytes rows k d (omega arith)
+pub row_read : (bytes : List ℕ) (rows : List Row) (k : ℕ) (r : Row) → k < length rows → r ≡ get_or rows k r → slice_get (map (write_of bytes) rows) k ≡ Some (write_of bytes r)
+row_read bytes [] k r below read = absurd (omega arith)
+row_read bytes (x ∷ rows) zero r below read = ap (λ (v : Row). Some (write_of bytes v)) (sym read)
+row_read bytes (x ∷ rows) (suc k) r below read = row_read bytes rows k r (omega arith) read
+
+-- what goes in finds room
+pub goes : (log : LogState) (n : ℕ) → IsTrue (goes_in log n) → (0 < log.writes_left) × (n ≤ log.bytes_left)
+goes log n in_room = (grind (arith, nat_tests), grind (arith, nat_tests))
 
 -- one more write
 after_push : (bytes : List ℕ) (writes : List Write) (w : Write) → after_writes bytes (writes ++ w ∷ []) ≡ with_bytes (after_writes bytes writes) w.offset w.bytes
@@ -47,10 +52,10 @@ told_push : (b before : List ℕ) (writes : List Write) (offset : ℕ) (xs : Lis
 told_push b before writes offset xs true told = after_push before writes (record { offset = offset; bytes = xs }) ∙ ap (λ ys. with_bytes ys offset xs) told
 told_push b before writes offset xs false told = refl
 
-told_either : (b : List ℕ) (log : LogState) (offset : ℕ) (xs : List ℕ) (n m : ℕ) (fits : Bool) → told_by b log ≡ b
-    → told_by (with_bytes b offset xs) (cond fits (record log { writes = log.writes ++ record { offset = offset; bytes = xs } ∷ []; writes_left = n; bytes_left = m }) (record log { is_kept = false })) ≡ with_bytes b offset xs
-told_either b log offset xs n m true told = told_push b log.before log.writes offset xs log.is_kept told
-told_either b log offset xs n m false told = refl
+told_either : (b : List ℕ) (log : LogState) (offset : ℕ) (xs : List ℕ) (fits : Bool) → told_by b log ≡ b
+    → told_by (with_bytes b offset xs) (cond fits (with_write log offset xs) (record log { is_kept = false })) ≡ with_bytes b offset xs
+told_either b log offset xs true told = told_push b log.before log.writes offset xs log.is_kept told
+told_either b log offset xs false told = refl
 
 pub told_with : (b : List ℕ) (log : LogState) (offset : ℕ) (xs : List ℕ) → told_by b log ≡ b → told_by (with_bytes b offset xs) (logged_with log offset xs) ≡ with_bytes b offset xs
-told_with b log offset xs told = told_either b log offset xs (log.writes_left - 1) (log.bytes_left - length xs) (log.is_kept && ltb 0 log.writes_left && leb (length xs) log.bytes_left) told
+told_with b log offset xs told = told_either b log offset xs (goes_in log (length xs)) told

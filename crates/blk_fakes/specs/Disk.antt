@@ -15,12 +15,21 @@ pub record LogState : Type 0 where
 abbrev pub log_of : LogState → Option Log
 log_of log = if log.is_kept then Some (record { before = log.before; writes = log.writes }) else None
 
+-- a write of so many bytes goes in
+abbrev pub goes_in : LogState → ℕ → Bool
+goes_in log n = log.is_kept && ltb 0 log.writes_left && leb n log.bytes_left
+
+-- the log with one more write that goes in
+abbrev pub with_write : LogState → ℕ → List ℕ → LogState
+with_write log offset bytes = record log {
+    writes = log.writes ++ record { offset = offset; bytes = bytes } ∷ [];
+    writes_left = log.writes_left - 1;
+    bytes_left = log.bytes_left - length bytes;
+  }
+
 -- the log after one more write: it ends with a write past its room
 abbrev pub logged_with : LogState → ℕ → List ℕ → LogState
-logged_with log offset bytes =
-    if log.is_kept && ltb 0 log.writes_left && leb (length bytes) log.bytes_left
-    then record log { writes = log.writes ++ record { offset = offset; bytes = bytes } ∷ []; writes_left = log.writes_left - 1; bytes_left = log.bytes_left - length bytes }
-    else record log { is_kept = false }
+logged_with log offset bytes = if goes_in log (length bytes) then with_write log offset bytes else record log { is_kept = false }
 
 -- write k is that
 abbrev pub WriteAt : List Write → ℕ → ℕ → List ℕ → Type 0

@@ -1,5 +1,5 @@
 //! Bytes in a vector, read and written at an offset.
-ghost use Rattle.std.specs.Prelude.{◌≡◌, ◌↔◌, ◌+◌, ◌≤◌, ◌<◌, ◌⊎◌, ◌%◌, ◌^◌, ◌++◌, ℕ, max, length, get_or, take, drop, replicate, vec_len, vec_capacity, IsTrue, IfOk};
+ghost use Rattle.std.specs.Prelude.{◌≡◌, ◌↔◌, ◌+◌, ◌≤◌, ◌<◌, ◌⊎◌, ◌%◌, ◌^◌, ◌++◌, ℕ, max, length, get_or, take, drop, replicate, slice_range, vec_len, vec_capacity, IsTrue, IfOk};
 ghost use Rattle.blk_base.specs.Content.{bytes_at, with_bytes};
 
 use blk_base::NoMemory;
@@ -32,6 +32,25 @@ pub(crate) fn fits(off: u64, len: usize, capacity: u64) -> bool
     ensures { IsTrue result ↔ (off + len ≤ capacity) }
 {
     off <= capacity && len as u64 <= capacity - off
+}
+
+/// Puts bytes at the end. Takes no memory.
+pub(crate) fn append(bytes: &mut Vec<u8>, more: &[u8])
+    requires { vec_len bytes.old + length more.now ≤ vec_capacity bytes.old }
+    ensures items { bytes.new.items ≡ bytes.old.items ++ more.now }
+    ensures len { vec_len bytes.new ≡ vec_len bytes.old + length more.now }
+    ensures room { vec_capacity bytes.old ≤ vec_capacity bytes.new }
+{
+    bytes.extend_from_slice(more).unwrap();
+}
+
+/// The bytes from one place up to another.
+pub(crate) fn part(bytes: &[u8], from: usize, to: usize) -> &[u8]
+    requires order { from ≤ to }
+    requires within { to ≤ length bytes.now }
+    ensures { result.now ≡ slice_range bytes.now from to }
+{
+    &bytes[from..to]
 }
 
 /// Makes all of the buffer zeros.
@@ -81,6 +100,7 @@ pub(crate) fn overwrite(bytes: &mut Vec<u8>, off: u64, written: &[u8])
     requires some { 0 < length written.now }
     requires room { off + length written.now ≤ vec_capacity bytes.old }
     ensures bytes { bytes.new.items ≡ with_bytes bytes.old.items off written.now }
+    ensures len { vec_len bytes.new ≡ max (vec_len bytes.old) (off + length written.now) }
     ensures room { vec_capacity bytes.old ≤ vec_capacity bytes.new }
 {
     grow(bytes, off as usize + written.len());

@@ -1,6 +1,6 @@
 //! A log of writes, in room that is taken beforehand.
 
-use crate::bytes::with_room;
+use crate::bytes::{append, part};
 use blk_base::NoMemory;
 use std::alloc::Global;
 use std::marker::Model;
@@ -52,9 +52,9 @@ impl Model for WriteLog {
 }
 
 impl WriteLog {
-    ghost use Rattle.std.specs.Prelude.{◌≡◌, ◌<◌, ◌≤◌, true, if◌then◌else◌, [], length, Some, None, IfOk};
+    ghost use Rattle.std.specs.Prelude.{◌≡◌, ◌<◌, ◌≤◌, true, if◌then◌else◌, [], length, Some, None, IsTrue, IfOk};
     ghost use Rattle.blk_base.specs.Content.{Write};
-    ghost use Rattle.blk_fakes.specs.Disk.{LogState, logged_with, WriteAt};
+    ghost use Rattle.blk_fakes.specs.Disk.{LogState, goes_in, with_write, logged_with, WriteAt};
 
     /// No write yet.
     pub fn new(alloc: Global, before: &[u8], room: LogRoom) -> Result<Self, NoMemory>
@@ -86,28 +86,39 @@ impl WriteLog {
         ensures { WriteAt self.now.writes k result.0 result.1.now }
     {
         let row = self.rows[k as usize];
-        (row.off, &self.bytes[row.from..row.to])
+        (row.off, part(&self.bytes, row.from, row.to))
+    }
+
+    /// Whether a write of so many bytes goes in.
+    fn has_room(&self, len: usize) -> bool
+        ensures { result ≡ goes_in self.now len }
+    {
+        self.is_kept && 0 < self.left.writes && len as u64 <= self.left.bytes
+    }
+
+    /// Adds a write that goes in. Takes no memory.
+    fn add(&mut self, off: u64, written: &[u8])
+        requires { IsTrue (goes_in self.old (length written.now)) }
+        ensures { self.new ≡ with_write self.old off written.now }
+    {
+        let from = self.bytes.len();
+        append(&mut self.bytes, written);
+        let to = self.bytes.len();
+        self.rows.push_reserved(Row { off, from, to });
+        self.left = LogRoom {
+            writes: self.left.writes - 1,
+            bytes: self.left.bytes - written.len() as u64,
+        };
     }
 
     /// Adds a write. Takes no memory.
     pub fn push(&mut self, off: u64, written: &[u8])
         ensures { self.new ≡ logged_with self.old off written.now }
     {
-        if !self.is_kept {
-            return;
-        }
-        let len = written.len() as u64;
-        if self.left.writes == 0 || self.left.bytes < len {
+        if self.has_room(written.len()) {
+            self.add(off, written);
+        } else {
             self.is_kept = false;
-            return;
         }
-        let from = self.bytes.len();
-        self.bytes.extend_from_slice(written).unwrap();
-        let to = self.bytes.len();
-        self.rows.push_reserved(Row { off, from, to });
-        self.left = LogRoom {
-            writes: self.left.writes - 1,
-            bytes: self.left.bytes - len,
-        };
     }
 }
