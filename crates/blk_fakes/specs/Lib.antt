@@ -1,4 +1,5 @@
 pub mod Calls
 pub mod Disk
 pub mod Rows
+pub mod Laws
 pub mod Sunk

@@ -29,11 +29,11 @@ impl Model for Calls {
 }
 
 impl Calls {
-    ghost use Rattle.std.specs.Prelude.{◌≡◌, [], IfOk};
-    ghost use Rattle.blk_fakes.specs.Calls.{CallState, done_at, one_more, with_call, with_fault};
+    ghost use Rattle.std.specs.Prelude.{◌≡◌, ◌≤◌, not, IfOk};
+    ghost use Rattle.blk_fakes.specs.Calls.{CallState, done_at, one_more, with_call, with_fault, no_calls, fails_next, with_go};
 
     pub fn new(alloc: Global, fails: &[FailAt]) -> Result<Self, NoMemory>
-        ensures { IfOk result (λ c. c ≡ record { fails = fails.now; made = 0; faults = 0 }) }
+        ensures { IfOk result (λ c. c ≡ no_calls fails.now) }
     {
         Ok(Calls {
             fails: Vec::from_slice(alloc, fails)?,
@@ -64,9 +64,23 @@ impl Calls {
 
     /// Counts one more fault.
     pub fn fail(&mut self)
-        ensures { self.new ≡ with_fault self.old }
+        ensures counted { self.new ≡ with_fault self.old }
+        ensures grows { self.old.faults ≤ self.new.faults }
     {
         self.faults = self.faults.saturating_add(1);
+    }
+
+    /// Takes the next number, and counts a fault where the call of that number is to fail. Whether it goes well.
+    pub fn go(&mut self) -> bool
+        ensures goes { result ≡ not (fails_next self.old) }
+        ensures after { self.new ≡ with_go self.old }
+        ensures grows { self.old.faults ≤ self.new.faults }
+    {
+        let fails = self.next().is_some();
+        if fails {
+            self.fail();
+        }
+        !fails
     }
 
     pub fn faults(&self) -> u64

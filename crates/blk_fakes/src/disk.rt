@@ -37,8 +37,8 @@ impl Model for Disk {
 }
 
 impl Disk {
-    ghost use Rattle.std.specs.Prelude.{◌≡◌, ◌↔◌, ◌+◌, ◌<◌, ◌≤◌, true, false, [], length, replicate, Some, None, IsTrue, IfOk, OnOk, OnErr};
-    ghost use Rattle.blk_base.specs.Content.{Write, bytes_at, with_bytes, GoesOn};
+    ghost use Rattle.std.specs.Prelude.{◌≡◌, ◌↔◌, ◌+◌, ◌^◌, ◌<◌, ◌≤◌, true, false, [], length, replicate, Some, None, IsTrue, IfOk, OnOk, OnErr};
+    ghost use Rattle.blk_base.specs.Content.{Write, bytes_at, with_bytes, size_with, GoesOn};
     ghost use Rattle.blk_fakes.specs.Disk.{DiskState, LogState, WriteAt, bytes_of, log_of, fresh};
 
     /// These bytes, flushed, and an empty log.
@@ -104,7 +104,8 @@ impl Disk {
 
     /// Whether so many bytes at an offset end within the capacity.
     pub fn fits(&self, off: u64, len: usize) -> bool
-        ensures { IsTrue result ↔ (off + len ≤ self.now.capacity) }
+        ensures fits { IsTrue result ↔ (off + len ≤ self.now.capacity) }
+        ensures range { IsTrue result → off + len < 2 ^ 64 }
     {
         fits(off, len, self.capacity)
     }
@@ -126,6 +127,7 @@ impl Disk {
     pub fn write(&mut self, off: u64, written: &[u8])
         requires { off + length written.now ≤ self.old.capacity }
         ensures told { bytes_of self.new ≡ with_bytes (bytes_of self.old) off written.now }
+        ensures size { length (bytes_of self.new) ≡ size_with (length (bytes_of self.old)) off written.now }
         ensures log { GoesOn (log_of self.old.log) off written.now (log_of self.new.log) }
         ensures capacity { self.new.capacity ≡ self.old.capacity }
         ensures flushed { self.new.is_flushed ≡ self.old.is_flushed }

@@ -3,7 +3,11 @@
 
 mod bytes;
 mod calls;
+mod device;
 mod disk;
 mod log;
+mod sink;
 
 pub use calls::FailAt;
+pub use device::MemDevice;
+pub use sink::MemSink;

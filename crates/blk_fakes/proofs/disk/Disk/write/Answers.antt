@@ -1,5 +1,6 @@
-use Rattle.std.proofs.Common.{arith, ap}
+use Rattle.std.proofs.Common.{◌∙◌, arith, ap, length}
 use Rattle.blk_fakes.specs.Disk.{DiskState}
+use Rattle.blk_base.proofs.Contents.{length-with_bytes}
 use Rattle.blk_fakes.proofs.Logs.{told_with}
 use Rattle.blk_fakes.proofs.disk.Disk.write.Goals as goal
 
@@ -13,3 +14,9 @@ pub returns-clause-told : goal.returns-clause-told
 returns-clause-told c =
     let told = told_with c.self.inside.bytes.items c.self.inside.log c.args.off c.args.written.now c.self.invariant.0 in
     rw (c.overwrite.ensures.bytes, c.push.ensures, ← c.self.view_is, c.self.invariant.0) told
+
+pub returns-clause-size : goal.returns-clause-size
+returns-clause-size c =
+    let b = c.self.inside.bytes.items in
+    let told = told_with b c.self.inside.log c.args.off c.args.written.now c.self.invariant.0 in
+    rw (c.overwrite.ensures.bytes, c.push.ensures, ← c.self.view_is, c.self.invariant.0) (ap length told ∙ length-with_bytes b c.args.off c.args.written.now)
