@@ -3,3 +3,4 @@ pub mod Disk
 pub mod Rows
 pub mod Laws
 pub mod Sunk
+pub mod Shelf

@@ -25,10 +25,11 @@ impl Model for MemDevice {
 }
 
 impl MemDevice {
-    ghost use Rattle.std.specs.Prelude.{◌≡◌, ◌+◌, ◌<◌, ◌≤◌, if◌then◌else◌, length, Some, None, IfOk, IfErr, OnOk, OnErr};
+    ghost use Rattle.std.specs.Prelude.{◌≡◌, ◌+◌, ◌<◌, ◌≤◌, if◌then◌else◌, [], length, replicate, Some, None, IfOk, IfErr, OnOk, OnErr};
     ghost use Rattle.blk_base.specs.Counts.{IsFailedWrite};
     ghost use Rattle.blk_fakes.specs.Disk.{DeviceState, WriteAt, bytes_of, fresh};
     ghost use Rattle.blk_fakes.specs.Calls.{no_calls};
+    ghost use Rattle.blk_fakes.specs.Shelf.{remade};
 
     /// A device of these bytes, flushed, whose calls of those numbers fail. All its capacity is taken now, and room for
     /// a log of so many writes, of so many bytes in all.
@@ -50,6 +51,41 @@ impl MemDevice {
         Ok(MemDevice {
             disk: Disk::new(alloc, bytes, capacity, room)?,
             calls: Calls::new(alloc, fails)?,
+        })
+    }
+
+    pub(crate) fn copied(&self, alloc: Global) -> Result<Self, NoMemory>
+        ensures { IfOk result (λ d. d ≡ self.now) }
+    {
+        Ok(MemDevice {
+            disk: self.disk.copied(alloc)?,
+            calls: self.calls.copied(alloc)?,
+        })
+    }
+
+    /// A device of so many zeros, with room for a log of 1,024 writes and 4,194,304 bytes. None of its calls fails.
+    pub(crate) fn zeroed(alloc: Global, len: u64, capacity: u64) -> Result<Self, NoMemory>
+        requires { len ≤ capacity }
+        ensures { IfOk result (λ d. d ≡ record { disk = fresh (replicate len 0) capacity 1024 4194304; calls = no_calls [] }) }
+    {
+        let room = LogRoom {
+            writes: 1024,
+            bytes: 4_194_304,
+        };
+        Ok(MemDevice {
+            disk: Disk::zeroed(alloc, len, capacity, room)?,
+            calls: Calls::new(alloc, &[])?,
+        })
+    }
+
+    /// A device of so many zeros in the place of this one: its calls go on, and its log starts again.
+    pub(crate) fn remade(&self, alloc: Global, len: u64, capacity: u64) -> Result<Self, NoMemory>
+        requires { len ≤ capacity }
+        ensures { IfOk result (λ d. d ≡ remade self.now len capacity) }
+    {
+        Ok(MemDevice {
+            disk: Disk::zeroed(alloc, len, capacity, self.disk.log_room())?,
+            calls: self.calls.copied(alloc)?,
         })
     }
 

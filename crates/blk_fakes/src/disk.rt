@@ -71,6 +71,18 @@ impl Disk {
         })
     }
 
+    pub fn copied(&self, alloc: Global) -> Result<Self, NoMemory>
+        ensures { IfOk result (λ d. d ≡ self.now) }
+    {
+        Ok(Disk {
+            bytes: with_room(alloc, &self.bytes, self.capacity)?,
+            log: self.log.copied(alloc)?,
+            log_room: self.log_room,
+            capacity: self.capacity,
+            is_flushed: self.is_flushed,
+        })
+    }
+
     pub fn bytes(&self) -> &[u8]
         ensures stored { result.now ≡ self.now.bytes }
         ensures told { result.now ≡ bytes_of self.now }

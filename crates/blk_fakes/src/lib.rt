@@ -6,8 +6,11 @@ mod calls;
 mod device;
 mod disk;
 mod log;
+mod shelf;
 mod sink;
+mod store;
 
 pub use calls::FailAt;
 pub use device::MemDevice;
 pub use sink::MemSink;
+pub use store::MemStore;

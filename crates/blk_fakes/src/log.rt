@@ -69,6 +69,22 @@ impl WriteLog {
         })
     }
 
+    pub fn copied(&self, alloc: Global) -> Result<Self, NoMemory>
+        ensures { IfOk result (λ l. l ≡ self.now) }
+    {
+        let mut rows = Vec::with_capacity(alloc, self.rows.len() + self.left.writes as usize)?;
+        rows.extend_from_slice(&self.rows).unwrap();
+        let mut bytes = Vec::with_capacity(alloc, self.bytes.len() + self.left.bytes as usize)?;
+        bytes.extend_from_slice(&self.bytes).unwrap();
+        Ok(WriteLog {
+            is_kept: self.is_kept,
+            before: Vec::from_slice(alloc, &self.before)?,
+            rows,
+            bytes,
+            left: self.left,
+        })
+    }
+
     /// The number of writes, while the log is kept.
     pub fn count(&self) -> Option<u64>
         ensures { result ≡ (if self.now.is_kept then Some (length self.now.writes) else None) }
