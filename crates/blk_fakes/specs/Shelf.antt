@@ -1,5 +1,5 @@
 -- What contracts see of a store in memory.
-use Rattle.std.specs.Prelude.{ℕ, Bool, if◌then◌else◌, List, [], ◌∷◌, map, replicate, bytes_eq, Option, Some, None, IsTrue}
+use Rattle.std.specs.Prelude.{ℕ, Bool, true, if◌then◌else◌, List, [], ◌∷◌, map, replicate, bytes_eq, Option, Some, None, IsTrue}
 use Rattle.std.specs.List.{position, list_any}
 use Rattle.blk_base.specs.Files.{is_out}
 use Rattle.blk_base.specs.declared.file.File.{File}
@@ -44,6 +44,10 @@ OutAreHeld opened files = (name : List ℕ) → IsTrue (is_out name opened) → 
 abbrev pub device_at : List ℕ → List FileState → Option DeviceState
 device_at name [] = None
 device_at name (f ∷ files) = if bytes_eq name f.name then Some f.device else device_at name files
+
+-- a file of so many zeros, flushed
+abbrev pub zeros_as : List ℕ → ℕ → ℕ → File
+zeros_as name len room = record { name = name; bytes = replicate len 0; capacity = room; is_flushed = true }
 
 -- a device that holds so many zeros in the place of what it held: its calls go on
 abbrev pub remade : DeviceState → ℕ → ℕ → DeviceState

@@ -30,8 +30,9 @@ impl Model for MemStore {
 
 impl MemStore {
     ghost use Rattle.std.specs.Prelude.{◌≡◌, ◌⊎◌, ◌<◌, ◌≤◌, ◌++◌, [], ◌∷◌, length, get_or, set, option_map, false, Some, None, IsTrue, IfSome, IfNone, IfOk, IfErr, OnOk, OnErr, slice_get};
-    ghost use Rattle.blk_base.specs.Files.{is_out};
-    ghost use Rattle.blk_fakes.specs.Shelf.{FileState, StoreState, place_of, is_held, device_at};
+    ghost use Rattle.blk_base.specs.Files.{file_at, put_file, is_out, given_back};
+    ghost use Rattle.blk_base.specs.Stored.{HoldsBytes};
+    ghost use Rattle.blk_fakes.specs.Shelf.{FileState, StoreState, told_as, told_files, zeros_as, place_of, is_held, device_at};
     ghost use Rattle.blk_fakes.specs.Calls.{no_calls};
 
     /// A store with no file yet, whose calls of those numbers fail. Files that it makes have the capacity `room`.
@@ -109,5 +110,178 @@ impl MemStore {
     {
         let file = &mut self.files[at];
         file.set_device(dev);
+    }
+
+    /// The place of a file that is out.
+    fn place_of_out(&self, name: &str) -> usize
+        requires { IsTrue (is_out name.now self.now.opened) }
+        ensures { place_of name.now self.now.files ≡ Some result }
+    {
+        let _ = &self.files;
+        match self.find(name) {
+            Some(at) => at,
+            None => unreachable!(),
+        }
+    }
+
+    /// The bytes of a file, by its place.
+    fn bytes_at(&self, name: &str, at: usize) -> &[u8]
+        requires { place_of name.now self.now.files ≡ Some at }
+        ensures { HoldsBytes name.now result.now (told_files self.now) }
+    {
+        self.files[at].device().bytes()
+    }
+
+    /// A copy of the device of a file, which is out from now on.
+    fn lend(&mut self, name: &str, at: usize) -> Result<MemDevice, NoMemory>
+        requires { place_of name.now self.old.files ≡ Some at }
+        ensures device { IfOk result (λ dev. device_at name.now self.old.files ≡ Some dev) }
+        ensures told { IfOk result (λ dev. file_at name.now (told_files self.old) ≡ Some (told_as name.now dev)) }
+        ensures ok { IfOk result (λ dev. self.new ≡ record self.old { opened = self.old.opened ++ record { name = name.now; faults = dev.calls.faults; returned = None } ∷ [] }) }
+        ensures err { OnErr result (self.new ≡ self.old) }
+    {
+        let dev = self.files[at].device().copied(self.alloc)?;
+        let opening = Opening::new(self.alloc, name, dev.faults())?;
+        match self.openings.push(opening) {
+            Ok(()) => Ok(dev),
+            Err(_) => Err(NoMemory),
+        }
+    }
+
+    /// Makes a file hold zeros that is there.
+    fn make_again(&mut self, name: &str, at: usize, len: u64) -> Result<(), NoMemory>
+        requires place { place_of name.now self.old.files ≡ Some at }
+        requires fits { len ≤ self.old.room }
+        ensures ok { OnOk result (told_files self.new ≡ put_file (zeros_as name.now len self.old.room) (told_files self.old)) }
+        ensures err { OnErr result (self.new ≡ self.old) }
+        ensures rest { self.new ≡ record self.old { files = self.new.files } }
+    {
+        let dev = self.files[at].device().remade(self.alloc, len, self.room)?;
+        self.set_device(at, dev);
+        Ok(())
+    }
+
+    /// Makes a file of zeros that is not there.
+    fn make_anew(&mut self, name: &str, len: u64) -> Result<(), NoMemory>
+        requires place { place_of name.now self.old.files ≡ None }
+        requires fits { len ≤ self.old.room }
+        ensures ok { OnOk result (told_files self.new ≡ put_file (zeros_as name.now len self.old.room) (told_files self.old)) }
+        ensures err { OnErr result (self.new ≡ self.old) }
+        ensures rest { self.new ≡ record self.old { files = self.new.files } }
+    {
+        let dev = MemDevice::zeroed(self.alloc, len, self.room)?;
+        match self.add_file(name, dev) {
+            Ok(()) => Ok(()),
+            Err((e, _)) => Err(e),
+        }
+    }
+
+    fn make(&mut self, name: &str, len: u64) -> Result<(), NoMemory>
+        requires { len ≤ self.old.room }
+        ensures ok { OnOk result (told_files self.new ≡ put_file (zeros_as name.now len self.old.room) (told_files self.old)) }
+        ensures err { OnErr result (self.new ≡ self.old) }
+        ensures rest { self.new ≡ record self.old { files = self.new.files } }
+    {
+        match self.find(name) {
+            Some(at) => self.make_again(name, at, len),
+            None => self.make_anew(name, len),
+        }
+    }
+
+    /// Counts in the record of openings that the device of that name is back.
+    fn set_returned(&mut self, name: &str, faults: u64)
+        ensures { self.new ≡ record self.old { opened = given_back name.now faults self.old.opened } }
+    {
+        if let Some(at) = self.openings.iter().position(|o| o.is_out_as(name)) {
+            let opening = &mut self.openings[at];
+            opening.set_returned(faults);
+        }
+    }
+}
+
+impl Store for MemStore {
+    ghost use Rattle.std.specs.Prelude.{Some};
+    ghost use Rattle.blk_fakes.specs.Shelf.{StoreState, told_files};
+
+    type Dev = MemDevice;
+
+    ghost files = { λ s. Some (told_files s) };
+
+    ghost opened = { λ s. s.opened };
+
+    ghost room = { λ s. s.room };
+
+    ghost faults = { λ s. s.calls.faults };
+
+    fn open_file(&mut self, name: &str) -> Result<MemDevice, StoreStop> {
+        let fails = self.calls.next().is_some();
+        if self.is_out(name) {
+            return Err(StoreStop::InUse);
+        }
+        let Some(at) = self.find(name) else {
+            return Err(StoreStop::Absent);
+        };
+        if fails {
+            self.calls.fail();
+            return Err(StoreStop::Failed);
+        }
+        match self.lend(name, at) {
+            Ok(dev) => Ok(dev),
+            Err(NoMemory) => Err(StoreStop::NoMemory),
+        }
+    }
+
+    fn create_file(&mut self, name: &str, len: u64) -> Result<(), StoreStop> {
+        let fails = self.calls.next().is_some();
+        if self.is_out(name) {
+            return Err(StoreStop::InUse);
+        }
+        if self.room < len {
+            return Err(StoreStop::TooLong);
+        }
+        if fails {
+            self.calls.fail();
+            return Err(StoreStop::Failed);
+        }
+        match self.make(name, len) {
+            Ok(()) => Ok(()),
+            Err(NoMemory) => Err(StoreStop::NoMemory),
+        }
+    }
+
+    fn read_all(&mut self, name: &str, limit: u64) -> Result<Bytes, StoreStop> {
+        let fails = self.calls.next().is_some();
+        if self.is_out(name) {
+            return Err(StoreStop::InUse);
+        }
+        let Some(at) = self.find(name) else {
+            return Err(StoreStop::Absent);
+        };
+        if limit < self.bytes_at(name, at).len() as u64 {
+            return Err(StoreStop::TooLong);
+        }
+        if fails {
+            self.calls.fail();
+            return Err(StoreStop::Failed);
+        }
+        match Vec::from_slice(self.alloc, self.bytes_at(name, at)) {
+            Ok(bytes) => Ok(Bytes::from_vec(bytes)),
+            Err(_) => Err(StoreStop::NoMemory),
+        }
+    }
+
+    fn give_back(&mut self, name: &str, dev: MemDevice) {
+        let faults = dev.faults();
+        let at = self.place_of_out(name);
+        self.set_device(at, dev);
+        self.set_returned(name, faults);
+    }
+
+    fn room(&self) -> u64 {
+        self.room
+    }
+
+    fn faults(&self) -> u64 {
+        self.calls.faults()
     }
 }
