@@ -10,7 +10,7 @@ use Rattle.blk_base.specs.Files.{file_at, put_file, is_out_as, is_out, given_bac
 use Rattle.blk_base.specs.declared.file.File.{File}
 use Rattle.blk_base.specs.declared.file.Opened.{Opened}
 use Rattle.blk_fakes.specs.Disk.{DeviceState, bytes_of}
-use Rattle.blk_fakes.specs.Shelf.{FileState, told_as, told_file, place_of, is_held, OutAreHeld, device_at}
+use Rattle.blk_fakes.specs.Shelf.{FileState, told_as, told_file, place_of, is_held, OutAreHeld, device_at, remade, zeros_as}
 
 same_from : (a b : List ℕ) → bytes_eq a b ≡ true → a ≡ b
 same_from a b is = (bytes_eq-Decides a b).0 is
@@ -166,3 +166,38 @@ out_more q o [] files held here out = out_more_by (is_out_as q o) false (IsTrue 
 out_more q o (p ∷ opened) files held here out = out_more_by (is_out_as q p) (is_out q (opened ++ o ∷ [])) (IsTrue (is_held q files)) out
     (λ h. held (or_left (is_out_as q p) (is_out q opened) h))
     (λ h. out_more q o opened files (λ g. held (or_right (is_out_as q p) (is_out q opened) g)) here h)
+
+-- a row that was read at the place of its name
+pub file_read : (name : List ℕ) (files : List FileState) (at : ℕ) (r : FileState) → place_of name files ≡ Some at → r ≡ get_or files at r → file_at name (map told_file files) ≡ Some (told_as name r.device)
+file_read name files at r place read =
+    let is = first (λ (f : FileState). bytes_eq name f.name) files at r place in
+    let named : name ≡ (get_or files at r).name = same_from name (get_or files at r).name is.passes in
+    let same : told_as (get_or files at r).name (get_or files at r).device ≡ told_as name r.device = rw (← named) (ap (λ (f : FileState). told_as name f.device) (sym read)) in
+    file_found name files at r is ∙ ap (λ (f : File). Some f) same
+
+pub device_read : (name : List ℕ) (files : List FileState) (at : ℕ) (r : FileState) → place_of name files ≡ Some at → r ≡ get_or files at r → device_at name files ≡ Some r.device
+device_read name files at r place read =
+    device_found name files at r (first (λ (f : FileState). bytes_eq name f.name) files at r place) ∙ ap (λ (f : FileState). Some f.device) (sym read)
+
+pub put_at_place : (name : List ℕ) (files : List FileState) (at : ℕ) (d : FileState) (dev : DeviceState) → place_of name files ≡ Some at
+    → map told_file (set files at (record (get_or files at d) { device = dev })) ≡ put_file (told_as name dev) (map told_file files)
+put_at_place name files at d dev place = file_put name files at d dev (first (λ (f : FileState). bytes_eq name f.name) files at d place)
+
+-- an opening that was read at the place of the first that is out under a name
+pub back_read : (name : List ℕ) (count : ℕ) (opened : List Opened) (at : ℕ) (r n : Opened) → position (is_out_as name) opened ≡ Some at → r ≡ get_or opened at r → n ≡ record r { returned = Some count }
+    → set opened at n ≡ given_back name count opened
+back_read name count opened at r n place read is =
+    let back = back_found name count opened at r (first (is_out_as name) opened at r place) in
+    let same : n ≡ record (get_or opened at r) { returned = Some count } = is ∙ ap (λ (o : Opened). let p : Opened = record o { returned = Some count } in p) read in
+    rw same (sym back)
+
+pub out_push : (q : List ℕ) (o : Opened) (opened : List Opened) (files : List FileState) (done : Bool) → (IsTrue (is_out q opened) → IsTrue (is_held q files)) → IsTrue (is_held o.name files)
+    → IsTrue (is_out q (cond done (opened ++ o ∷ []) opened)) → IsTrue (is_held q files)
+out_push q o opened files true held here out = out_more q o opened files held here out
+out_push q o opened files false held here out = held out
+
+pub zeros_told : (name : List ℕ) (dev old : DeviceState) (len room : ℕ) → dev ≡ remade old len room → told_as name dev ≡ zeros_as name len room
+zeros_told name dev old len room is = ap (λ (d : DeviceState). told_as name d) is
+
+pub lacks : (name : List ℕ) (files : List FileState) → place_of name files ≡ None → file_at name (map told_file files) ≡ None
+lacks name files is = file_missing name files (missing name files is)

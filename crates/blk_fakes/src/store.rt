@@ -30,7 +30,8 @@ impl Model for MemStore {
 
 impl MemStore {
     ghost use Rattle.std.specs.Prelude.{◌≡◌, ◌⊎◌, ◌<◌, ◌≤◌, ◌++◌, [], ◌∷◌, length, get_or, set, option_map, false, Some, None, IsTrue, IfSome, IfNone, IfOk, IfErr, OnOk, OnErr, slice_get};
-    ghost use Rattle.blk_base.specs.Files.{file_at, put_file, is_out, given_back};
+    ghost use Rattle.blk_base.specs.Files.{file_at, put_file, is_out, is_out_as, given_back};
+    ghost use Rattle.std.specs.List.{position};
     ghost use Rattle.blk_base.specs.Stored.{HoldsBytes};
     ghost use Rattle.blk_fakes.specs.Shelf.{FileState, StoreState, told_as, told_files, zeros_as, place_of, is_held, device_at};
     ghost use Rattle.blk_fakes.specs.Calls.{no_calls};
@@ -58,6 +59,14 @@ impl MemStore {
         ensures { result ≡ place_of name.now self.now.files }
     {
         self.files.iter().position(|f| name == f.name())
+    }
+
+    /// The opening by which a device is out under that name.
+    fn place_of_opening(&self, name: &str) -> Option<usize>
+        ensures place { result ≡ position (is_out_as name.now) self.now.opened }
+        ensures within { IfSome result (λ at. at < length self.now.opened) }
+    {
+        self.openings.iter().position(|o| o.is_out_as(name))
     }
 
     /// Adds a file, which is this device. After a refusal the store is as before, and gives the device back.
@@ -142,10 +151,8 @@ impl MemStore {
     {
         let dev = self.files[at].device().copied(self.alloc)?;
         let opening = Opening::new(self.alloc, name, dev.faults())?;
-        match self.openings.push(opening) {
-            Ok(()) => Ok(dev),
-            Err(_) => Err(NoMemory),
-        }
+        self.openings.push(opening)?;
+        Ok(dev)
     }
 
     /// Makes a file hold zeros that is there.
@@ -171,9 +178,10 @@ impl MemStore {
     {
         let dev = MemDevice::zeroed(self.alloc, len, self.room)?;
         match self.add_file(name, dev) {
-            Ok(()) => Ok(()),
-            Err((e, _)) => Err(e),
+            Ok(()) => {}
+            Err((refused, _)) => return Err(refused),
         }
+        Ok(())
     }
 
     fn make(&mut self, name: &str, len: u64) -> Result<(), NoMemory>
@@ -192,9 +200,12 @@ impl MemStore {
     fn set_returned(&mut self, name: &str, faults: u64)
         ensures { self.new ≡ record self.old { opened = given_back name.now faults self.old.opened } }
     {
-        if let Some(at) = self.openings.iter().position(|o| o.is_out_as(name)) {
-            let opening = &mut self.openings[at];
-            opening.set_returned(faults);
+        match self.place_of_opening(name) {
+            Some(at) => {
+                let opening = &mut self.openings[at];
+                opening.set_returned(faults);
+            }
+            None => {}
         }
     }
 }
@@ -213,13 +224,15 @@ impl Store for MemStore {
 
     ghost faults = { λ s. s.calls.faults };
 
+    #[tactic(auto, using(crate::proofs::Shelves::lacks))]
     fn open_file(&mut self, name: &str) -> Result<MemDevice, StoreStop> {
         let fails = self.calls.next().is_some();
         if self.is_out(name) {
             return Err(StoreStop::InUse);
         }
-        let Some(at) = self.find(name) else {
-            return Err(StoreStop::Absent);
+        let at = match self.find(name) {
+            Some(at) => at,
+            None => return Err(StoreStop::Absent),
         };
         if fails {
             self.calls.fail();
@@ -249,13 +262,15 @@ impl Store for MemStore {
         }
     }
 
+    #[tactic(auto, using(crate::proofs::Shelves::lacks))]
     fn read_all(&mut self, name: &str, limit: u64) -> Result<Bytes, StoreStop> {
         let fails = self.calls.next().is_some();
         if self.is_out(name) {
             return Err(StoreStop::InUse);
         }
-        let Some(at) = self.find(name) else {
-            return Err(StoreStop::Absent);
+        let at = match self.find(name) {
+            Some(at) => at,
+            None => return Err(StoreStop::Absent),
         };
         if limit < self.bytes_at(name, at).len() as u64 {
             return Err(StoreStop::TooLong);
