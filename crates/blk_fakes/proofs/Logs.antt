@@ -1,6 +1,6 @@
 -- Writes in a log, and bytes that a log tells.
-use Rattle.std.proofs.Common.{◌≡◌, ℕ, zero, suc, ◌+◌, ◌-◌, ◌<◌, ◌≤◌, Bool, true, false, cond, List, [], ◌∷◌, ◌++◌, length, map, get_or, take, drop, refl, sym, subst, ◌∙◌, ap, arith, Some, IsTrue, length-append, length-drop}
-use Rattle.std.specs.Prelude.{◌&&◌, ltb, leb, slice_range, slice_get}
+use Rattle.std.proofs.Common.{◌≡◌, ℕ, zero, suc, ◌+◌, ◌-◌, ◌<◌, ◌≤◌, Bool, true, false, cond, List, [], ◌∷◌, ◌++◌, length, map, get_or, take, drop, refl, sym, subst, ◌∙◌, ap, arith, Some, IsTrue, length-drop}
+use Rattle.std.specs.Prelude.{slice_range, slice_get}
 use Rattle.std.proofs.lemmas.List.{take-append-le, drop-append-le, drop_at, take_all}
 use Rattle.std.proofs.lemmas.Bool.Decides.{nat_tests}
 use Rattle.blk_base.specs.Content.{Write, after_writes, with_bytes}

@@ -1,6 +1,6 @@
 -- Bytes copied out of a vector, and written into one that is filled up with zeros.
 use Rattle.std.proofs.Common.{◌≡◌, ◌⊎◌, ℕ, ◌+◌, ◌-◌, ◌<◌, ◌≤◌, min, max, List, [], ◌∷◌, ◌++◌, length, get_or, take, drop, replicate, refl, sym, ◌∙◌, ap, arith, inl, inr, length-append, length-drop}
-use Rattle.std.proofs.lemmas.List.{length-replicate, length-take, length-take-le, get_or-take, get_or-drop, get_or_append_left, get_or-append_right, get_or-replicate, get_or_past, ext_get_or, drop_all, take_all}
+use Rattle.std.proofs.lemmas.List.{length-replicate, length-take, get_or-take, get_or-drop, get_or_append_left, get_or-append_right, get_or-replicate, get_or_past, ext_get_or}
 use Rattle.std.proofs.lemmas.Bool.{cases_lt}
 use Rattle.blk_base.specs.Content.{bytes_at, with_bytes, size_with}
 use Rattle.blk_base.proofs.Contents.{bytes_at-by_place, length-with_bytes, get_or-with_bytes_outside, get_or-with_bytes_inside}

@@ -1,7 +1,7 @@
 -- Files and openings of a store, by the place of their name.
-use Rattle.std.proofs.Common.{◌≡◌, ◌⊎◌, ℕ, zero, suc, ◌+◌, ◌<◌, ◌≤◌, nat_lt, Bool, true, false, cond, List, [], ◌∷◌, ◌++◌, length, map, get_or, set, refl, sym, subst, ◌∙◌, ap, arith, inl, inr, Option, Some, None, IsTrue}
+use Rattle.std.proofs.Common.{◌≡◌, ℕ, zero, suc, ◌<◌, ◌≤◌, nat_lt, Bool, true, false, cond, List, [], ◌∷◌, ◌++◌, length, map, get_or, set, refl, sym, ◌∙◌, ap, arith, Some, None, IsTrue}
 use Rattle.std.specs.Prelude.{bytes_eq, is_none, ◌||◌, ◌&&◌}
-use Rattle.std.specs.List.{position, position_or_len, list_any}
+use Rattle.std.specs.List.{position, position_or_len}
 use Rattle.std.proofs.lemmas.List.Quantifiers.{position-Some}
 use Rattle.std.proofs.lemmas.List.Sums.{fails_before_first}
 use Rattle.std.proofs.lemmas.Bool.Decides.{nat_tests}
@@ -9,8 +9,8 @@ use Rattle.std.proofs.lemmas.Slice.Eq.{bytes_eq-Decides}
 use Rattle.blk_base.specs.Files.{file_at, put_file, is_out_as, is_out, given_back}
 use Rattle.blk_base.specs.declared.file.File.{File}
 use Rattle.blk_base.specs.declared.file.Opened.{Opened}
-use Rattle.blk_fakes.specs.Disk.{DeviceState, bytes_of}
-use Rattle.blk_fakes.specs.Shelf.{FileState, told_as, told_file, place_of, is_held, OutAreHeld, device_at, remade, zeros_as}
+use Rattle.blk_fakes.specs.Disk.{DeviceState}
+use Rattle.blk_fakes.specs.Shelf.{FileState, told_as, told_file, place_of, is_held, device_at, remade, zeros_as}
 
 same_from : (a b : List ℕ) → bytes_eq a b ≡ true → a ≡ b
 same_from a b is = (bytes_eq-Decides a b).0 is
@@ -201,3 +201,9 @@ zeros_told name dev old len room is = ap (λ (d : DeviceState). told_as name d) 
 
 pub lacks : (name : List ℕ) (files : List FileState) → place_of name files ≡ None → file_at name (map told_file files) ≡ None
 lacks name files is = file_missing name files (missing name files is)
+
+pub has_file : (name : List ℕ) (files : List FileState) (at : ℕ) → place_of name files ≡ Some at → (f : File) × (file_at name (map told_file files) ≡ Some f) × Unit {0}
+has_file name [] at place = absurd (cc place)
+has_file name (f ∷ files) at place =
+    let is = first (λ (f : FileState). bytes_eq name f.name) (f ∷ files) at f place in
+    (told_file (get_or (f ∷ files) at f), file_found name (f ∷ files) at f is, tt)

@@ -1,6 +1,6 @@
 -- What contracts see of bytes in memory with a log of the writes to them.
 use Rattle.std.specs.Prelude.{ℕ, Bool, true, false, ◌≡◌, ◌-◌, ◌&&◌, ltb, leb, if◌then◌else◌, List, [], ◌∷◌, ◌++◌, length, slice_get, Option, Some, None}
-use Rattle.blk_base.specs.Content.{Write, Log, after_writes, with_bytes}
+use Rattle.blk_base.specs.Content.{Write, Log, after_writes}
 use Rattle.blk_fakes.specs.Calls.{CallState}
 
 -- a log, and how many more writes and bytes go in
@@ -22,10 +22,10 @@ goes_in log n = log.is_kept && ltb 0 log.writes_left && leb n log.bytes_left
 -- the log with one more write that goes in
 abbrev pub with_write : LogState → ℕ → List ℕ → LogState
 with_write log offset bytes = record log {
-    writes = log.writes ++ record { offset = offset; bytes = bytes } ∷ [];
-    writes_left = log.writes_left - 1;
-    bytes_left = log.bytes_left - length bytes;
-  }
+  writes = log.writes ++ record { offset = offset; bytes = bytes } ∷ [];
+  writes_left = log.writes_left - 1;
+  bytes_left = log.bytes_left - length bytes;
+}
 
 -- the log after one more write: it ends with a write past its room
 abbrev pub logged_with : LogState → ℕ → List ℕ → LogState
@@ -59,10 +59,10 @@ pub record DeviceState : Type 0 where
 -- a disk as it is made: flushed, with an empty log
 abbrev pub fresh : List ℕ → ℕ → ℕ → ℕ → DiskState
 fresh bytes capacity writes room = record {
-    bytes = bytes;
-    log = record { is_kept = true; before = bytes; writes = []; writes_left = writes; bytes_left = room };
-    log_writes = writes;
-    log_bytes = room;
-    capacity = capacity;
-    is_flushed = true;
-  }
+  bytes = bytes;
+  log = record { is_kept = true; before = bytes; writes = []; writes_left = writes; bytes_left = room };
+  log_writes = writes;
+  log_bytes = room;
+  capacity = capacity;
+  is_flushed = true;
+}

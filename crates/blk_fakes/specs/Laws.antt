@@ -1,8 +1,8 @@
 -- What a device in memory tells agrees with itself.
-use Rattle.std.specs.Prelude.{◌≡◌, ℕ, Bool, true, false, if◌then◌else◌, List, length, Option, Some, None, refl}
+use Rattle.std.specs.Prelude.{◌≡◌, ℕ, Bool, true, false, if◌then◌else◌, List, length, Some, None}
 use Rattle.std.proofs.Common.{ap, sym, ◌∙◌}
 use Rattle.blk_base.specs.Content.{Log, Write, after_writes}
-use Rattle.blk_fakes.specs.Disk.{DeviceState, LogState, bytes_of, log_of, told_by}
+use Rattle.blk_fakes.specs.Disk.{DeviceState, bytes_of, log_of}
 
 pub size_told : (d : DeviceState) (b : List ℕ) → Some (bytes_of d.disk) ≡ Some b → length (bytes_of d.disk) ≡ length b
 size_told d b told = let same : bytes_of d.disk ≡ b = cc in ap length same

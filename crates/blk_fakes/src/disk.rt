@@ -42,7 +42,12 @@ impl Disk {
     ghost use Rattle.blk_fakes.specs.Disk.{DiskState, LogState, WriteAt, bytes_of, log_of, fresh};
 
     /// These bytes, flushed, and an empty log.
-    pub fn new(alloc: Global, bytes: &[u8], capacity: u64, log_room: LogRoom) -> Result<Self, NoMemory>
+    pub fn new(
+        alloc: Global,
+        bytes: &[u8],
+        capacity: u64,
+        log_room: LogRoom,
+    ) -> Result<Self, NoMemory>
         requires { length bytes.now ≤ capacity }
         ensures { IfOk result (λ d. d ≡ fresh bytes.now capacity log_room.writes log_room.bytes) }
     {
@@ -56,7 +61,12 @@ impl Disk {
     }
 
     /// So many zeros, flushed, and an empty log.
-    pub fn zeroed(alloc: Global, len: u64, capacity: u64, log_room: LogRoom) -> Result<Self, NoMemory>
+    pub fn zeroed(
+        alloc: Global,
+        len: u64,
+        capacity: u64,
+        log_room: LogRoom,
+    ) -> Result<Self, NoMemory>
         requires { len ≤ capacity }
         ensures { IfOk result (λ d. d ≡ fresh (replicate len 0) capacity log_room.writes log_room.bytes) }
     {

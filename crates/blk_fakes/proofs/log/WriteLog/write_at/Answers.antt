@@ -1,7 +1,7 @@
 use Rattle.std.proofs.Common.{◌<◌, arith, ap, length}
 use Rattle.std.proofs.lemmas.List.{length-map}
 use Rattle.blk_fakes.specs.Rows.{write_of}
-use Rattle.blk_fakes.specs.Disk.{LogState, WriteAt}
+use Rattle.blk_fakes.specs.Disk.{LogState}
 use Rattle.blk_fakes.proofs.Logs.{within_read, row_read}
 use Rattle.blk_fakes.proofs.log.WriteLog.write_at.Goals as goal
 

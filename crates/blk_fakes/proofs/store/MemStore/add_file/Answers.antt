@@ -1,4 +1,3 @@
-use Rattle.std.proofs.Common.{◌≡◌}
 use Rattle.std.specs.Prelude.{is_ok}
 use Rattle.blk_fakes.proofs.Shelves.{held_push}
 use Rattle.blk_fakes.proofs.store.MemStore.add_file.Goals as goal

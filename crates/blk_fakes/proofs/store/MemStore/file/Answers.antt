@@ -1,6 +1,6 @@
-use Rattle.std.proofs.Common.{rules, ◌≡◌, ◌∙◌, inr, sym, ap, Some, get_or}
+use Rattle.std.proofs.Common.{rules, ◌≡◌, ◌∙◌, inr, sym, ap, Some}
 use Rattle.blk_fakes.specs.Disk.{DeviceState}
-use Rattle.blk_fakes.specs.Shelf.{FileState, StoreState, place_of, device_at}
+use Rattle.blk_fakes.specs.Shelf.{StoreState, place_of}
 use Rattle.blk_fakes.proofs.Shelves.{device_read, missing, device_missing}
 use Rattle.blk_fakes.proofs.store.MemStore.file.Goals as goal
 

@@ -1,8 +1,8 @@
-use Rattle.std.proofs.Common.{◌≡◌, ◌∙◌, sym, ap, Some, IsTrue}
+use Rattle.std.proofs.Common.{◌≡◌, ◌∙◌, sym, ap, Some}
 use Rattle.std.specs.Prelude.{is_ok, bytes_eq}
 use Rattle.blk_base.specs.declared.file.Opened.{Opened}
 use Rattle.blk_fakes.specs.Disk.{DeviceState}
-use Rattle.blk_fakes.specs.Shelf.{FileState, StoreState, told_as, place_of, is_held}
+use Rattle.blk_fakes.specs.Shelf.{FileState, StoreState, told_as, place_of}
 use Rattle.blk_fakes.proofs.Shelves.{first, held_at, file_read, device_read, out_push}
 use Rattle.blk_fakes.proofs.store.MemStore.lend.Goals as goal
 

@@ -1,4 +1,4 @@
-use Rattle.std.proofs.Common.{◌≡◌, ◌∙◌, sym, ap}
+use Rattle.std.proofs.Common.{◌∙◌, ap}
 use Rattle.blk_base.specs.Files.{put_file}
 use Rattle.blk_base.specs.declared.file.File.{File}
 use Rattle.blk_fakes.specs.Shelf.{StoreState, told_files}

@@ -1,7 +1,7 @@
-use Rattle.std.proofs.Common.{◌≡◌, ◌∙◌, ap}
+use Rattle.std.proofs.Common.{◌∙◌, ap}
 use Rattle.blk_base.specs.Files.{put_file}
 use Rattle.blk_base.specs.declared.file.File.{File}
-use Rattle.blk_fakes.specs.Disk.{DeviceState, fresh}
+use Rattle.blk_fakes.specs.Disk.{DeviceState}
 use Rattle.blk_fakes.specs.Shelf.{StoreState, told_as, told_files}
 use Rattle.blk_fakes.proofs.Shelves.{missing, not_held, file_added}
 use Rattle.blk_fakes.proofs.store.MemStore.make_anew.Goals as goal

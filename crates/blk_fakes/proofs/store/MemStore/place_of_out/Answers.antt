@@ -1,4 +1,4 @@
-use Rattle.std.proofs.Common.{◌≡◌, ◌∙◌, sym, ap, true, false, IsTrue}
+use Rattle.std.proofs.Common.{◌∙◌, sym, ap, IsTrue}
 use Rattle.blk_fakes.specs.Shelf.{StoreState, is_held}
 use Rattle.blk_fakes.proofs.Shelves.{missing, not_held}
 use Rattle.blk_fakes.proofs.store.MemStore.place_of_out.Goals as goal
