@@ -9,6 +9,8 @@ mod log;
 mod shelf;
 mod sink;
 mod store;
+#[cfg(test)]
+mod tests;
 
 pub use calls::FailAt;
 pub use device::MemDevice;
