@@ -1,0 +1,54 @@
+-- What contracts see of a store in memory.
+use Rattle.std.specs.Prelude.{ℕ, Bool, true, if◌then◌else◌, List, [], ◌∷◌, map, replicate, bytes_eq, Option, Some, None, IsTrue}
+use Rattle.std.specs.List.{position, list_any}
+use Rattle.blk_base.specs.Files.{is_out}
+use Rattle.blk_base.specs.declared.file.File.{File}
+use Rattle.blk_base.specs.declared.file.Opened.{Opened}
+use Rattle.blk_fakes.specs.Calls.{CallState}
+use Rattle.blk_fakes.specs.Disk.{DeviceState, bytes_of, fresh}
+
+-- a file: its name, and its device as it is while it is not out, and as it was opened while it is
+pub record FileState : Type 0 where
+  pub name : List ℕ
+  pub device : DeviceState
+
+pub record StoreState : Type 0 where
+  pub files : List FileState
+  pub opened : List Opened
+  pub room : ℕ
+  pub calls : CallState
+
+-- the file that a device of that name comes to
+abbrev pub told_as : List ℕ → DeviceState → File
+told_as name device = record { name = name; bytes = bytes_of device.disk; capacity = device.disk.capacity; is_flushed = device.disk.is_flushed }
+
+abbrev pub told_file : FileState → File
+told_file file = told_as file.name file.device
+
+abbrev pub told_files : StoreState → List File
+told_files store = map told_file store.files
+
+-- the place of the file of that name
+abbrev pub place_of : List ℕ → List FileState → Option ℕ
+place_of name files = position (λ f. bytes_eq name f.name) files
+
+-- there is a file of that name
+abbrev pub is_held : List ℕ → List FileState → Bool
+is_held name files = list_any (λ f. bytes_eq name f.name) files
+
+-- each name that is out is that of a file
+abbrev pub OutAreHeld : List Opened → List FileState → Type 0
+OutAreHeld opened files = (name : List ℕ) → IsTrue (is_out name opened) → IsTrue (is_held name files)
+
+-- the device of that name
+abbrev pub device_at : List ℕ → List FileState → Option DeviceState
+device_at name [] = None
+device_at name (f ∷ files) = if bytes_eq name f.name then Some f.device else device_at name files
+
+-- a file of so many zeros, flushed
+abbrev pub zeros_as : List ℕ → ℕ → ℕ → File
+zeros_as name len room = record { name = name; bytes = replicate len 0; capacity = room; is_flushed = true }
+
+-- a device that holds so many zeros in the place of what it held: its calls go on
+abbrev pub remade : DeviceState → ℕ → ℕ → DeviceState
+remade device len room = record { disk = fresh (replicate len 0) room device.disk.log_writes device.disk.log_bytes; calls = device.calls }

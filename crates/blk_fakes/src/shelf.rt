@@ -1,0 +1,101 @@
+//! The rows of a store in memory: its files, and its openings.
+
+use crate::MemDevice;
+use blk_base::{NoMemory, Text};
+use std::alloc::Global;
+use std::marker::Model;
+
+/// A file: its device as it is while it is not out, and as it was opened while it is.
+#[derive(Debug, Drop)]
+pub(crate) struct Held {
+    name: Text,
+    dev: MemDevice,
+}
+
+impl Model for Held {
+    ghost use Rattle.blk_fakes.specs.Shelf.{FileState};
+
+    ghost Value = { FileState };
+
+    ghost view = { λ f. record { name = f.name.bytes; device = f.dev } };
+}
+
+impl Held {
+    ghost use Rattle.std.specs.Prelude.{◌≡◌};
+    ghost use Rattle.blk_fakes.specs.Shelf.{FileState};
+
+    pub fn new(name: Text, dev: MemDevice) -> Self
+        ensures { result ≡ record { name = name.bytes; device = dev } }
+    {
+        Held { name, dev }
+    }
+
+    pub fn name(&self) -> &str
+        ensures { result.now ≡ self.now.name }
+    {
+        self.name.as_str()
+    }
+
+    pub fn device(&self) -> &MemDevice
+        ensures { result.now ≡ self.now.device }
+    {
+        &self.dev
+    }
+
+    pub fn into_device(self) -> MemDevice
+        ensures { result ≡ self.device }
+    {
+        self.dev
+    }
+
+    pub fn set_device(&mut self, dev: MemDevice)
+        ensures { self.new ≡ record self.old { device = dev } }
+    {
+        self.dev = dev;
+    }
+}
+
+/// An opening of a file: the device's count of faults then, and once it was given back.
+#[derive(Debug, Drop)]
+pub(crate) struct Opening {
+    name: Text,
+    faults: u64,
+    returned: Option<u64>,
+}
+
+impl Model for Opening {
+    ghost use Rattle.blk_base.specs.declared.file.Opened.{Opened};
+
+    ghost Value = { Opened };
+
+    ghost view = { λ o. record { name = o.name.bytes; faults = o.faults; returned = o.returned } };
+}
+
+impl Opening {
+    ghost use Rattle.std.specs.Prelude.{◌≡◌, Some, None, IfOk};
+    ghost use Rattle.blk_base.specs.declared.file.Opened.{Opened};
+    ghost use Rattle.blk_base.specs.Files.{is_out_as};
+
+    pub fn new(alloc: Global, name: &str, faults: u64) -> Result<Self, NoMemory>
+        ensures { IfOk result (λ o. o ≡ record { name = name.now; faults = faults; returned = None }) }
+    {
+        Ok(Opening {
+            name: Text::copied(alloc, name)?,
+            faults,
+            returned: None,
+        })
+    }
+
+    /// Whether the device is out under that name.
+    pub fn is_out_as(&self, name: &str) -> bool
+        ensures { result ≡ is_out_as name.now self.now }
+    {
+        name == self.name.as_str() && self.returned.is_none()
+    }
+
+    pub fn set_returned(&mut self, faults: u64)
+        ensures { self.new ≡ record self.old { returned = Some faults } }
+    {
+        self.returned = Some(faults);
+    }
+}
