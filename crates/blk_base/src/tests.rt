@@ -26,7 +26,11 @@ fn pieces_of_spans(rt: HostRuntime) {
         assert_eq!(rt; piece_count(span), want.len() as u64, "{start} {len}");
         for (k, &(from, bytes)) in want.iter().enumerate() {
             let piece = piece_at(span, k as u64);
-            assert_eq!(rt; (piece.start, piece.len), (from, bytes), "{start} {len} {k}");
+            assert_eq!(rt;
+                (piece.start, piece.len),
+                (from, bytes),
+                "{start} {len} {k}"
+            );
         }
     }
 }
@@ -53,6 +57,9 @@ fn names_by_place(rt: HostRuntime) -> Result<(), Fail> {
     }
     let names = Names1::from_vec(names);
     assert_eq!(rt; names.len(), 3);
-    assert_eq!(rt; (names.name_at(0), names.name_at(1), names.name_at(2)), ("a", "", "b2"));
+    assert_eq!(rt;
+        (names.name_at(0), names.name_at(1), names.name_at(2)),
+        ("a", "", "b2")
+    );
     Ok(())
 }

@@ -70,14 +70,20 @@ fn lines_of_requests(rt: HostRuntime) -> Result<(), Fail> {
         request: 0,
         op: write(65_530, 12),
     };
-    assert_eq!(rt; line(&rt, entry, &[])?.as_str(), "admit a 0 write 65530 12\n");
+    assert_eq!(rt;
+        line(&rt, entry, &[])?.as_str(),
+        "admit a 0 write 65530 12\n"
+    );
     let entry = Entry::Refuse {
         guest: 1,
         request: 7,
         op: read(1_048_576, 1),
         why: Refused::Range,
     };
-    assert_eq!(rt; line(&rt, entry, &[])?.as_str(), "refuse guest2 7 read 1048576 1 range\n");
+    assert_eq!(rt;
+        line(&rt, entry, &[])?.as_str(),
+        "refuse guest2 7 read 1048576 1 range\n"
+    );
     let entry = Entry::Refuse {
         guest: 1,
         request: 8,
@@ -92,7 +98,10 @@ fn lines_of_requests(rt: HostRuntime) -> Result<(), Fail> {
         guest: 1,
         request: 4_294_967_295,
     };
-    assert_eq!(rt; line(&rt, entry, &[])?.as_str(), "retire guest2 4294967295\n");
+    assert_eq!(rt;
+        line(&rt, entry, &[])?.as_str(),
+        "retire guest2 4294967295\n"
+    );
     Ok(())
 }
 
@@ -102,7 +111,10 @@ fn lines_of_pieces(rt: HostRuntime) -> Result<(), Fail> {
     let good = piece(0, Outcome::Good);
     assert_eq!(rt; line(&rt, good, &[])?.as_str(), "piece guest2 9 0 ok\n");
     let failed = piece(1, Outcome::Io { dev, count: 5 });
-    assert_eq!(rt; line(&rt, failed, &[])?.as_str(), "piece guest2 9 1 io dev3 5\n");
+    assert_eq!(rt;
+        line(&rt, failed, &[])?.as_str(),
+        "piece guest2 9 1 io dev3 5\n"
+    );
     let torn = Outcome::Torn {
         done: 512,
         dev,
@@ -113,7 +125,10 @@ fn lines_of_pieces(rt: HostRuntime) -> Result<(), Fail> {
         "piece guest2 9 2 torn 512 dev3 18446744073709551615\n"
     );
     let full = piece(3, Outcome::NoSpace { dev });
-    assert_eq!(rt; line(&rt, full, &[])?.as_str(), "piece guest2 9 3 nospace dev3\n");
+    assert_eq!(rt;
+        line(&rt, full, &[])?.as_str(),
+        "piece guest2 9 3 nospace dev3\n"
+    );
     Ok(())
 }
 
@@ -149,7 +164,12 @@ fn admissions_are_found(rt: HostRuntime) -> Result<(), Fail> {
         guest: 0,
         request: 0,
     });
-    assert!(rt; matches!(history.admitted_at(0), Some(Op::Write(_, Payload::Fill(0x55)))));
+    assert!(rt;
+        matches!(
+            history.admitted_at(0),
+            Some(Op::Write(_, Payload::Fill(0x55)))
+        )
+    );
     assert!(rt; history.admitted_at(1).is_none());
     Ok(())
 }
