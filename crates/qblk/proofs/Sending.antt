@@ -1,5 +1,5 @@
 -- Parts of a transcript, one after another.
-use Rattle.std.proofs.Common.{◌≡◌, ℕ, ◌+◌, ◌<◌, ◌≤◌, min, List, [], ◌∷◌, ◌++◌, length, take, drop, refl, sym, ◌∙◌, ap, arith, append_assoc, zero, suc, subst, lit<, Option, Some, None, Result, Ok, Err, OnOk, OnErr}
+use Rattle.std.proofs.Common.{◌≡◌, ℕ, ◌+◌, ◌<◌, ◌≤◌, min, List, [], ◌∷◌, ◌++◌, length, take, drop, refl, sym, ◌∙◌, ap, arith, append_assoc, zero, suc, subst, lit<, Option, Some, None, Result, Ok, Err, OnOk, OnErr, inl, inr}
 use Rattle.std.specs.Prelude.{option_map, slice_get, flat_map}
 use Rattle.std.proofs.lemmas.List.{append-nil, take-append-drop, take_all}
 use Rattle.blk_base.specs.Counts.{Rose}
@@ -164,8 +164,8 @@ rest-failed es n old mid new line a b c is part front le =
 -- the status tells how it ended
 pub ends-well : (fault : Option FaultAt) (old new : Option (List ℕ)) (whole : List ℕ) (before now : ℕ) → new ≡ option_map (λ s. s ++ whole) old → EndsAs fault old new whole before now (ended_as fault)
 ends-well None old new whole before now sent = sent
-ends-well (Some fault) old new whole before now sent = (refl, refl, whole, [], append-nil whole, sent)
+ends-well (Some fault) old new whole before now sent = (refl, refl, whole, [], append-nil whole, sent, inl refl)
 
 pub ends-badly : (fault : Option FaultAt) (old new : Option (List ℕ)) (whole : List ℕ) (before now : ℕ) → SendsFront old new whole before now → EndsAs fault old new whole before now (failed_as fault now)
 ends-badly None old new whole before now front = (refl, front, refl)
-ends-badly (Some fault) old new whole before now front = (refl, refl, front.part.0, front.part.1, front.part.2, front.part.3)
+ends-badly (Some fault) old new whole before now front = (refl, refl, front.part.0, front.part.1, front.part.2, front.part.3, inr front.rose)

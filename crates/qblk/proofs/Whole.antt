@@ -170,6 +170,13 @@ front-taken old new front rest whole is sent =
 whole-taken : (old new : Option (List ℕ)) (whole : List ℕ) → new ≡ option_map (λ s. s ++ whole) old → new ≡ option_map (λ s. s ++ take (length whole) whole) old
 whole-taken old new whole sent = sent ∙ ap (λ (bs : List ℕ). option_map (λ s. s ++ bs) old) (sym (take_all (length whole) whole (omega arith)))
 
+-- where nothing is left, all of it went out
+all-of : (front rest whole : List ℕ) (before now : ℕ) → front ++ rest ≡ whole → (rest ≡ []) ⊎ Rose before now → (length front ≡ length whole) ⊎ Rose before now
+all-of front rest whole before now is (inl none) =
+    let P : List ℕ → Type 0 = λ bs. front ++ bs ≡ whole in
+    inl (ap length (sym (append-nil front) ∙ subst P none is))
+all-of front rest whole before now is (inr rose) = inr rose
+
 -- the fault of the last flush is the device's
 flush-fault : (n : Seen) (faults : ℕ) (fault : FaultAt) → IsFlushed n faults (Some fault) → (fault.from ≡ Dev (record { 0 = 0 })) × Rose faults fault.count × (fault.count ≡ n.faults)
 flush-fault n faults fault flushed = flushed
@@ -219,6 +226,7 @@ ends image trace bytes read d n w (Some fault) old new (Fault from count) sized 
       length end.2,
       subst R (sym same) run,
       (let rose = flushed.1 in let named = end.1 in let before = made.comes.faults in omega arith),
+      all-of end.2 end.3 _ old.sink_faults new.sink_faults end.4 end.6,
     ) in
     subst F (sym (end.0 ∙ flushed.0)) faulty
 ends image trace bytes read d n w fault old new status sized none device read-is is made files opened end = absurd end

@@ -111,7 +111,7 @@ abbrev pub EndsAs : Option FaultAt → Option (List ℕ) → Option (List ℕ) �
 EndsAs None old new whole before now Done = new ≡ option_map (λ s. s ++ whole) old
 EndsAs None old new whole before now (Fault from count) = (from ≡ Sink) × SendsFront old new whole before now × (count ≡ now)
 EndsAs (Some fault) old new whole before now (Fault from count) = (from ≡ fault.from) × (count ≡ fault.count)
-    × (front : List ℕ) × (rest : List ℕ) × (front ++ rest ≡ whole) × (new ≡ option_map (λ s. s ++ front) old)
+    × (front : List ℕ) × (rest : List ℕ) × (front ++ rest ≡ whole) × (new ≡ option_map (λ s. s ++ front) old) × ((rest ≡ []) ⊎ Rose before now)
 EndsAs fault old new whole before now status = ⊥
 
 abbrev pub ended_as : Option FaultAt → Status

@@ -12,6 +12,8 @@ mod run;
 mod session;
 mod status;
 mod store;
+#[cfg(test)]
+mod tests;
 mod transfer;
 mod words;
 

@@ -77,7 +77,9 @@ impl fmt::Display for Status {
     fn fmt<W: fmt::Write>(&self, f: &mut fmt::Formatter<W>) -> fmt::Result {
         match self {
             Status::Done => Ok(()),
-            Status::Usage => f.write_str("usage: qblk io FORMAT IMAGE TRACE | run WORKERS SCRIPT GUEST=TRACE .. | load NUMBER WORKERS"),
+            Status::Usage => f.write_str(
+                "usage: qblk io FORMAT IMAGE TRACE | run WORKERS SCRIPT GUEST=TRACE .. | load NUMBER WORKERS",
+            ),
             Status::Input { name, line, why } => {
                 let name = name.as_str();
                 write!(f, "input {name} line {line}: {why}")

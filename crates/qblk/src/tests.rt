@@ -1,0 +1,281 @@
+ghost use Rattle.std.specs.Prelude.{◌≤◌};
+
+use super::*;
+use blk_fakes::{FailAt, MemDevice, MemSink, MemStore};
+use std::test::Fail;
+
+const CAPACITY: u64 = 67_108_864;
+
+const USAGE: &str =
+    "usage: qblk io FORMAT IMAGE TRACE | run WORKERS SCRIPT GUEST=TRACE .. | load NUMBER WORKERS";
+
+// How a run ended, what went out, and the files.
+#[derive(Drop)]
+struct Ran {
+    status: Status,
+    out: MemSink,
+    store: MemStore,
+}
+
+fn failing(call: u64, done: u64) -> [FailAt; 1] {
+    [FailAt { call, done }]
+}
+
+// A device of so many zeros, whose calls of these numbers fail.
+fn zeros(rt: &HostRuntime, len: u32, fails: &[FailAt]) -> Result<MemDevice, Fail>
+    requires { len ≤ 67108864 }
+{
+    let mut bytes = Vec::new(rt.alloc());
+    bytes.resize(len as usize, 0)?;
+    let dev = MemDevice::new(rt.alloc(), bytes.as_slice(), CAPACITY, fails, 0, 0)?;
+    Ok(dev)
+}
+
+fn sink(rt: &HostRuntime, fails: &[FailAt]) -> Result<MemSink, Fail> {
+    let out = MemSink::new(rt.alloc(), 65_536, fails)?;
+    Ok(out)
+}
+
+fn words(rt: &HostRuntime, text: &str) -> Result<Vec<Text>, Fail> {
+    let mut words = Vec::new(rt.alloc());
+    for word in text.split(' ') {
+        words.push(Text::copied(rt.alloc(), word)?)?;
+    }
+    Ok(words)
+}
+
+// The words on a store whose files are `disk.img` and `t`, and whose calls of these numbers fail.
+fn run(
+    rt: &HostRuntime,
+    text: &str,
+    fails: &[FailAt],
+    disk: MemDevice,
+    trace: &[u8],
+    out: MemSink,
+) -> Result<Ran, Fail> {
+    let mut store = MemStore::new(rt.alloc(), CAPACITY, fails)?;
+    if let Err((refused, _)) = store.add_file("disk.img", disk) {
+        return Err(Fail::from(refused));
+    }
+    let trace_file = MemDevice::new(rt.alloc(), trace, 65_536, &[], 0, 0)?;
+    if let Err((refused, _)) = store.add_file("t", trace_file) {
+        return Err(Fail::from(refused));
+    }
+    let mut out = out;
+    let words = words(rt, text)?;
+    let (status, store) = qblk(rt.alloc(), words.as_slice(), store, &mut out);
+    Ok(Ran { status, out, store })
+}
+
+// A trace on an image of so many zeros, whose device's calls of these numbers fail.
+fn io(rt: &HostRuntime, len: u32, fails: &[FailAt], trace: &[u8]) -> Result<Ran, Fail>
+    requires { len ≤ 67108864 }
+{
+    run(
+        rt,
+        "io raw disk.img t",
+        &[],
+        zeros(rt, len, fails)?,
+        trace,
+        sink(rt, &[])?,
+    )
+}
+
+// Whether a run ended so, and its transcript is this.
+fn is_so(rt: &HostRuntime, ran: &Ran, status: &str, transcript: &str) -> Result<bool, Fail> {
+    let text = format!(in rt.alloc(); "{}", ran.status)?;
+    Ok(text.as_str() == status && ran.out.bytes() == transcript.as_bytes())
+}
+
+#[test]
+fn a_write_and_a_read_over_two_blocks(rt: HostRuntime) -> Result<(), Fail> {
+    let ran = io(
+        &rt,
+        1_048_576,
+        &[],
+        b"write -P 0x55 65530 12\nread 65528 16\n",
+    )?;
+    assert!(rt;
+        is_so(
+            &rt,
+            &ran,
+            "",
+            "admit disk 0 write 65530 12\n\
+        piece disk 0 0 ok\n\
+        piece disk 0 1 ok\n\
+        retire disk 0\n\
+        admit disk 1 read 65528 16\n\
+        piece disk 1 0 ok 00*2 55*6\n\
+        piece disk 1 1 ok 55*6 00*2\n\
+        retire disk 1\n"
+        )?
+    );
+    assert_eq!(rt; ran.status.exit(), 0);
+    let image = ran
+        .store
+        .file("disk.img")
+        .expect(&rt, "the image is back")
+        .bytes();
+    assert_eq!(rt; image.len(), 1_048_576);
+    for (place, &byte) in image.iter().enumerate() {
+        let want = if (65_530..65_542).contains(&place) {
+            0x55
+        } else {
+            0
+        };
+        assert_eq!(rt; byte, want, "{place}");
+    }
+    Ok(())
+}
+
+#[test]
+fn small_traces(rt: HostRuntime) -> Result<(), Fail> {
+    let table: [(u32, &[u8], &str); 3] = [
+        (1_048_576, b"", ""),
+        (
+            1_048_576,
+            b"read 1048575 2",
+            "refuse disk 0 read 1048575 2 range\n",
+        ),
+        (
+            65_537,
+            b"write -P 0xff 65536 1\nread 65535 2\n",
+            "admit disk 0 write 65536 1\n\
+             piece disk 0 0 ok\n\
+             retire disk 0\n\
+             admit disk 1 read 65535 2\n\
+             piece disk 1 0 ok 00*1\n\
+             piece disk 1 1 ok ff*1\n\
+             retire disk 1\n",
+        ),
+    ];
+    for (len, trace, transcript) in table {
+        assert!(rt; len <= 1_048_576);
+        let ran = io(&rt, len, &[], trace)?;
+        assert!(rt; is_so(&rt, &ran, "", transcript)?, "{transcript}");
+    }
+    Ok(())
+}
+
+#[test]
+fn each_status_has_its_text(rt: HostRuntime) -> Result<(), Fail> {
+    let table: [(&str, &[u8], u8, &str); 12] = [
+        ("io raw disk.img t", b"", 0, ""),
+        ("", b"", 1, USAGE),
+        ("io raw", b"", 1, USAGE),
+        ("io raw disk.img t t", b"", 1, USAGE),
+        ("io RAW disk.img t", b"", 1, USAGE),
+        ("io raw disk.img -t", b"", 1, USAGE),
+        ("io raw none t", b"reed", 2, "input none line 0: Absent"),
+        ("io raw disk.img none", b"", 2, "input none line 0: Absent"),
+        (
+            "io raw disk.img t",
+            b"reed 0 1",
+            2,
+            "input t line 1: BadLine",
+        ),
+        (
+            "io raw disk.img t",
+            b"read 0 1\n\nread 0 0\n",
+            2,
+            "input t line 3: BadLine",
+        ),
+        ("io raw disk.img t", b"#\xff", 2, "input t line 0: NotUtf8"),
+        (
+            "io raw t disk.img",
+            b"",
+            2,
+            "input disk.img line 1: BadLine",
+        ),
+    ];
+    for (text, trace, exit, status) in table {
+        let ran = run(&rt, text, &[], zeros(&rt, 8, &[])?, trace, sink(&rt, &[])?)?;
+        assert!(rt; is_so(&rt, &ran, status, "")?, "{text}");
+        assert_eq!(rt; ran.status.exit(), exit, "{text}");
+    }
+    Ok(())
+}
+
+const THREE: &[u8] = b"write -P 1 0 8\nread 0 8\nwrite -P 2 65532 8\n";
+
+#[test]
+fn a_device_call_fails_at_each_place(rt: HostRuntime) -> Result<(), Fail> {
+    let admitted = ["write 0 8", "read 0 8", "write 65532 8"];
+    let table: [(&str, [&str; 4]); 6] = [
+        ("", ["io dev0 1", "ok 00*8", "ok", "ok"]),
+        ("", ["ok", "io dev0 1", "ok", "ok"]),
+        ("", ["ok", "ok 01*8", "io dev0 1", ""]),
+        ("", ["ok", "ok 01*8", "ok", "io dev0 1"]),
+        ("fault dev0 1", ["ok", "ok 01*8", "ok", "ok"]),
+        ("", ["ok", "ok 01*8", "ok", "ok"]),
+    ];
+    for (call, (status, [first, second, third, fourth])) in table.iter().enumerate() {
+        let ran = io(&rt, 1_048_576, &failing(call as u64, 0), THREE)?;
+        let [one, two, three] = admitted;
+        let last = if fourth.is_empty() {
+            ""
+        } else {
+            "piece disk 2 1 "
+        };
+        let end = if fourth.is_empty() { "" } else { "\n" };
+        let transcript = format!(in rt.alloc();
+            "admit disk 0 {one}\n\
+            piece disk 0 0 {first}\n\
+            retire disk 0\n\
+            admit disk 1 {two}\n\
+            piece disk 1 0 {second}\n\
+            retire disk 1\n\
+            admit disk 2 {three}\n\
+            piece disk 2 0 {third}\n\
+            {last}{fourth}{end}retire disk 2\n"
+        )?;
+        assert!(rt; is_so(&rt, &ran, status, transcript.as_str())?, "{call}");
+    }
+    Ok(())
+}
+
+#[test]
+fn a_torn_write_leaves_its_beginning(rt: HostRuntime) -> Result<(), Fail> {
+    let ran = io(
+        &rt,
+        4_096,
+        &failing(0, 700),
+        b"write -P 1 500 1024\nread 1020 8\n",
+    )?;
+    assert!(rt;
+        is_so(
+            &rt,
+            &ran,
+            "",
+            "admit disk 0 write 500 1024\n\
+        piece disk 0 0 torn 524 dev0 1\n\
+        retire disk 0\n\
+        admit disk 1 read 1020 8\n\
+        piece disk 1 0 ok 01*4 00*4\n\
+        retire disk 1\n"
+        )?
+    );
+    Ok(())
+}
+
+#[test]
+fn a_store_or_sink_fails(rt: HostRuntime) -> Result<(), Fail> {
+    let words = "io raw disk.img t";
+    for call in 0..2 {
+        let ran = run(
+            &rt,
+            words,
+            &failing(call, 0),
+            zeros(&rt, 8, &[])?,
+            b"",
+            sink(&rt, &[])?,
+        )?;
+        assert!(rt; is_so(&rt, &ran, "fault store 1", "")?, "{call}");
+        assert_eq!(rt; ran.status.exit(), 3);
+    }
+    let out = sink(&rt, &failing(0, 5))?;
+    let ran = run(&rt, words, &[], zeros(&rt, 8, &[])?, b"read 0 1", out)?;
+    assert!(rt; is_so(&rt, &ran, "fault sink 1", "admit")?);
+    assert_eq!(rt; ran.status.exit(), 3);
+    Ok(())
+}
