@@ -5,10 +5,10 @@ use std::test::Fail;
 fn has_members(set: &DirtySet, members: &[u64]) -> bool {
     let mut from = 0;
     for member in members {
-        if set.next_dirty(from) != Some(*member) || !set.test(*member) {
+        if set.next_dirty(from) != Some(*member) {
             return false;
         }
-        from = *member + 1;
+        from = member.saturating_add(1);
     }
     set.next_dirty(from).is_none() && set.count() == members.len() as u64
 }
