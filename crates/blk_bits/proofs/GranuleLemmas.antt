@@ -1,13 +1,13 @@
 -- Sets of granules by their members.
-use Rattle.std.proofs.Common.{◌≡◌, ◌↔◌, ℕ, zero, suc, ◌+◌, ◌-◌, ◌*◌, ◌/◌, ◌<◌, ◌≤◌, min, Bool, true, false, cond, not, ◌&&◌, ◌||◌, List, [], ◌∷◌, ◌++◌, length, get_or, take, drop, replicate, refl, sym, ◌∙◌, ap, arith, nat_lt, add-one, inl, inr, ◌⊎◌, length-append}
-use Rattle.std.specs.Prelude.{nat_le, if◌then◌else◌}
+use Rattle.std.proofs.Common.{◌≡◌, ◌↔◌, ℕ, suc, ◌+◌, ◌-◌, ◌*◌, ◌/◌, ◌<◌, ◌≤◌, min, Bool, true, false, not, ◌&&◌, ◌||◌, List, ◌++◌, length, take, drop, replicate, refl, sym, ◌∙◌, ap, arith, nat_lt, add-one, inl, inr, length-append}
+use Rattle.std.specs.Prelude.{if◌then◌else◌}
 use Rattle.std.proofs.Math.Nat.{div-lt_iff_lt-mul}
 use Rattle.std.proofs.lemmas.Bool.{cases_lt}
 use Rattle.std.proofs.lemmas.Bool.Decides.{nat_tests}
 use Rattle.std.proofs.lemmas.List.{get_or_append_left, get_or-append_right, get_or-take, get_or-drop, get_or-replicate, length-take-le, length-drop, length-replicate}
 use Rattle.std.proofs.lemmas.List.FromFn.{fill_by_all, get_or-map-range_with_len, length-map-range_with_len}
 use Rattle.blk_bits.specs.declared.ratio.Ratio.{Ratio}
-use Rattle.blk_bits.specs.Granules.{contains, those_below, in_span, with_span, without_span, overlaps, overlaps_member, merged, LeastFrom, HasNoneFrom}
+use Rattle.blk_bits.specs.Granules.{contains, those_below, in_span, with_span, without_span, overlaps, overlaps_member, LeastFrom, HasNoneFrom}
 
 -- a number below the count is a member where it passes the test
 pub contains-those_below : (n : ℕ) (test : ℕ → Bool) (k : ℕ) → k < n → contains (those_below n test) k ≡ test k

@@ -58,8 +58,8 @@ fn merges_between_granule_sizes(rt: HostRuntime) -> Result<(), Fail> {
     );
     assert_eq!(rt; small.count(), 128);
     assert_eq!(rt; small.next_dirty(0), Some(0));
-    assert!(rt; small.test(127));
-    assert!(rt; !small.test(128));
+    assert_eq!(rt; small.next_dirty(127), Some(127));
+    assert_eq!(rt; small.next_dirty(128), None);
     Ok(())
 }
 

@@ -1,4 +1,4 @@
-use Rattle.std.proofs.Common.{◌≡◌, ◌∙◌, sym, arith}
+use Rattle.std.proofs.Common.{◌∙◌, arith}
 use Rattle.blk_bits.proofs.GranuleLemmas.{merged-none, merged-member, merged-other}
 use Rattle.blk_bits.proofs.dirty_set.merge.Goals as goal
 use Rattle.blk_bits.proofs.dirty_set.merge.Goals.{then-dirty, else-dirty}

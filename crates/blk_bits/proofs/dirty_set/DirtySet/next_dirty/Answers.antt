@@ -1,4 +1,4 @@
-use Rattle.std.proofs.Common.{◌≡◌, ◌∙◌, ℕ, Bool, List, drop, length, ap, arith}
+use Rattle.std.proofs.Common.{◌≡◌, ◌∙◌, Bool, List, drop, length, ap, arith}
 use Rattle.std.proofs.lemmas.Slice.{between_to_end}
 use Rattle.blk_bits.specs.Granules.{HasNoneFrom, LeastFrom}
 use Rattle.blk_bits.proofs.GranuleLemmas.{none-ahead, least-ahead}

@@ -1,4 +1,3 @@
-use Rattle.std.proofs.Common.{arith}
 use Rattle.blk_bits.proofs.GranuleLemmas.{span-overlaps}
 use Rattle.blk_bits.proofs.ratio.Ratio.overlapped.Goals as goal
 
