@@ -1,4 +1,4 @@
-ghost use Rattle.std.specs.Prelude.{◌≡◌, ◌<◌, ◌++◌, ◌∷◌, [], false, length, IfOk};
+ghost use Rattle.std.specs.Prelude.{◌≡◌, ◌<◌, ◌++◌, ◌∷◌, [], false, length, IfOk, vec_capacity};
 ghost use Rattle.blk_copy.specs.Rows.{is_of, has_row, is_in_flight, without_row};
 
 use blk_base::NoMemory;
@@ -64,7 +64,14 @@ impl Transfers {
         ensures closed { self.new ≡ record self.old { rows = without_row job cluster self.old.rows } }
     {
         let found = self.rows.iter().any(|row| row.job == job && row.cluster == cluster);
-        self.rows.retain(|row| !(row.job == job && row.cluster == cluster));
+        remove_row(&mut self.rows, job, cluster);
         found
     }
+}
+
+fn remove_row(rows: &mut Vec<Transfer>, job: u32, cluster: u64)
+    ensures rows { rows.new.items ≡ without_row job cluster rows.old.items }
+    ensures room { vec_capacity rows.new ≡ vec_capacity rows.old }
+{
+    rows.retain(|row| !(row.job == job && row.cluster == cluster));
 }

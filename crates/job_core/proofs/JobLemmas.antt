@@ -1,5 +1,5 @@
 -- Slots of jobs: full tables, and ids that stay different.
-use Rattle.std.proofs.Common.{◌≡◌, ◌≢◌, ◌⊎◌, ◌↔◌, inl, inr, ℕ, zero, suc, ◌+◌, ◌<◌, ◌≤◌, Bool, true, false, cond, not, List, [], ◌∷◌, length, get_or, set, replicate, refl, sym, ◌∙◌, ap, subst, arith, Option, Some, None, is_none, is_some, position, ltb, nat_lt}
+use Rattle.std.proofs.Common.{◌≡◌, ◌≢◌, ◌⊎◌, ◌↔◌, inl, inr, ℕ, ◌+◌, ◌<◌, Bool, true, false, cond, List, [], ◌∷◌, length, get_or, set, replicate, refl, sym, ◌∙◌, ap, subst, arith, Option, Some, None, is_none, is_some, position, nat_lt}
 use Rattle.std.specs.Prelude.{◌==◌, Result, Ok, Err, IsSome, IsSomeAnd, count_by, bytes_eq}
 use Rattle.std.specs.List.{position_or_len}
 use Rattle.std.proofs.Math.ListN.{get_or-eq_default}
@@ -13,7 +13,7 @@ use Rattle.std.proofs.lemmas.Slice.Eq.{bytes_eq-Decides}
 use Rattle.job_core.specs.declared.row.JobRow.{JobRow}
 use Rattle.job_core.specs.declared.stop.JobStop.{JobStop}
 use Rattle.job_core.specs.declared.stop.JobStop.TheVariants.{IdTaken, TooMany}
-use Rattle.job_core.specs.Table.{JobTable, DifferentIds}
+use Rattle.job_core.specs.Table.{DifferentIds}
 use Rattle.job_core.specs.Jobs.{has_id, slot_of, row_count, entry_answer}
 
 count_by_cons : {X : Type 0} (p : X → Bool) (x : X) (xs : List X) → count_by p (x ∷ xs) ≡ cond (p x) 1 0 + count_by p xs
@@ -47,10 +47,10 @@ pub nowhere : (p : Option JobRow → Bool) (slots : List (Option JobRow)) → p 
 nowhere p slots free none k = elim (cases_lt k (position_or_len p slots)) [
   | inl below ↦ fails_before_first p slots k None below
   | inr past ↦ elim (cases_lt (position_or_len p slots) (length slots)) [
-      | inl within ↦ absurd (let e : nat_lt (position_or_len p slots) (length slots) ≡ true = grind (arith, nat_tests) in
-          let found : position p slots ≡ Some (position_or_len p slots) = rw e refl in cc)
-      | inr end ↦ ap p (get_or-eq_default slots None (omega arith)) ∙ free
-    ]
+    | inl within ↦ absurd (let e : nat_lt (position_or_len p slots) (length slots) ≡ true = grind (arith, nat_tests) in
+        let found : position p slots ≡ Some (position_or_len p slots) = rw e refl in cc)
+    | inr end ↦ ap p (get_or-eq_default slots None (omega arith)) ∙ free
+  ]
 ]
 
 -- a slot is written, and no other slot has the id that it gets
@@ -82,10 +82,10 @@ pub different_entered : (slots : List (Option JobRow)) (i : ℕ) (row : JobRow) 
     → position (has_id row.id.bytes) slots ≡ None → DifferentIds (set slots i (Some row))
 different_entered slots i row within old none =
     different_set slots i (Some row) within old (λ j a b is found same.
-        let own : a ≡ row = cc in
-        let not_there : has_id row.id.bytes (get_or slots j None) ≡ false = nowhere (has_id row.id.bytes) slots refl none j in
-        let equal : bytes_eq b.id.bytes row.id.bytes ≡ true = (bytes_eq-Decides b.id.bytes row.id.bytes).1 (sym same ∙ ap (λ (r : JobRow). r.id.bytes) own) in
-        absurd (let bad : has_id row.id.bytes (Some b) ≡ false = rw found at not_there in cc (bad, equal)))
+    let own : a ≡ row = cc in
+    let not_there : has_id row.id.bytes (get_or slots j None) ≡ false = nowhere (has_id row.id.bytes) slots refl none j in
+    let equal : bytes_eq b.id.bytes row.id.bytes ≡ true = (bytes_eq-Decides b.id.bytes row.id.bytes).1 (sym same ∙ ap (λ (r : JobRow). r.id.bytes) own) in
+    absurd (let bad : has_id row.id.bytes (Some b) ≡ false = rw found at not_there in cc (bad, equal)))
 
 pub different_freed : (slots : List (Option JobRow)) (i : ℕ) → i < length slots → DifferentIds slots → DifferentIds (set slots i None)
 different_freed slots i within old = different_set slots i None within old (λ j a b is found same. absurd cc)
@@ -94,8 +94,8 @@ pub different_moved : (slots : List (Option JobRow)) (i : ℕ) (row new : JobRow
     → new.id.bytes ≡ row.id.bytes → DifferentIds (set slots i (Some new))
 different_moved slots i row new is old same_id =
     different_set slots i (Some new) (slot_within slots i row is) old (λ j a b v found same.
-        let own : new ≡ a = cc in
-        old j i b row found is (sym same ∙ ap (λ (r : JobRow). r.id.bytes) (sym own) ∙ same_id))
+    let own : new ≡ a = cc in
+    old j i b row found is (sym same ∙ ap (λ (r : JobRow). r.id.bytes) (sym own) ∙ same_id))
 
 pub some_within : (slots : List (Option JobRow)) (i : ℕ) (P : JobRow → Type 0) → IsSomeAnd (get_or slots i None) P → i < length slots
 some_within slots i P held = elim (cases_lt i (length slots)) [

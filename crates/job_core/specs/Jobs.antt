@@ -1,5 +1,5 @@
 -- What the calls of the table of jobs make of it.
-use Rattle.std.specs.Prelude.{◌≡◌, ℕ, ◌+◌, ◌-◌, ◌^◌, min, List, slice_index_or, slice_set, position, count_by, Option, Some, None, is_some, is_none, Result, Ok, Err, option_map, Bool, true, false, bytes_eq, ⊤}
+use Rattle.std.specs.Prelude.{ℕ, ◌+◌, ◌-◌, ◌^◌, min, List, slice_index_or, slice_set, position, count_by, Option, Some, None, is_some, is_none, Result, Ok, Err, option_map, Bool, true, false, bytes_eq, ⊤}
 use Rattle.blk_base.specs.Written.{Written}
 use Rattle.job_core.specs.Table.{JobTable}
 use Rattle.job_core.specs.declared.row.JobRow.{JobRow}
@@ -34,9 +34,9 @@ abbrev pub entry_answer : List (Option JobRow) → List ℕ → Result ℕ JobSt
 entry_answer slots id = elim (slot_of slots id) as (λ _. Result ℕ JobStop) [
   | Some slot ↦ Err IdTaken
   | None ↦ elim (position is_none slots) as (λ _. Result ℕ JobStop) [
-      | Some slot ↦ Ok slot
-      | None ↦ Err TooMany
-    ]
+    | Some slot ↦ Ok slot
+    | None ↦ Err TooMany
+  ]
 ]
 
 -- the row of a new job; its number is how many were started before

@@ -10,7 +10,10 @@ fn one_job_from_start_to_end(rt: HostRuntime) -> Result<(), Fail> {
     let m = jobs.enter(Text::copied(alloc, "m")?, None)?;
     let b = jobs.enter(Text::copied(alloc, "b")?, Some(7))?;
     assert_eq!(rt; (m, b), (0, 1));
-    assert_eq!(rt; jobs.enter(Text::copied(alloc, "m")?, None), Err(JobStop::IdTaken));
+    assert_eq!(rt;
+        jobs.enter(Text::copied(alloc, "m")?, None),
+        Err(JobStop::IdTaken)
+    );
     assert_eq!(rt; jobs.complete("m"), Err(JobStop::NotReady));
     assert_eq!(rt; jobs.complete("x"), Err(JobStop::NotActive));
     jobs.advance(m, JobState::Running);
@@ -40,7 +43,13 @@ fn a_full_table(rt: HostRuntime) -> Result<(), Fail> {
     for id in ids {
         jobs.enter(Text::copied(alloc, id)?, None)?;
     }
-    assert_eq!(rt; jobs.enter(Text::copied(alloc, "q")?, None), Err(JobStop::TooMany));
-    assert_eq!(rt; jobs.enter(Text::copied(alloc, "p")?, None), Err(JobStop::IdTaken));
+    assert_eq!(rt;
+        jobs.enter(Text::copied(alloc, "q")?, None),
+        Err(JobStop::TooMany)
+    );
+    assert_eq!(rt;
+        jobs.enter(Text::copied(alloc, "p")?, None),
+        Err(JobStop::IdTaken)
+    );
     Ok(())
 }

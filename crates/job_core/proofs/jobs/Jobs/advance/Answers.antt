@@ -1,6 +1,5 @@
-use Rattle.std.proofs.Common.{◌≡◌, None, Some, refl, sym, ◌∙◌, get_or, arith}
+use Rattle.std.proofs.Common.{◌≡◌, None, refl, ◌∙◌, get_or}
 use Rattle.std.specs.Prelude.{IsSomeAnd}
-use Rattle.job_core.specs.declared.row.JobRow.{JobRow}
 use Rattle.job_core.specs.Jobs.{row_at, IsStep, moved}
 use Rattle.job_core.proofs.JobLemmas.{different_moved, read_slot}
 use Rattle.job_core.proofs.jobs.Jobs.advance.Goals as goal
@@ -14,9 +13,9 @@ invariant_of-self c =
     = read_slot c.self.inside.slots.items c.args.slot c.index_mut.result.now (λ row. IsStep row.state c.args.to) step c.index_mut.ensures.value in
     elim c.match-index_mut.branch [
       | in-Some w ↦ rw w.self-inside-is (record {
-          count = c.self.invariant.count;
-          different = different_moved c.self.inside.slots.items c.args.slot w.in-Some.row (moved c.args.to w.in-Some.row) (read ∙ w.in-Some.is) c.self.invariant.different refl;
-        })
+        count = c.self.invariant.count;
+        different = different_moved c.self.inside.slots.items c.args.slot w.in-Some.row (moved c.args.to w.in-Some.row) (read ∙ w.in-Some.is) c.self.invariant.different refl;
+      })
       | in_default w ↦ absurd (rw (read, w.in_default.is) at step)
     ]
 

@@ -1,4 +1,4 @@
-use Rattle.std.proofs.Common.{rules, ◌≡◌, ◌<◌, None, Some, length, position, refl, arith}
+use Rattle.std.proofs.Common.{rules, ◌≡◌, ◌<◌, None, length, position}
 use Rattle.job_core.specs.Jobs.{has_id, entry_answer, created}
 use Rattle.job_core.proofs.JobLemmas.{different_entered, many_is}
 use Rattle.job_core.proofs.jobs.Jobs.enter.Goals as goal

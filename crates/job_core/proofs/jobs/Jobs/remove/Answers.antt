@@ -1,4 +1,4 @@
-use Rattle.std.proofs.Common.{◌≡◌, None, Some, refl, get_or, arith}
+use Rattle.std.proofs.Common.{None, get_or}
 use Rattle.std.specs.Prelude.{IsSome}
 use Rattle.job_core.specs.Jobs.{row_at}
 use Rattle.job_core.proofs.JobLemmas.{different_freed, held_within}
