@@ -1,5 +1,5 @@
 -- The transfers in flight: the rows in the order of their beginning, and how many there is room for.
-use Rattle.std.specs.Prelude.{◌≡◌, ℕ, ◌==◌, Bool, not, ◌&&◌, List, filter}
+use Rattle.std.specs.Prelude.{ℕ, ◌==◌, Bool, not, ◌&&◌, List, filter}
 use Rattle.std.specs.List.{list_any}
 use Rattle.blk_copy.specs.declared.transfers.Transfer.{Transfer}
 

@@ -53,9 +53,9 @@ impl Transfers {
     pub fn find(&self, t: Transfer) -> bool
         ensures { result ≡ is_in_flight t self.now.rows }
     {
-        self.rows
-            .iter()
-            .any(|row| row.job == t.job && row.cluster == t.cluster && row.position == t.position)
+        self.rows.iter().any(|row| row.job == t.job
+            && row.cluster == t.cluster
+            && row.position == t.position)
     }
 
     /// Ends the transfer of a job and cluster, and says whether there was one.
@@ -63,7 +63,10 @@ impl Transfers {
         ensures found { result ≡ has_row job cluster self.old.rows }
         ensures closed { self.new ≡ record self.old { rows = without_row job cluster self.old.rows } }
     {
-        let found = self.rows.iter().any(|row| row.job == job && row.cluster == cluster);
+        let found = self
+            .rows
+            .iter()
+            .any(|row| row.job == job && row.cluster == cluster);
         remove_row(&mut self.rows, job, cluster);
         found
     }
