@@ -1,5 +1,5 @@
 ghost use Rattle.std.specs.Prelude.{◌≡◌, ◌<◌, ◌++◌, ◌∷◌, [], false, length, IfOk, vec_capacity};
-ghost use Rattle.blk_copy.specs.Rows.{is_of, has_row, is_in_flight, without_row};
+ghost use Rattle.blk_copy.specs.Rows.{has_row, is_in_flight, without_row};
 
 use blk_base::NoMemory;
 use std::alloc::Global;

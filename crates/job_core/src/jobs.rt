@@ -1,5 +1,5 @@
 //! The table and its calls.
-ghost use Rattle.std.specs.Prelude.{◌≡◌, ◌≢◌, ◌↔◌, ◌<◌, ◌≤◌, length, replicate, position, Some, None, IfOk, IfSome, IsSome, OnErr, IsSomeAnd, MatchOption, is_none, vec_len, if◌then◌else◌};
+ghost use Rattle.std.specs.Prelude.{◌≡◌, ◌↔◌, ◌<◌, length, replicate, position, None, IfOk, IsSome, OnErr, IsSomeAnd, MatchOption, is_none, vec_len, if◌then◌else◌};
 ghost use Rattle.job_core.specs.Jobs.{row_at, has_id, is_ready, slot_of, row_count, created, with_row, without_row, in_state, IsStep, entry_answer};
 ghost use Rattle.job_core.specs.Table.{DifferentIds};
 
