@@ -152,6 +152,7 @@ impl Device for MemDevice {
         ensures torn { IfErr result (λ stop. stop.why ≡ Stop.Failed → option_map (torn_at off (length bytes.now)) (done_at self.old.calls.made self.old.calls.fails) ≡ Some stop.done) }
         ensures numbers { self.new.calls.made ≡ one_more self.old.calls.made }
         ensures list { self.new.calls.fails ≡ self.old.calls.fails }
+        ensures room { (self.new.disk.log_writes ≡ self.old.disk.log_writes) × (self.new.disk.log_bytes ≡ self.old.disk.log_bytes) }
         ensures kept { self.new.disk.log ≡ log_after self.old.disk.log off (taken result bytes.now) }
 
         // what each device promises

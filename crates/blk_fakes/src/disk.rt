@@ -152,6 +152,7 @@ impl Disk {
         ensures size { length (bytes_of self.new) ≡ size_with (length (bytes_of self.old)) off written.now }
         ensures kept { self.new.log ≡ log_after self.old.log off written.now }
         ensures log { GoesOn (log_of self.old.log) off written.now (log_of self.new.log) }
+        ensures room { (self.new.log_writes ≡ self.old.log_writes) × (self.new.log_bytes ≡ self.old.log_bytes) }
         ensures capacity { self.new.capacity ≡ self.old.capacity }
         ensures flushed { self.new.is_flushed ≡ self.old.is_flushed }
     {
