@@ -52,7 +52,11 @@ fn a_write_is_torn_between_sectors(rt: HostRuntime) -> Result<(), Fail> {
             done,
             why: Stop::Failed,
         };
-        assert_eq!(rt; dev.write_at(off, &[7; 1_024]), Err(failed), "{wanted} at {off}");
+        assert_eq!(rt;
+            dev.write_at(off, &[7; 1_024]),
+            Err(failed),
+            "{wanted} at {off}"
+        );
         assert_eq!(rt; dev.faults(), 1);
         assert_eq!(rt; dev.write_at(off, &[7; 1_024]), Ok(()));
     }
