@@ -1,5 +1,5 @@
 -- What contracts see of bytes in memory with a log of the writes to them.
-use Rattle.std.specs.Prelude.{ℕ, Bool, true, false, ◌≡◌, ◌-◌, ◌&&◌, ltb, leb, if◌then◌else◌, List, [], ◌∷◌, ◌++◌, length, slice_get, Option, Some, None}
+use Rattle.std.specs.Prelude.{ℕ, Bool, true, false, ◌≡◌, ◌+◌, ◌-◌, ◌%◌, min, ◌&&◌, ltb, leb, if◌then◌else◌, List, [], ◌∷◌, ◌++◌, length, slice_get, Option, Some, None}
 use Rattle.blk_base.specs.Content.{Write, Log, after_writes}
 use Rattle.blk_fakes.specs.Calls.{CallState}
 
@@ -30,6 +30,15 @@ with_write log offset bytes = record log {
 -- the log after one more write: it ends with a write past its room
 abbrev pub logged_with : LogState → ℕ → List ℕ → LogState
 logged_with log offset bytes = if goes_in log (length bytes) then with_write log offset bytes else record log { is_kept = false }
+
+-- the log after a write; one of no bytes is none
+abbrev pub log_after : LogState → ℕ → List ℕ → LogState
+log_after log offset [] = log
+log_after log offset (byte ∷ bytes) = logged_with log offset (byte ∷ bytes)
+
+-- how much is done of a write of n bytes that is to fail after some: less than all, and at most up to a border of sectors
+abbrev pub torn_at : ℕ → ℕ → ℕ → ℕ
+torn_at offset n done = min done (n - 1) - (offset + min done (n - 1)) % 512
 
 -- write k is that
 abbrev pub WriteAt : List Write → ℕ → ℕ → List ℕ → Type 0

@@ -1,6 +1,7 @@
 //! Bytes in a vector, read and written at an offset.
 ghost use Rattle.std.specs.Prelude.{◌≡◌, ◌↔◌, ◌+◌, ◌≤◌, ◌<◌, ◌⊎◌, ◌%◌, ◌^◌, ◌++◌, ℕ, max, length, get_or, take, drop, replicate, slice_range, vec_len, vec_capacity, IsTrue, IfOk};
 ghost use Rattle.blk_base.specs.Content.{bytes_at, with_bytes};
+ghost use Rattle.blk_fakes.specs.Disk.{torn_at};
 
 use blk_base::NoMemory;
 use std::alloc::Global;
@@ -112,6 +113,7 @@ pub(crate) fn overwrite(bytes: &mut Vec<u8>, off: u64, written: &[u8])
 pub(crate) fn torn(off: u64, len: usize, done: u64) -> u64
     requires some { 0 < len }
     requires within { off + len < 2 ^ 64 }
+    ensures done { result ≡ torn_at off len done }
     ensures part { result < len }
     ensures sector { (result ≡ 0) ⊎ ((off + result) % 512 ≡ 0) }
 {

@@ -112,9 +112,11 @@ impl MemDevice {
 }
 
 impl Device for MemDevice {
-    ghost use Rattle.std.specs.Prelude.{◌≡◌, ◌↔◌, ◌+◌, ◌<◌, ◌≤◌, ◌||◌, ℕ, Bool, true, false, List, length, Some, refl, option_map, is_some, is_ok, IsTrue, IfErr, OnOk, OnErr};
+    ghost use Rattle.std.specs.Prelude.{not, None, ◌⊎◌, ◌≡◌, ◌↔◌, ◌+◌, ◌<◌, ◌≤◌, ◌||◌, ℕ, Bool, true, false, List, length, Some, refl, option_map, is_some, is_ok, IsTrue, IfErr, OnOk, OnErr};
     ghost use Rattle.blk_base.specs.Content.{Log, after_writes, GoesOn, bytes_at, with_bytes, size_with};
-    ghost use Rattle.blk_fakes.specs.Disk.{DeviceState, bytes_of, log_of};
+    ghost use Rattle.blk_fakes.specs.Disk.{DeviceState, bytes_of, log_of, log_after, torn_at};
+    ghost use Rattle.blk_base.specs.Counts.{IsFailedWrite, taken};
+    ghost use Rattle.blk_fakes.specs.Calls.{fails_next, with_go, done_at, one_more};
     ghost use Rattle.blk_fakes.specs.Laws.{size_told, log_told};
 
     ghost content = { λ d. Some (bytes_of d.disk) };
@@ -129,7 +131,13 @@ impl Device for MemDevice {
 
     ghost faults = { λ d. d.calls.faults };
 
-    fn read_at(&mut self, off: u64, buf: &mut [u8]) -> Result<(), DevFault> {
+    /// Fails exactly where the list says so.
+    fn read_at(&mut self, off: u64, buf: &mut [u8]) -> Result<(), DevFault>
+        ensures goes { is_ok result ≡ not (fails_next self.old.calls) }
+        ensures read { OnOk result (buf.new ≡ bytes_at (bytes_of self.old.disk) off (length buf.old)) }
+        ensures after { self.new ≡ record self.old { calls = with_go self.old.calls } }
+        ensures faults { self.old.calls.faults ≤ self.new.calls.faults }
+    {
         if self.calls.go() {
             self.disk.read(off, buf);
             Ok(())
@@ -138,7 +146,28 @@ impl Device for MemDevice {
         }
     }
 
-    fn write_at(&mut self, off: u64, bytes: &[u8]) -> Result<(), WriteStop> {
+    /// Fails exactly where the list says so, unless it has no bytes.
+    fn write_at(&mut self, off: u64, bytes: &[u8]) -> Result<(), WriteStop>
+        ensures goes { OnOk result ((done_at self.old.calls.made self.old.calls.fails ≡ None) ⊎ (length bytes.now ≡ 0)) }
+        ensures torn { IfErr result (λ stop. stop.why ≡ Stop.Failed → option_map (torn_at off (length bytes.now)) (done_at self.old.calls.made self.old.calls.fails) ≡ Some stop.done) }
+        ensures numbers { self.new.calls.made ≡ one_more self.old.calls.made }
+        ensures list { self.new.calls.fails ≡ self.old.calls.fails }
+        ensures room { (self.new.disk.log_writes ≡ self.old.disk.log_writes) × (self.new.disk.log_bytes ≡ self.old.disk.log_bytes) }
+        ensures kept { self.new.disk.log ≡ log_after self.old.disk.log off (taken result bytes.now) }
+
+        // what each device promises
+        ensures written { bytes_of self.new.disk ≡ with_bytes (bytes_of self.old.disk) off (taken result bytes.now) }
+        ensures size { length (bytes_of self.new.disk) ≡ size_with (length (bytes_of self.old.disk)) off (taken result bytes.now) }
+        ensures log { GoesOn (log_of self.old.disk.log) off (taken result bytes.now) (log_of self.new.disk.log) }
+        ensures flushed { self.new.disk.is_flushed ≡ false }
+        ensures fits { OnOk result (off + length bytes.now ≤ self.old.disk.capacity) }
+        ensures no_space { IfErr result (λ stop. stop.why ≡ Stop.NoSpace →
+            (self.old.disk.capacity < off + length bytes.now) × (stop.done ≡ 0) × (self.new.calls.faults ≡ self.old.calls.faults)) }
+        ensures failed { IfErr result (λ stop. stop.why ≡ Stop.Failed → (off + length bytes.now ≤ self.old.disk.capacity)
+            × IsFailedWrite off stop.done (length bytes.now) self.old.calls.faults self.new.calls.faults) }
+        ensures faults { self.old.calls.faults ≤ self.new.calls.faults }
+        ensures capacity { self.new.disk.capacity ≡ self.old.disk.capacity }
+    {
         self.disk.set_flushed(false);
         let fails = self.calls.next();
         if !self.disk.fits(off, bytes.len()) {
@@ -164,7 +193,12 @@ impl Device for MemDevice {
         }
     }
 
-    fn flush(&mut self) -> Result<(), DevFault> {
+    /// Fails exactly where the list says so.
+    fn flush(&mut self) -> Result<(), DevFault>
+        ensures goes { is_ok result ≡ not (fails_next self.old.calls) }
+        ensures after { self.new ≡ record { disk = record self.old.disk { is_flushed = is_ok result || self.old.disk.is_flushed }; calls = with_go self.old.calls } }
+        ensures faults { self.old.calls.faults ≤ self.new.calls.faults }
+    {
         if self.calls.go() {
             self.disk.set_flushed(true);
             Ok(())

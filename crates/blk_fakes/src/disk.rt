@@ -39,7 +39,7 @@ impl Model for Disk {
 impl Disk {
     ghost use Rattle.std.specs.Prelude.{◌≡◌, ◌↔◌, ◌+◌, ◌^◌, ◌<◌, ◌≤◌, true, false, [], length, replicate, Some, None, IsTrue, IfOk, OnOk, OnErr};
     ghost use Rattle.blk_base.specs.Content.{Write, bytes_at, with_bytes, size_with, GoesOn};
-    ghost use Rattle.blk_fakes.specs.Disk.{DiskState, LogState, WriteAt, bytes_of, log_of, fresh};
+    ghost use Rattle.blk_fakes.specs.Disk.{DiskState, LogState, WriteAt, bytes_of, log_of, log_after, fresh};
 
     /// These bytes, flushed, and an empty log.
     pub fn new(
@@ -150,7 +150,9 @@ impl Disk {
         requires { off + length written.now ≤ self.old.capacity }
         ensures told { bytes_of self.new ≡ with_bytes (bytes_of self.old) off written.now }
         ensures size { length (bytes_of self.new) ≡ size_with (length (bytes_of self.old)) off written.now }
+        ensures kept { self.new.log ≡ log_after self.old.log off written.now }
         ensures log { GoesOn (log_of self.old.log) off written.now (log_of self.new.log) }
+        ensures room { (self.new.log_writes ≡ self.old.log_writes) × (self.new.log_bytes ≡ self.old.log_bytes) }
         ensures capacity { self.new.capacity ≡ self.old.capacity }
         ensures flushed { self.new.is_flushed ≡ self.old.is_flushed }
     {

@@ -51,14 +51,27 @@ impl MemSink {
 }
 
 impl Sink for MemSink {
-    ghost use Rattle.std.specs.Prelude.{Some};
-    ghost use Rattle.blk_fakes.specs.Sunk.{SinkState};
+    ghost use Rattle.std.specs.Prelude.{◌≡◌, ◌⊎◌, ◌<◌, ◌≤◌, ◌++◌, length, take, Some, None, IsTrue, OnOk, OnErr};
+    ghost use Rattle.blk_base.specs.Counts.{Rose};
+    ghost use Rattle.blk_fakes.specs.Calls.{done_at, fails_next, one_more};
+    ghost use Rattle.blk_fakes.specs.Sunk.{SinkState, fitting, sent_at};
 
     ghost sent = { λ s. Some s.sent };
 
     ghost faults = { λ s. s.calls.faults };
 
-    fn put(&mut self, bytes: &[u8]) -> Result<(), SinkFault> {
+    /// Fails exactly where the list says so or the bytes don't fit.
+    fn put(&mut self, bytes: &[u8]) -> Result<(), SinkFault>
+        ensures goes { OnOk result ((done_at self.old.calls.made self.old.calls.fails ≡ None) × (length bytes.now ≤ fitting self.old (length bytes.now))) }
+        ensures sent { OnOk result (self.new.sent ≡ self.old.sent ++ bytes.now) }
+        ensures partly { OnErr result (self.new.sent ≡ self.old.sent ++ take (sent_at self.old (length bytes.now)) bytes.now) }
+        ensures cause { OnErr result (IsTrue (fails_next self.old.calls) ⊎ (fitting self.old (length bytes.now) < length bytes.now)) }
+        ensures numbers { self.new.calls.made ≡ one_more self.old.calls.made }
+        ensures list { self.new.calls.fails ≡ self.old.calls.fails }
+        ensures room { self.new.room ≡ self.old.room }
+        ensures failed { OnErr result (Rose self.old.calls.faults self.new.calls.faults) }
+        ensures faults { self.old.calls.faults ≤ self.new.calls.faults }
+    {
         let left = (self.room - self.bytes.len() as u64).min(bytes.len() as u64);
         let done = match self.calls.next() {
             Some(done) => Some(done.min(left)),

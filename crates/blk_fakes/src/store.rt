@@ -211,8 +211,12 @@ impl MemStore {
 }
 
 impl Store for MemStore {
-    ghost use Rattle.std.specs.Prelude.{Some};
-    ghost use Rattle.blk_fakes.specs.Shelf.{StoreState, told_files};
+    ghost use Rattle.std.specs.Prelude.{◌≡◌, ◌≤◌, ◌++◌, [], ◌∷◌, true, false, Some, None, IfOk, IfErr, OnOk, MatchResult};
+    ghost use Rattle.blk_base.specs.Stored.{IsDeviceOf};
+    ghost use Rattle.blk_base.specs.Answers.{OpenAnswers};
+    ghost use Rattle.blk_fakes.specs.Calls.{fails_next, one_more};
+    ghost use Rattle.blk_fakes.specs.Disk.{bytes_of};
+    ghost use Rattle.blk_fakes.specs.Shelf.{StoreState, told_files, device_at};
 
     type Dev = MemDevice;
 
@@ -225,7 +229,23 @@ impl Store for MemStore {
     ghost faults = { λ s. s.calls.faults };
 
     #[tactic(auto, using(crate::proofs::Shelves::lacks))]
-    fn open_file(&mut self, name: &str) -> Result<MemDevice, StoreStop> {
+    fn open_file(&mut self, name: &str) -> Result<MemDevice, StoreStop>
+        ensures lent { IfOk result (λ dev. device_at name.now self.old.files ≡ Some dev) }
+        ensures goes { OnOk result (fails_next self.old.calls ≡ false) }
+        ensures fails { IfErr result (λ e. e ≡ StoreStop.Failed → fails_next self.old.calls ≡ true) }
+        ensures numbers { self.new.calls.made ≡ one_more self.old.calls.made }
+        ensures list { self.new.calls.fails ≡ self.old.calls.fails }
+        ensures devices { self.new.files ≡ self.old.files }
+
+        // what each store promises
+        ensures device { IfOk result (λ dev. IsDeviceOf (Some (told_files self.old)) name.now (Some (bytes_of dev.disk)) dev.disk.capacity (Some dev.disk.is_flushed)) }
+        ensures opened { MatchResult result
+            (λ dev. self.new.opened ≡ self.old.opened ++ record { name = name.now; faults = dev.calls.faults; returned = None } ∷ [])
+            (λ _. self.new.opened ≡ self.old.opened) }
+        ensures cause { OpenAnswers name.now (Some (told_files self.old)) self.old.opened self.old.calls.faults self.new.calls.faults result }
+        ensures room { self.new.room ≡ self.old.room }
+        ensures faults { self.old.calls.faults ≤ self.new.calls.faults }
+    {
         let fails = self.calls.next().is_some();
         if self.is_out(name) {
             return Err(StoreStop::InUse);
