@@ -18,14 +18,19 @@ pub enum JobStop {
 }
 
 impl fmt::Display for JobStop {
+    ghost use Rattle.std.specs.Prelude.{Some};
+    ghost use Rattle.job_core.specs.Stop.{stop_text};
+
+    ghost output = { λ stop. Some (stop_text stop) };
+
     fn fmt<W: fmt::Write>(&self, f: &mut fmt::Formatter<W>) -> fmt::Result {
-        f.write_str(match self {
-            JobStop::IdTaken => "the job id is taken",
-            JobStop::NotActive => "no job has this id",
-            JobStop::NotReady => "the job is not ready",
-            JobStop::TooMany => "too many jobs",
-            JobStop::NoMemory => "out of memory",
-        })
+        match self {
+            JobStop::IdTaken => f.write_str("IdTaken"),
+            JobStop::NotActive => f.write_str("NotActive"),
+            JobStop::NotReady => f.write_str("NotReady"),
+            JobStop::TooMany => f.write_str("TooMany"),
+            JobStop::NoMemory => f.write_str("NoMemory"),
+        }
     }
 }
 
