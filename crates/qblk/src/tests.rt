@@ -57,7 +57,7 @@ fn run(
     if let Err((refused, _)) = store.add_file("disk.img", disk) {
         return Err(Fail::from(refused));
     }
-    let trace_file = MemDevice::new(rt.alloc(), trace, 65_536, &[], 0, 0)?;
+    let trace_file = MemDevice::new(rt.alloc(), trace, trace.len() as u64, &[], 0, 0)?;
     if let Err((refused, _)) = store.add_file("t", trace_file) {
         return Err(Fail::from(refused));
     }
