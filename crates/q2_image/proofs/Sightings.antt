@@ -1,0 +1,41 @@
+-- What one more naming leaves.
+use Rattle.std.proofs.Common.{◌≡◌, ℕ, ◌+◌, ◌-◌, ◌/◌, ◌<◌, ◌≤◌, ◌≢◌, Bool, true, false, cond, not, ◌&&◌, eqb, ltb, List, length, take, get_or, inl, inr, refl, sym, ap, ◌∙◌, arith, count_by, eq-eqb}
+use Rattle.std.proofs.lemmas.Bool.{cases_eq, cases_lt}
+use Rattle.std.proofs.lemmas.Bool.Decides.{nat_tests}
+use Rattle.std.proofs.lemmas.List.Sums.{count_by_more_yes, count_by_more_no}
+use Rattle.q2_format.specs.References.{names_cluster}
+use Rattle.q2_image.specs.Seen.{Sightings, IsSeen, named_at, named_once, named_in_run, named_by, offset_in}
+use Rattle.q2_image.specs.declared.seen.Naming.{Naming}
+
+-- what is seen depends on how often alone
+pub seen_alike : (u v : ℕ → ℕ) (s : Sightings) → ((k : ℕ) → u k ≡ v k) → IsSeen u s → IsSeen v s
+seen_alike u v s same seen = record {
+  named = λ k h. seen.named k h ∙ ap (ltb 0) (same k);
+  bound = seen.bound;
+  before = λ k h. let e = same k in let b = seen.before k h in omega arith;
+  again = λ h. let e = same s.twice in let b = seen.again h in omega arith;
+}
+
+-- a run that is one longer
+pub run-more : (first n k : ℕ) → named_in_run first (n + 1) k ≡ named_in_run first n k + named_at (first + n) k
+run-more first n k = grind (arith, nat_tests)
+
+-- no run
+pub run-none : (first k : ℕ) → named_in_run first 0 k ≡ 0
+run-none first k = grind (arith, nat_tests)
+
+-- an offset that names none, and one that names a cluster
+pub once-none : (c offset k : ℕ) → offset ≡ 0 → named_once c offset k ≡ 0
+once-none c offset k none = let test = eq-eqb offset 0 none in rw test refl
+
+pub once-some : (c offset k : ℕ) → offset ≢ 0 → named_once c offset k ≡ named_at (offset / c) k
+once-some c offset k some = grind (arith, nat_tests)
+
+count_more : (p : ℕ → Bool) (words : List ℕ) (i : ℕ) (b : Bool) → i < length words → p (get_or words i 0) ≡ b
+    → count_by p (take (i + 1) words) ≡ count_by p (take i words) + cond b 1 0
+count_more p words i true h e = let m = count_by_more_yes p words i 0 h e in omega arith
+count_more p words i false h e = let m = count_by_more_no p words i 0 h e in omega arith
+
+pub words-more : (c : ℕ) (kind : Naming) (words : List ℕ) (i k : ℕ) → i < length words
+    → named_by c kind (take (i + 1) words) k ≡ named_by c kind (take i words) k + named_once c (offset_in kind (get_or words i 0)) k
+words-more c kind words i k h = count_more (λ word. names_cluster c k (offset_in kind word)) words i _ h refl

@@ -1,0 +1,3 @@
+pub mod Seen
+pub mod Opening
+pub mod Text

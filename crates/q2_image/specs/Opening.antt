@@ -1,0 +1,59 @@
+-- Opening an image: what is refused, and why each answer comes.
+use Rattle.std.specs.Prelude.{◌≡◌, ℕ, ◌+◌, ◌*◌, Option, Some, None, Result, Ok, Err, IfSome, List, [], ◌∷◌}
+use Rattle.std.specs.Option.{option_map}
+use Rattle.blk_base.specs.Counts.{Rose}
+use Rattle.q2_format.specs.Sizes.{cluster_size, clusters_for}
+use Rattle.q2_format.specs.Header.{first, header_of, header_refusal}
+use Rattle.q2_format.specs.References.{structure_uses}
+use Rattle.q2_format.specs.Sound.{Refusal, InHeader, bad_refcount_table, bad_l1_table}
+use Rattle.q2_format.specs.Sound as sound
+use Rattle.q2_format.specs.declared.header.Header.{Header}
+use Rattle.q2_image.specs.Seen.{named_by}
+use Rattle.q2_image.specs.declared.seen.Naming.TheVariants.{Table, Own}
+use Rattle.q2_image.specs.declared.stop.ImageStop.{ImageStop}
+use Rattle.q2_image.specs.declared.stop.ImageStop.TheVariants.{Header as HeaderStops, Offset, Reserved, Compressed, Overlap, Refcount, HeaderFull, Io, NoMemory}
+
+-- the refusal that a stop names; a failed call and want of memory name none
+abbrev pub refusal_of : ImageStop → Option Refusal
+refusal_of (HeaderStops stop) = Some (InHeader stop)
+refusal_of (Offset offset) = Some (sound.Offset offset)
+refusal_of (Reserved table index) = Some (sound.Reserved table index)
+refusal_of (Compressed cluster) = Some (sound.Compressed cluster)
+refusal_of (Overlap cluster) = Some (sound.Overlap cluster)
+refusal_of (Refcount cluster) = Some (sound.Refcount cluster)
+refusal_of HeaderFull = Some sound.HeaderFull
+refusal_of (Io count) = None
+refusal_of NoMemory = None
+
+-- an answer by content is the refusal
+abbrev pub Judges : {A : Type 0} → Option Refusal → Result A ImageStop → Type 0
+Judges refusal (Ok a) = refusal ≡ None
+Judges refusal (Err stop) = IfSome (refusal_of stop) (λ named. refusal ≡ Some named)
+
+-- a failed read is answered only where the device's count rose, and names the count
+abbrev pub HasCause : ℕ → ℕ → ImageStop → Type 0
+HasCause before now (HeaderStops stop) = Unit {0}
+HasCause before now (Offset offset) = Unit {0}
+HasCause before now (Reserved table index) = Unit {0}
+HasCause before now (Compressed cluster) = Unit {0}
+HasCause before now (Overlap cluster) = Unit {0}
+HasCause before now (Refcount cluster) = Unit {0}
+HasCause before now HeaderFull = Unit {0}
+HasCause before now (Io count) = Rose before count × (count ≡ now)
+HasCause before now NoMemory = Unit {0}
+
+-- the header's refusal, as one of an image
+abbrev pub header_stops : List ℕ → ℕ → Option Refusal
+header_stops file len = option_map InHeader (header_refusal file len)
+
+-- the refusals of the places of the two tables that the header names
+abbrev pub place_stops : Header → ℕ → Option Refusal
+place_stops h len = first (
+    option_map sound.Offset (bad_refcount_table h len)
+    ∷ option_map sound.Offset (bad_l1_table h len)
+    ∷ [])
+
+-- how often a header and the words of its tables name a cluster: those of the refcount table, of the L1 table, and of all L2 tables
+abbrev pub uses_in : Header → List ℕ → List ℕ → List ℕ → ℕ → ℕ
+uses_in h table l1 words k = let c = cluster_size h.cluster_bits in
+    structure_uses h table k + (named_by c Table l1 k + named_by c Own words k)

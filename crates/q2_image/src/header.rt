@@ -1,0 +1,90 @@
+//! Reading and judging an image's header.
+
+ghost use Rattle.std.specs.Prelude.{◌≡◌, ◌≤◌, ◌+◌, ◌<◌, ◌^◌, ℕ, Bool, false, List, length, Some, None, Option, IfOk, IfErr, IfSome};
+ghost use Rattle.blk_base.specs.Content.{bytes_at};
+ghost use Rattle.q2_format.specs.Header.{header_of, header_refusal, IsWithinLimits, CanBeRead};
+ghost use Rattle.q2_format.specs.Sound.{is_misplaced};
+ghost use Rattle.q2_image.specs.Opening.{Judges, HasCause, refusal_of, header_stops, place_stops};
+
+use crate::stop::ImageStop;
+use blk_base::{Device, NoMemory};
+use q2_format::{Header, read_header};
+use std::alloc::Global;
+
+/// The bytes that a header is read from: those of a cluster.
+const HEADER_CLUSTER: usize = 65_536;
+
+/// A buffer for a header's cluster.
+fn header_buffer(alloc: Global) -> Result<Vec<u8>, NoMemory>
+    ensures { IfOk result (λ buffer. length buffer.items ≡ 65536) }
+{
+    Ok(vec![in alloc; 0; HEADER_CLUSTER]?)
+}
+
+/// The first cluster of a file, with zeros past the file's end.
+fn read_first_cluster<D: Device>(alloc: Global, dev: &mut D) -> Result<Vec<u8>, ImageStop>
+    ensures read { IfOk result (λ cluster. (file : List ℕ) → D.content dev.old ≡ Some file → cluster.items ≡ bytes_at file 0 65536) }
+    ensures stop { IfErr result (λ stop. refusal_of stop ≡ None) }
+    ensures cause { IfErr result (HasCause (D.faults dev.old) (D.faults dev.new)) }
+    ensures content { D.content dev.new ≡ D.content dev.old }
+    ensures size { D.size dev.new ≡ D.size dev.old }
+    ensures capacity { D.capacity dev.new ≡ D.capacity dev.old }
+    ensures flushed { D.is_flushed dev.new ≡ D.is_flushed dev.old }
+    ensures log { D.log dev.new ≡ D.log dev.old }
+    ensures faults { D.faults dev.old ≤ D.faults dev.new }
+{
+    let mut cluster = header_buffer(alloc)?;
+    match dev.read_at(0, &mut cluster) {
+        Ok(()) => Ok(cluster),
+        Err(_) => Err(ImageStop::Io {
+            count: dev.faults(),
+        }),
+    }
+}
+
+/// The header of the image on a device, or why it is refused.
+#[tactic(auto, using(crate::proofs::FirstCluster::refused_alike, crate::proofs::FirstCluster::accepted_alike, crate::proofs::FirstCluster::header_alike))]
+pub(crate) fn open_header<D: Device>(alloc: Global, dev: &mut D) -> Result<Header, ImageStop>
+    ensures judged { (file : List ℕ) → D.content dev.old ≡ Some file → Judges (header_stops file (D.size dev.old)) result }
+    ensures header { IfOk result (λ h. (file : List ℕ) → D.content dev.old ≡ Some file → header_of file ≡ h) }
+    ensures limits { IfOk result (λ h. IsWithinLimits h (D.size dev.old)) }
+    ensures readable { IfOk result (λ h. CanBeRead h (D.size dev.old)) }
+    ensures cause { IfErr result (HasCause (D.faults dev.old) (D.faults dev.new)) }
+    ensures content { D.content dev.new ≡ D.content dev.old }
+    ensures size { D.size dev.new ≡ D.size dev.old }
+    ensures capacity { D.capacity dev.new ≡ D.capacity dev.old }
+    ensures flushed { D.is_flushed dev.new ≡ D.is_flushed dev.old }
+    ensures log { D.log dev.new ≡ D.log dev.old }
+    ensures faults { D.faults dev.old ≤ D.faults dev.new }
+{
+    let cluster = read_first_cluster(alloc, dev)?;
+    match read_header(&cluster, dev.length()) {
+        Ok(header) => Ok(header),
+        Err(stop) => Err(ImageStop::Header(stop)),
+    }
+}
+
+/// Whether an offset isn't a multiple of the cluster size, or isn't below the file's length.
+fn is_misplaced(cluster_size: u64, len: u64, offset: u64) -> bool
+    requires { 0 < cluster_size }
+    ensures { result ≡ is_misplaced cluster_size len offset }
+{
+    offset % cluster_size != 0 || offset >= len
+}
+
+/// Whether the two tables that a header names lie in their places and are large enough.
+#[tactic(auto, unfolding(q2_format::specs::Sound::bad_refcount_table, q2_format::specs::Sound::bad_l1_table))]
+pub(crate) fn check_places(header: &Header, len: u64) -> Result<(), ImageStop>
+    requires { IsWithinLimits header.now len }
+    ensures { Judges (place_stops header.now len) result }
+{
+    let cluster_size = 1u64 << header.cluster_bits;
+    if header.ref_clusters == 0 || is_misplaced(cluster_size, len, header.ref_offset) {
+        return Err(ImageStop::Offset(header.ref_offset));
+    }
+    let entries = header.size.div_ceil(cluster_size).div_ceil(cluster_size / 8);
+    if u64::from(header.l1_size) < entries || is_misplaced(cluster_size, len, header.l1_offset) {
+        return Err(ImageStop::Offset(header.l1_offset));
+    }
+    Ok(())
+}

@@ -1,0 +1,8 @@
+//! One qcow2 image over its device: opened, read and written.
+#![tactic(auto)]
+
+mod header;
+mod seen;
+mod stop;
+
+pub use stop::ImageStop;
