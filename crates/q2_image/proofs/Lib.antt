@@ -1,2 +1,3 @@
 pub mod Sightings
 pub mod FirstCluster
+pub mod Named

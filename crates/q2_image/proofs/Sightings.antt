@@ -1,10 +1,15 @@
 -- What one more naming leaves.
-use Rattle.std.proofs.Common.{◌≡◌, ℕ, ◌+◌, ◌-◌, ◌/◌, ◌<◌, ◌≤◌, ◌≢◌, Bool, true, false, cond, not, ◌&&◌, eqb, ltb, List, length, take, get_or, inl, inr, refl, sym, ap, ◌∙◌, arith, count_by, eq-eqb}
+use Rattle.std.proofs.Common.{◌≡◌, ℕ, ◌+◌, ◌-◌, ◌/◌, ◌<◌, ◌≤◌, ◌≢◌, Bool, true, false, cond, not, ◌&&◌, eqb, ltb, List, length, take, get_or, inl, inr, refl, sym, ap, ◌∙◌, arith, count_by, eq-eqb, Option, Some, None, lt-ltb, le-ltb}
 use Rattle.std.proofs.lemmas.Bool.{cases_eq, cases_lt}
 use Rattle.std.proofs.lemmas.Bool.Decides.{nat_tests}
 use Rattle.std.proofs.lemmas.List.Sums.{count_by_more_yes, count_by_more_no}
+use Rattle.std.specs.Option.{option_map}
 use Rattle.q2_format.specs.References.{names_cluster}
-use Rattle.q2_image.specs.Seen.{Sightings, IsSeen, named_at, named_once, named_in_run, named_by, offset_in}
+use Rattle.q2_format.specs.Sound.{lowest, Refusal}
+use Rattle.q2_format.specs.Sound as sound
+use Rattle.q2_format.proofs.Firsts.{lowest_at, none_lowest}
+use Rattle.q2_image.specs.Opening.{overlap_stop}
+use Rattle.q2_image.specs.Seen.{Sightings, IsSeen, named_at, named_once, named_in_run, named_by, offset_in, twice_in}
 use Rattle.q2_image.specs.declared.seen.Naming.{Naming}
 
 -- what is seen depends on how often alone
@@ -39,3 +44,22 @@ count_more p words i false h e = let m = count_by_more_no p words i 0 h e in ome
 pub words-more : (c : ℕ) (kind : Naming) (words : List ℕ) (i k : ℕ) → i < length words
     → named_by c kind (take (i + 1) words) k ≡ named_by c kind (take i words) k + named_once c (offset_in kind (get_or words i 0)) k
 words-more c kind words i k h = count_more (λ word. names_cluster c k (offset_in kind word)) words i _ h refl
+
+below_same : (n m k : ℕ) → eqb n m ≡ true → k < m → k < n
+below_same n m k same h = grind (arith, nat_tests)
+
+below_end : (n m : ℕ) → n ≤ m → eqb n m ≡ false → n < m
+below_end n m h apart = grind (arith, nat_tests)
+
+-- the lowest cluster that was named twice, by the number that is kept of it
+lowest_by : (uses : ℕ → ℕ) (s : Sightings) → IsSeen uses s → (b : Bool) → eqb s.twice (length s.named) ≡ b
+    → lowest (λ k. ltb 1 (uses k)) (length s.named) ≡ cond b None (Some s.twice)
+lowest_by uses s seen true none = none_lowest (λ k. ltb 1 (uses k)) (length s.named)
+    (λ k h. le-ltb 1 (uses k) (seen.before k (below_same s.twice (length s.named) k none h)))
+lowest_by uses s seen false some =
+    let within : s.twice < length s.named = below_end s.twice (length s.named) seen.bound some in
+    lowest_at (λ k. ltb 1 (uses k)) (length s.named) s.twice within (lt-ltb 1 (uses s.twice) (seen.again within))
+    (λ j below. le-ltb 1 (uses j) (seen.before j below))
+
+pub twice_lowest : (uses : ℕ → ℕ) (s : Sightings) → IsSeen uses s → overlap_stop uses (length s.named) ≡ option_map sound.Overlap (twice_in s)
+twice_lowest uses s seen = ap (option_map sound.Overlap) (lowest_by uses s seen (eqb s.twice (length s.named)) refl)

@@ -1,11 +1,12 @@
 -- Opening an image: what is refused, and why each answer comes.
-use Rattle.std.specs.Prelude.{◌≡◌, ℕ, ◌+◌, ◌*◌, Option, Some, None, Result, Ok, Err, IfSome, List, [], ◌∷◌}
+use Rattle.std.specs.Prelude.{◌≡◌, ℕ, ◌+◌, ◌*◌, ◌<◌, false, nat_lt, length, slice_index, Option, Some, None, Result, Ok, Err, IfSome, List, [], ◌∷◌}
 use Rattle.std.specs.Option.{option_map}
 use Rattle.blk_base.specs.Counts.{Rose}
 use Rattle.q2_format.specs.Sizes.{cluster_size, clusters_for}
 use Rattle.q2_format.specs.Header.{first, header_of, header_refusal}
-use Rattle.q2_format.specs.References.{structure_uses}
-use Rattle.q2_format.specs.Sound.{Refusal, InHeader, bad_refcount_table, bad_l1_table}
+use Rattle.q2_format.specs.Entry.{host_offset, block_offset}
+use Rattle.q2_format.specs.References.{structure_uses, own_offset}
+use Rattle.q2_format.specs.Sound.{Refusal, InHeader, bad_refcount_table, bad_l1_table, is_misplaced, lowest}
 use Rattle.q2_format.specs.Sound as sound
 use Rattle.q2_format.specs.declared.header.Header.{Header}
 use Rattle.q2_image.specs.Seen.{named_by}
@@ -57,3 +58,15 @@ place_stops h len = first (
 abbrev pub uses_in : Header → List ℕ → List ℕ → List ℕ → ℕ → ℕ
 uses_in h table l1 words k = let c = cluster_size h.cluster_bits in
     structure_uses h table k + (named_by c Table l1 k + named_by c Own words k)
+
+-- in a file of `len` bytes, all that a header and the words of its tables name lies in its place
+pub record ArePlaced (h : Header) (len : ℕ) (table l1 words : List ℕ) : Type 0 where
+  pub refcount_table : is_misplaced (cluster_size h.cluster_bits) len h.ref_offset ≡ false
+  pub l1_table : is_misplaced (cluster_size h.cluster_bits) len h.l1_offset ≡ false
+  pub blocks : (i : ℕ) → i < length table → is_misplaced (cluster_size h.cluster_bits) len (block_offset (slice_index table i)) ≡ false
+  pub tables : (i : ℕ) → i < length l1 → is_misplaced (cluster_size h.cluster_bits) len (host_offset (slice_index l1 i)) ≡ false
+  pub hosts : (i : ℕ) → i < length words → is_misplaced (cluster_size h.cluster_bits) len (own_offset (slice_index words i)) ≡ false
+
+-- the refusal of the lowest cluster that is named twice, of so many
+abbrev pub overlap_stop : (ℕ → ℕ) → ℕ → Option Refusal
+overlap_stop uses n = option_map sound.Overlap (lowest (λ k. nat_lt 1 (uses k)) n)

@@ -2,6 +2,7 @@
 
 ghost use Rattle.std.specs.Prelude.{◌≡◌, ◌≤◌, ◌+◌, ◌<◌, ◌^◌, ℕ, Bool, false, List, length, Some, None, Option, IfOk, IfErr, IfSome};
 ghost use Rattle.blk_base.specs.Content.{bytes_at};
+ghost use Rattle.q2_format.specs.Sizes.{cluster_size};
 ghost use Rattle.q2_format.specs.Header.{header_of, header_refusal, IsWithinLimits, CanBeRead};
 ghost use Rattle.q2_format.specs.Sound.{is_misplaced};
 ghost use Rattle.q2_image.specs.Opening.{Judges, HasCause, refusal_of, header_stops, place_stops};
@@ -64,6 +65,15 @@ pub(crate) fn open_header<D: Device>(alloc: Global, dev: &mut D) -> Result<Heade
     }
 }
 
+/// The bytes of a cluster of an image.
+pub(crate) fn cluster_size(header: &Header) -> u64
+    requires { header.now.cluster_bits ≡ 16 }
+    ensures size { result ≡ cluster_size header.now.cluster_bits }
+    ensures number { result ≡ 65536 }
+{
+    1 << header.cluster_bits
+}
+
 /// Whether an offset isn't a multiple of the cluster size, or isn't below the file's length.
 fn is_misplaced(cluster_size: u64, len: u64, offset: u64) -> bool
     requires { 0 < cluster_size }
@@ -78,7 +88,7 @@ pub(crate) fn check_places(header: &Header, len: u64) -> Result<(), ImageStop>
     requires { IsWithinLimits header.now len }
     ensures { Judges (place_stops header.now len) result }
 {
-    let cluster_size = 1u64 << header.cluster_bits;
+    let cluster_size = cluster_size(header);
     if header.ref_clusters == 0 || is_misplaced(cluster_size, len, header.ref_offset) {
         return Err(ImageStop::Offset(header.ref_offset));
     }

@@ -2,6 +2,7 @@
 #![tactic(auto)]
 
 mod header;
+mod naming;
 mod seen;
 mod stop;
 
