@@ -1,0 +1,72 @@
+-- Reading an image's refcounts: what is refused, and why each answer comes.
+use Rattle.std.specs.Prelude.{◌≡◌, ℕ, ◌*◌, ◌≤◌, ◌<◌, ⊤, List, [], ◌∷◌, length, slice_index, Option, Some, None, Result, Ok, Err}
+use Rattle.std.specs.Option.{option_map}
+use Rattle.blk_base.specs.Counts.{Rose}
+use Rattle.q2_format.specs.Sizes.{cluster_size, entries_in_cluster, block_entries}
+use Rattle.q2_format.specs.Header.{first}
+use Rattle.q2_format.specs.Tables.{refcount_of}
+use Rattle.q2_format.specs.Sound.{bad_refcount_table, bad_block, reserved_in_refcount_table}
+use Rattle.q2_format.specs.declared.header.Header.{Header}
+use Rattle.q2_format.specs.declared.header.TheConstants.{MAX_REFCOUNT_TABLE_CLUSTERS}
+use Rattle.q2_refs.specs.declared.stop.RefsStop.{RefsStop}
+use Rattle.q2_refs.specs.declared.stop.RefsStop.TheVariants.{Offset, Reserved, Io, NoMemory}
+
+-- the words of a header's refcount table
+abbrev pub table_entries : Header → ℕ
+table_entries h = h.ref_clusters * entries_in_cluster (cluster_size h.cluster_bits)
+
+-- the clusters that they speak of
+abbrev pub table_reach : Header → ℕ
+table_reach h = table_entries h * block_entries (cluster_size h.cluster_bits) h.refcount_order
+
+-- what is refused of a table's words
+abbrev pub words_refusal : ℕ → ℕ → List ℕ → Option RefsStop
+words_refusal c len table = first (
+    option_map Offset (bad_block c len table)
+    ∷ option_map Reserved (reserved_in_refcount_table table)
+    ∷ [])
+
+-- What is refused of a header's refcount table that has these words, in a file of `len` bytes, in this order:
+-- the table's place, its blocks' places, and reserved bits.
+unfoldable pub refcounts_refusal : Header → ℕ → List ℕ → Option RefsStop
+refcounts_refusal h len table = first (
+    option_map Offset (bad_refcount_table h len)
+    ∷ option_map Offset (bad_block (cluster_size h.cluster_bits) len table)
+    ∷ option_map Reserved (reserved_in_refcount_table table)
+    ∷ [])
+
+-- an answer by content is the refusal; a failed read and want of memory say nothing of it
+abbrev pub RefusedBy : {A : Type 0} → Result A RefsStop → Option RefsStop → Type 0
+RefusedBy (Ok refs) refusal = refusal ≡ None
+RefusedBy (Err (Offset at)) refusal = refusal ≡ Some (Offset at)
+RefusedBy (Err (Reserved index)) refusal = refusal ≡ Some (Reserved index)
+RefusedBy (Err (Io count)) refusal = ⊤
+RefusedBy (Err NoMemory) refusal = ⊤
+
+-- a failed read is answered only where the device's count rose, and names the count
+abbrev pub HasCause : ℕ → ℕ → RefsStop → Type 0
+HasCause before now (Offset at) = ⊤
+HasCause before now (Reserved index) = ⊤
+HasCause before now (Io count) = Rose before count × (count ≡ now)
+HasCause before now NoMemory = ⊤
+
+-- a call that reads and decodes answers these alone
+abbrev pub IsReadStop : RefsStop → Type 0
+IsReadStop (Offset at) = ⊥
+IsReadStop (Reserved index) = ⊥
+IsReadStop (Io count) = ⊤
+IsReadStop NoMemory = ⊤
+
+-- a header of the shape that is supported
+pub record HasShape (h : Header) : Type 0 where
+  pub cluster_bits : h.cluster_bits ≡ 16
+  pub refcount_order : h.refcount_order ≡ 4
+  pub table : h.ref_clusters ≤ MAX_REFCOUNT_TABLE_CLUSTERS
+
+-- the counts from one cluster to another are those of a file
+abbrev pub AreCounts : List ℕ → Header → List ℕ → ℕ → ℕ → Type 0
+AreCounts file h counts from to = (k : ℕ) → from ≤ k → k < to → k < length counts → slice_index counts k ≡ refcount_of file h k
+
+-- the counts from one cluster on are 0
+abbrev pub AreZeroFrom : List ℕ → ℕ → Type 0
+AreZeroFrom counts from = (k : ℕ) → from ≤ k → slice_index counts k ≡ 0

@@ -1,0 +1,11 @@
+//! The refcounts of a qcow2 image: read into memory, looked up, and clusters that nothing uses.
+#![tactic(auto)]
+
+mod entries;
+mod loading;
+mod refs;
+mod stop;
+
+pub use loading::load_refs;
+pub use refs::Refs;
+pub use stop::RefsStop;

@@ -1,0 +1,357 @@
+//! Reading the refcount table and the blocks that it names.
+ghost use Rattle.std.specs.Prelude.{◌≡◌, ◌+◌, ◌-◌, ◌*◌, ◌^◌, ◌<◌, ◌≤◌, ℕ, List, length, slice_index, None, Some, IfOk, IfErr, OnOk};
+ghost use Rattle.std.specs.Option.{option_map};
+ghost use Rattle.blk_base.specs.Content.{bytes_at};
+ghost use Rattle.q2_format.specs.Bytes.{number_at, words_at};
+ghost use Rattle.q2_format.specs.Header.{CanBeRead, refusal_in};
+ghost use Rattle.q2_format.specs.Sizes.{cluster_size, block_entries};
+ghost use Rattle.q2_format.specs.Sound.{bad_refcount_table};
+ghost use Rattle.q2_format.specs.Tables.{refcount_table};
+ghost use Rattle.q2_refs.specs.Kept.{AreTaken, AreWholeClusters, BeginBelow, IsCountsOf, IsShapedBy};
+ghost use Rattle.q2_refs.specs.Loading.{table_entries, table_reach, refcounts_refusal, RefusedBy, HasCause, IsReadStop, HasShape, AreCounts, AreZeroFrom};
+
+use crate::entries::{block_offset, check_words, is_misplaced};
+use crate::refs::Refs;
+use crate::stop::RefsStop;
+use blk_base::{DevFault, Device};
+use byteorder::{BigEndian, ByteOrder};
+use q2_format::Header;
+use std::alloc::{AllocError, Global};
+
+/// The bytes of a cluster.
+fn cluster_len(h: &Header) -> usize
+    requires { h.now.cluster_bits < 32 }
+    ensures { result ≡ cluster_size h.now.cluster_bits }
+{
+    1 << h.cluster_bits
+}
+
+/// The refcounts of a block.
+fn block_len(h: &Header) -> usize
+    requires { HasShape h.now }
+    ensures { result ≡ block_entries (cluster_size h.now.cluster_bits) h.now.refcount_order }
+{
+    (cluster_len(h) * 8) >> h.refcount_order
+}
+
+/// The words of the refcount table.
+fn table_len(h: &Header) -> usize
+    requires { HasShape h.now }
+    ensures { result ≡ table_entries h.now }
+{
+    h.ref_clusters as usize * (cluster_len(h) / 8)
+}
+
+fn zero_bytes(alloc: Global, len: usize) -> Result<Vec<u8>, AllocError>
+    ensures { IfOk result (λ bytes. length bytes.items ≡ len) }
+{
+    vec![in alloc; 0; len]
+}
+
+fn zero_words(alloc: Global, len: usize) -> Result<Vec<u64>, AllocError>
+    ensures { IfOk result (λ words. length words.items ≡ len) }
+{
+    vec![in alloc; 0; len]
+}
+
+fn zero_counts(alloc: Global, len: usize) -> Result<Vec<u16>, AllocError>
+    ensures len { IfOk result (λ counts. length counts.items ≡ len) }
+    ensures zeros { IfOk result (λ counts. AreZeroFrom counts.items 0) }
+{
+    vec![in alloc; 0; len]
+}
+
+/// Reads bytes of a file; where that fails it names the device's count of faults.
+fn read<D: Device>(dev: &mut D, at: u64, buf: &mut [u8]) -> Result<(), RefsStop>
+    ensures read { OnOk result ((file : List ℕ) → D.content dev.old ≡ Some file → buf.new ≡ bytes_at file at (length buf.old)) }
+    ensures stop { IfErr result IsReadStop }
+    ensures cause { IfErr result (HasCause (D.faults dev.old) (D.faults dev.new)) }
+    ensures faults { D.faults dev.old ≤ D.faults dev.new }
+    ensures content { D.content dev.new ≡ D.content dev.old }
+    ensures flushed { D.is_flushed dev.new ≡ D.is_flushed dev.old }
+    ensures log { D.log dev.new ≡ D.log dev.old }
+    ensures size { D.size dev.new ≡ D.size dev.old }
+    ensures capacity { D.capacity dev.new ≡ D.capacity dev.old }
+{
+    match dev.read_at(at, buf) {
+        Ok(()) => Ok(()),
+        Err(DevFault::Failed) => Err(RefsStop::Io {
+            count: dev.faults(),
+        }),
+    }
+}
+
+/// Refuses a refcount table of no cluster, or one that isn't in its place in a file of `len` bytes.
+#[tactic(auto, unfolding(q2_format::specs::Sound::bad_refcount_table))]
+fn check_place(h: &Header, len: u64) -> Result<(), RefsStop>
+    requires { h.now.cluster_bits < 32 }
+    ensures { refusal_in result ≡ option_map RefsStop.Offset (bad_refcount_table h.now len) }
+{
+    if h.ref_clusters == 0 || is_misplaced(cluster_len(h) as u64, len, h.ref_offset) {
+        return Err(RefsStop::Offset(h.ref_offset));
+    }
+    Ok(())
+}
+
+/// Words of 64 bits, one after the other.
+fn decode_words(bytes: &[u8], words: &mut [u64])
+    requires { length bytes.now ≡ 8 * length words.old }
+    ensures { (k : ℕ) → k < length words.old → slice_index words.new k ≡ number_at bytes.now (8 * k) 8 }
+{
+    BigEndian::read_u64_into(bytes, words);
+}
+
+/// Reads words from a place on, through a buffer of their bytes.
+fn read_words<D: Device>(
+    dev: &mut D,
+    at: u64,
+    buffer: &mut [u8],
+    words: &mut [u64],
+) -> Result<(), RefsStop>
+    requires { length buffer.old ≡ 8 * length words.old }
+    ensures words { OnOk result ((file : List ℕ) → D.content dev.old ≡ Some file → words.new ≡ words_at file at (length words.old)) }
+    ensures stop { IfErr result IsReadStop }
+    ensures cause { IfErr result (HasCause (D.faults dev.old) (D.faults dev.new)) }
+    ensures faults { D.faults dev.old ≤ D.faults dev.new }
+    ensures content { D.content dev.new ≡ D.content dev.old }
+    ensures flushed { D.is_flushed dev.new ≡ D.is_flushed dev.old }
+    ensures log { D.log dev.new ≡ D.log dev.old }
+    ensures size { D.size dev.new ≡ D.size dev.old }
+    ensures capacity { D.capacity dev.new ≡ D.capacity dev.old }
+{
+    read(dev, at, buffer)?;
+    decode_words(buffer, words);
+    Ok(())
+}
+
+/// Reads the words of the refcount table.
+#[tactic(auto, unfolding(q2_format::specs::Tables::refcount_table))]
+fn read_table<D: Device>(alloc: Global, dev: &mut D, h: &Header) -> Result<Vec<u64>, RefsStop>
+    requires { HasShape h.now }
+    ensures table { IfOk result (λ words. (file : List ℕ) → D.content dev.old ≡ Some file → words.items ≡ refcount_table file h.now) }
+    ensures len { IfOk result (λ words. length words.items ≡ table_entries h.now) }
+    ensures stop { IfErr result IsReadStop }
+    ensures cause { IfErr result (HasCause (D.faults dev.old) (D.faults dev.new)) }
+    ensures faults { D.faults dev.old ≤ D.faults dev.new }
+    ensures content { D.content dev.new ≡ D.content dev.old }
+    ensures flushed { D.is_flushed dev.new ≡ D.is_flushed dev.old }
+    ensures log { D.log dev.new ≡ D.log dev.old }
+    ensures size { D.size dev.new ≡ D.size dev.old }
+    ensures capacity { D.capacity dev.new ≡ D.capacity dev.old }
+{
+    let entries = table_len(h);
+    let mut buffer = zero_bytes(alloc, 8 * entries)?;
+    let mut words = zero_words(alloc, entries)?;
+    read_words(
+        dev,
+        h.ref_offset,
+        buffer.as_mut_slice(),
+        words.as_mut_slice(),
+    )?;
+    Ok(words)
+}
+
+/// The refcounts of 16 bits, one after the other.
+fn decode_counts(block: &[u8], counts: &mut [u16])
+    requires { 2 * length counts.old ≤ length block.now }
+    ensures { (k : ℕ) → k < length counts.old → slice_index counts.new k ≡ number_at block.now (k * 2) 2 }
+{
+    BigEndian::read_u16_into(&block[..2 * counts.len()], counts);
+}
+
+/// Puts a block's first refcounts at `from..to`.
+fn put_counts(block: &[u8], counts: &mut [u16], from: usize, to: usize)
+    requires order { from ≤ to }
+    requires within { to ≤ length counts.old }
+    requires whole { 2 * (to - from) ≤ length block.now }
+    ensures put { (k : ℕ) → from ≤ k → k < to → slice_index counts.new k ≡ number_at block.now ((k - from) * 2) 2 }
+    ensures before { (k : ℕ) → k < from → slice_index counts.new k ≡ slice_index counts.old k }
+    ensures behind { (k : ℕ) → to ≤ k → slice_index counts.new k ≡ slice_index counts.old k }
+{
+    decode_counts(block, &mut counts[from..to]);
+}
+
+/// Reads the refcounts that block `i` has, as far as they are kept. Those of an absent block are 0 already.
+fn read_block<D: Device>(
+    dev: &mut D,
+    h: &Header,
+    table: &[u64],
+    i: usize,
+    buffer: &mut [u8],
+    counts: &mut [u16],
+) -> Result<(), RefsStop>
+    requires shape { HasShape h.now }
+    requires entry { i < length table.now }
+    requires some { i * block_entries (cluster_size h.now.cluster_bits) h.now.refcount_order < length counts.old }
+    requires small { length counts.old ≤ 2 ^ 24 }
+    requires buffer { length buffer.old ≡ cluster_size h.now.cluster_bits }
+    requires zeros { AreZeroFrom counts.old (i * block_entries (cluster_size h.now.cluster_bits) h.now.refcount_order) }
+    ensures counts { OnOk result ((file : List ℕ) → D.content dev.old ≡ Some file → table.now ≡ refcount_table file h.now
+        → let per_block = block_entries (cluster_size h.now.cluster_bits) h.now.refcount_order in
+        AreCounts file h.now counts.new (i * per_block) (i * per_block + per_block)) }
+    ensures before { (k : ℕ) → k < i * block_entries (cluster_size h.now.cluster_bits) h.now.refcount_order → slice_index counts.new k ≡ slice_index counts.old k }
+    ensures behind { AreZeroFrom counts.new ((i + 1) * block_entries (cluster_size h.now.cluster_bits) h.now.refcount_order) }
+    ensures stop { IfErr result IsReadStop }
+    ensures cause { IfErr result (HasCause (D.faults dev.old) (D.faults dev.new)) }
+    ensures faults { D.faults dev.old ≤ D.faults dev.new }
+    ensures content { D.content dev.new ≡ D.content dev.old }
+    ensures flushed { D.is_flushed dev.new ≡ D.is_flushed dev.old }
+    ensures log { D.log dev.new ≡ D.log dev.old }
+    ensures size { D.size dev.new ≡ D.size dev.old }
+    ensures capacity { D.capacity dev.new ≡ D.capacity dev.old }
+{
+    let offset = block_offset(table[i]);
+    if offset == 0 {
+        return Ok(());
+    }
+    read(dev, offset, buffer)?;
+    let from = i * block_len(h);
+    let to = counts.len().min(from + block_len(h));
+    put_counts(buffer, counts, from, to);
+    Ok(())
+}
+
+/// Reads the refcounts of the first clusters, one read for each block that is there.
+fn read_counts<D: Device>(
+    dev: &mut D,
+    h: &Header,
+    table: &[u64],
+    buffer: &mut [u8],
+    counts: &mut [u16],
+) -> Result<(), RefsStop>
+    requires shape { HasShape h.now }
+    requires table { length table.now ≡ table_entries h.now }
+    requires reach { length counts.old ≤ table_reach h.now }
+    requires small { length counts.old ≤ 2 ^ 24 }
+    requires buffer { length buffer.old ≡ cluster_size h.now.cluster_bits }
+    requires zeros { AreZeroFrom counts.old 0 }
+    ensures counts { OnOk result ((file : List ℕ) → D.content dev.old ≡ Some file → table.now ≡ refcount_table file h.now
+        → AreCounts file h.now counts.new 0 (length counts.old)) }
+    ensures stop { IfErr result IsReadStop }
+    ensures cause { IfErr result (HasCause (D.faults dev.old) (D.faults dev.new)) }
+    ensures faults { D.faults dev.old ≤ D.faults dev.new }
+    ensures content { D.content dev.new ≡ D.content dev.old }
+    ensures flushed { D.is_flushed dev.new ≡ D.is_flushed dev.old }
+    ensures log { D.log dev.new ≡ D.log dev.old }
+    ensures size { D.size dev.new ≡ D.size dev.old }
+    ensures capacity { D.capacity dev.new ≡ D.capacity dev.old }
+{
+    let blocks = counts.len().div_ceil(block_len(h));
+    for i in 0..blocks {
+        read_block(dev, h, table, i, buffer, counts)?;
+    }
+    Ok(())
+}
+
+/// The first cluster from `from` on whose refcount is 0, or the number of counts where there is none.
+pub(crate) fn first_free(counts: &[u16], from: usize) -> usize
+    requires within { from ≤ length counts.now }
+    requires taken { AreTaken counts.now from }
+    ensures within { result ≤ length counts.now }
+    ensures taken { AreTaken counts.now result }
+    ensures free { result < length counts.now → slice_index counts.now result ≡ 0 }
+{
+    for cluster in from..counts.len() {
+        if counts[cluster] == 0 {
+            return cluster;
+        }
+    }
+    counts.len()
+}
+
+/// Reads the words of the refcount table, and refuses what is refused of it.
+fn open_table<D: Device>(alloc: Global, dev: &mut D, h: &Header) -> Result<Vec<u64>, RefsStop>
+    requires { HasShape h.now }
+    ensures refused { (file : List ℕ) → D.content dev.old ≡ Some file →
+        RefusedBy result (refcounts_refusal h.now (D.size dev.old) (refcount_table file h.now)) }
+    ensures accepted { IfOk result (λ words. refcounts_refusal h.now (D.size dev.old) words.items ≡ None) }
+    ensures table { IfOk result (λ words. (file : List ℕ) → D.content dev.old ≡ Some file → words.items ≡ refcount_table file h.now) }
+    ensures len { IfOk result (λ words. length words.items ≡ table_entries h.now) }
+    ensures cause { IfErr result (HasCause (D.faults dev.old) (D.faults dev.new)) }
+    ensures faults { D.faults dev.old ≤ D.faults dev.new }
+    ensures content { D.content dev.new ≡ D.content dev.old }
+    ensures flushed { D.is_flushed dev.new ≡ D.is_flushed dev.old }
+    ensures log { D.log dev.new ≡ D.log dev.old }
+    ensures size { D.size dev.new ≡ D.size dev.old }
+    ensures capacity { D.capacity dev.new ≡ D.capacity dev.old }
+{
+    let len = dev.length();
+    check_place(h, len)?;
+    let table = read_table(alloc, dev, h)?;
+    check_words(table.as_slice(), cluster_len(h) as u64, len)?;
+    Ok(table)
+}
+
+/// What is kept of a table and its counts.
+fn refs_of(h: &Header, table: Vec<u64>, counts: Vec<u16>, buffer: Vec<u8>) -> Refs
+    requires shape { HasShape h.now }
+    requires table { length table.items ≡ table_entries h.now }
+    requires blocks { AreWholeClusters (cluster_size h.now.cluster_bits) table.items }
+    requires reach { length counts.items ≤ table_reach h.now }
+    requires small { length counts.items ≤ 2 ^ 24 }
+    requires buffer { length buffer.items ≡ cluster_size h.now.cluster_bits }
+    ensures shape { IsShapedBy h.now result }
+    ensures table { result.table ≡ table.items }
+    ensures counts { result.counts ≡ counts.items }
+{
+    let cursor = first_free(counts.as_slice(), 0);
+    Refs {
+        cluster_bits: h.cluster_bits,
+        refcount_order: h.refcount_order,
+        table_offset: h.ref_offset,
+        table,
+        counts,
+        cursor,
+        buffer,
+    }
+}
+
+/// Reads the refcounts of the first `reach` clusters of a file. It reads the refcount table at once, then a
+/// cluster for each block that is there and counts one of them.
+///
+/// What is refused is refused in this order: the refcount table's place, the places of its blocks, reserved
+/// bits in its entries. `Io` and `NoMemory` may come before or after. The device's bytes stay.
+pub fn load_refs<D: Device>(
+    alloc: Global,
+    dev: &mut D,
+    h: &Header,
+    reach: u64,
+) -> Result<Refs, RefsStop>
+    requires header { CanBeRead h.now (D.size dev.old) }
+    requires reach { reach ≤ table_reach h.now }
+    requires small { reach ≤ 2 ^ 24 }
+
+    // what is read
+    ensures refused { (file : List ℕ) → D.content dev.old ≡ Some file →
+        RefusedBy result (refcounts_refusal h.now (D.size dev.old) (refcount_table file h.now)) }
+    ensures kept { IfOk result (λ refs. (file : List ℕ) → D.content dev.old ≡ Some file → IsCountsOf file h.now refs) }
+
+    // what holds even where the device doesn't tell its bytes
+    ensures accepted { IfOk result (λ refs. refcounts_refusal h.now (D.size dev.old) refs.table ≡ None) }
+    ensures shape { IfOk result (IsShapedBy h.now) }
+    ensures table { IfOk result (λ refs. length refs.table ≡ table_entries h.now) }
+    ensures reach { IfOk result (λ refs. length refs.counts ≡ reach) }
+    ensures blocks { IfOk result (λ refs. AreWholeClusters (cluster_size h.now.cluster_bits) refs.table) }
+    ensures below { IfOk result (λ refs. BeginBelow (D.size dev.old) refs.table) }
+
+    // the device
+    ensures cause { IfErr result (HasCause (D.faults dev.old) (D.faults dev.new)) }
+    ensures faults { D.faults dev.old ≤ D.faults dev.new }
+    ensures content { D.content dev.new ≡ D.content dev.old }
+    ensures flushed { D.is_flushed dev.new ≡ D.is_flushed dev.old }
+    ensures log { D.log dev.new ≡ D.log dev.old }
+    ensures size { D.size dev.new ≡ D.size dev.old }
+    ensures capacity { D.capacity dev.new ≡ D.capacity dev.old }
+{
+    let table = open_table(alloc, dev, h)?;
+    let mut counts = zero_counts(alloc, reach as usize)?;
+    let mut buffer = zero_bytes(alloc, cluster_len(h))?;
+    read_counts(
+        dev,
+        h,
+        table.as_slice(),
+        buffer.as_mut_slice(),
+        counts.as_mut_slice(),
+    )?;
+    Ok(refs_of(h, table, counts, buffer))
+}

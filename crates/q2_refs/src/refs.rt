@@ -1,0 +1,75 @@
+//! Refcounts in memory.
+ghost use Rattle.std.specs.Prelude.{◌≡◌, ◌+◌, ◌<◌, ◌≤◌, length, take, slice_index};
+ghost use Rattle.q2_refs.specs.Free.{free_cluster, will_be_given};
+
+use std::marker::Model;
+
+/// The refcount table of an image and the refcounts of its first clusters.
+#[derive(Debug, Drop)]
+pub struct Refs {
+    pub(crate) cluster_bits: u32,
+    pub(crate) refcount_order: u32,
+    pub(crate) table_offset: u64,
+    pub(crate) table: Vec<u64>,
+    pub(crate) counts: Vec<u16>,
+    /// No count below this one is 0.
+    pub(crate) cursor: usize,
+    /// A cluster's bytes, for a block that is written.
+    pub(crate) buffer: Vec<u8>,
+}
+
+impl Model for Refs {
+    ghost use Rattle.std.specs.Prelude.{length};
+    ghost use Rattle.q2_refs.specs.Kept.{Kept, IsReady};
+
+    ghost Value = { Kept };
+
+    ghost view = { λ r. record {
+      cluster_bits = r.cluster_bits;
+      refcount_order = r.refcount_order;
+      table_offset = r.table_offset;
+      table = r.table.items;
+      counts = r.counts.items;
+    } };
+
+    ghost invariant = { λ r. IsReady (record {
+      cluster_bits = r.cluster_bits;
+      refcount_order = r.refcount_order;
+      table_offset = r.table_offset;
+      table = r.table.items;
+      counts = r.counts.items;
+    }) r.cursor (length r.buffer.items) };
+}
+
+impl Refs {
+    /// The refcount of a cluster below the reach.
+    pub fn count_of(&self, cluster: u64) -> u64
+        requires { cluster < length self.now.counts }
+        ensures { result ≡ slice_index self.now.counts cluster }
+    {
+        u64::from(self.counts[cluster as usize])
+    }
+
+    /// How many clusters' refcounts are kept: those of the first ones.
+    pub fn reach(&self) -> u64
+        ensures { result ≡ length self.now.counts }
+    {
+        self.counts.len() as u64
+    }
+
+    /// The words of the refcount table.
+    pub fn table(&self) -> &[u64]
+        ensures { result.now ≡ self.now.table }
+    {
+        self.table.as_slice()
+    }
+
+    /// Keeps the refcounts of the first clusters alone, as many as `reach` says.
+    pub fn keep_first(&mut self, reach: u64)
+        requires { reach ≤ length self.old.counts }
+        ensures { self.new ≡ record self.old { counts = take reach self.old.counts } }
+    {
+        self.counts.truncate(reach as usize);
+        self.cursor = self.cursor.min(reach as usize);
+    }
+}
