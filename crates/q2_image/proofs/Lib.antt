@@ -1,3 +1,4 @@
 pub mod Sightings
 pub mod FirstCluster
 pub mod Named
+pub mod Counted

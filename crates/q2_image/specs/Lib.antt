@@ -1,3 +1,4 @@
 pub mod Seen
 pub mod Opening
 pub mod Text
+pub mod Loading

@@ -1,0 +1,81 @@
+-- The refusals of the refcount table, and how many refcounts it has.
+use Rattle.std.proofs.Common.{◌≡◌, ℕ, ◌+◌, ◌*◌, ◌<◌, ◌≤◌, ◌≢◌, max, Bool, true, false, ◌||◌, not, eqb, ltb, List, [], ◌∷◌, Option, Some, None, refl, sym, ap, ◌∙◌, arith}
+use Rattle.std.specs.Option.{option_map}
+use Rattle.std.proofs.lemmas.Bool.Decides.{nat_tests}
+use Rattle.q2_format.specs.Sizes.{cluster_size}
+use Rattle.q2_format.specs.Header.{first, IsWithinLimits, refused_where}
+use Rattle.q2_format.specs.Tables.{refcount_table}
+use Rattle.q2_format.specs.References.{cluster_bound, reach_of}
+use Rattle.q2_format.specs.Sound.{bad_refcount_table, bad_l1_table, bad_block, reserved_in_refcount_table, is_misplaced}
+use Rattle.q2_format.specs.Sound as sound
+use Rattle.q2_format.specs.declared.header.Header.{Header}
+use Rattle.q2_format.proofs.Firsts.{first-none, option_map-none, refused_where-none}
+use Rattle.q2_refs.specs.Loading.{refcounts_refusal, table_reach}
+use Rattle.q2_refs.specs.declared.stop.RefsStop.{RefsStop}
+use Rattle.q2_refs.specs.declared.stop.RefsStop.TheVariants.{Offset, Reserved}
+use Rattle.q2_image.specs.Opening.{place_stops}
+use Rattle.q2_image.specs.Loading.{TableTells, counts_loaded, IsBlockStop}
+
+-- both tables lie in their places
+pub both_placed : (h : Header) (len : ℕ) → place_stops h len ≡ None → (bad_refcount_table h len ≡ None) × (bad_l1_table h len ≡ None)
+both_placed h len none =
+    let each = first-none (option_map sound.Offset (bad_refcount_table h len) ∷ option_map sound.Offset (bad_l1_table h len) ∷ []) none in
+    (option_map-none sound.Offset (bad_refcount_table h len) each.0, option_map-none sound.Offset (bad_l1_table h len) each.1.0)
+
+-- the refcount table lies in its place, so its words alone are refused
+words_alone : (h : Header) (len : ℕ) (table : List ℕ) → bad_refcount_table h len ≡ None
+    → refcounts_refusal h len table ≡ first (option_map Offset (bad_block (cluster_size h.cluster_bits) len table) ∷ option_map Reserved (reserved_in_refcount_table table) ∷ [])
+unfolding refcounts_refusal
+words_alone h len table placed = rw placed refl
+
+nothing : (b r : Option ℕ) → first (option_map Offset b ∷ option_map Reserved r ∷ []) ≡ None → (b ≡ None) × (r ≡ None)
+nothing None None h = (refl, refl)
+nothing None (Some i) h = absurd (cc)
+nothing (Some o) r h = absurd (cc)
+
+a_block : (b r : Option ℕ) (offset : ℕ) → first (option_map Offset b ∷ option_map Reserved r ∷ []) ≡ Some (Offset offset) → b ≡ Some offset
+a_block None None offset h = absurd (cc)
+a_block None (Some i) offset h = absurd (cc)
+a_block (Some o) r offset h = cc
+
+an_entry : (b r : Option ℕ) (index : ℕ) → first (option_map Offset b ∷ option_map Reserved r ∷ []) ≡ Some (Reserved index) → (b ≡ None) × (r ≡ Some index)
+an_entry None None index h = absurd (cc)
+an_entry None (Some i) index h = (refl, cc)
+an_entry (Some o) r index h = absurd (cc)
+
+-- what each answer tells of a file's refcount table
+pub accepted_tells : (file : List ℕ) (h : Header) (len : ℕ) → place_stops h len ≡ None → refcounts_refusal h len (refcount_table file h) ≡ None → TableTells file h len None None
+accepted_tells file h len placed none =
+    let both = nothing (bad_block (cluster_size h.cluster_bits) len (refcount_table file h)) (reserved_in_refcount_table (refcount_table file h))
+        (sym (words_alone h len (refcount_table file h) (both_placed h len placed).0) ∙ none) in
+    record { block = both.0; reserved = both.1 }
+
+pub reserved_tells : (file : List ℕ) (h : Header) (len index : ℕ) → place_stops h len ≡ None
+    → refcounts_refusal h len (refcount_table file h) ≡ Some (Reserved index) → TableTells file h len None (Some index)
+reserved_tells file h len index placed some =
+    let both = an_entry (bad_block (cluster_size h.cluster_bits) len (refcount_table file h)) (reserved_in_refcount_table (refcount_table file h)) index
+        (sym (words_alone h len (refcount_table file h) (both_placed h len placed).0) ∙ some) in
+    record { block = both.0; reserved = both.1 }
+
+pub offset_tells : (file : List ℕ) (h : Header) (len offset : ℕ) → place_stops h len ≡ None
+    → refcounts_refusal h len (refcount_table file h) ≡ Some (Offset offset) → IsBlockStop file h len (sound.Offset offset)
+offset_tells file h len offset placed some =
+    (offset, refl, a_block (bad_block (cluster_size h.cluster_bits) len (refcount_table file h)) (reserved_in_refcount_table (refcount_table file h)) offset
+        (sym (words_alone h len (refcount_table file h) (both_placed h len placed).0) ∙ some))
+
+-- a refcount table in its place has a cluster
+some_cluster : (h : Header) (len : ℕ) → bad_refcount_table h len ≡ None → 1 ≤ h.ref_clusters
+unfolding bad_refcount_table
+some_cluster h len none =
+    let test = refused_where-none (eqb h.ref_clusters 0 || is_misplaced (cluster_size h.cluster_bits) len h.ref_offset) h.ref_offset none in
+    grind (arith, nat_tests)
+
+pub loaded_fits : (h : Header) (len : ℕ) → IsWithinLimits h len → place_stops h len ≡ None → counts_loaded h len ≤ table_reach h
+loaded_fits h len limits placed =
+    let some = some_cluster h len (both_placed h len placed).0 in
+    let files = limits.file_clusters in
+    let l1 = limits.l1_size in
+    let tables = limits.refcount_table in
+    let bits = limits.cluster_bits in
+    let order = limits.refcount_order in
+    rw (bits, order) (let files' = rw bits at files in omega arith)

@@ -1,0 +1,61 @@
+-- Loading refcounts and tables: which refusal comes first, and what is loaded.
+use Rattle.std.specs.Prelude.{◌≡◌, ℕ, ◌+◌, ◌*◌, ◌<◌, ◌≤◌, max, Option, Some, None, IfSome, List, [], ◌∷◌, length}
+use Rattle.std.specs.Option.{option_map}
+use Rattle.q2_format.specs.Sizes.{cluster_size, block_entries, entries_in_cluster}
+use Rattle.q2_format.specs.Header.{first}
+use Rattle.q2_format.specs.Tables.{Tree, refcount_table}
+use Rattle.q2_format.specs.References.{cluster_bound, reach_of}
+use Rattle.q2_format.specs.Sound.{Refusal, bad_block, bad_l2_table, bad_host, reserved_in_l1, reserved_in_l2, reserved_in_refcount_table, compressed_cluster}
+use Rattle.q2_format.specs.Sound as sound
+use Rattle.q2_format.specs.declared.header.Header.{Header}
+use Rattle.q2_refs.specs.Kept.{Kept, IsShapedBy, IsCountsOf, AreWholeClusters, BeginBelow}
+use Rattle.q2_refs.specs.Loading.{table_entries}
+use Rattle.q2_image.specs.declared.counting.Counts.{Counts}
+use Rattle.q2_image.specs.declared.counting.Counts.TheVariants.{Loaded, Reserved}
+
+-- the refusals of the words of all tables, in their order
+unfoldable pub table_stops : Header → ℕ → List ℕ → Tree → Option Refusal
+table_stops h len table tree = let c = cluster_size h.cluster_bits in first (
+    option_map sound.Offset (bad_block c len table)
+    ∷ option_map sound.Offset (bad_l2_table c len tree)
+    ∷ option_map sound.Offset (bad_host c len tree)
+    ∷ option_map (sound.Reserved h.l1_offset) (reserved_in_l1 tree)
+    ∷ option_map (sound.Reserved h.ref_offset) (reserved_in_refcount_table table)
+    ∷ option_map (λ entry. sound.Reserved entry.0 entry.1) (reserved_in_l2 c tree)
+    ∷ option_map sound.Compressed (compressed_cluster c tree)
+    ∷ [])
+
+-- How many clusters' refcounts are loaded: those up to the reach, and those that a table at the file's end may take.
+abbrev pub counts_loaded : Header → ℕ → ℕ
+counts_loaded h len = max (cluster_bound h len) (reach_of h len)
+
+-- the entry of the refcount table in which a reserved bit was found
+abbrev pub reserved_entry : Counts → Option ℕ
+reserved_entry (Loaded refs) = None
+reserved_entry (Reserved index) = Some index
+
+-- what was loaded is so of a file
+abbrev pub AreCountsOf : List ℕ → Header → Counts → Type 0
+AreCountsOf file h (Loaded refs) = IsCountsOf file h refs
+AreCountsOf file h (Reserved index) = Unit {0}
+
+-- the refcounts of a header, whether or not the device tells its bytes
+pub record HasCounts (h : Header) (len count : ℕ) (refs : Kept) : Type 0 where
+  pub shape : IsShapedBy h refs
+  pub table : length refs.table ≡ table_entries h
+  pub reach : length refs.counts ≡ count
+  pub blocks : AreWholeClusters (cluster_size h.cluster_bits) refs.table
+  pub below : BeginBelow len refs.table
+
+abbrev pub HaveCounts : Header → ℕ → ℕ → Counts → Type 0
+HaveCounts h len reach (Loaded refs) = HasCounts h len reach refs
+HaveCounts h len reach (Reserved index) = Unit {0}
+
+-- what a file's refcount table says of its blocks and its reserved bits
+pub record TableTells (file : List ℕ) (h : Header) (len : ℕ) (misplaced index : Option ℕ) : Type 0 where
+  pub block : bad_block (cluster_size h.cluster_bits) len (refcount_table file h) ≡ misplaced
+  pub reserved : reserved_in_refcount_table (refcount_table file h) ≡ index
+
+-- a refusal of the refcount table's blocks
+abbrev pub IsBlockStop : List ℕ → Header → ℕ → Refusal → Type 0
+IsBlockStop file h len named = (offset : ℕ) × (named ≡ sound.Offset offset) × (bad_block (cluster_size h.cluster_bits) len (refcount_table file h) ≡ Some offset)
