@@ -7,9 +7,9 @@ use Rattle.std.specs.Option.{option_map}
 use Rattle.q2_format.specs.References.{names_cluster}
 use Rattle.q2_format.specs.Sound.{lowest, Refusal}
 use Rattle.q2_format.specs.Sound as sound
-use Rattle.q2_format.proofs.Firsts.{lowest_at, none_lowest}
-use Rattle.q2_image.specs.Opening.{overlap_stop}
-use Rattle.q2_image.specs.Seen.{Sightings, IsSeen, named_at, named_once, named_in_run, named_by, offset_in, twice_in}
+use Rattle.q2_format.proofs.Firsts.{lowest_at, none_lowest, lowest_alike}
+use Rattle.q2_image.specs.Opening.{overlap_stop, uncounted_stop}
+use Rattle.q2_image.specs.Seen.{Sightings, IsSeen, named_at, named_once, named_in_run, named_by, offset_in, twice_in, is_uncounted}
 use Rattle.q2_image.specs.declared.seen.Naming.{Naming}
 
 -- what is seen depends on how often alone
@@ -63,3 +63,13 @@ lowest_by uses s seen false some =
 
 pub twice_lowest : (uses : ℕ → ℕ) (s : Sightings) → IsSeen uses s → overlap_stop uses (length s.named) ≡ option_map sound.Overlap (twice_in s)
 twice_lowest uses s seen = ap (option_map sound.Overlap) (lowest_by uses s seen (eqb s.twice (length s.named)) refl)
+
+above_zero : (n : ℕ) → ltb 0 n ≡ not (eqb n 0)
+above_zero n = grind (arith, nat_tests)
+
+-- a cluster that is named and not counted, by how often it is named
+pub uncounted_seen : (uses : ℕ → ℕ) (s : Sightings) (counts : List ℕ) → IsSeen uses s
+    → uncounted_stop uses counts (length s.named) ≡ option_map sound.Refcount (lowest (is_uncounted s.named counts) (length s.named))
+uncounted_seen uses s counts seen = ap (option_map sound.Refcount)
+    (lowest_alike (λ k. not (eqb (uses k) 0) && eqb (get_or counts k 0) 0) (is_uncounted s.named counts) (length s.named)
+    (λ k h. ap (λ (b : Bool). b && eqb (get_or counts k 0) 0) (sym (seen.named k h ∙ above_zero (uses k)))))

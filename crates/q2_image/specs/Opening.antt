@@ -1,5 +1,5 @@
 -- Opening an image: what is refused, and why each answer comes.
-use Rattle.std.specs.Prelude.{◌≡◌, ℕ, ◌+◌, ◌*◌, ◌<◌, false, nat_lt, length, slice_index, Option, Some, None, Result, Ok, Err, IfSome, List, [], ◌∷◌}
+use Rattle.std.specs.Prelude.{◌≡◌, ℕ, ◌+◌, ◌*◌, ◌<◌, false, not, ◌==◌, ◌&&◌, nat_lt, length, slice_index, Option, Some, None, Result, Ok, Err, IfSome, List, [], ◌∷◌}
 use Rattle.std.specs.Option.{option_map}
 use Rattle.blk_base.specs.Counts.{Rose}
 use Rattle.q2_format.specs.Sizes.{cluster_size, clusters_for}
@@ -70,3 +70,7 @@ pub record ArePlaced (h : Header) (len : ℕ) (table l1 words : List ℕ) : Type
 -- the refusal of the lowest cluster that is named twice, of so many
 abbrev pub overlap_stop : (ℕ → ℕ) → ℕ → Option Refusal
 overlap_stop uses n = option_map sound.Overlap (lowest (λ k. nat_lt 1 (uses k)) n)
+
+-- the refusal of the lowest cluster that is named and has refcount 0
+abbrev pub uncounted_stop : (ℕ → ℕ) → List ℕ → ℕ → Option Refusal
+uncounted_stop uses counts n = option_map sound.Refcount (lowest (λ k. not (uses k == 0) && (slice_index counts k == 0)) n)

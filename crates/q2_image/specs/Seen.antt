@@ -1,5 +1,5 @@
 -- Which clusters of a file are named, gone through once.
-use Rattle.std.specs.Prelude.{◌≡◌, ℕ, ◌+◌, ◌/◌, ◌<◌, ◌≤◌, Bool, false, not, ◌==◌, ◌&&◌, nat_lt, if◌then◌else◌, List, length, count_by, slice_index_or, Option, Some, None}
+use Rattle.std.specs.Prelude.{◌≡◌, ℕ, ◌+◌, ◌/◌, ◌<◌, ◌≤◌, Bool, false, not, ◌==◌, ◌&&◌, nat_lt, if◌then◌else◌, List, length, count_by, slice_index_or, slice_index, Option, Some, None}
 use Rattle.q2_format.specs.Entry.{host_offset, block_offset}
 use Rattle.q2_format.specs.References.{names_cluster, own_offset}
 use Rattle.q2_image.specs.declared.seen.Naming.{Naming}
@@ -46,3 +46,7 @@ AreNamedBelow c kind words n = (i : ℕ) → i < length words → offset_in kind
 -- the lowest cluster named twice
 abbrev pub twice_in : Sightings → Option ℕ
 twice_in seen = if seen.twice == length seen.named then None else Some seen.twice
+
+-- a cluster was named, and its refcount is 0
+abbrev pub is_uncounted : List Bool → List ℕ → ℕ → Bool
+is_uncounted named counts k = slice_index_or named k false && (slice_index counts k == 0)

@@ -2,11 +2,11 @@
 
 ghost use Rattle.std.specs.Prelude.{◌≡◌, ◌≤◌, ◌+◌, ◌*◌, ◌<◌, ◌^◌, ℕ, List, length, Some, None, Option, IfOk, IfErr, IfSome};
 ghost use Rattle.q2_format.specs.Header.{CanBeRead, IsWithinLimits};
-ghost use Rattle.q2_format.specs.Tables.{refcount_of};
+ghost use Rattle.q2_format.specs.Sound.{lowest};
 ghost use Rattle.q2_format.specs.References.{cluster_bound, reach_of};
 ghost use Rattle.q2_refs.specs.Loading.{table_reach};
-ghost use Rattle.q2_image.specs.Seen.{IsSeen};
-ghost use Rattle.q2_image.specs.Opening.{HasCause, place_stops, refusal_of};
+ghost use Rattle.q2_image.specs.Seen.{IsSeen, is_uncounted};
+ghost use Rattle.q2_image.specs.Opening.{Judges, HasCause, place_stops, refusal_of, uncounted_stop};
 ghost use Rattle.q2_image.specs.Loading.{counts_loaded, reserved_entry, AreCountsOf, HaveCounts, TableTells, IsBlockStop};
 
 use crate::header::cluster_size;
@@ -79,5 +79,31 @@ pub(crate) fn load_counts<D: Device>(
         Err(RefsStop::Offset(offset)) => Err(ImageStop::Offset(offset)),
         Err(RefsStop::Io { count }) => Err(ImageStop::Io { count }),
         Err(RefsStop::NoMemory) => Err(ImageStop::NoMemory),
+    }
+}
+
+/// The lowest cluster that was named and has refcount 0.
+#[tactic(auto, using(q2_format::proofs::Firsts::none_lowest, q2_format::proofs::Firsts::lowest_at))]
+fn first_uncounted(seen: &Seen, refs: &Refs) -> Option<u64>
+    requires { length seen.now.named ≤ length refs.now.counts }
+    ensures { result ≡ lowest (is_uncounted seen.now.named refs.now.counts) (length seen.now.named) }
+{
+    for cluster in 0..seen.len() {
+        if seen.is_named(cluster) && refs.count_of(cluster) == 0 {
+            return Some(cluster);
+        }
+    }
+    None
+}
+
+/// Refuses the lowest cluster that was named and has refcount 0.
+#[tactic(auto, using(crate::proofs::Sightings::uncounted_seen))]
+pub(crate) fn check_counted(seen: &Seen, refs: &Refs) -> Result<(), ImageStop>
+    requires { length seen.now.named ≤ length refs.now.counts }
+    ensures { (uses : ℕ → ℕ) → IsSeen uses seen.now → Judges (uncounted_stop uses refs.now.counts (length seen.now.named)) result }
+{
+    match first_uncounted(seen, refs) {
+        None => Ok(()),
+        Some(cluster) => Err(ImageStop::Refcount(cluster)),
     }
 }

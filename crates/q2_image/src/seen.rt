@@ -64,7 +64,7 @@ fn own_offset(word: u64) -> u64
 }
 
 impl Seen {
-    ghost use Rattle.std.specs.Prelude.{◌≡◌, ℕ, ◌+◌, ◌/◌, ◌^◌, ◌<◌, ◌≤◌, length, IfOk};
+    ghost use Rattle.std.specs.Prelude.{◌≡◌, ℕ, ◌+◌, ◌/◌, ◌^◌, ◌<◌, ◌≤◌, false, length, slice_index_or, IfOk};
     ghost use Rattle.q2_image.specs.Seen.{IsSeen, named_at, named_once, named_in_run, named_by, AreNamedBelow, twice_in};
 
     /// No cluster is named, of so many.
@@ -125,6 +125,21 @@ impl Seen {
         for word in words {
             self.mark_offset(cluster_size, offset_in(kind, *word));
         }
+    }
+
+    /// How many clusters there are.
+    pub(crate) fn len(&self) -> u64
+        ensures { result ≡ length self.now.named }
+    {
+        self.named.len() as u64
+    }
+
+    /// Whether a cluster was named.
+    pub(crate) fn is_named(&self, cluster: u64) -> bool
+        requires { cluster < length self.now.named }
+        ensures { result ≡ slice_index_or self.now.named cluster false }
+    {
+        self.named[cluster as usize]
     }
 
     /// The lowest cluster that was named twice.
