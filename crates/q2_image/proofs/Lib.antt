@@ -2,3 +2,4 @@ pub mod Sightings
 pub mod FirstCluster
 pub mod Named
 pub mod Counted
+pub mod Guests

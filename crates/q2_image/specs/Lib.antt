@@ -2,3 +2,4 @@ pub mod Seen
 pub mod Opening
 pub mod Text
 pub mod Loading
+pub mod Guest
