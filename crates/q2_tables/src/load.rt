@@ -88,13 +88,15 @@ fn read_table<D: Device>(
     ensures size { D.size dev.new ≡ D.size dev.old }
     ensures capacity { D.capacity dev.new ≡ D.capacity dev.old }
 {
-    if dev.read_at(at, buffer).is_err() {
-        return Err(TablesStop::Io {
+    match dev.read_at(at, buffer) {
+        Ok(()) => {
+            BigEndian::read_u64_into(buffer, words);
+            Ok(())
+        }
+        Err(_) => Err(TablesStop::Io {
             count: dev.faults(),
-        });
+        }),
     }
-    BigEndian::read_u64_into(buffer, words);
-    Ok(())
 }
 
 /// Reads the L2 tables that the entries of an L1 table name, one behind the other. An entry that names none
@@ -142,16 +144,53 @@ fn check_l1_table(h: &Header, c: u64, len: u64) -> Result<(), TablesStop>
     Ok(())
 }
 
+/// The first entry of an L1 table whose L2 table isn't in its place.
+fn first_misplaced_table(l1: &[u64], c: u64, len: u64) -> Option<usize>
+    requires { 0 < c }
+    ensures { result ≡ position (λ word. is_misplaced c len (host_offset word)) l1.now }
+{
+    l1.iter()
+        .position(|word| is_misplaced(c, len, offset_in(*word)))
+}
+
+/// The first L2 entry whose host cluster isn't in its place.
+fn first_misplaced_host(words: &[u64], c: u64, len: u64) -> Option<usize>
+    requires { 0 < c }
+    ensures { result ≡ position (λ word. is_misplaced c len (own_offset word)) words.now }
+{
+    words
+        .iter()
+        .position(|word| is_misplaced(c, len, own_offset(*word)))
+}
+
+fn first_reserved_in_l1(l1: &[u64]) -> Option<usize>
+    ensures { result ≡ position has_reserved_in_l1 l1.now }
+{
+    l1.iter().position(|word| has_reserved_in_l1(*word))
+}
+
+/// The first L2 entry with a reserved bit, but for those of compressed clusters.
+fn first_reserved_in_l2(words: &[u64]) -> Option<usize>
+    ensures { result ≡ position (λ word. not (is_compressed word) && has_reserved_in_l2 word) words.now }
+{
+    words
+        .iter()
+        .position(|word| !is_compressed(*word) && has_reserved_in_l2(*word))
+}
+
+fn first_compressed(words: &[u64]) -> Option<usize>
+    ensures { result ≡ position is_compressed words.now }
+{
+    words.iter().position(|word| is_compressed(*word))
+}
+
 /// Whether each L2 table lies in its place.
 #[tactic(auto, unfolding(crate::specs::Words::misplaced_table))]
 fn check_l2_tables(l1: &[u64], c: u64, len: u64) -> Result<(), TablesStop>
     requires { 0 < c }
     ensures { refusal_in result ≡ misplaced_table c len l1.now }
 {
-    let first = l1
-        .iter()
-        .position(|word| is_misplaced(c, len, offset_in(*word)));
-    match first {
+    match first_misplaced_table(l1, c, len) {
         Some(i) => Err(TablesStop::Offset(offset_in(l1[i]))),
         None => Ok(()),
     }
@@ -163,10 +202,7 @@ fn check_hosts(words: &[u64], c: u64, len: u64) -> Result<(), TablesStop>
     requires { 0 < c }
     ensures { refusal_in result ≡ misplaced_host c len words.now }
 {
-    let first = words
-        .iter()
-        .position(|word| is_misplaced(c, len, own_offset(*word)));
-    match first {
+    match first_misplaced_host(words, c, len) {
         Some(i) => Err(TablesStop::Offset(own_offset(words[i]))),
         None => Ok(()),
     }
@@ -177,7 +213,7 @@ fn check_hosts(words: &[u64], c: u64, len: u64) -> Result<(), TablesStop>
 fn check_l1_bits(l1: &[u64]) -> Result<(), TablesStop>
     ensures { refusal_in result ≡ reserved_in_table l1.now }
 {
-    match l1.iter().position(|word| has_reserved_in_l1(*word)) {
+    match first_reserved_in_l1(l1) {
         Some(i) => Err(TablesStop::ReservedInL1 { index: i as u64 }),
         None => Ok(()),
     }
@@ -190,10 +226,7 @@ fn check_l2_bits(l1: &[u64], words: &[u64], entries: usize) -> Result<(), Tables
     requires whole { length words.now ≡ length l1.now * entries }
     ensures { refusal_in result ≡ reserved_in_words entries l1.now words.now }
 {
-    let first = words
-        .iter()
-        .position(|word| !is_compressed(*word) && has_reserved_in_l2(*word));
-    match first {
+    match first_reserved_in_l2(words) {
         Some(i) => Err(TablesStop::ReservedInL2 {
             table: offset_in(l1[i / entries]),
             index: (i % entries) as u64,
@@ -207,7 +240,7 @@ fn check_l2_bits(l1: &[u64], words: &[u64], entries: usize) -> Result<(), Tables
 fn check_compressed(words: &[u64]) -> Result<(), TablesStop>
     ensures { refusal_in result ≡ compressed_in_words words.now }
 {
-    match words.iter().position(|word| is_compressed(*word)) {
+    match first_compressed(words) {
         Some(i) => Err(TablesStop::Compressed(i as u64)),
         None => Ok(()),
     }
@@ -215,12 +248,7 @@ fn check_compressed(words: &[u64]) -> Result<(), TablesStop>
 
 /// Whether the words of both kinds of tables are in order.
 #[tactic(auto, unfolding(crate::specs::Words::refused_words))]
-fn check_words(
-    l1: &[u64],
-    words: &[u64],
-    c: usize,
-    len: u64,
-) -> Result<(), TablesStop>
+fn check_words(l1: &[u64], words: &[u64], c: usize, len: u64) -> Result<(), TablesStop>
     requires some { 8 ≤ c }
     requires whole { length words.now ≡ length l1.now * entries_in_cluster c }
     ensures { refusal_in result ≡ refused_words c len l1.now words.now }
@@ -228,7 +256,8 @@ fn check_words(
     check_hosts(words, c as u64, len)?;
     check_l1_bits(l1)?;
     check_l2_bits(l1, words, c / ENTRY)?;
-    check_compressed(words)
+    check_compressed(words)?;
+    Ok(())
 }
 
 /// So many bytes, which are 0.
