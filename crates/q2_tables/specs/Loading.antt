@@ -1,5 +1,5 @@
 -- What loading refuses, and what it keeps.
-use Rattle.std.specs.Prelude.{◌≡◌, ℕ, ◌*◌, ◌<◌, ◌≤◌, Bool, true, false, List, [], ◌∷◌, length, slice_index, Option, None, Some, Result, Ok, Err}
+use Rattle.std.specs.Prelude.{◌≡◌, ℕ, ◌*◌, ◌<◌, true, false, [], ◌∷◌, length, slice_index, Option, None, Some, Result, Ok, Err}
 use Rattle.std.specs.Option.{option_map}
 use Rattle.blk_base.specs.Counts.{Rose}
 use Rattle.q2_format.specs.Sizes.{cluster_size, entries_in_cluster}

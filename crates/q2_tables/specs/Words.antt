@@ -16,14 +16,14 @@ pub record AreTablesOf (file : List ℕ) (c : ℕ) (l1 words : List ℕ) : Type 
   pub each : (k : ℕ) → k < length l1 * entries_in_cluster c
       → slice_index words k ≡ slice_index (l2_table file c (slice_index l1 (k / entries_in_cluster c))) (k % entries_in_cluster c)
 
--- a read stops at a fault alone
+-- reading stops at a fault, or for want of memory
 abbrev pub IsReadStop : ℕ → ℕ → TablesStop → Type 0
 IsReadStop before now (Io count) = Rose before count × (count ≡ now)
 IsReadStop before now (Offset offset) = ⊥
 IsReadStop before now (ReservedInL1 index) = ⊥
 IsReadStop before now (ReservedInL2 table index) = ⊥
 IsReadStop before now (Compressed cluster) = ⊥
-IsReadStop before now NoMemory = ⊥
+IsReadStop before now NoMemory = Unit {0}
 
 -- What is refused of the words, by the first that is.
 

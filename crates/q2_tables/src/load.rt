@@ -7,7 +7,7 @@ ghost use Rattle.q2_format.specs.Header.{CanBeRead, refusal_in};
 ghost use Rattle.q2_format.specs.References.{own_offset};
 ghost use Rattle.q2_format.specs.Sound.{is_misplaced, bad_l1_table};
 ghost use Rattle.q2_format.specs.Tables.{active_tree, l2_table};
-ghost use Rattle.q2_tables.specs.Loading.{Loads, HasCause, IsLoaded};
+ghost use Rattle.q2_tables.specs.Loading.{Loads, load_refusal, HasCause, IsLoaded, IsRefusal};
 ghost use Rattle.q2_tables.specs.Words.{AreTablesOf, IsReadStop, misplaced_table, misplaced_host, reserved_in_table, reserved_in_words, compressed_in_words, refused_words};
 ghost use Rattle.q2_tables.specs.declared.stop.TablesStop.TheVariants.{Offset, ReservedInL1, ReservedInL2, Compressed};
 
@@ -42,7 +42,11 @@ fn offset_in(word: u64) -> u64
 fn own_offset(word: u64) -> u64
     ensures { result ≡ own_offset word }
 {
-    if is_compressed(word) { 0 } else { offset_in(word) }
+    if is_compressed(word) {
+        0
+    } else {
+        offset_in(word)
+    }
 }
 
 fn is_compressed(word: u64) -> bool
@@ -135,7 +139,8 @@ fn read_l2_tables<D: Device>(
 fn check_l1_table(h: &Header, c: u64, len: u64) -> Result<(), TablesStop>
     requires size { c ≡ cluster_size h.now.cluster_bits }
     requires entries { 8 ≤ c }
-    ensures { refusal_in result ≡ option_map Offset (bad_l1_table h.now len) }
+    ensures refused { refusal_in result ≡ option_map Offset (bad_l1_table h.now len) }
+    ensures stop { IfErr result IsRefusal }
 {
     let needed = h.size.div_ceil(c).div_ceil(c / 8);
     if u64::from(h.l1_size) < needed || is_misplaced(c, len, h.l1_offset) {
@@ -188,7 +193,8 @@ fn first_compressed(words: &[u64]) -> Option<usize>
 #[tactic(auto, unfolding(crate::specs::Words::misplaced_table))]
 fn check_l2_tables(l1: &[u64], c: u64, len: u64) -> Result<(), TablesStop>
     requires { 0 < c }
-    ensures { refusal_in result ≡ misplaced_table c len l1.now }
+    ensures refused { refusal_in result ≡ misplaced_table c len l1.now }
+    ensures stop { IfErr result IsRefusal }
 {
     match first_misplaced_table(l1, c, len) {
         Some(i) => Err(TablesStop::Offset(offset_in(l1[i]))),
@@ -200,7 +206,8 @@ fn check_l2_tables(l1: &[u64], c: u64, len: u64) -> Result<(), TablesStop>
 #[tactic(auto, unfolding(crate::specs::Words::misplaced_host))]
 fn check_hosts(words: &[u64], c: u64, len: u64) -> Result<(), TablesStop>
     requires { 0 < c }
-    ensures { refusal_in result ≡ misplaced_host c len words.now }
+    ensures refused { refusal_in result ≡ misplaced_host c len words.now }
+    ensures stop { IfErr result IsRefusal }
 {
     match first_misplaced_host(words, c, len) {
         Some(i) => Err(TablesStop::Offset(own_offset(words[i]))),
@@ -211,7 +218,8 @@ fn check_hosts(words: &[u64], c: u64, len: u64) -> Result<(), TablesStop>
 /// Whether no entry of the L1 table has a reserved bit.
 #[tactic(auto, unfolding(crate::specs::Words::reserved_in_table))]
 fn check_l1_bits(l1: &[u64]) -> Result<(), TablesStop>
-    ensures { refusal_in result ≡ reserved_in_table l1.now }
+    ensures refused { refusal_in result ≡ reserved_in_table l1.now }
+    ensures stop { IfErr result IsRefusal }
 {
     match first_reserved_in_l1(l1) {
         Some(i) => Err(TablesStop::ReservedInL1 { index: i as u64 }),
@@ -224,7 +232,8 @@ fn check_l1_bits(l1: &[u64]) -> Result<(), TablesStop>
 fn check_l2_bits(l1: &[u64], words: &[u64], entries: usize) -> Result<(), TablesStop>
     requires some { 0 < entries }
     requires whole { length words.now ≡ length l1.now * entries }
-    ensures { refusal_in result ≡ reserved_in_words entries l1.now words.now }
+    ensures refused { refusal_in result ≡ reserved_in_words entries l1.now words.now }
+    ensures stop { IfErr result IsRefusal }
 {
     match first_reserved_in_l2(words) {
         Some(i) => Err(TablesStop::ReservedInL2 {
@@ -238,7 +247,8 @@ fn check_l2_bits(l1: &[u64], words: &[u64], entries: usize) -> Result<(), Tables
 /// Whether no guest cluster is compressed.
 #[tactic(auto, unfolding(crate::specs::Words::compressed_in_words))]
 fn check_compressed(words: &[u64]) -> Result<(), TablesStop>
-    ensures { refusal_in result ≡ compressed_in_words words.now }
+    ensures refused { refusal_in result ≡ compressed_in_words words.now }
+    ensures stop { IfErr result IsRefusal }
 {
     match first_compressed(words) {
         Some(i) => Err(TablesStop::Compressed(i as u64)),
@@ -251,7 +261,8 @@ fn check_compressed(words: &[u64]) -> Result<(), TablesStop>
 fn check_words(l1: &[u64], words: &[u64], c: usize, len: u64) -> Result<(), TablesStop>
     requires some { 8 ≤ c }
     requires whole { length words.now ≡ length l1.now * entries_in_cluster c }
-    ensures { refusal_in result ≡ refused_words c len l1.now words.now }
+    ensures refused { refusal_in result ≡ refused_words c len l1.now words.now }
+    ensures stop { IfErr result IsRefusal }
 {
     check_hosts(words, c as u64, len)?;
     check_l1_bits(l1)?;
@@ -262,17 +273,106 @@ fn check_words(l1: &[u64], words: &[u64], c: usize, len: u64) -> Result<(), Tabl
 
 /// So many bytes, which are 0.
 fn zero_bytes(alloc: Global, n: usize) -> Result<Vec<u8>, AllocError>
-    ensures { IfOk result (λ bytes. vec_len bytes ≡ n) }
+    ensures { IfOk result (λ bytes. length bytes.items ≡ n) }
 {
     vec![in alloc; 0; n]
 }
 
 /// So many words, which are 0.
 fn zero_words(alloc: Global, n: usize) -> Result<Vec<u64>, AllocError>
-    ensures len { IfOk result (λ words. vec_len words ≡ n) }
+    ensures len { IfOk result (λ words. length words.items ≡ n) }
     ensures zeros { IfOk result (λ words. (k : ℕ) → slice_index words.items k ≡ 0) }
 {
     vec![in alloc; 0; n]
+}
+
+/// Reads the L1 table that begins at `at`.
+fn read_l1<D: Device>(
+    alloc: Global,
+    dev: &mut D,
+    at: u64,
+    entries: usize,
+) -> Result<Vec<u64>, TablesStop>
+    requires { entries < 2 ^ 32 }
+    ensures told { IfOk result (λ l1. (file : List ℕ) → D.content dev.old ≡ Some file → l1.items ≡ words_at file at entries) }
+    ensures len { IfOk result (λ l1. length l1.items ≡ entries) }
+    ensures stop { IfErr result (IsReadStop (D.faults dev.old) (D.faults dev.new)) }
+    ensures faults { D.faults dev.old ≤ D.faults dev.new }
+    ensures content { D.content dev.new ≡ D.content dev.old }
+    ensures flushed { D.is_flushed dev.new ≡ D.is_flushed dev.old }
+    ensures log { D.log dev.new ≡ D.log dev.old }
+    ensures size { D.size dev.new ≡ D.size dev.old }
+    ensures capacity { D.capacity dev.new ≡ D.capacity dev.old }
+{
+    let mut l1 = zero_words(alloc, entries)?;
+    let mut bytes = zero_bytes(alloc, ENTRY * entries)?;
+    read_table(dev, at, bytes.as_mut_slice(), l1.as_mut_slice())?;
+    Ok(l1)
+}
+
+/// Reads the L2 tables of an L1 table. The buffer has the bytes of a cluster.
+fn read_l2<D: Device>(
+    alloc: Global,
+    dev: &mut D,
+    l1: &[u64],
+    buffer: &mut [u8],
+) -> Result<Vec<u64>, TablesStop>
+    requires table { length buffer.old ≡ 8 * (length buffer.old / 8) }
+    requires small { length l1.now * entries_in_cluster (length buffer.old) < 2 ^ 62 }
+    ensures told { IfOk result (λ words. (file : List ℕ) → D.content dev.old ≡ Some file → AreTablesOf file (length buffer.old) l1.now words.items) }
+    ensures len { IfOk result (λ words. length words.items ≡ length l1.now * entries_in_cluster (length buffer.old)) }
+    ensures stop { IfErr result (IsReadStop (D.faults dev.old) (D.faults dev.new)) }
+    ensures faults { D.faults dev.old ≤ D.faults dev.new }
+    ensures content { D.content dev.new ≡ D.content dev.old }
+    ensures flushed { D.is_flushed dev.new ≡ D.is_flushed dev.old }
+    ensures log { D.log dev.new ≡ D.log dev.old }
+    ensures size { D.size dev.new ≡ D.size dev.old }
+    ensures capacity { D.capacity dev.new ≡ D.capacity dev.old }
+{
+    let mut words = zero_words(alloc, l1.len() * (buffer.len() / ENTRY))?;
+    read_l2_tables(dev, l1, buffer, words.as_mut_slice())?;
+    Ok(words)
+}
+
+/// Loads the L1 table of an image with clusters of `c` bytes.
+fn load_l1<D: Device>(
+    alloc: Global,
+    dev: &mut D,
+    h: &Header,
+    c: u64,
+    len: u64,
+) -> Result<Vec<u64>, TablesStop>
+    requires size { c ≡ cluster_size h.now.cluster_bits }
+    requires some { 8 ≤ c }
+    ensures told { IfOk result (λ l1. (file : List ℕ) → D.content dev.old ≡ Some file → l1.items ≡ words_at file h.now.l1_offset h.now.l1_size) }
+    ensures refused { IfErr result (λ stop. (file : List ℕ) → D.content dev.old ≡ Some file → IsRefusal stop → load_refusal h.now len (active_tree file h.now) ≡ Some stop) }
+    ensures placed { IfOk result (λ l1. (option_map Offset (bad_l1_table h.now len) ≡ None) × (misplaced_table c len l1.items ≡ None)) }
+    ensures entries { IfOk result (λ l1. length l1.items ≡ h.now.l1_size) }
+    ensures cause { IfErr result (HasCause (D.faults dev.old) (D.faults dev.new)) }
+    ensures faults { D.faults dev.old ≤ D.faults dev.new }
+    ensures content { D.content dev.new ≡ D.content dev.old }
+    ensures flushed { D.is_flushed dev.new ≡ D.is_flushed dev.old }
+    ensures log { D.log dev.new ≡ D.log dev.old }
+    ensures size { D.size dev.new ≡ D.size dev.old }
+    ensures capacity { D.capacity dev.new ≡ D.capacity dev.old }
+{
+    check_l1_table(h, c, len)?;
+    let l1 = read_l1(alloc, dev, h.l1_offset, h.l1_size as usize)?;
+    check_l2_tables(l1.as_slice(), c, len)?;
+    Ok(l1)
+}
+
+/// The bytes of a cluster.
+#[tactic(auto, using(q2_format::proofs::Limits::read_within))]
+fn cluster_len(h: &Header, len: u64) -> u64
+    requires { CanBeRead h.now len }
+    ensures size { result ≡ cluster_size h.now.cluster_bits }
+    ensures entries { result ≡ 8 * (result / 8) }
+    ensures some { 8 ≤ result }
+    ensures small { result < 2 ^ 32 }
+    ensures l1 { h.now.l1_size ≤ 1024 }
+{
+    1 << h.cluster_bits
 }
 
 /// Loads the tables of an image by its header: the L1 table in one read, and each L2 table in one. All memory is
@@ -281,11 +381,7 @@ fn zero_words(alloc: Global, n: usize) -> Result<Vec<u64>, AllocError>
 /// The refusal is the first that holds of: the L1 table's offset or size, an L2 table's offset, a host cluster's
 /// offset (`Offset`), a reserved bit in the L1 table, one in an L2 table, a compressed cluster. Of several entries
 /// the first is named. A failed read or want of memory takes the place of what it would have told.
-pub fn load_tables<D: Device>(
-    alloc: Global,
-    dev: &mut D,
-    h: &Header,
-) -> Result<Tables, TablesStop>
+pub fn load_tables<D: Device>(alloc: Global, dev: &mut D, h: &Header) -> Result<Tables, TablesStop>
     requires { CanBeRead h.now (D.size dev.old) }
     ensures told { (file : List ℕ) → D.content dev.old ≡ Some file → Loads h.now (D.size dev.old) (active_tree file h.now) result }
     ensures loaded { IfOk result (IsLoaded h.now (D.size dev.old)) }
@@ -298,19 +394,13 @@ pub fn load_tables<D: Device>(
     ensures capacity { D.capacity dev.new ≡ D.capacity dev.old }
 {
     let len = dev.length();
-    let cluster_size = 1 << h.cluster_bits;
-    check_l1_table(h, cluster_size, len)?;
-    let entries = h.l1_size as usize;
-    let mut buffer = zero_bytes(alloc, ENTRY * entries)?;
-    let mut l1 = zero_words(alloc, entries)?;
-    read_table(dev, h.l1_offset, buffer.as_mut_slice(), l1.as_mut_slice())?;
-    check_l2_tables(l1.as_slice(), cluster_size, len)?;
-    let mut buffer = zero_bytes(alloc, cluster_size as usize)?;
-    let mut words = zero_words(alloc, entries * (buffer.len() / ENTRY))?;
-    read_l2_tables(dev, l1.as_slice(), buffer.as_mut_slice(), words.as_mut_slice())?;
-    check_words(l1.as_slice(), words.as_slice(), buffer.len(), len)?;
+    let c = cluster_len(h, len);
+    let l1 = load_l1(alloc, dev, h, c, len)?;
+    let mut buffer = zero_bytes(alloc, c as usize)?;
+    let words = read_l2(alloc, dev, l1.as_slice(), buffer.as_mut_slice())?;
+    check_words(l1.as_slice(), words.as_slice(), c as usize, len)?;
     Ok(Tables {
-        cluster_size,
+        cluster_size: c,
         l1_offset: h.l1_offset,
         l1,
         words,

@@ -4,8 +4,8 @@ use Rattle.q2_tables.proofs.load.read_l2_tables.Given as goal
 
 abbrev pub invariant-loop-i : goal.invariant-loop-i
 invariant-loop-i g l = record {
-  told : (file : List ℕ) → g.D.Device.content l.fn.dev ≡ Some file → HasTables file (length l.buffer) l.i l.l1 l.words;
-  zeros : HasZerosFrom (length l.buffer / 8) l.i l.words;
+  told : (file : List ℕ) → g.D.Device.content l.fn.dev ≡ Some file → HasTables file (length l.fn.buffer) l.i l.l1 l.words;
+  zeros : HasZerosFrom (length l.fn.buffer / 8) l.i l.words;
   faults : g.D.Device.faults l.fn.dev ≤ g.D.Device.faults l.dev;
   content : g.D.Device.content l.dev ≡ g.D.Device.content l.fn.dev;
   flushed : g.D.Device.is_flushed l.dev ≡ g.D.Device.is_flushed l.fn.dev;
