@@ -3,3 +3,4 @@ pub mod FirstCluster
 pub mod Named
 pub mod Counted
 pub mod Guests
+pub mod Merged

@@ -3,3 +3,4 @@ pub mod Opening
 pub mod Text
 pub mod Loading
 pub mod Guest
+pub mod Merge

@@ -26,10 +26,14 @@ refusal_of HeaderFull = Some sound.HeaderFull
 refusal_of (Io count) = None
 refusal_of NoMemory = None
 
+-- a stop that names a refusal names this one
+abbrev pub Names : Option Refusal → ImageStop → Type 0
+Names refusal stop = IfSome (refusal_of stop) (λ named. refusal ≡ Some named)
+
 -- an answer by content is the refusal
 abbrev pub Judges : {A : Type 0} → Option Refusal → Result A ImageStop → Type 0
 Judges refusal (Ok a) = refusal ≡ None
-Judges refusal (Err stop) = IfSome (refusal_of stop) (λ named. refusal ≡ Some named)
+Judges refusal (Err stop) = Names refusal stop
 
 -- a failed read is answered only where the device's count rose, and names the count
 abbrev pub HasCause : ℕ → ℕ → ImageStop → Type 0

@@ -18,6 +18,7 @@ use q2_refs::{Refs, RefsStop, load_refs};
 use std::alloc::Global;
 
 /// What loading the refcounts of an image gave, where its refcount table names no block outside its place.
+#[derive(Drop)]
 pub(crate) enum Counts {
     Loaded(Refs),
     /// A reserved bit is set in this entry of the refcount table. Other tables may have a refusal that comes before.

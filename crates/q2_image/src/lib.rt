@@ -3,6 +3,7 @@
 
 mod counting;
 mod header;
+mod load;
 mod naming;
 mod seen;
 mod stop;
