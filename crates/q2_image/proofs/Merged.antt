@@ -91,13 +91,13 @@ pub judged_stop : (file : List ℕ) (h : Header) (len : ℕ) (in_refs : Option �
     → TableTells file h len None in_refs → (IsRefusal stop → load_refusal h len tree ≡ Some stop)
     → Names (table_stops h len (refcount_table file h) tree) (merged_stop h in_refs stop)
 judged_stop file h len in_refs tree (tables.Offset o) placed tells is =
-    judges_by _ _ (stops_merged file h len in_refs tree placed tells ∙ ap (merged h in_refs) (is tt))
+    judges_by (table_stops h len (refcount_table file h) tree) (merged_stop h in_refs (tables.Offset o)) (stops_merged file h len in_refs tree placed tells ∙ ap (merged h in_refs) (is tt))
 judged_stop file h len in_refs tree (tables.ReservedInL1 i) placed tells is =
-    judges_by _ _ (stops_merged file h len in_refs tree placed tells ∙ ap (merged h in_refs) (is tt))
+    judges_by (table_stops h len (refcount_table file h) tree) (merged_stop h in_refs (tables.ReservedInL1 i)) (stops_merged file h len in_refs tree placed tells ∙ ap (merged h in_refs) (is tt))
 judged_stop file h len in_refs tree (tables.ReservedInL2 t i) placed tells is =
-    judges_by _ _ (stops_merged file h len in_refs tree placed tells ∙ ap (merged h in_refs) (is tt))
+    judges_by (table_stops h len (refcount_table file h) tree) (merged_stop h in_refs (tables.ReservedInL2 t i)) (stops_merged file h len in_refs tree placed tells ∙ ap (merged h in_refs) (is tt))
 judged_stop file h len in_refs tree (tables.Compressed c) placed tells is =
-    judges_by _ _ (stops_merged file h len in_refs tree placed tells ∙ ap (merged h in_refs) (is tt))
+    judges_by (table_stops h len (refcount_table file h) tree) (merged_stop h in_refs (tables.Compressed c)) (stops_merged file h len in_refs tree placed tells ∙ ap (merged h in_refs) (is tt))
 judged_stop file h len in_refs tree (tables.Io n) placed tells is = tt
 judged_stop file h len in_refs tree tables.NoMemory placed tells is = tt
 
