@@ -4,3 +4,4 @@ pub mod Named
 pub mod Counted
 pub mod Guests
 pub mod Merged
+pub mod Order

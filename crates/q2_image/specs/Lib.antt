@@ -4,3 +4,5 @@ pub mod Text
 pub mod Loading
 pub mod Guest
 pub mod Merge
+pub mod Image
+pub mod Reading

@@ -3,10 +3,10 @@ use Rattle.std.specs.Prelude.{◌≡◌, ℕ, ◌+◌, ◌*◌, ◌<◌, false, 
 use Rattle.std.specs.Option.{option_map}
 use Rattle.blk_base.specs.Counts.{Rose}
 use Rattle.q2_format.specs.Sizes.{cluster_size, clusters_for}
-use Rattle.q2_format.specs.Header.{first, header_of, header_refusal}
+use Rattle.q2_format.specs.Header.{first, refused_where, header_of, header_refusal}
 use Rattle.q2_format.specs.Entry.{host_offset, block_offset}
 use Rattle.q2_format.specs.References.{structure_uses, own_offset}
-use Rattle.q2_format.specs.Sound.{Refusal, InHeader, bad_refcount_table, bad_l1_table, is_misplaced, lowest}
+use Rattle.q2_format.specs.Sound.{Refusal, InHeader, bad_refcount_table, bad_l1_table, is_misplaced, lowest, is_header_full}
 use Rattle.q2_format.specs.Sound as sound
 use Rattle.q2_format.specs.declared.header.Header.{Header}
 use Rattle.q2_image.specs.Seen.{named_by}
@@ -78,3 +78,11 @@ overlap_stop uses n = option_map sound.Overlap (lowest (λ k. nat_lt 1 (uses k))
 -- the refusal of the lowest cluster that is named and has refcount 0
 abbrev pub uncounted_stop : (ℕ → ℕ) → List ℕ → ℕ → Option Refusal
 uncounted_stop uses counts n = option_map sound.Refcount (lowest (λ k. not (uses k == 0) && (slice_index counts k == 0)) n)
+
+-- the refusals behind the tables' words, where the clusters are named so often and have these refcounts
+abbrev pub names_stops : Header → (ℕ → ℕ) → List ℕ → ℕ → Option Refusal
+names_stops h uses counts n = first (
+    overlap_stop uses n
+    ∷ uncounted_stop uses counts n
+    ∷ refused_where (is_header_full h) sound.HeaderFull
+    ∷ [])

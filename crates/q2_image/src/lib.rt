@@ -3,9 +3,12 @@
 
 mod counting;
 mod header;
+mod image;
 mod load;
 mod naming;
+mod opening;
 mod seen;
 mod stop;
 
+pub use image::Image;
 pub use stop::ImageStop;
