@@ -5,3 +5,5 @@ pub mod Counted
 pub mod Guests
 pub mod Merged
 pub mod Order
+pub mod Opened
+pub mod Whole

@@ -6,7 +6,8 @@ use Rattle.q2_format.specs.Sound.{Refusal, is_header_full}
 use Rattle.q2_format.specs.Sound as sound
 use Rattle.q2_format.specs.declared.header.Header.{Header}
 use Rattle.q2_image.specs.declared.stop.ImageStop.{ImageStop}
-use Rattle.q2_image.specs.Opening.{Names, refusal_of, overlap_stop, uncounted_stop, names_stops}
+use Rattle.q2_image.specs.declared.stop.ImageStop.TheVariants as stops
+use Rattle.q2_image.specs.Opening.{Names, HasCause, IsNoFault, refusal_of, overlap_stop, uncounted_stop, names_stops}
 use Rattle.q2_image.specs.Seen.{Sightings, IsSeen}
 
 named_head : (o : Option Refusal) (rest : List (Option Refusal)) (named : Option Refusal) → IfSome named (λ n. o ≡ Some n) → IfSome named (λ n. first (o ∷ rest) ≡ Some n)
@@ -34,3 +35,15 @@ uncounted_names h uses counts n s stop len none is =
     let N : ℕ → Type 0 = λ m. overlap_stop uses m ≡ None in
     names_tail (overlap_stop uses n) (uncounted_stop uses counts n ∷ refused_where (is_header_full h) sound.HeaderFull ∷ []) stop (subst N len none)
         (names_head (uncounted_stop uses counts n) (refused_where (is_header_full h) sound.HeaderFull ∷ []) stop (subst P len is))
+
+-- a stop that names no failed call has no cause to show
+pub no_fault_cause : (before now : ℕ) (stop : ImageStop) → IsNoFault stop → HasCause before now stop
+no_fault_cause before now (stops.Header s) is = tt
+no_fault_cause before now (stops.Offset o) is = tt
+no_fault_cause before now (stops.Reserved t i) is = tt
+no_fault_cause before now (stops.Compressed c) is = tt
+no_fault_cause before now (stops.Overlap c) is = tt
+no_fault_cause before now (stops.Refcount c) is = tt
+no_fault_cause before now stops.HeaderFull is = tt
+no_fault_cause before now (stops.Io n) is = absurd is
+no_fault_cause before now stops.NoMemory is = tt

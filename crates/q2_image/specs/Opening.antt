@@ -47,6 +47,18 @@ HasCause before now HeaderFull = Unit {0}
 HasCause before now (Io count) = Rose before count × (count ≡ now)
 HasCause before now NoMemory = Unit {0}
 
+-- a stop that names no failed call
+abbrev pub IsNoFault : ImageStop → Type 0
+IsNoFault (HeaderStops stop) = Unit {0}
+IsNoFault (Offset offset) = Unit {0}
+IsNoFault (Reserved table index) = Unit {0}
+IsNoFault (Compressed cluster) = Unit {0}
+IsNoFault (Overlap cluster) = Unit {0}
+IsNoFault (Refcount cluster) = Unit {0}
+IsNoFault HeaderFull = Unit {0}
+IsNoFault (Io count) = ⊥
+IsNoFault NoMemory = Unit {0}
+
 -- the header's refusal, as one of an image
 abbrev pub header_stops : List ℕ → ℕ → Option Refusal
 header_stops file len = option_map InHeader (header_refusal file len)

@@ -11,4 +11,5 @@ mod seen;
 mod stop;
 
 pub use image::Image;
+pub use opening::open_image;
 pub use stop::ImageStop;
