@@ -7,3 +7,4 @@ pub mod Merged
 pub mod Order
 pub mod Opened
 pub mod Whole
+pub mod Mapped
