@@ -218,7 +218,7 @@ impl Store for MemStore {
     ghost use Rattle.blk_base.specs.Stored.{IsDeviceOf, HoldsBytes, LeavesOthers};
     ghost use Rattle.blk_base.specs.Files.{file_at, put_file, is_out, given_back};
     ghost use Rattle.blk_base.specs.Answers.{OpenAnswers, CreateAnswers, ReadAnswers};
-    ghost use Rattle.blk_fakes.specs.Calls.{fails_next, one_more};
+    ghost use Rattle.blk_fakes.specs.Calls.{fails_next, after_call, store_fails};
     ghost use Rattle.blk_fakes.specs.Disk.{bytes_of};
     ghost use Rattle.blk_fakes.specs.Shelf.{StoreState, told_as, told_files, zeros_as, device_at, with_made, with_device};
 
@@ -237,8 +237,7 @@ impl Store for MemStore {
         ensures lent { IfOk result (λ dev. device_at name.now self.old.files ≡ Some dev) }
         ensures goes { OnOk result (fails_next self.old.calls ≡ false) }
         ensures fails { IfErr result (λ e. e ≡ StoreStop.Failed → fails_next self.old.calls ≡ true) }
-        ensures numbers { self.new.calls.made ≡ one_more self.old.calls.made }
-        ensures list { self.new.calls.fails ≡ self.old.calls.fails }
+        ensures calls { self.new.calls ≡ after_call (store_fails result) self.old.calls }
         ensures devices { self.new.files ≡ self.old.files }
 
         // what each store promises
@@ -272,8 +271,7 @@ impl Store for MemStore {
     fn create_file(&mut self, name: &str, len: u64) -> Result<(), StoreStop>
         ensures goes { OnOk result (fails_next self.old.calls ≡ false) }
         ensures fails { IfErr result (λ e. e ≡ StoreStop.Failed → fails_next self.old.calls ≡ true) }
-        ensures numbers { self.new.calls.made ≡ one_more self.old.calls.made }
-        ensures list { self.new.calls.fails ≡ self.old.calls.fails }
+        ensures calls { self.new.calls ≡ after_call (store_fails result) self.old.calls }
         ensures devices { MatchResult result
             (λ _. self.new.files ≡ with_made name.now len self.old.room self.old.files)
             (λ _. self.new.files ≡ self.old.files) }
@@ -307,8 +305,7 @@ impl Store for MemStore {
     fn read_all(&mut self, name: &str, limit: u64) -> Result<Bytes, StoreStop>
         ensures goes { OnOk result (fails_next self.old.calls ≡ false) }
         ensures fails { IfErr result (λ e. e ≡ StoreStop.Failed → fails_next self.old.calls ≡ true) }
-        ensures numbers { self.new.calls.made ≡ one_more self.old.calls.made }
-        ensures list { self.new.calls.fails ≡ self.old.calls.fails }
+        ensures calls { self.new.calls ≡ after_call (store_fails result) self.old.calls }
         ensures devices { self.new.files ≡ self.old.files }
 
         // what each store promises
