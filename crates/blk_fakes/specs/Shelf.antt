@@ -4,7 +4,7 @@ use Rattle.std.specs.List.{position, list_any}
 use Rattle.blk_base.specs.Files.{is_out}
 use Rattle.blk_base.specs.declared.file.File.{File}
 use Rattle.blk_base.specs.declared.file.Opened.{Opened}
-use Rattle.blk_fakes.specs.Calls.{CallState, no_calls}
+use Rattle.blk_fakes.specs.Calls.{CallState, NeverFails, no_calls}
 use Rattle.blk_fakes.specs.Disk.{DeviceState, bytes_of, fresh}
 
 -- a file: its name, and its device as it is while it is not out, and as it was opened while it is
@@ -66,3 +66,8 @@ with_made name len room (f ∷ files) = if bytes_eq name f.name then record f { 
 abbrev pub with_device : List ℕ → DeviceState → List FileState → List FileState
 with_device name device [] = []
 with_device name device (f ∷ files) = if bytes_eq name f.name then record f { device = device } ∷ files else f ∷ with_device name device files
+
+-- no device of these files fails
+abbrev pub NoneFails : List FileState → Type 0
+NoneFails [] = Unit {0}
+NoneFails (f ∷ files) = NeverFails f.device.calls × NoneFails files

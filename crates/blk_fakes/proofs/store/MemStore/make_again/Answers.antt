@@ -19,6 +19,6 @@ returns-clause-devices c =
     let room = ap (λ (s : StoreState). s.room) c.self.view_is in
     let read = rw files at c.index.ensures in
     let dev : c.in_ok-dev.dev ≡ remade c.index.result.now.device c.args.len c.args.self.now.room =
-        rw (room, c.device.ensures) at c.in_ok-dev.ensures in
+    rw (room, c.device.ensures) at c.in_ok-dev.ensures in
     ap (λ (s : StoreState). s.files) (c.set_device.ensures c.index.result.now)
     ∙ made_at_place c.args.name.now c.args.self.now.files c.args.at c.index.result.now c.in_ok-dev.dev c.args.len c.args.self.now.room c.requires.place read dev
