@@ -15,7 +15,7 @@ use Rattle.blk_history.specs.Fold.{Each}
 use Rattle.blk_history.specs.Machine.{State, disk_in, after, replay}
 use Rattle.blk_history.specs.Legal.{Legal}
 use Rattle.blk_history.specs.Owned.{asked_by, IsIdle}
-use Rattle.blk_history.specs.Licence.{counted, HaveRisen, NameNone}
+use Rattle.blk_history.specs.Licence.{counted, RoseSince, HaveRisen, NameNone}
 use Rattle.blk_history.specs.Transcript.{RowNames, transcript}
 use Rattle.blk_history.specs.declared.event.Event.{Event}
 use Rattle.qblk.specs.Face.{state_with, new_guest}
@@ -112,11 +112,13 @@ pub record WasRun (image trace : List ℕ) (flushed : Bool) (old new : Outside) 
 abbrev pub IsDone : List ℕ → List ℕ → Outside → Outside → Type 0
 IsDone image trace old new = (ops : List Op) × (h : List Event) × (before : ℕ) × (now : ℕ) × WasRun image trace true old new ops h before now (length (transcript guest_names h))
 
--- the first fault: while the inputs were read, in the last flush, after which the transcript goes out nevertheless, or while it went out
+-- The first fault: while the inputs were read, in the last flush, after which the transcript goes out nevertheless, or while it
+-- went out. That of the flush is a rise that no entry names.
 abbrev pub IsFaulty : List ℕ → List ℕ → Outside → Outside → FaultFrom → ℕ → Type 0
 IsFaulty image trace old new Store count = NothingWritten old new × Rose old.store_faults count × (count ≡ new.store_faults)
 IsFaulty image trace old new (Dev dev) count = (dev.0 ≡ 0) × (ops : List Op) × (h : List Event) × (before : ℕ) × (n : ℕ)
-    × WasRun image trace false old new ops h before count n × Rose before count
+    × WasRun image trace false old new ops h before count n
+    × RoseSince (counted (before ∷ []) h) (Some (record { dev = dev.0; count = count }))
     × ((n ≡ length (transcript guest_names h)) ⊎ Rose old.sink_faults new.sink_faults)
 IsFaulty image trace old new Sink count = (ops : List Op) × (h : List Event) × (before : ℕ) × (now : ℕ) × (n : ℕ)
     × WasRun image trace true old new ops h before now n × Rose old.sink_faults count × (count ≡ new.sink_faults)

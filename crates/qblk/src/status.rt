@@ -60,6 +60,11 @@ impl Status {
 }
 
 impl fmt::Display for InputWhy {
+    ghost use Rattle.std.specs.Prelude.{Some};
+    ghost use Rattle.qblk.specs.StatusText.{why_text};
+
+    ghost output = { λ why. Some (why_text why) };
+
     fn fmt<W: fmt::Write>(&self, f: &mut fmt::Formatter<W>) -> fmt::Result {
         f.write_str(match self {
             InputWhy::Absent => "Absent",
@@ -74,6 +79,11 @@ impl fmt::Display for InputWhy {
 
 /// The text of the status, for standard error. `Done` has none.
 impl fmt::Display for Status {
+    ghost use Rattle.std.specs.Prelude.{Some};
+    ghost use Rattle.qblk.specs.StatusText.{status_text};
+
+    ghost output = { λ status. Some (status_text status) };
+
     fn fmt<W: fmt::Write>(&self, f: &mut fmt::Formatter<W>) -> fmt::Result {
         match self {
             Status::Done => Ok(()),
