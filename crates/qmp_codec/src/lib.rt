@@ -1,0 +1,7 @@
+//! Lines of the machine protocol: commands that are read, replies and events that are printed.
+#![tactic(auto)]
+
+mod form;
+mod row;
+mod tables;
+mod verb;
