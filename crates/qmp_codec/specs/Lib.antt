@@ -1,3 +1,4 @@
 pub mod Tables
 pub mod Verbs
 pub mod Forms
+pub mod Walk

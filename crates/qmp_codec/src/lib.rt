@@ -5,3 +5,4 @@ mod form;
 mod row;
 mod tables;
 mod verb;
+mod walk;
