@@ -120,43 +120,45 @@ unknown_in rows found no_members = found
 unknown_in rows found (member name d ms) =
     unknown_in rows (if accepts rows name then found else least found (Some name)) ms
 
-abbrev pub part_unknown : (Data → Option Name) → Option Name → Data → Option Name
-part_unknown inner found (object ms) = least found (inner (object ms))
-part_unknown inner found d = found
+abbrev pub members_unknown : Rows → Data → Option Name
+members_unknown rows (object ms) = unknown_in rows None ms
+members_unknown rows d = None
 
--- the least of all items
-abbrev pub parts_unknown : (Data → Option Name) → Option Name → Items → Option Name
-parts_unknown inner found no_items = found
-parts_unknown inner found (item d ds) = parts_unknown inner (part_unknown inner found d) ds
+abbrev pub part_unknown : (Data → Option Name) → Data → Option Name
+part_unknown inner (object ms) = inner (object ms)
+part_unknown inner d = None
+
+-- the least of what was found and all items
+abbrev pub least_of_parts : (Data → Option Name) → Option Name → Items → Option Name
+least_of_parts inner found no_items = found
+least_of_parts inner found (item d ds) = least_of_parts inner (least found (part_unknown inner d)) ds
 
 -- the least of the first item that has one
-abbrev pub first_unknown : (Data → Option Name) → Items → Option Name
-first_unknown inner no_items = None
-first_unknown inner (item d ds) = or_else (part_unknown inner None d) (first_unknown inner ds)
+abbrev pub least_of_first : (Data → Option Name) → Items → Option Name
+least_of_first inner no_items = None
+least_of_first inner (item d ds) = or_else (part_unknown inner d) (least_of_first inner ds)
 
-abbrev pub value_unknown : (Form → Data → Option Name) → Option Name → Kind → Data → Option Name
-value_unknown inner found (Object table) d = part_unknown (inner table) found d
-value_unknown inner found (TextOrObject table) d = part_unknown (inner table) found d
-value_unknown inner found (Objects table) (array ds) = least found (first_unknown (inner table) ds)
-value_unknown inner found (TextsOrObjects table) (array ds) = parts_unknown (inner table) found ds
-value_unknown inner found kind d = found
+-- of several actions the first counts
+abbrev pub value_unknown : (Form → Data → Option Name) → Kind → Data → Option Name
+value_unknown inner (Object table) d = part_unknown (inner table) d
+value_unknown inner (TextOrObject table) d = part_unknown (inner table) d
+value_unknown inner (Objects table) (array ds) = least_of_first (inner table) ds
+value_unknown inner (TextsOrObjects table) (array ds) = least_of_parts (inner table) None ds
+value_unknown inner kind d = None
 
-abbrev pub member_unknown : (Form → Data → Option Name) → Option Name → Row Name → Option Data → Option Name
-member_unknown inner found row None = found
-member_unknown inner found row (Some d) = value_unknown inner found (kind_of row) d
+abbrev pub member_unknown : (Form → Data → Option Name) → Row Name → Option Data → Option Name
+member_unknown inner row None = None
+member_unknown inner row (Some d) = value_unknown inner (kind_of row) d
 
+-- the least of what was found and of what the members' values have
 abbrev pub rows_unknown : (Form → Data → Option Name) → Data → Option Name → Rows → Option Name
 rows_unknown inner d found [] = found
 rows_unknown inner d found (row ∷ rows) =
-    rows_unknown inner d (member_unknown inner found row (get (name_of row) d)) rows
-
-abbrev pub members_unknown : Rows → Data → Option Name
-members_unknown rows (object ms) = unknown_in rows None ms
-members_unknown rows _ = None
+    rows_unknown inner d (least found (member_unknown inner row (get (name_of row) d))) rows
 
 -- the least name in an object that its table, or the table of an object inside, doesn't accept
 unfoldable pub least_unknown : ℕ → Form → Data → Data → Option Name
 least_unknown zero table around d = None
 least_unknown (suc depth) table around d =
     let rows = members (settled table around d) in
-    rows_unknown (λ inner part. least_unknown depth inner d part) d (members_unknown rows d) rows
+    least (members_unknown rows d) (rows_unknown (λ inner part. least_unknown depth inner d part) d None rows)

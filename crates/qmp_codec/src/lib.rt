@@ -4,5 +4,6 @@
 mod form;
 mod row;
 mod tables;
+mod unknown;
 mod verb;
 mod walk;
