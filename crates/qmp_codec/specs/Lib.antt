@@ -2,3 +2,5 @@ pub mod Tables
 pub mod Verbs
 pub mod Forms
 pub mod Walk
+pub mod Words
+pub mod Fields

@@ -1,9 +1,11 @@
 //! Lines of the machine protocol: commands that are read, replies and events that are printed.
 #![tactic(auto)]
 
+mod fields;
 mod form;
 mod row;
 mod tables;
 mod unknown;
 mod verb;
 mod walk;
+mod words;
