@@ -4,3 +4,5 @@ pub mod Forms
 pub mod Walk
 pub mod Words
 pub mod Fields
+pub mod Jobs
+pub mod Nodes

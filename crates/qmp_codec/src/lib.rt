@@ -3,6 +3,8 @@
 
 mod fields;
 mod form;
+mod jobs;
+mod nodes;
 mod row;
 mod tables;
 mod unknown;

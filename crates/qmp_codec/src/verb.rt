@@ -47,8 +47,8 @@ pub(crate) enum Deed {
 }
 
 /// A driver of nodes.
-#[derive(Clone, Copy)]
-pub(crate) enum Driver {
+#[derive(Clone, Copy, Debug, PartialEq, Eq)]
+pub enum Driver {
     File,
     Raw,
     Qcow2,
