@@ -1,5 +1,5 @@
 -- Lists of values and members, one by one.
-use Rattle.std.proofs.Common.{◌≡◌, ℕ, ◌+◌, ◌<◌, ◌≤◌, List, [], ◌∷◌, length, get_or, drop, map, refl, sym, ap, ◌∙◌, arith, String, Global}
+use Rattle.std.proofs.Common.{◌≡◌, ℕ, ◌+◌, ◌<◌, ◌≤◌, List, [], ◌∷◌, ◌++◌, length, get_or, drop, map, refl, sym, ap, ◌∙◌, arith, String, Global}
 use Rattle.std.specs.Borrow.{Bor}
 use Rattle.qmp_codec.specs.declared.row.Row.{Row}
 use Rattle.qmp_codec.specs.Tables.{named}
@@ -25,3 +25,8 @@ rows_step rows i row within is =
 
 pub rows_end : (rows : List (Row (Bor (List ℕ)))) (i : ℕ) → length rows ≤ i → map named (drop i rows) ≡ []
 rows_end rows i past = at_drop_all (map named) rows i past
+
+-- one more at the end, before what is left
+pub map_push : {A B : Type 0} → (f : A → B) (xs : List A) (x : A) (later : List B) → map f (xs ++ x ∷ []) ++ later ≡ map f xs ++ f x ∷ later
+map_push f [] x later = refl
+map_push f (y ∷ xs) x later = ap (λ ys. f y ∷ ys) (map_push f xs x later)

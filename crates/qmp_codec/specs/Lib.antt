@@ -6,3 +6,4 @@ pub mod Words
 pub mod Fields
 pub mod Jobs
 pub mod Nodes
+pub mod Bitmaps

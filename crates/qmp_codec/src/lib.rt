@@ -1,6 +1,7 @@
 //! Lines of the machine protocol: commands that are read, replies and events that are printed.
 #![tactic(auto)]
 
+mod bitmaps;
 mod fields;
 mod form;
 mod jobs;
