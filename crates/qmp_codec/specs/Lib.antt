@@ -7,3 +7,4 @@ pub mod Fields
 pub mod Jobs
 pub mod Nodes
 pub mod Bitmaps
+pub mod Commands

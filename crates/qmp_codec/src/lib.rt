@@ -2,6 +2,7 @@
 #![tactic(auto)]
 
 mod bitmaps;
+mod command;
 mod fields;
 mod form;
 mod jobs;
