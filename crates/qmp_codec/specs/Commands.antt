@@ -131,7 +131,7 @@ abbrev pub texts_if : Option Data → Option (List (List ℕ))
 texts_if (Some (array ds)) = Some (texts_of ds)
 texts_if _ = None
 
-abbrev pub command_of : Verb → Data → Cmd
+unfoldable pub command_of : Verb → Data → Cmd
 command_of verb.Capabilities d = command.Capabilities (texts_if (get (codes "enable") d))
 command_of verb.Create d = command.BlockdevCreate (blockdev_create_in d)
 command_of verb.JobDismiss d = command.JobDismiss (text_in (codes "id") d)

@@ -8,3 +8,4 @@ pub mod Jobs
 pub mod Nodes
 pub mod Bitmaps
 pub mod Commands
+pub mod Lines

@@ -167,6 +167,7 @@ fn maybe_texts(alloc: Global, object: &Value, name: &str) -> Result<Option<Vec<S
 }
 
 /// The command of a name with its members.
+#[tactic(auto, unfolding(crate::specs::Commands::command_of))]
 pub(crate) fn read_verb(alloc: Global, verb: Verb, object: &Value) -> Result<Command, AllocError>
     ensures { IfOk result (λ c. seen_command c ≡ command_of verb (view object.now)) }
 {

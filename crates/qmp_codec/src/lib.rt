@@ -6,10 +6,27 @@ mod command;
 mod fields;
 mod form;
 mod jobs;
+mod line;
 mod nodes;
 mod row;
+mod stop;
 mod tables;
 mod unknown;
 mod verb;
 mod walk;
 mod words;
+
+pub use bitmaps::{BitmapAdd, BitmapMerge, BitmapName, Source};
+pub use command::{Action, Command, Transaction};
+pub use fields::Amount;
+pub use jobs::{Backup, Commit, JobOptions, Mirror, Stream};
+pub use line::{read_command, read_id};
+pub use nodes::{
+    AddQcow2, AddRaw, Added, Backing, BlockdevAdd, BlockdevCreate, Cache, CreateFile, CreateQcow2, Created, DeviceAdd,
+    FileRef, InlineFile, NodeOptions, Snapshot,
+};
+pub use stop::CodecStop;
+pub use verb::Driver;
+pub use words::{
+    BitmapMode, CompletionMode, CopyMode, DeviceDriver, Discard, ImageFormat, OnError, Sharing, Sync, Version,
+};
