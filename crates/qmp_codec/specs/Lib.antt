@@ -9,3 +9,5 @@ pub mod Nodes
 pub mod Bitmaps
 pub mod Commands
 pub mod Lines
+pub mod Replies
+pub mod Events
