@@ -26,7 +26,7 @@ least_unknown_none table around d = refl
 pub least_unknown_step : (depth : ℕ) (table : Form) (around d : Data) → 0 < depth
     → least_unknown depth table around d
     ≡ least (members_unknown (members (settled table around d)) d)
-        (rows_unknown (λ inner part. least_unknown (depth - 1) inner d part) d None (members (settled table around d)))
+    (rows_unknown (λ inner part. least_unknown (depth - 1) inner d part) d None (members (settled table around d)))
 unfolding least_unknown
 least_unknown_step zero table around d h = absurd (omega arith)
 least_unknown_step (suc depth) table around d h = rw sub-one

@@ -13,33 +13,33 @@ use Rattle.qmp_codec.specs.declared.bitmaps.Source.TheVariants as source
 
 abbrev pub bitmap_add_in : Data → BitmapAdd (List ℕ)
 bitmap_add_in d = record {
-    node = text_in (codes "node") d;
-    name = text_in (codes "name") d;
-    granularity = amount_if (codes "granularity") d;
-    persistent = flag_if (codes "persistent") d;
-    disabled = flag_if (codes "disabled") d;
-  }
+  node = text_in (codes "node") d;
+  name = text_in (codes "name") d;
+  granularity = amount_if (codes "granularity") d;
+  persistent = flag_if (codes "persistent") d;
+  disabled = flag_if (codes "disabled") d;
+}
 
 abbrev pub seen_bitmap_add : BitmapAdd (String Global) → BitmapAdd (List ℕ)
 seen_bitmap_add c = record {
-    node = string_bytes c.node;
-    name = string_bytes c.name;
-    granularity = c.granularity;
-    persistent = c.persistent;
-    disabled = c.disabled;
-  }
+  node = string_bytes c.node;
+  name = string_bytes c.name;
+  granularity = c.granularity;
+  persistent = c.persistent;
+  disabled = c.disabled;
+}
 
 abbrev pub bitmap_name_in : Data → BitmapName (List ℕ)
 bitmap_name_in d = record {
-    node = text_in (codes "node") d;
-    name = text_in (codes "name") d;
-  }
+  node = text_in (codes "node") d;
+  name = text_in (codes "name") d;
+}
 
 abbrev pub seen_bitmap_name : BitmapName (String Global) → BitmapName (List ℕ)
 seen_bitmap_name c = record {
-    node = string_bytes c.node;
-    name = string_bytes c.name;
-  }
+  node = string_bytes c.node;
+  name = string_bytes c.name;
+}
 
 -- a bitmap of the command's node by its name, or with its node
 abbrev pub source_of : Data → Source (List ℕ)
@@ -60,14 +60,14 @@ seen_source (source.Of bitmap) = source.Of (seen_bitmap_name bitmap)
 
 abbrev pub bitmap_merge_in : Data → BitmapMerge (List ℕ) (List (Source (List ℕ)))
 bitmap_merge_in d = record {
-    node = text_in (codes "node") d;
-    target = text_in (codes "target") d;
-    bitmaps = sources_or (get (codes "bitmaps") d);
-  }
+  node = text_in (codes "node") d;
+  target = text_in (codes "target") d;
+  bitmaps = sources_or (get (codes "bitmaps") d);
+}
 
 abbrev pub seen_bitmap_merge : BitmapMerge (String Global) (Vec (Source (String Global)) Global) → BitmapMerge (List ℕ) (List (Source (List ℕ)))
 seen_bitmap_merge c = record {
-    node = string_bytes c.node;
-    target = string_bytes c.target;
-    bitmaps = map seen_source c.bitmaps.items;
-  }
+  node = string_bytes c.node;
+  target = string_bytes c.target;
+  bitmaps = map seen_source c.bitmaps.items;
+}

@@ -37,9 +37,9 @@ use Rattle.qmp_codec.specs.declared.nodes.Created.TheVariants as created
 
 abbrev pub cache_in : Data → Cache
 cache_in d = record {
-    direct = flag_if (codes "direct") d;
-    no_flush = flag_if (codes "no-flush") d;
-  }
+  direct = flag_if (codes "direct") d;
+  no_flush = flag_if (codes "no-flush") d;
+}
 
 -- absent and empty are told apart
 abbrev pub cache_if : Data → Option Cache
@@ -47,27 +47,27 @@ cache_if d = option_map cache_in (get (codes "cache") d)
 
 abbrev pub node_options_in : Data → NodeOptions
 node_options_in d = record {
-    read_only = flag_if (codes "read-only") d;
-    auto_read_only = flag_if (codes "auto-read-only") d;
-    discard = option_map discard_of (text_if (codes "discard") d);
-    cache = cache_if d;
-  }
+  read_only = flag_if (codes "read-only") d;
+  auto_read_only = flag_if (codes "auto-read-only") d;
+  discard = option_map discard_of (text_if (codes "discard") d);
+  cache = cache_if d;
+}
 
 abbrev pub inline_file_in : Data → InlineFile (List ℕ)
 inline_file_in d = record {
-    driver = driver_of (text_in (codes "driver") d);
-    filename = text_in (codes "filename") d;
-    node_name = text_if (codes "node-name") d;
-    options = node_options_in d;
-  }
+  driver = driver_of (text_in (codes "driver") d);
+  filename = text_in (codes "filename") d;
+  node_name = text_if (codes "node-name") d;
+  options = node_options_in d;
+}
 
 abbrev pub seen_inline_file : InlineFile (String Global) → InlineFile (List ℕ)
 seen_inline_file c = record {
-    driver = c.driver;
-    filename = string_bytes c.filename;
-    node_name = option_map string_bytes c.node_name;
-    options = c.options;
-  }
+  driver = c.driver;
+  filename = string_bytes c.filename;
+  node_name = option_map string_bytes c.node_name;
+  options = c.options;
+}
 
 -- a `file` by name, or with its members
 abbrev pub file_ref_of : Option Data → List ℕ → FileRef (List ℕ)
@@ -93,29 +93,29 @@ seen_backing (backing.Name name) = backing.Name (string_bytes name)
 
 abbrev pub add_raw_in : Data → AddRaw (List ℕ)
 add_raw_in d = record {
-    file = file_ref_in d;
-    offset = amount_if (codes "offset") d;
-    size = amount_if (codes "size") d;
-  }
+  file = file_ref_in d;
+  offset = amount_if (codes "offset") d;
+  size = amount_if (codes "size") d;
+}
 
 abbrev pub seen_add_raw : AddRaw (String Global) → AddRaw (List ℕ)
 seen_add_raw c = record {
-    file = seen_file_ref c.file;
-    offset = c.offset;
-    size = c.size;
-  }
+  file = seen_file_ref c.file;
+  offset = c.offset;
+  size = c.size;
+}
 
 abbrev pub add_qcow2_in : Data → AddQcow2 (List ℕ)
 add_qcow2_in d = record {
-    file = file_ref_in d;
-    backing = backing_if (get (codes "backing") d);
-  }
+  file = file_ref_in d;
+  backing = backing_if (get (codes "backing") d);
+}
 
 abbrev pub seen_add_qcow2 : AddQcow2 (String Global) → AddQcow2 (List ℕ)
 seen_add_qcow2 c = record {
-    file = seen_file_ref c.file;
-    backing = option_map seen_backing c.backing;
-  }
+  file = seen_file_ref c.file;
+  backing = option_map seen_backing c.backing;
+}
 
 abbrev pub added_by : Driver → Data → Added (List ℕ)
 added_by driver.File d = added.File (text_in (codes "filename") d)
@@ -136,51 +136,51 @@ seen_added added.Unknown = added.Unknown
 
 abbrev pub blockdev_add_in : Data → BlockdevAdd (List ℕ)
 blockdev_add_in d = record {
-    node_name = text_in (codes "node-name") d;
-    options = node_options_in d;
-    driver = added_in d;
-  }
+  node_name = text_in (codes "node-name") d;
+  options = node_options_in d;
+  driver = added_in d;
+}
 
 abbrev pub seen_blockdev_add : BlockdevAdd (String Global) → BlockdevAdd (List ℕ)
 seen_blockdev_add c = record {
-    node_name = string_bytes c.node_name;
-    options = c.options;
-    driver = seen_added c.driver;
-  }
+  node_name = string_bytes c.node_name;
+  options = c.options;
+  driver = seen_added c.driver;
+}
 
 abbrev pub create_file_in : Data → CreateFile (List ℕ)
 create_file_in d = record {
-    filename = text_in (codes "filename") d;
-    size = amount_in (codes "size") d;
-  }
+  filename = text_in (codes "filename") d;
+  size = amount_in (codes "size") d;
+}
 
 abbrev pub seen_create_file : CreateFile (String Global) → CreateFile (List ℕ)
 seen_create_file c = record {
-    filename = string_bytes c.filename;
-    size = c.size;
-  }
+  filename = string_bytes c.filename;
+  size = c.size;
+}
 
 abbrev pub create_qcow2_in : Data → CreateQcow2 (List ℕ)
 create_qcow2_in d = record {
-    file = text_in (codes "file") d;
-    size = amount_in (codes "size") d;
-    backing_file = text_if (codes "backing-file") d;
-    backing_fmt = option_map image_format_of (text_if (codes "backing-fmt") d);
-    cluster_size = amount_if (codes "cluster-size") d;
-    refcount_bits = amount_if (codes "refcount-bits") d;
-    version = option_map version_of (text_if (codes "version") d);
-  }
+  file = text_in (codes "file") d;
+  size = amount_in (codes "size") d;
+  backing_file = text_if (codes "backing-file") d;
+  backing_fmt = option_map image_format_of (text_if (codes "backing-fmt") d);
+  cluster_size = amount_if (codes "cluster-size") d;
+  refcount_bits = amount_if (codes "refcount-bits") d;
+  version = option_map version_of (text_if (codes "version") d);
+}
 
 abbrev pub seen_create_qcow2 : CreateQcow2 (String Global) → CreateQcow2 (List ℕ)
 seen_create_qcow2 c = record {
-    file = string_bytes c.file;
-    size = c.size;
-    backing_file = option_map string_bytes c.backing_file;
-    backing_fmt = c.backing_fmt;
-    cluster_size = c.cluster_size;
-    refcount_bits = c.refcount_bits;
-    version = c.version;
-  }
+  file = string_bytes c.file;
+  size = c.size;
+  backing_file = option_map string_bytes c.backing_file;
+  backing_fmt = c.backing_fmt;
+  cluster_size = c.cluster_size;
+  refcount_bits = c.refcount_bits;
+  version = c.version;
+}
 
 abbrev pub created_by : Driver → Data → Created (List ℕ)
 created_by driver.File d = created.File (create_file_in d)
@@ -205,27 +205,27 @@ seen_created created.Unknown = created.Unknown
 
 abbrev pub blockdev_create_in : Data → BlockdevCreate (List ℕ)
 blockdev_create_in d = record {
-    job_id = text_in (codes "job-id") d;
-    options = created_in d;
-  }
+  job_id = text_in (codes "job-id") d;
+  options = created_in d;
+}
 
 abbrev pub seen_blockdev_create : BlockdevCreate (String Global) → BlockdevCreate (List ℕ)
 seen_blockdev_create c = record {
-    job_id = string_bytes c.job_id;
-    options = seen_created c.options;
-  }
+  job_id = string_bytes c.job_id;
+  options = seen_created c.options;
+}
 
 abbrev pub snapshot_in : Data → Snapshot (List ℕ)
 snapshot_in d = record {
-    node = text_in (codes "node") d;
-    overlay = text_in (codes "overlay") d;
-  }
+  node = text_in (codes "node") d;
+  overlay = text_in (codes "overlay") d;
+}
 
 abbrev pub seen_snapshot : Snapshot (String Global) → Snapshot (List ℕ)
 seen_snapshot c = record {
-    node = string_bytes c.node;
-    overlay = string_bytes c.overlay;
-  }
+  node = string_bytes c.node;
+  overlay = string_bytes c.overlay;
+}
 
 -- a flag, or the word for it
 abbrev pub sharing_if : Option Data → Option Sharing
@@ -236,26 +236,26 @@ sharing_if _ = None
 
 abbrev pub device_add_in : Data → DeviceAdd (List ℕ)
 device_add_in d = record {
-    driver = device_driver_of (text_in (codes "driver") d);
-    id = text_in (codes "id") d;
-    drive = text_in (codes "drive") d;
-    share_rw = sharing_if (get (codes "share-rw") d);
-    bus = text_if (codes "bus") d;
-    addr = text_if (codes "addr") d;
-    serial = text_if (codes "serial") d;
-    write_cache = text_if (codes "write-cache") d;
-    bootindex = amount_if (codes "bootindex") d;
-  }
+  driver = device_driver_of (text_in (codes "driver") d);
+  id = text_in (codes "id") d;
+  drive = text_in (codes "drive") d;
+  share_rw = sharing_if (get (codes "share-rw") d);
+  bus = text_if (codes "bus") d;
+  addr = text_if (codes "addr") d;
+  serial = text_if (codes "serial") d;
+  write_cache = text_if (codes "write-cache") d;
+  bootindex = amount_if (codes "bootindex") d;
+}
 
 abbrev pub seen_device_add : DeviceAdd (String Global) → DeviceAdd (List ℕ)
 seen_device_add c = record {
-    driver = c.driver;
-    id = string_bytes c.id;
-    drive = string_bytes c.drive;
-    share_rw = c.share_rw;
-    bus = option_map string_bytes c.bus;
-    addr = option_map string_bytes c.addr;
-    serial = option_map string_bytes c.serial;
-    write_cache = option_map string_bytes c.write_cache;
-    bootindex = c.bootindex;
-  }
+  driver = c.driver;
+  id = string_bytes c.id;
+  drive = string_bytes c.drive;
+  share_rw = c.share_rw;
+  bus = option_map string_bytes c.bus;
+  addr = option_map string_bytes c.addr;
+  serial = option_map string_bytes c.serial;
+  write_cache = option_map string_bytes c.write_cache;
+  bootindex = c.bootindex;
+}

@@ -6,11 +6,19 @@ ghost use Rattle.serde_json.specs.Find.{get};
 ghost use Rattle.qmp_codec.specs.Words.{completion_mode_of};
 ghost use Rattle.qmp_codec.specs.Commands.{seen_action, action_by, action_of, actions_of, actions_or, completion_in, seen_transaction, transaction_in, item_text, texts_of, texts_if, seen_command, command_of};
 
-use crate::bitmaps::{BitmapAdd, BitmapMerge, BitmapName, Source, read_bitmap_add, read_bitmap_merge, read_bitmap_name};
+use crate::bitmaps::{
+    BitmapAdd, BitmapMerge, BitmapName, Source, read_bitmap_add, read_bitmap_merge,
+    read_bitmap_name,
+};
 use crate::fields::{maybe_flag, maybe_str, text_at};
 use crate::form::text_of;
-use crate::jobs::{Backup, Commit, Mirror, Stream, read_backup, read_commit, read_mirror, read_stream};
-use crate::nodes::{BlockdevAdd, BlockdevCreate, DeviceAdd, Snapshot, read_blockdev_add, read_blockdev_create, read_device_add, read_snapshot};
+use crate::jobs::{
+    Backup, Commit, Mirror, Stream, read_backup, read_commit, read_mirror, read_stream,
+};
+use crate::nodes::{
+    BlockdevAdd, BlockdevCreate, DeviceAdd, Snapshot, read_blockdev_add, read_blockdev_create,
+    read_device_add, read_snapshot,
+};
 use crate::verb::{Deed, Verb, named_deed};
 use crate::words::{CompletionMode, read_completion_mode};
 use serde_json::Value;
@@ -185,7 +193,10 @@ pub(crate) fn read_verb(alloc: Global, verb: Verb, object: &Value) -> Result<Com
         Verb::Commit => Ok(Command::BlockCommit(read_commit(alloc, object)?)),
         Verb::Mirror => Ok(Command::BlockdevMirror(read_mirror(alloc, object)?)),
         Verb::Backup => Ok(Command::BlockdevBackup(read_backup(alloc, object)?)),
-        Verb::JobCancel => Ok(Command::BlockJobCancel(text_at(alloc, object, "device")?, maybe_flag(object, "force"))),
+        Verb::JobCancel => Ok(Command::BlockJobCancel(
+            text_at(alloc, object, "device")?,
+            maybe_flag(object, "force"),
+        )),
         Verb::JobComplete => Ok(Command::BlockJobComplete(text_at(alloc, object, "device")?)),
         Verb::ListJobs => Ok(Command::QueryBlockJobs),
         Verb::ListNodes => Ok(Command::QueryNamedBlockNodes(maybe_flag(object, "flat"))),

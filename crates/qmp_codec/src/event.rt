@@ -82,7 +82,8 @@ fn job_value(alloc: Global, event: &Event) -> Result<Value, AllocError>
         Some(error) => {
             json!(in alloc; {"device": device, "error": error.as_str(), "len": len, "offset": offset, "speed": 0u64, "type": kind})
         }
-        None => json!(in alloc; {"device": device, "len": len, "offset": offset, "speed": 0u64, "type": kind}),
+        None =>
+            json!(in alloc; {"device": device, "len": len, "offset": offset, "speed": 0u64, "type": kind}),
     }
 }
 

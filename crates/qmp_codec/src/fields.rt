@@ -33,7 +33,11 @@ pub(crate) fn maybe_str<'a>(object: &'a Value, name: &str) -> Option<&'a str>
 }
 
 /// A copy of the text of a member that may be absent.
-pub(crate) fn maybe_text(alloc: Global, object: &Value, name: &str) -> Result<Option<String>, AllocError>
+pub(crate) fn maybe_text(
+    alloc: Global,
+    object: &Value,
+    name: &str,
+) -> Result<Option<String>, AllocError>
     ensures { IfOk result (λ o. option_map string_bytes o ≡ text_if name.now (view object.now)) }
 {
     match maybe_str(object, name) {

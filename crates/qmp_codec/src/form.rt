@@ -82,9 +82,8 @@ fn verb_table(verb: Option<Verb>) -> Form
         Some(Verb::JobComplete) => Form::JobComplete,
         Some(Verb::ListNodes) => Form::ListNodes,
         Some(Verb::BitmapAdd) => Form::BitmapAdd,
-        Some(
-            Verb::BitmapRemove | Verb::BitmapClear | Verb::BitmapEnable | Verb::BitmapDisable,
-        ) => Form::BitmapName,
+        Some(Verb::BitmapRemove | Verb::BitmapClear | Verb::BitmapEnable | Verb::BitmapDisable) =>
+            Form::BitmapName,
         Some(Verb::BitmapMerge) => Form::BitmapMerge,
     }
 }

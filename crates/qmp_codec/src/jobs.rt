@@ -8,7 +8,9 @@ ghost use Rattle.qmp_codec.specs.Jobs.{job_options_in, seen_stream, stream_in, s
 
 use crate::fields::{Amount, maybe_amount, maybe_flag, maybe_str, maybe_text, text_at};
 use crate::form::text_of;
-use crate::words::{BitmapMode, CopyMode, OnError, Sync, read_bitmap_mode, read_copy_mode, read_on_error, read_sync};
+use crate::words::{
+    BitmapMode, CopyMode, OnError, Sync, read_bitmap_mode, read_copy_mode, read_on_error, read_sync,
+};
 use serde_json::Value;
 use std::alloc::{AllocError, Global};
 

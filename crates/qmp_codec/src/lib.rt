@@ -13,6 +13,8 @@ mod reply;
 mod row;
 mod stop;
 mod tables;
+#[cfg(test)]
+mod tests;
 mod unknown;
 mod verb;
 mod walk;
@@ -25,12 +27,13 @@ pub use fields::Amount;
 pub use jobs::{Backup, Commit, JobOptions, Mirror, Stream};
 pub use line::{read_command, read_id};
 pub use nodes::{
-    AddQcow2, AddRaw, Added, Backing, BlockdevAdd, BlockdevCreate, Cache, CreateFile, CreateQcow2, Created, DeviceAdd,
-    FileRef, InlineFile, NodeOptions, Snapshot,
+    AddQcow2, AddRaw, Added, Backing, BlockdevAdd, BlockdevCreate, Cache, CreateFile, CreateQcow2,
+    Created, DeviceAdd, FileRef, InlineFile, NodeOptions, Snapshot,
 };
 pub use reply::{Class, Reply, print_reply};
 pub use stop::CodecStop;
 pub use verb::Driver;
 pub use words::{
-    BitmapMode, CompletionMode, CopyMode, DeviceDriver, Discard, ImageFormat, OnError, Sharing, Sync, Version,
+    BitmapMode, CompletionMode, CopyMode, DeviceDriver, Discard, ImageFormat, OnError, Sharing,
+    Sync, Version,
 };

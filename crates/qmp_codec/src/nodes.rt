@@ -10,7 +10,10 @@ ghost use Rattle.qmp_codec.specs.Nodes.{cache_in, node_options_in, seen_inline_f
 use crate::fields::{Amount, amount_at, maybe_amount, maybe_flag, maybe_str, maybe_text, text_at};
 use crate::form::text_of;
 use crate::verb::{Driver, named_driver};
-use crate::words::{DeviceDriver, Discard, ImageFormat, Sharing, Version, read_device_driver, read_discard, read_image_format, read_sharing, read_version};
+use crate::words::{
+    DeviceDriver, Discard, ImageFormat, Sharing, Version, read_device_driver, read_discard,
+    read_image_format, read_sharing, read_version,
+};
 use serde_json::Value;
 use std::alloc::{AllocError, Global};
 
@@ -302,7 +305,10 @@ fn read_created(alloc: Global, object: &Value) -> Result<Created, AllocError>
     }
 }
 
-pub(crate) fn read_blockdev_create(alloc: Global, object: &Value) -> Result<BlockdevCreate, AllocError>
+pub(crate) fn read_blockdev_create(
+    alloc: Global,
+    object: &Value,
+) -> Result<BlockdevCreate, AllocError>
     ensures { IfOk result (λ c. seen_blockdev_create c ≡ blockdev_create_in (view object.now)) }
 {
     Ok(BlockdevCreate {

@@ -12,9 +12,7 @@ static LINE: [Row<&'static str>; 3] = [
     Row::Takes("id", Kind::Exact),
 ];
 
-static CAPABILITIES: [Row<&'static str>; 1] = [
-    Row::Takes("enable", Kind::Texts),
-];
+static CAPABILITIES: [Row<&'static str>; 1] = [Row::Takes("enable", Kind::Texts)];
 
 static CREATE: [Row<&'static str>; 2] = [
     Row::Needs("job-id", Kind::Text),
@@ -110,9 +108,7 @@ static CACHE: [Row<&'static str>; 2] = [
     Row::Takes("no-flush", Kind::Flag),
 ];
 
-static NODE_NAME: [Row<&'static str>; 1] = [
-    Row::Needs("node-name", Kind::Text),
-];
+static NODE_NAME: [Row<&'static str>; 1] = [Row::Needs("node-name", Kind::Text)];
 
 static DEVICE_ADD: [Row<&'static str>; 9] = [
     Row::Needs("driver", Kind::Text),
@@ -126,9 +122,7 @@ static DEVICE_ADD: [Row<&'static str>; 9] = [
     Row::Takes("bootindex", Kind::Integer),
 ];
 
-static ID: [Row<&'static str>; 1] = [
-    Row::Needs("id", Kind::Text),
-];
+static ID: [Row<&'static str>; 1] = [Row::Needs("id", Kind::Text)];
 
 static SNAPSHOT: [Row<&'static str>; 2] = [
     Row::Needs("node", Kind::Text),
@@ -145,9 +139,7 @@ static ACTION: [Row<&'static str>; 2] = [
     Row::Needs("data", Kind::Object(Form::ActionData)),
 ];
 
-static PROPERTIES: [Row<&'static str>; 1] = [
-    Row::Takes("completion-mode", Kind::Text),
-];
+static PROPERTIES: [Row<&'static str>; 1] = [Row::Takes("completion-mode", Kind::Text)];
 
 static STREAM: [Row<&'static str>; 8] = [
     Row::Needs("job-id", Kind::Text),
@@ -204,13 +196,9 @@ static JOB_CANCEL: [Row<&'static str>; 2] = [
     Row::Takes("force", Kind::Flag),
 ];
 
-static JOB_COMPLETE: [Row<&'static str>; 1] = [
-    Row::Needs("device", Kind::Text),
-];
+static JOB_COMPLETE: [Row<&'static str>; 1] = [Row::Needs("device", Kind::Text)];
 
-static LIST_NODES: [Row<&'static str>; 1] = [
-    Row::Takes("flat", Kind::Flag),
-];
+static LIST_NODES: [Row<&'static str>; 1] = [Row::Takes("flat", Kind::Flag)];
 
 static BITMAP_ADD: [Row<&'static str>; 5] = [
     Row::Needs("node", Kind::Text),

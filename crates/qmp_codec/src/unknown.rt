@@ -41,7 +41,10 @@ fn has_row(rows: &[Row<&'static str>], name: &str) -> bool
 }
 
 /// The least of these names that no row has.
-fn unknown_member<'a>(rows: &[Row<&'static str>], members: &'a Map<String, Value>) -> Option<&'a str>
+fn unknown_member<'a>(
+    rows: &[Row<&'static str>],
+    members: &'a Map<String, Value>,
+) -> Option<&'a str>
     ensures { option_map (λ s. s.now) result ≡ unknown_in (map named rows.now) None (members_view members.now.entries) }
 {
     let mut found = None;
@@ -66,14 +69,22 @@ fn own_unknown<'a>(rows: &[Row<&'static str>], object: &'a Value) -> Option<&'a 
 /// another `depth` deep. Of several actions the first that has such a name counts.
 #[cycle(unknown)]
 #[tactic(auto, using(crate::proofs::Faults::least_unknown_none, crate::proofs::Faults::least_unknown_step))]
-pub(crate) fn object_unknown<'a>(depth: u8, form: Form, around: &Value, object: &'a Value) -> Option<&'a str>
+pub(crate) fn object_unknown<'a>(
+    depth: u8,
+    form: Form,
+    around: &Value,
+    object: &'a Value,
+) -> Option<&'a str>
     ensures { option_map (λ s. s.now) result ≡ least_unknown depth form (view around.now) (view object.now) }
 {
     if depth == 0 {
         return None;
     }
     let rows = table(form_of(form, around, object));
-    lesser(own_unknown(rows, object), inner_unknown(depth - 1, rows, object))
+    lesser(
+        own_unknown(rows, object),
+        inner_unknown(depth - 1, rows, object),
+    )
 }
 
 #[cycle(unknown)]
@@ -108,16 +119,25 @@ fn value_unknown<'a>(depth: u8, around: &Value, kind: Kind, value: &'a Value) ->
         (λ inner part. least_unknown depth inner (view around.now) part) kind (view value.now) }
 {
     match (kind, value) {
-        (Kind::Object(form) | Kind::TextOrObject(form), Value::Object(_)) => object_unknown(depth, form, around, value),
+        (Kind::Object(form) | Kind::TextOrObject(form), Value::Object(_)) => object_unknown(
+            depth, form, around, value,
+        ),
         (Kind::Objects(form), Value::Array(items)) => first_of_parts(depth, form, around, items),
-        (Kind::TextsOrObjects(form), Value::Array(items)) => least_of_parts(depth, form, around, items),
+        (Kind::TextsOrObjects(form), Value::Array(items)) => least_of_parts(
+            depth, form, around, items,
+        ),
         _ => None,
     }
 }
 
 #[cycle(unknown)]
 #[tactic(auto, using(crate::proofs::Items::items_step, crate::proofs::Items::items_end))]
-fn first_of_parts<'a>(depth: u8, form: Form, around: &Value, items: &'a Vec<Value>) -> Option<&'a str>
+fn first_of_parts<'a>(
+    depth: u8,
+    form: Form,
+    around: &Value,
+    items: &'a Vec<Value>,
+) -> Option<&'a str>
     ensures { option_map (λ s. s.now) result ≡ least_of_first
         (λ p. least_unknown depth form (view around.now) p) (items_view items.now.items) }
 {
@@ -131,7 +151,12 @@ fn first_of_parts<'a>(depth: u8, form: Form, around: &Value, items: &'a Vec<Valu
 
 #[cycle(unknown)]
 #[tactic(auto, using(crate::proofs::Items::items_step, crate::proofs::Items::items_end))]
-fn least_of_parts<'a>(depth: u8, form: Form, around: &Value, items: &'a Vec<Value>) -> Option<&'a str>
+fn least_of_parts<'a>(
+    depth: u8,
+    form: Form,
+    around: &Value,
+    items: &'a Vec<Value>,
+) -> Option<&'a str>
     ensures { option_map (λ s. s.now) result ≡ least_of_parts
         (λ p. least_unknown depth form (view around.now) p) None (items_view items.now.items) }
 {

@@ -139,7 +139,13 @@ fn gap(search: Search, row: &Row<&'static str>) -> Option<&'static str>
 /// The first fault of an object that stands in a member of the object around. Tables lie in one another `depth` deep.
 #[cycle(fault)]
 #[tactic(auto, using(crate::proofs::Items::rows_step, crate::proofs::Items::rows_end, crate::proofs::Faults::first_fault_none, crate::proofs::Faults::first_fault_step))]
-pub(crate) fn object_fault(search: Search, depth: u8, form: Form, around: &Value, object: &Value) -> Option<&'static str>
+pub(crate) fn object_fault(
+    search: Search,
+    depth: u8,
+    form: Form,
+    around: &Value,
+    object: &Value,
+) -> Option<&'static str>
     ensures { option_map (λ s. s.now) result ≡ first_fault depth search form (view around.now) (view object.now) }
 {
     if depth == 0 {
@@ -154,7 +160,12 @@ pub(crate) fn object_fault(search: Search, depth: u8, form: Form, around: &Value
 }
 
 #[cycle(fault)]
-fn row_fault(search: Search, depth: u8, object: &Value, row: &Row<&'static str>) -> Option<&'static str>
+fn row_fault(
+    search: Search,
+    depth: u8,
+    object: &Value,
+    row: &Row<&'static str>,
+) -> Option<&'static str>
     ensures { option_map (λ s. s.now) result ≡ member_fault search
         (λ inner part. first_fault depth search inner (view object.now) part)
         (named row.now) (get (name_of (named row.now)) (view object.now)) }
@@ -167,22 +178,64 @@ fn row_fault(search: Search, depth: u8, object: &Value, row: &Row<&'static str>)
 }
 
 #[cycle(fault)]
-fn value_fault(search: Search, depth: u8, around: &Value, name: &'static str, kind: Kind, value: &Value) -> Option<&'static str>
+fn value_fault(
+    search: Search,
+    depth: u8,
+    around: &Value,
+    name: &'static str,
+    kind: Kind,
+    value: &Value,
+) -> Option<&'static str>
     ensures { option_map (λ s. s.now) result ≡ value_fault (wrong search name.now)
         (λ inner part. first_fault depth search inner (view around.now) part) kind (view value.now) }
 {
     match kind {
-        Kind::Object(form) => part_fault(search, depth, Part { form, texts: false }, around, name, value),
-        Kind::TextOrObject(form) => part_fault(search, depth, Part { form, texts: true }, around, name, value),
-        Kind::Objects(form) => list_fault(search, depth, Part { form, texts: false }, around, name, value),
-        Kind::TextsOrObjects(form) => list_fault(search, depth, Part { form, texts: true }, around, name, value),
+        Kind::Object(form) => part_fault(
+            search,
+            depth,
+            Part { form, texts: false },
+            around,
+            name,
+            value,
+        ),
+        Kind::TextOrObject(form) => part_fault(
+            search,
+            depth,
+            Part { form, texts: true },
+            around,
+            name,
+            value,
+        ),
+        Kind::Objects(form) => list_fault(
+            search,
+            depth,
+            Part { form, texts: false },
+            around,
+            name,
+            value,
+        ),
+        Kind::TextsOrObjects(form) => list_fault(
+            search,
+            depth,
+            Part { form, texts: true },
+            around,
+            name,
+            value,
+        ),
         _ if is_of(kind, value) => None,
         _ => misfit(search, name),
     }
 }
 
 #[cycle(fault)]
-fn list_fault(search: Search, depth: u8, part: Part, around: &Value, name: &'static str, value: &Value) -> Option<&'static str>
+fn list_fault(
+    search: Search,
+    depth: u8,
+    part: Part,
+    around: &Value,
+    name: &'static str,
+    value: &Value,
+) -> Option<&'static str>
     ensures { option_map (λ s. s.now) result ≡ list_fault (wrong search name.now)
         (λ p. first_fault depth search part.form (view around.now) p) part.texts (view value.now) }
 {
@@ -194,7 +247,14 @@ fn list_fault(search: Search, depth: u8, part: Part, around: &Value, name: &'sta
 
 #[cycle(fault)]
 #[tactic(auto, using(crate::proofs::Items::items_step, crate::proofs::Items::items_end))]
-fn parts_fault(search: Search, depth: u8, part: Part, around: &Value, name: &'static str, items: &Vec<Value>) -> Option<&'static str>
+fn parts_fault(
+    search: Search,
+    depth: u8,
+    part: Part,
+    around: &Value,
+    name: &'static str,
+    items: &Vec<Value>,
+) -> Option<&'static str>
     ensures { option_map (λ s. s.now) result ≡ parts_fault (wrong search name.now)
         (λ p. first_fault depth search part.form (view around.now) p) part.texts (items_view items.now.items) }
 {
@@ -207,7 +267,14 @@ fn parts_fault(search: Search, depth: u8, part: Part, around: &Value, name: &'st
 }
 
 #[cycle(fault)]
-fn part_fault(search: Search, depth: u8, part: Part, around: &Value, name: &'static str, value: &Value) -> Option<&'static str>
+fn part_fault(
+    search: Search,
+    depth: u8,
+    part: Part,
+    around: &Value,
+    name: &'static str,
+    value: &Value,
+) -> Option<&'static str>
     ensures { option_map (λ s. s.now) result ≡ part_fault (wrong search name.now)
         (λ p. first_fault depth search part.form (view around.now) p) part.texts (view value.now) }
 {
