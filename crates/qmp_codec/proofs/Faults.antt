@@ -1,5 +1,5 @@
 -- One level of the walk.
-use Rattle.std.proofs.Common.{◌≡◌, ℕ, zero, suc, ◌-◌, ◌<◌, Option, None, refl, arith}
+use Rattle.std.proofs.Common.{◌≡◌, ℕ, zero, suc, ◌-◌, ◌<◌, None, refl, arith}
 use Rattle.std.proofs.Common.{sub-one}
 use Rattle.serde_json.specs.Data.{Data}
 use Rattle.qmp_codec.specs.declared.form.Form.{Form}

@@ -1,12 +1,12 @@
 -- Lists of values and members, one by one.
-use Rattle.std.proofs.Common.{◌≡◌, ℕ, ◌+◌, ◌<◌, ◌≤◌, List, [], ◌∷◌, ◌++◌, length, get_or, drop, map, refl, sym, ap, ◌∙◌, arith, String, Global}
+use Rattle.std.proofs.Common.{◌≡◌, ℕ, ◌+◌, ◌<◌, ◌≤◌, List, [], ◌∷◌, ◌++◌, length, get_or, drop, map, refl, sym, ap, ◌∙◌}
 use Rattle.std.specs.Borrow.{Bor}
 use Rattle.qmp_codec.specs.declared.row.Row.{Row}
 use Rattle.qmp_codec.specs.Tables.{named}
 use Rattle.std.proofs.lemmas.List.{at_drop_more, at_drop_all}
-use Rattle.serde_json.specs.Data.{Items, no_items, item, Members, no_members, member}
+use Rattle.serde_json.specs.Data.{no_items, item}
 use Rattle.serde_json.specs.declared.value.Value.{Value}
-use Rattle.serde_json.specs.View.{view, items_view, members_view}
+use Rattle.serde_json.specs.View.{view, items_view}
 
 -- the items from one on
 pub items_step : (xs : List Value) (i : ℕ) (v : Value) → i < length xs → v ≡ get_or xs i v

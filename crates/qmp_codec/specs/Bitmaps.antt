@@ -1,10 +1,10 @@
 -- The commands on bitmaps.
-use Rattle.std.specs.Prelude.{ℕ, List, [], ◌∷◌, codes, Option, Some, None, option_map, Bool, true, false, if◌then◌else◌, String, string_bytes, Vec, map}
+use Rattle.std.specs.Prelude.{ℕ, List, [], ◌∷◌, codes, Option, Some, String, string_bytes, Vec, map}
 use Rattle.std.specs.declared.alloc.Global.{Global}
-use Rattle.serde_json.specs.Data.{Data, null, boolean, number, string, array, object, Items, no_items, item}
-use Rattle.serde_json.specs.Find.{get, as_array}
+use Rattle.serde_json.specs.Data.{Data, string, array, Items, no_items, item}
+use Rattle.serde_json.specs.Find.{get}
 use Rattle.qmp_codec.specs.Forms.{text_in}
-use Rattle.qmp_codec.specs.Fields.{text_if, flag_if, amount_if, amount_in}
+use Rattle.qmp_codec.specs.Fields.{flag_if, amount_if}
 use Rattle.qmp_codec.specs.declared.bitmaps.BitmapAdd.{BitmapAdd}
 use Rattle.qmp_codec.specs.declared.bitmaps.BitmapName.{BitmapName}
 use Rattle.qmp_codec.specs.declared.bitmaps.Source.{Source}

@@ -1,7 +1,7 @@
 -- The command of a line, as its members say it.
 use Rattle.std.specs.Prelude.{ℕ, List, [], ◌∷◌, codes, Option, Some, None, option_map, option_and_then, String, string_bytes, Vec, map}
 use Rattle.std.specs.declared.alloc.Global.{Global}
-use Rattle.serde_json.specs.Data.{Data, null, boolean, number, string, array, object, Items, no_items, item}
+use Rattle.serde_json.specs.Data.{Data, string, array, Items, no_items, item}
 use Rattle.serde_json.specs.Find.{get}
 use Rattle.qmp_codec.specs.declared.words.CompletionMode.{CompletionMode}
 use Rattle.qmp_codec.specs.Words.{completion_mode_of}
@@ -18,7 +18,7 @@ use Rattle.qmp_codec.specs.declared.command.Action.TheVariants as action
 use Rattle.qmp_codec.specs.declared.command.Transaction.{Transaction}
 use Rattle.qmp_codec.specs.declared.command.Command.{Command}
 use Rattle.qmp_codec.specs.declared.command.Command.TheVariants as command
-use Rattle.qmp_codec.specs.Bitmaps.{bitmap_add_in, bitmap_name_in, bitmap_merge_in, seen_source, seen_bitmap_add, seen_bitmap_name, seen_bitmap_merge}
+use Rattle.qmp_codec.specs.Bitmaps.{bitmap_add_in, bitmap_name_in, bitmap_merge_in, seen_bitmap_add, seen_bitmap_name, seen_bitmap_merge}
 use Rattle.qmp_codec.specs.Jobs.{stream_in, commit_in, mirror_in, backup_in, seen_stream, seen_commit, seen_mirror, seen_backup}
 use Rattle.qmp_codec.specs.Nodes.{blockdev_add_in, blockdev_create_in, device_add_in, snapshot_in, seen_blockdev_add, seen_blockdev_create, seen_device_add, seen_snapshot}
 

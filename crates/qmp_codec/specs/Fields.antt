@@ -1,5 +1,5 @@
 -- The values of an object's members.
-use Rattle.std.specs.Prelude.{ℕ, List, Option, Some, None, option_map, option_and_then, unwrap_or, Bool}
+use Rattle.std.specs.Prelude.{ℕ, List, Option, Some, None, option_and_then, unwrap_or, Bool}
 use Rattle.serde_json.specs.Data.{Data, Num, unsigned, negative, float}
 use Rattle.serde_json.specs.Find.{get, as_str, as_bool, as_number}
 use Rattle.qmp_codec.specs.declared.fields.Amount.{Amount}

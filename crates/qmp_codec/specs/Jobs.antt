@@ -1,15 +1,10 @@
 -- The commands that start jobs.
-use Rattle.std.specs.Prelude.{ℕ, List, [], ◌∷◌, codes, Option, Some, None, option_map, Bool, true, false, if◌then◌else◌, String, string_bytes, Vec, map}
+use Rattle.std.specs.Prelude.{ℕ, List, codes, option_map, String, string_bytes}
 use Rattle.std.specs.declared.alloc.Global.{Global}
-use Rattle.serde_json.specs.Data.{Data, null, boolean, number, string, array, object, Items, no_items, item}
-use Rattle.serde_json.specs.Find.{get, as_array}
-use Rattle.qmp_codec.specs.declared.words.OnError.{OnError}
-use Rattle.qmp_codec.specs.declared.words.Sync.{Sync}
-use Rattle.qmp_codec.specs.declared.words.CopyMode.{CopyMode}
-use Rattle.qmp_codec.specs.declared.words.BitmapMode.{BitmapMode}
+use Rattle.serde_json.specs.Data.{Data}
 use Rattle.qmp_codec.specs.Words.{on_error_of, sync_of, copy_mode_of, bitmap_mode_of}
 use Rattle.qmp_codec.specs.Forms.{text_in}
-use Rattle.qmp_codec.specs.Fields.{text_if, flag_if, amount_if, amount_in}
+use Rattle.qmp_codec.specs.Fields.{text_if, flag_if, amount_if}
 use Rattle.qmp_codec.specs.declared.jobs.JobOptions.{JobOptions}
 use Rattle.qmp_codec.specs.declared.jobs.Stream.{Stream}
 use Rattle.qmp_codec.specs.declared.jobs.Commit.{Commit}

@@ -1,12 +1,8 @@
 -- The commands on nodes and devices.
-use Rattle.std.specs.Prelude.{ℕ, List, [], ◌∷◌, codes, Option, Some, None, option_map, Bool, true, false, if◌then◌else◌, String, string_bytes, Vec, map}
+use Rattle.std.specs.Prelude.{ℕ, List, codes, Option, Some, None, option_map, true, false, String, string_bytes}
 use Rattle.std.specs.declared.alloc.Global.{Global}
-use Rattle.serde_json.specs.Data.{Data, null, boolean, number, string, array, object, Items, no_items, item}
-use Rattle.serde_json.specs.Find.{get, as_array}
-use Rattle.qmp_codec.specs.declared.words.Discard.{Discard}
-use Rattle.qmp_codec.specs.declared.words.ImageFormat.{ImageFormat}
-use Rattle.qmp_codec.specs.declared.words.Version.{Version}
-use Rattle.qmp_codec.specs.declared.words.DeviceDriver.{DeviceDriver}
+use Rattle.serde_json.specs.Data.{Data, null, boolean, string, object}
+use Rattle.serde_json.specs.Find.{get}
 use Rattle.qmp_codec.specs.declared.words.Sharing.{Sharing}
 use Rattle.qmp_codec.specs.declared.words.Sharing.TheVariants as sharing
 use Rattle.qmp_codec.specs.Words.{discard_of, image_format_of, version_of, device_driver_of, sharing_of}

@@ -1,4 +1,4 @@
-use Rattle.std.proofs.Common.{◌≡◌, ◌+◌, ◌-◌, ◌*◌, drop, map, None, option_map}
+use Rattle.std.proofs.Common.{◌≡◌, ◌+◌, ◌*◌, drop, map, None, option_map}
 use Rattle.serde_json.specs.View.{view, items_view}
 use Rattle.qmp_codec.specs.Tables.{named}
 use Rattle.qmp_codec.specs.Walk.{least_unknown, rows_unknown, least_of_first, least_of_parts}
