@@ -1,2 +1,3 @@
 pub mod Items
 pub mod Faults
+pub mod AcceptanceLemmas

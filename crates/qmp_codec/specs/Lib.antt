@@ -11,3 +11,5 @@ pub mod Commands
 pub mod Lines
 pub mod Replies
 pub mod Events
+pub mod Acceptance
+pub mod Stops
