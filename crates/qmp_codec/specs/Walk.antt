@@ -138,23 +138,31 @@ abbrev pub least_of_first : (Data → Option Name) → Items → Option Name
 least_of_first inner no_items = None
 least_of_first inner (item d ds) = or_else (part_unknown inner d) (least_of_first inner ds)
 
--- of several actions the first counts
-abbrev pub value_unknown : (Form → Data → Option Name) → Kind → Data → Option Name
-value_unknown inner (Object table) d = part_unknown (inner table) d
-value_unknown inner (TextOrObject table) d = part_unknown (inner table) d
-value_unknown inner (Objects table) (array ds) = least_of_first (inner table) ds
-value_unknown inner (TextsOrObjects table) (array ds) = least_of_parts (inner table) None ds
-value_unknown inner kind d = None
+abbrev pub part_inside : (Data → Option Name) → Option Data → Option Name
+part_inside inner None = None
+part_inside inner (Some d) = part_unknown inner d
 
-abbrev pub member_unknown : (Form → Data → Option Name) → Row Name → Option Data → Option Name
-member_unknown inner row None = None
-member_unknown inner row (Some d) = value_unknown inner (kind_of row) d
+abbrev pub first_inside : (Data → Option Name) → Option Data → Option Name
+first_inside inner (Some (array ds)) = least_of_first inner ds
+first_inside inner _ = None
+
+abbrev pub least_inside : (Data → Option Name) → Option Data → Option Name
+least_inside inner (Some (array ds)) = least_of_parts inner None ds
+least_inside inner _ = None
+
+-- Only a value with a table of its own has such names inside. Of several actions the first counts.
+abbrev pub unknown_inside : (Form → Data → Option Name) → Data → Name → Kind → Option Name
+unknown_inside inner d name (Object table) = part_inside (inner table) (get name d)
+unknown_inside inner d name (TextOrObject table) = part_inside (inner table) (get name d)
+unknown_inside inner d name (Objects table) = first_inside (inner table) (get name d)
+unknown_inside inner d name (TextsOrObjects table) = least_inside (inner table) (get name d)
+unknown_inside inner d name kind = None
 
 -- the least of what was found and of what the members' values have
 abbrev pub rows_unknown : (Form → Data → Option Name) → Data → Option Name → Rows → Option Name
 rows_unknown inner d found [] = found
 rows_unknown inner d found (row ∷ rows) =
-    rows_unknown inner d (least found (member_unknown inner row (get (name_of row) d))) rows
+    rows_unknown inner d (least found (unknown_inside inner d (name_of row) (kind_of row))) rows
 
 -- the least name in an object that its table, or the table of an object inside, doesn't accept
 unfoldable pub least_unknown : ℕ → Form → Data → Data → Option Name

@@ -2,9 +2,8 @@
 
 ghost use Rattle.std.specs.Prelude.{◌≡◌, ◌-◌, ◌<◌, option_map, map, None};
 ghost use Rattle.serde_json.specs.View.{view, items_view, members_view};
-ghost use Rattle.serde_json.specs.Find.{get};
-ghost use Rattle.qmp_codec.specs.Tables.{named, name_of};
-ghost use Rattle.qmp_codec.specs.Walk.{least, accepts, unknown_in, members_unknown, part_unknown, least_of_parts, least_of_first, value_unknown, member_unknown, rows_unknown, least_unknown};
+ghost use Rattle.qmp_codec.specs.Tables.{named, name_of, kind_of};
+ghost use Rattle.qmp_codec.specs.Walk.{least, accepts, unknown_in, members_unknown, part_unknown, least_of_parts, least_of_first, unknown_inside, rows_unknown, least_unknown};
 
 use crate::form::{Form, form_of};
 use crate::row::{Kind, Row};
@@ -102,30 +101,24 @@ fn inner_unknown<'a>(depth: u8, rows: &[Row<&'static str>], object: &'a Value) -
 
 #[cycle(unknown)]
 fn row_unknown<'a>(depth: u8, object: &'a Value, row: &Row<&'static str>) -> Option<&'a str>
-    ensures { option_map (λ s. s.now) result ≡ member_unknown
+    ensures { option_map (λ s. s.now) result ≡ unknown_inside
         (λ inner part. least_unknown depth inner (view object.now) part)
-        (named row.now) (get (name_of (named row.now)) (view object.now)) }
+        (view object.now) (name_of (named row.now)) (kind_of (named row.now)) }
 {
     let (Row::Needs(name, kind) | Row::Takes(name, kind)) = row;
-    match object.get(*name) {
-        Some(value) => value_unknown(depth, object, *kind, value),
-        None => None,
-    }
-}
-
-#[cycle(unknown)]
-fn value_unknown<'a>(depth: u8, around: &Value, kind: Kind, value: &'a Value) -> Option<&'a str>
-    ensures { option_map (λ s. s.now) result ≡ value_unknown
-        (λ inner part. least_unknown depth inner (view around.now) part) kind (view value.now) }
-{
-    match (kind, value) {
-        (Kind::Object(form) | Kind::TextOrObject(form), Value::Object(_)) => object_unknown(
-            depth, form, around, value,
-        ),
-        (Kind::Objects(form), Value::Array(items)) => first_of_parts(depth, form, around, items),
-        (Kind::TextsOrObjects(form), Value::Array(items)) => least_of_parts(
-            depth, form, around, items,
-        ),
+    match kind {
+        Kind::Object(form) | Kind::TextOrObject(form) => match object.get(*name) {
+            Some(value) => part_unknown(depth, *form, object, value),
+            None => None,
+        },
+        Kind::Objects(form) => match object.get(*name) {
+            Some(Value::Array(items)) => first_of_parts(depth, *form, object, items),
+            _ => None,
+        },
+        Kind::TextsOrObjects(form) => match object.get(*name) {
+            Some(Value::Array(items)) => least_of_parts(depth, *form, object, items),
+            _ => None,
+        },
         _ => None,
     }
 }

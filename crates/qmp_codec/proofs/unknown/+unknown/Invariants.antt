@@ -28,9 +28,6 @@ decreases-inner_unknown l = l.depth * 8 + 6
 abbrev pub decreases-row_unknown : goal.decreases-row_unknown
 decreases-row_unknown l = l.depth * 8 + 5
 
-abbrev pub decreases-value_unknown : goal.decreases-value_unknown
-decreases-value_unknown l = l.depth * 8 + 4
-
 abbrev pub decreases-first_of_parts : goal.decreases-first_of_parts
 decreases-first_of_parts l = l.depth * 8 + 2
 
