@@ -1,3 +1,4 @@
 pub mod Decoding
 pub mod Ranges
 pub mod Shapes
+pub mod FreeClusters

@@ -1,7 +1,9 @@
 //! Refcounts in memory.
 ghost use Rattle.std.specs.Prelude.{◌≡◌, ◌+◌, ◌<◌, ◌≤◌, length, take, slice_index};
+ghost use Rattle.q2_refs.specs.Kept.{per_block};
 ghost use Rattle.q2_refs.specs.Free.{free_cluster, will_be_given};
 
+use crate::entries::block_offset;
 use std::marker::Model;
 
 /// The refcount table of an image and the refcounts of its first clusters.
@@ -71,5 +73,39 @@ impl Refs {
     {
         self.counts.truncate(reach as usize);
         self.cursor = self.cursor.min(reach as usize);
+    }
+
+    /// The clusters that one refcount block counts.
+    fn per_block(&self) -> usize
+        ensures { result ≡ per_block self.now }
+    {
+        (8 << self.cluster_bits) >> self.refcount_order
+    }
+
+    /// Whether a cluster is among those that `allocate` will give.
+    fn will_be_given(&self, cluster: usize) -> bool
+        requires { cluster < length self.now.counts }
+        ensures { result ≡ will_be_given self.now cluster }
+    {
+        let per_block = self.per_block();
+        self.counts[cluster] == 0
+            && (block_offset(self.table[cluster / per_block]) != 0 || cluster % per_block != 0)
+    }
+
+    /// The cluster that the `k`-th call of `allocate` from now would give, counted from 0, or the reach where
+    /// that call would answer `HostLimit`.
+    pub fn next_free(&self, k: u64) -> u64
+        ensures { result ≡ free_cluster self.now k }
+    {
+        let mut left = k;
+        for cluster in self.cursor..self.counts.len() {
+            if self.will_be_given(cluster) {
+                if left == 0 {
+                    return cluster as u64;
+                }
+                left -= 1;
+            }
+        }
+        self.counts.len() as u64
     }
 }
