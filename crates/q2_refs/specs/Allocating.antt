@@ -1,0 +1,53 @@
+-- Taking a cluster: what is kept afterwards, what the file is, and what of it stays.
+use Rattle.std.specs.Prelude.{◌≡◌, ◌≢◌, ℕ, ◌+◌, ◌*◌, ◌/◌, ◌%◌, ◌==◌, if◌then◌else◌, List, count_by, slice_index, slice_set}
+use Rattle.q2_format.specs.Sizes.{cluster_size}
+use Rattle.q2_format.specs.Entry.{block_offset}
+use Rattle.q2_format.specs.Header.{header_of}
+use Rattle.q2_format.specs.References.{names_cluster, in_run, uses}
+use Rattle.q2_format.specs.Sound.{IsSound}
+use Rattle.q2_format.specs.Tables.{active_tree, refcount_table, refcount_of}
+use Rattle.q2_format.specs.declared.header.Header.{Header}
+use Rattle.q2_refs.specs.Kept.{Kept, IsCountsOf, per_block}
+
+-- the file is sound, and what is kept is its refcounts
+pub record IsInStep (file : List ℕ) (kept : Kept) : Type 0 where
+  pub sound : IsSound file
+  pub counts : IsCountsOf file (header_of file) kept
+
+-- what is kept once cluster n counts one
+abbrev pub with_one : Kept → ℕ → Kept
+with_one kept n = record kept { counts = slice_set kept.counts n 1 }
+
+-- the first cluster of block i's range, where that block is put
+abbrev pub place_of_block : Kept → ℕ → ℕ
+place_of_block kept i = i * per_block kept
+
+-- what is kept once block i is put there: the table names it, and its cluster counts one
+abbrev pub with_block : Kept → ℕ → Kept
+with_block kept i = record kept {
+  table = slice_set kept.table i (place_of_block kept i * cluster_size kept.cluster_bits);
+  counts = slice_set kept.counts (place_of_block kept i) 1;
+}
+
+-- what is kept once the block of a cluster is there
+abbrev pub with_block_for : Kept → ℕ → Kept
+with_block_for kept cluster =
+    let i = cluster / per_block kept in
+    if block_offset (slice_index kept.table i) == 0 then with_block kept i else kept
+
+-- how often the refcount table and its blocks lie on a cluster
+abbrev pub refcount_uses : List ℕ → Header → ℕ → ℕ
+refcount_uses file h cluster = let c = cluster_size h.cluster_bits in
+    in_run c cluster h.ref_offset h.ref_clusters
+    + count_by (λ word. names_cluster c cluster (block_offset word)) (refcount_table file h)
+
+-- What stays of a sound file: its header, its tree, and of each cluster that counts, its uses, its refcount and,
+-- but for the refcount table and the blocks, its bytes.
+pub record KeepsCounted (old new : List ℕ) (h : Header) : Type 0 where
+  pub header : header_of new ≡ h
+  pub tree : active_tree new h ≡ active_tree old h
+  pub uses_stay : (k : ℕ) → refcount_of old h k ≢ 0 → uses new h k ≡ uses old h k
+  pub refcounts_stay : (k : ℕ) → refcount_of old h k ≢ 0 → refcount_of new h k ≡ refcount_of old h k
+  pub structure : (k : ℕ) → refcount_of old h k ≢ 0 → refcount_uses new h k ≡ refcount_uses old h k
+  pub bytes : (i : ℕ) → refcount_of old h (i / cluster_size h.cluster_bits) ≢ 0 → refcount_uses old h (i / cluster_size h.cluster_bits) ≡ 0
+      → slice_index new i ≡ slice_index old i
