@@ -6,3 +6,5 @@ pub mod Uses
 pub mod Writes
 pub mod SoundAfter
 pub mod Steps
+pub mod CountStep
+pub mod BlockStep

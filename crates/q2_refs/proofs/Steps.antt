@@ -45,7 +45,7 @@ pub block_is : (h : Header) → HasShape h → in_block h ≡ 32768
 block_is h shape = rw (shape.cluster_bits, shape.refcount_order) refl
 
 -- the header stays where its cluster does
-header_kept : (old new : List ℕ) → IsSound old → ReadsAlike old new 0 65536 → header_of new ≡ header_of old
+pub header_kept : (old new : List ℕ) → IsSound old → ReadsAlike old new 0 65536 → header_of new ≡ header_of old
 unfolding header_refusal
 header_kept old new sound alike =
     let each = first-none (refused_where (ltb (length old) 104) Short ∷ format_refusal old (length old) ∷ profile_refusal old ∷ name_refusal old ∷ extension_refusal old ∷ size_refusal old (length old) ∷ []) (sound_header old sound) in
@@ -53,11 +53,11 @@ header_kept old new sound alike =
     let small : cluster_size (cluster_bits_of old) ≤ 65536 = rw bits (omega arith) in
     header_alike old new 65536 alike (omega arith) (omega (arith, name_area old each.1.1.1.0, small))
 
-uses_alike : (old new : List ℕ) (h : Header) (k : ℕ) → refcount_table new h ≡ refcount_table old h → active_tree new h ≡ active_tree old h → uses new h k ≡ uses old h k
+pub uses_alike : (old new : List ℕ) (h : Header) (k : ℕ) → refcount_table new h ≡ refcount_table old h → active_tree new h ≡ active_tree old h → uses new h k ≡ uses old h k
 unfolding uses
 uses_alike old new h k table tree = rw (table, tree) refl
 
-block_longer : (c len longer : ℕ) (table : List ℕ) → len ≤ longer → bad_block c len table ≡ None → bad_block c longer table ≡ None
+pub block_longer : (c len longer : ℕ) (table : List ℕ) → len ≤ longer → bad_block c len table ≡ None → bad_block c longer table ≡ None
 unfolding bad_block
 block_longer c len longer table grows none =
     let nowhere = option_map-none (λ i. block_offset (get_or table i 0)) (lowest (λ i. is_misplaced c len (block_offset (get_or table i 0))) (length table)) none in
@@ -66,7 +66,7 @@ block_longer c len longer table grows none =
     rw still refl
 
 -- a cluster that no entry of the table names is no block's
-not_a_block : (file : List ℕ) (h : Header) (k : ℕ) → k ≢ 0 → block_uses file h k ≡ 0 → (i : ℕ) → block_at file h i / cluster_size h.cluster_bits ≢ k
+pub not_a_block : (file : List ℕ) (h : Header) (k : ℕ) → k ≢ 0 → block_uses file h k ≡ 0 → (i : ℕ) → block_at file h i / cluster_size h.cluster_bits ≢ k
 not_a_block file h k other none i = elim (cases_eq (block_at file h i) 0) [
   | inl absent ↦ λ e. other (sym e ∙ ap (λ (o : ℕ). o / cluster_size h.cluster_bits) absent ∙ omega arith)
   | inr there ↦ elim (cases_lt i (length (refcount_table file h))) [
@@ -86,13 +86,13 @@ outside_cluster i k c some other =
       | inr low ↦ let gap = cluster_before c k (i / c) (omega arith) in inr (omega (arith, parts))
     ]
 
-byte_stays : (old new : List ℕ) (k c at i : ℕ) (bytes : List ℕ) → 0 < c → IsWritten old new at bytes → IsWithin k c at bytes → i / c ≢ k → slice_index new i ≡ slice_index old i
+pub byte_stays : (old new : List ℕ) (k c at i : ℕ) (bytes : List ℕ) → 0 < c → IsWritten old new at bytes → IsWithin k c at bytes → i / c ≢ k → slice_index new i ≡ slice_index old i
 byte_stays old new k c at i bytes some written within other = elim (outside_cluster i k c some other) [
   | inl before ↦ written.outside i (inl (omega (arith, within.low)))
   | inr behind ↦ written.outside i (inr (omega (arith, within.high)))
 ]
 
-counts_by_header : (file : List ℕ) (h other : Header) (kept : Kept) → other ≡ h → IsCountsOf file h kept → IsCountsOf file other kept
+pub counts_by_header : (file : List ℕ) (h other : Header) (kept : Kept) → other ≡ h → IsCountsOf file h kept → IsCountsOf file other kept
 counts_by_header file h other kept is counts = let P : Header → Type 0 = λ x. IsCountsOf file x kept in subst P (sym is) counts
 
 -- a write into a free cluster
