@@ -1,5 +1,5 @@
 -- The write of one refcount: after it the file is sound, and what is kept with that count is its refcounts.
-use Rattle.std.proofs.Common.{◌≡◌, ◌≢◌, ℕ, ◌+◌, ◌-◌, ◌*◌, ◌/◌, ◌%◌, ◌^◌, ◌<◌, ◌≤◌, inl, inr, true, List, length, get_or, slice_index, count_by, refl, sym, ap, ◌∙◌, arith}
+use Rattle.std.proofs.Common.{◌≡◌, ◌≢◌, ℕ, ◌+◌, ◌*◌, ◌/◌, ◌%◌, ◌<◌, ◌≤◌, inl, inr, true, List, length, get_or, count_by, refl, sym, ap, ◌∙◌, arith}
 use Rattle.std.proofs.Math.ListN.{set, length-set}
 use Rattle.std.proofs.lemmas.Bool.{cases_lt, cases_eq, false≢true}
 use Rattle.std.proofs.lemmas.List.{get_or_past, get_or-set_same, get_or-set_other}
@@ -10,14 +10,14 @@ use Rattle.q2_format.specs.Bytes.{number_at, ReadsAlike, IsWritten}
 use Rattle.q2_format.specs.Entry.{block_offset}
 use Rattle.q2_format.specs.Header.{header_of}
 use Rattle.q2_format.specs.References.{names_cluster, uses}
-use Rattle.q2_format.specs.Sizes.{cluster_size, refcount_bytes}
+use Rattle.q2_format.specs.Sizes.{cluster_size}
 use Rattle.q2_format.specs.Tables.{active_tree, refcount_table, refcount_of}
 use Rattle.q2_format.specs.declared.header.Header.{Header}
 use Rattle.q2_format.proofs.ByPlace.{number_at-before, number_at-behind}
 use Rattle.q2_format.proofs.Consistent.{sound_tables, sound_is_consistent}
 use Rattle.q2_format.proofs.Frames.{written_number}
 use Rattle.q2_refs.specs.Allocating.{IsInStep, KeepsCounted, refcount_uses, with_one}
-use Rattle.q2_refs.specs.Kept.{Kept, IsCountsOf}
+use Rattle.q2_refs.specs.Kept.{Kept}
 use Rattle.q2_refs.specs.Loading.{HasShape}
 use Rattle.q2_refs.proofs.Ranges.{in_block, block_at, width_two, refcount_of-present}
 use Rattle.q2_refs.proofs.SoundAfter.{StaysSound, sound_after}

@@ -1,14 +1,13 @@
 -- A sound file whose header and tree stay, and whose references and refcounts still fit, is sound.
-use Rattle.std.proofs.Common.{◌≡◌, ◌≢◌, ℕ, ◌+◌, ◌*◌, ◌<◌, ◌≤◌, Bool, false, not, ◌&&◌, ◌||◌, eqb, ltb, List, [], ◌∷◌, length, get_or, Option, None, refl, sym, ap, subst, ◌∙◌, arith}
-use Rattle.std.specs.Option.{option_map}
+use Rattle.std.proofs.Common.{◌≡◌, ℕ, ◌≤◌, false, not, ◌&&◌, eqb, ltb, List, length, get_or, None, refl, sym, subst, ◌∙◌, arith}
 use Rattle.std.proofs.lemmas.Bool.{or_from, le-ltb}
 use Rattle.std.proofs.lemmas.Bool.Decides.{nat_tests}
 use Rattle.q2_format.specs.Bytes.{ReadsAlike}
-use Rattle.q2_format.specs.Entry.{host_offset, block_offset, has_reserved_in_refcount_table}
-use Rattle.q2_format.specs.Header.{header_of, header_refusal, refused_where}
+use Rattle.q2_format.specs.Entry.{host_offset}
+use Rattle.q2_format.specs.Header.{header_of}
 use Rattle.q2_format.specs.References.{own_offset, uses, cluster_bound}
 use Rattle.q2_format.specs.Sizes.{cluster_size, l1_entries_for}
-use Rattle.q2_format.specs.Sound.{is_misplaced, lowest, guest_clusters, bad_refcount_table, bad_l1_table, bad_block, bad_l2_table, bad_host, reserved_in_refcount_table, overlap, uncounted, IsSound, IsConsistent}
+use Rattle.q2_format.specs.Sound.{is_misplaced, lowest, guest_clusters, bad_refcount_table, bad_l1_table, bad_block, bad_l2_table, bad_host, reserved_in_refcount_table, overlap, uncounted, IsSound}
 use Rattle.q2_format.specs.Tables.{Tree, active_tree, refcount_table, refcount_of, l2_word_of}
 use Rattle.q2_format.specs.declared.header.Header.{Header}
 use Rattle.q2_format.proofs.Consistent.{FindsNothing, sound_from_parts, sound_header, sound_tables}

@@ -1,37 +1,30 @@
 -- The writes of an allocation: a new block's bytes, its entry in the table, and a refcount. After each of them
 -- the file is sound, and what is kept is its refcounts.
-use Rattle.std.proofs.Common.{◌≡◌, ◌≢◌, ℕ, zero, suc, ◌+◌, ◌*◌, ◌/◌, ◌%◌, ◌^◌, ◌<◌, ◌≤◌, ◌⊎◌, inl, inr, Bool, true, false, not, ◌&&◌, ◌||◌, cond, eqb, ltb, List, [], ◌∷◌, length, get_or, slice_index, count_by, Option, None, refl, sym, ap, subst, ◌∙◌, arith, eq-eqb}
-use Rattle.std.specs.Option.{option_map}
-use Rattle.std.specs.List.{sum_by}
-use Rattle.std.proofs.Math.ListN.{set, length-set}
-use Rattle.std.proofs.lemmas.Bool.{ne_eqb, cases_lt, cases_eq, false≢true}
-use Rattle.std.proofs.lemmas.List.{get_or_past, get_or-set_same, get_or-set_other}
-use Rattle.std.proofs.lemmas.List.Sums.{sum_by-set}
-use Rattle.std.proofs.lemmas.Nat.{div-add-mod', div-mul-add, mod-mul-add, div_below}
-use Rattle.byteorder.specs.Endian.{big_bytes}
-use Rattle.byteorder.specs.Numbers.{length-bytes_high_first}
-use Rattle.q2_format.specs.Bytes.{number_at, words_at, ReadsAlike, IsWritten}
-use Rattle.q2_format.specs.Entry.{block_offset, has_reserved_in_refcount_table}
+use Rattle.std.proofs.Common.{◌≡◌, ◌≢◌, ℕ, ◌+◌, ◌*◌, ◌/◌, ◌%◌, ◌<◌, ◌≤◌, ◌⊎◌, inl, inr, ltb, List, [], ◌∷◌, length, get_or, slice_index, count_by, None, refl, sym, ap, subst, ◌∙◌, arith}
+use Rattle.std.proofs.lemmas.Bool.{cases_lt, cases_eq}
+use Rattle.std.proofs.lemmas.List.{get_or_past}
+use Rattle.std.proofs.lemmas.Nat.{div-add-mod'}
+use Rattle.q2_format.specs.Bytes.{ReadsAlike, IsWritten}
+use Rattle.q2_format.specs.Entry.{block_offset}
 use Rattle.q2_format.specs.Header.{header_of, header_refusal, refused_where, cluster_bits_of, format_refusal, profile_refusal, name_refusal, extension_refusal, size_refusal}
 use Rattle.q2_format.specs.declared.header.HeaderStop.TheVariants.{Short}
-use Rattle.q2_format.specs.References.{names_cluster, in_run, structure_uses, tree_uses, uses}
-use Rattle.q2_format.specs.Sizes.{cluster_size, clusters_for, entries_in_cluster, refcount_bytes, block_entries}
-use Rattle.q2_format.specs.Sound.{is_misplaced, lowest, bad_block, reserved_in_refcount_table, IsSound, IsConsistent}
+use Rattle.q2_format.specs.References.{names_cluster, uses}
+use Rattle.q2_format.specs.Sizes.{cluster_size}
+use Rattle.q2_format.specs.Sound.{is_misplaced, lowest, bad_block, IsSound}
 use Rattle.q2_format.specs.Tables.{active_tree, refcount_table, refcount_of}
 use Rattle.q2_format.specs.declared.header.Header.{Header}
-use Rattle.q2_format.proofs.ByPlace.{get_or-words_at, length-words_at, number_at-before, number_at-behind}
-use Rattle.q2_format.proofs.Consistent.{FindsNothing, sound_header, sound_tables, sound_is_consistent}
+use Rattle.q2_format.proofs.Consistent.{sound_header, sound_tables, sound_is_consistent}
 use Rattle.q2_format.proofs.Firsts.{first-none, lowest-none, none_lowest, option_map-none}
-use Rattle.q2_format.proofs.Frames.{placed_longer, cluster_before, written_number, words_at-set}
+use Rattle.q2_format.proofs.Frames.{placed_longer, cluster_before}
 use Rattle.q2_format.proofs.HeaderFrames.{header_alike, profile_bits, name_area}
 use Rattle.q2_format.proofs.Limits.{within_limits}
-use Rattle.q2_refs.specs.Allocating.{IsInStep, KeepsCounted, refcount_uses, with_one, with_block, place_of_block}
-use Rattle.q2_refs.specs.Kept.{Kept, IsCountsOf, IsShapedBy, per_block}
+use Rattle.q2_refs.specs.Allocating.{IsInStep, KeepsCounted}
+use Rattle.q2_refs.specs.Kept.{Kept, IsCountsOf}
 use Rattle.q2_refs.specs.Loading.{HasShape}
-use Rattle.q2_refs.proofs.Ranges.{in_block, block_at, width_two, block_is_whole}
+use Rattle.q2_refs.proofs.Ranges.{in_block, block_at}
 use Rattle.q2_refs.proofs.SoundAfter.{StaysSound, sound_after}
-use Rattle.q2_refs.proofs.Uses.{IsApart, block_uses, table_run, unused_apart, block_apart, blocks_differ, table_apart, names_it, names_another, count_zero, false_unless, run_has, uses_parts}
-use Rattle.q2_refs.proofs.Writes.{IsWithin, table_stays, tree_stays, header_stays, count_stays, blocks_whole, whole_of}
+use Rattle.q2_refs.proofs.Uses.{IsApart, block_uses, table_run, unused_apart, names_another, count_zero}
+use Rattle.q2_refs.proofs.Writes.{IsWithin, table_stays, tree_stays, header_stays, count_stays}
 
 pub sound_shape : (file : List ℕ) → IsSound file → HasShape (header_of file)
 sound_shape file sound =

@@ -1,12 +1,12 @@
 -- How often clusters are named, and what a cluster that isn't named, or named by one thing alone, is apart from.
-use Rattle.std.proofs.Common.{◌≡◌, ◌≢◌, ℕ, zero, suc, ◌+◌, ◌*◌, ◌/◌, ◌%◌, ◌<◌, ◌≤◌, ◌⊎◌, inl, inr, Bool, true, false, not, ◌&&◌, ◌||◌, cond, eqb, ltb, List, [], ◌∷◌, length, get_or, count_by, refl, sym, ap, ◌∙◌, arith, eq-eqb}
+use Rattle.std.proofs.Common.{◌≡◌, ◌≢◌, ℕ, zero, suc, ◌+◌, ◌*◌, ◌/◌, ◌<◌, ◌≤◌, ◌⊎◌, inl, inr, Bool, true, false, cond, eqb, List, [], ◌∷◌, length, get_or, count_by, refl, sym, ap, ◌∙◌, arith, eq-eqb}
 use Rattle.std.specs.List.{sum_by}
 use Rattle.std.proofs.lemmas.Bool.{ne_eqb, cases_lt, le-ltb, lt-ltb, false≢true}
 use Rattle.std.proofs.lemmas.List.Sums.{sum_by-cons}
 use Rattle.q2_format.specs.Entry.{host_offset, block_offset}
 use Rattle.q2_format.specs.References.{names_cluster, in_run, own_offset, structure_uses, tree_uses, uses}
 use Rattle.q2_format.specs.Sizes.{cluster_size, clusters_for}
-use Rattle.q2_format.specs.Tables.{active_tree, refcount_table}
+use Rattle.q2_format.specs.Tables.{Tree, active_tree, refcount_table}
 use Rattle.q2_format.specs.declared.header.Header.{Header}
 
 -- Counts of words that pass a test.
@@ -76,11 +76,17 @@ header_uses cluster = cond (eqb cluster 0) 1 0
 abbrev pub block_uses : List ℕ → Header → ℕ → ℕ
 block_uses file h cluster = count_by (λ word. names_cluster (cluster_size h.cluster_bits) cluster (block_offset word)) (refcount_table file h)
 
+abbrev pub table_uses_in : ℕ → Tree → ℕ → ℕ
+table_uses_in c tree cluster = count_by (λ word. names_cluster c cluster (host_offset word)) tree.l1
+
 abbrev pub table_uses : List ℕ → Header → ℕ → ℕ
-table_uses file h cluster = count_by (λ word. names_cluster (cluster_size h.cluster_bits) cluster (host_offset word)) (active_tree file h).l1
+table_uses file h cluster = table_uses_in (cluster_size h.cluster_bits) (active_tree file h) cluster
+
+abbrev pub host_uses_in : ℕ → Tree → ℕ → ℕ
+host_uses_in c tree cluster = sum_by (λ table. count_by (λ word. names_cluster c cluster (own_offset word)) table) tree.l2
 
 abbrev pub host_uses : List ℕ → Header → ℕ → ℕ
-host_uses file h cluster = sum_by (λ table. count_by (λ word. names_cluster (cluster_size h.cluster_bits) cluster (own_offset word)) table) (active_tree file h).l2
+host_uses file h cluster = host_uses_in (cluster_size h.cluster_bits) (active_tree file h) cluster
 
 abbrev pub table_run : Header → ℕ → ℕ
 table_run h cluster = in_run (cluster_size h.cluster_bits) cluster h.ref_offset h.ref_clusters

@@ -1,28 +1,26 @@
 -- What a write into one cluster leaves: the header, the refcount table, the tree, and the refcounts in other blocks.
-use Rattle.std.proofs.Common.{◌≡◌, ◌≢◌, ℕ, ◌+◌, ◌*◌, ◌/◌, ◌%◌, ◌<◌, ◌≤◌, ◌⊎◌, inl, inr, false, not, ◌||◌, eqb, ltb, List, [], ◌∷◌, length, get_or, slice_index, None, refl, sym, ap, ◌∙◌, arith}
-use Rattle.std.specs.Option.{option_map}
+use Rattle.std.proofs.Common.{◌≡◌, ◌≢◌, ℕ, ◌+◌, ◌*◌, ◌/◌, ◌%◌, ◌<◌, ◌≤◌, ◌⊎◌, inl, inr, false, not, ◌||◌, eqb, ltb, List, length, get_or, None, refl, ap, ◌∙◌, arith}
 use Rattle.std.proofs.lemmas.Bool.{or_parts, not-false, eqb-true, cases_lt}
 use Rattle.std.proofs.lemmas.Grind.{div_ceil_times}
 use Rattle.std.proofs.lemmas.List.{get_or_past}
 use Rattle.std.proofs.Math.Nat.{mul-le-mul_left}
 use Rattle.std.proofs.lemmas.Nat.{div-add-mod'}
-use Rattle.q2_format.specs.Bytes.{number_at, words_at, ReadsAlike, IsWritten}
+use Rattle.q2_format.specs.Bytes.{words_at, ReadsAlike, IsWritten}
 use Rattle.q2_format.specs.Entry.{host_offset, block_offset}
-use Rattle.q2_format.specs.Header.{header_of, header_refusal, refused_where}
 use Rattle.q2_format.specs.References.{names_cluster}
 use Rattle.q2_format.specs.Sizes.{cluster_size, clusters_for, entries_in_cluster, l1_entries_for, refcount_bytes}
 use Rattle.q2_format.specs.Sound.{is_misplaced, lowest, bad_refcount_table, bad_l1_table, bad_block, bad_l2_table}
-use Rattle.q2_format.specs.Tables.{Tree, active_tree, refcount_table, refcount_of, tree_at}
+use Rattle.q2_format.specs.Tables.{Tree, active_tree, refcount_table, refcount_of}
 use Rattle.q2_format.specs.declared.header.Header.{Header}
 use Rattle.q2_format.proofs.ByPlace.{number_at-within}
 use Rattle.q2_format.proofs.Consistent.{FindsNothing}
 use Rattle.q2_format.proofs.Firsts.{lowest-none, option_map-none, refused_where-none}
 use Rattle.q2_format.proofs.Frames.{words_at-alike, cluster_before}
-use Rattle.q2_format.proofs.TreeFrames.{TablesAlike, tree_at-alike}
+use Rattle.q2_format.proofs.TreeFrames.{tree_at-alike}
 use Rattle.q2_format.proofs.Trees.{l1_of_tree, length_l1}
 use Rattle.q2_refs.specs.Loading.{HasShape}
 use Rattle.q2_refs.proofs.Ranges.{in_block, block_at, width_two, block_is_whole}
-use Rattle.q2_refs.proofs.Uses.{IsApart, table_run, l1_run, table_uses, run_lacks, names_another, count_zero}
+use Rattle.q2_refs.proofs.Uses.{IsApart, table_run, table_uses, run_lacks, names_another, count_zero}
 
 -- Offsets in their places.
 
@@ -91,7 +89,7 @@ l2_placed c len tree none i h =
     let nowhere = option_map-none (λ k. host_offset (get_or tree.l1 k 0)) (lowest (λ k. is_misplaced c len (host_offset (get_or tree.l1 k 0))) (length tree.l1)) none in
     lowest-none (λ k. is_misplaced c len (host_offset (get_or tree.l1 k 0))) (length tree.l1) nowhere i h
 
-block_placed : (c len : ℕ) (table : List ℕ) → bad_block c len table ≡ None → (i : ℕ) → i < length table → is_misplaced c len (block_offset (get_or table i 0)) ≡ false
+pub block_placed : (c len : ℕ) (table : List ℕ) → bad_block c len table ≡ None → (i : ℕ) → i < length table → is_misplaced c len (block_offset (get_or table i 0)) ≡ false
 unfolding bad_block
 block_placed c len table none i h =
     let nowhere = option_map-none (λ k. block_offset (get_or table k 0)) (lowest (λ k. is_misplaced c len (block_offset (get_or table k 0))) (length table)) none in
