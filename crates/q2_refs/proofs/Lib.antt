@@ -8,3 +8,5 @@ pub mod SoundAfter
 pub mod Steps
 pub mod CountStep
 pub mod BlockStep
+pub mod Made
+pub mod Placing

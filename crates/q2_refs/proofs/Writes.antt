@@ -1,6 +1,6 @@
 -- What a write into one cluster leaves: the header, the refcount table, the tree, and the refcounts in other blocks.
 use Rattle.std.proofs.Common.{◌≡◌, ◌≢◌, ℕ, ◌+◌, ◌*◌, ◌/◌, ◌%◌, ◌<◌, ◌≤◌, ◌⊎◌, inl, inr, false, not, ◌||◌, eqb, ltb, List, length, get_or, None, refl, ap, ◌∙◌, arith}
-use Rattle.std.proofs.lemmas.Bool.{or_parts, not-false, eqb-true, cases_lt}
+use Rattle.std.proofs.lemmas.Bool.{or_parts, not-false, eqb-true, ltb-true, cases_lt}
 use Rattle.std.proofs.lemmas.Grind.{div_ceil_times}
 use Rattle.std.proofs.lemmas.List.{get_or_past}
 use Rattle.std.proofs.Math.Nat.{mul-le-mul_left}
@@ -28,6 +28,11 @@ pub whole_of : (c len offset : ℕ) → is_misplaced c len offset ≡ false → 
 whole_of c len offset placed =
     let parts = or_parts (not (eqb (offset % c) 0)) (not (ltb offset len)) placed in
     eqb-true (offset % c) 0 (not-false (eqb (offset % c) 0) parts.0)
+
+pub below_of : (c len offset : ℕ) → is_misplaced c len offset ≡ false → offset < len
+below_of c len offset placed =
+    let parts = or_parts (not (eqb (offset % c) 0)) (not (ltb offset len)) placed in
+    ltb-true offset len (not-false (ltb offset len) parts.1)
 
 pub table_placed : (h : Header) (len : ℕ) → bad_refcount_table h len ≡ None → (eqb h.ref_clusters 0 ≡ false) × (is_misplaced (cluster_size h.cluster_bits) len h.ref_offset ≡ false)
 unfolding bad_refcount_table

@@ -1,5 +1,8 @@
 -- Taking a cluster: what is kept afterwards, what the file is, and what of it stays.
-use Rattle.std.specs.Prelude.{◌≡◌, ◌≢◌, ℕ, ◌+◌, ◌*◌, ◌/◌, ◌==◌, if◌then◌else◌, List, count_by, slice_index, slice_set}
+use Rattle.std.specs.Prelude.{◌≡◌, ◌≢◌, ℕ, ◌+◌, ◌*◌, ◌/◌, ◌%◌, ◌<◌, max, ◌==◌, if◌then◌else◌, List, count_by, slice_index, slice_set}
+use Rattle.blk_base.specs.Counts.{Rose}
+use Rattle.blk_base.specs.declared.fault.DevStop.{DevStop}
+use Rattle.blk_base.specs.declared.fault.DevStop.TheVariants.{Io, NoSpace}
 use Rattle.q2_format.specs.Sizes.{cluster_size}
 use Rattle.q2_format.specs.Entry.{block_offset}
 use Rattle.q2_format.specs.Header.{header_of}
@@ -51,3 +54,25 @@ pub record KeepsCounted (old new : List ℕ) (h : Header) : Type 0 where
   pub structure : (k : ℕ) → refcount_of old h k ≢ 0 → refcount_uses new h k ≡ refcount_uses old h k
   pub bytes : (i : ℕ) → refcount_of old h (i / cluster_size h.cluster_bits) ≢ 0 → refcount_uses old h (i / cluster_size h.cluster_bits) ≡ 0
       → slice_index new i ≡ slice_index old i
+
+-- the bytes behind the last that a new block takes, and that its entry in the table takes
+abbrev pub end_of_block : Kept → ℕ → ℕ
+end_of_block kept i = let c = cluster_size kept.cluster_bits in
+    max (place_of_block kept i * c + c) (kept.table_offset + 8 * i + 8)
+
+-- where the refcount of a cluster is, whose block is there
+abbrev pub count_place : Kept → ℕ → ℕ
+count_place kept n = block_offset (slice_index kept.table (n / per_block kept)) + n % per_block kept * 2
+
+-- the byte behind the last that a call writes which gives cluster n
+abbrev pub end_of_allocation : Kept → ℕ → ℕ
+end_of_allocation kept n =
+    let i = n / per_block kept in
+    let count = count_place (with_block_for kept n) n + 2 in
+    if block_offset (slice_index kept.table i) == 0 then max (end_of_block kept i) count else count
+
+-- A failed call is answered only where the device's count rose, and names the count; want of space only where
+-- the call would write behind the capacity.
+abbrev pub HasDevCause : ℕ → ℕ → ℕ → ℕ → DevStop → Type 0
+HasDevCause before now capacity end (Io count) = Rose before count × (count ≡ now)
+HasDevCause before now capacity end NoSpace = capacity < end

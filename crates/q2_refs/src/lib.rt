@@ -5,6 +5,7 @@ mod entries;
 mod loading;
 mod refs;
 mod stop;
+mod writing;
 
 pub use loading::load_refs;
 pub use refs::Refs;

@@ -1,5 +1,5 @@
 //! Reading the refcount table and the blocks that it names.
-ghost use Rattle.std.specs.Prelude.{◌≡◌, ◌+◌, ◌-◌, ◌*◌, ◌^◌, ◌<◌, ◌≤◌, ℕ, List, length, slice_index, None, Some, IfOk, IfErr, OnOk};
+ghost use Rattle.std.specs.Prelude.{◌≡◌, ◌+◌, ◌-◌, ◌*◌, ◌%◌, ◌^◌, ◌<◌, ◌≤◌, ℕ, List, length, slice_index, None, Some, IfOk, IfErr, OnOk};
 ghost use Rattle.std.specs.Option.{option_map};
 ghost use Rattle.blk_base.specs.Content.{bytes_at};
 ghost use Rattle.q2_format.specs.Bytes.{number_at, words_at};
@@ -285,6 +285,8 @@ fn open_table<D: Device>(alloc: Global, dev: &mut D, h: &Header) -> Result<Vec<u
 /// What is kept of a table and its counts.
 fn refs_of(h: &Header, table: Vec<u64>, counts: Vec<u16>, buffer: Vec<u8>) -> Refs
     requires shape { HasShape h.now }
+    requires place { h.now.ref_offset % cluster_size h.now.cluster_bits ≡ 0 }
+    requires low { h.now.ref_offset < 2 ^ 40 }
     requires table { length table.items ≡ table_entries h.now }
     requires blocks { AreWholeClusters (cluster_size h.now.cluster_bits) table.items }
     requires reach { length counts.items ≤ table_reach h.now }

@@ -1,0 +1,90 @@
+//! Writes to a device: entries of a table, which are written whole or not at all, and clusters.
+ghost use Rattle.std.specs.Prelude.{◌≡◌, ◌+◌, ◌*◌, ◌%◌, ◌<◌, ◌≤◌, max, ℕ, length, take, slice_index, option_map, IfErr, OnOk, OnErr};
+ghost use Rattle.blk_base.specs.Content.{with_bytes};
+ghost use Rattle.byteorder.specs.Endian.{big_bytes};
+ghost use Rattle.q2_format.specs.Bytes.{number_at};
+ghost use Rattle.q2_refs.specs.Allocating.{HasDevCause};
+
+use blk_base::{DevStop, Device, Stop};
+use byteorder::{BigEndian, ByteOrder};
+
+/// The 8 bytes of a word.
+pub(crate) fn word_bytes(word: u64) -> [u8; 8]
+    ensures { result ≡ big_bytes 8 word }
+{
+    let mut bytes = [0; 8];
+    BigEndian::write_u64(&mut bytes, word);
+    bytes
+}
+
+/// The 2 bytes of a refcount.
+pub(crate) fn count_bytes(count: u16) -> [u8; 2]
+    ensures { result ≡ big_bytes 2 count }
+{
+    let mut bytes = [0; 2];
+    BigEndian::write_u16(&mut bytes, count);
+    bytes
+}
+
+fn clear(block: &mut [u8])
+    ensures { (i : ℕ) → slice_index block.new i ≡ 0 }
+{
+    block.fill(0);
+}
+
+/// Makes a refcount block whose first cluster counts one, and no other.
+pub(crate) fn make_block(block: &mut [u8])
+    requires { 2 ≤ length block.old }
+    ensures own { number_at block.new 0 2 ≡ 1 }
+    ensures others { (j : ℕ) → 0 < j → number_at block.new (j * 2) 2 ≡ 0 }
+{
+    clear(block);
+    BigEndian::write_u16(block, 1);
+}
+
+/// Writes bytes of one sector. After a refusal the device's bytes are as before.
+pub(crate) fn write_entry<D: Device>(dev: &mut D, at: u64, bytes: &[u8]) -> Result<(), DevStop>
+    requires some { 0 < length bytes.now }
+    requires sector { at % 512 + length bytes.now ≤ 512 }
+    ensures written { OnOk result (D.content dev.new ≡ option_map (λ b. with_bytes b at bytes.now) (D.content dev.old)) }
+    ensures grown { OnOk result (D.size dev.new ≡ max (D.size dev.old) (at + length bytes.now)) }
+    ensures fits { OnOk result (at + length bytes.now ≤ D.capacity dev.old) }
+    ensures unwritten { OnErr result (D.content dev.new ≡ D.content dev.old) }
+    ensures same_size { OnErr result (D.size dev.new ≡ D.size dev.old) }
+    ensures cause { IfErr result (HasDevCause (D.faults dev.old) (D.faults dev.new) (D.capacity dev.old) (at + length bytes.now)) }
+    ensures faults { D.faults dev.old ≤ D.faults dev.new }
+    ensures capacity { D.capacity dev.new ≡ D.capacity dev.old }
+{
+    match dev.write_at(at, bytes) {
+        Ok(()) => Ok(()),
+        Err(stop) => match stop.why {
+            Stop::Failed => Err(DevStop::Io {
+                count: dev.faults(),
+            }),
+            Stop::NoSpace => Err(DevStop::NoSpace),
+        },
+    }
+}
+
+/// Writes bytes. After a refusal some of the first of them are written.
+pub(crate) fn write_bytes<D: Device>(dev: &mut D, at: u64, bytes: &[u8]) -> Result<(), DevStop>
+    requires some { 0 < length bytes.now }
+    ensures written { OnOk result (D.content dev.new ≡ option_map (λ b. with_bytes b at bytes.now) (D.content dev.old)) }
+    ensures partly { OnErr result ((n : ℕ) × (D.content dev.new ≡ option_map (λ b. with_bytes b at (take n bytes.now)) (D.content dev.old))) }
+    ensures grown { OnOk result (D.size dev.new ≡ max (D.size dev.old) (at + length bytes.now)) }
+    ensures fits { OnOk result (at + length bytes.now ≤ D.capacity dev.old) }
+    ensures grows { D.size dev.old ≤ D.size dev.new }
+    ensures cause { IfErr result (HasDevCause (D.faults dev.old) (D.faults dev.new) (D.capacity dev.old) (at + length bytes.now)) }
+    ensures faults { D.faults dev.old ≤ D.faults dev.new }
+    ensures capacity { D.capacity dev.new ≡ D.capacity dev.old }
+{
+    match dev.write_at(at, bytes) {
+        Ok(()) => Ok(()),
+        Err(stop) => match stop.why {
+            Stop::Failed => Err(DevStop::Io {
+                count: dev.faults(),
+            }),
+            Stop::NoSpace => Err(DevStop::NoSpace),
+        },
+    }
+}
