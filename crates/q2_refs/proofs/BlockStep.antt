@@ -39,7 +39,7 @@ unfolding refcount_table
 length_table file h = length-words_at file h.ref_offset (h.ref_clusters * entries_in_cluster (cluster_size h.cluster_bits))
 
 -- the offset of a cluster reads as itself in an entry
-reads_back : (f : ℕ) → f < 2 ^ 30 → block_offset (f * 65536) ≡ f * 65536
+pub reads_back : (f : ℕ) → f < 2 ^ 30 → block_offset (f * 65536) ≡ f * 65536
 reads_back f small = omega arith
 
 no_reserved : (f : ℕ) → has_reserved_in_refcount_table (f * 65536) ≡ false

@@ -10,3 +10,4 @@ pub mod CountStep
 pub mod BlockStep
 pub mod Made
 pub mod Placing
+pub mod Told

@@ -1,5 +1,5 @@
 -- Taking a cluster: what is kept afterwards, what the file is, and what of it stays.
-use Rattle.std.specs.Prelude.{◌≡◌, ◌≢◌, ℕ, ◌+◌, ◌*◌, ◌/◌, ◌%◌, ◌<◌, max, ◌==◌, if◌then◌else◌, List, count_by, slice_index, slice_set}
+use Rattle.std.specs.Prelude.{◌≡◌, ◌≢◌, ℕ, ◌+◌, ◌*◌, ◌/◌, ◌%◌, ◌<◌, max, ◌==◌, if◌then◌else◌, ⊤, List, length, count_by, slice_index, slice_set}
 use Rattle.blk_base.specs.Counts.{Rose}
 use Rattle.blk_base.specs.declared.fault.DevStop.{DevStop}
 use Rattle.blk_base.specs.declared.fault.DevStop.TheVariants.{Io, NoSpace}
@@ -10,6 +10,8 @@ use Rattle.q2_format.specs.References.{names_cluster, in_run, uses}
 use Rattle.q2_format.specs.Sound.{IsSound}
 use Rattle.q2_format.specs.Tables.{active_tree, refcount_table, refcount_of}
 use Rattle.q2_format.specs.declared.header.Header.{Header}
+use Rattle.q2_refs.specs.declared.allocating.RefStop.{RefStop}
+use Rattle.q2_refs.specs.declared.allocating.RefStop.TheVariants.{Dev, HostLimit}
 use Rattle.q2_refs.specs.Kept.{Kept, IsCountsOf, per_block}
 
 -- the file is sound, and what is kept is its refcounts
@@ -76,3 +78,16 @@ end_of_allocation kept n =
 abbrev pub HasDevCause : ℕ → ℕ → ℕ → ℕ → DevStop → Type 0
 HasDevCause before now capacity end (Io count) = Rose before count × (count ≡ now)
 HasDevCause before now capacity end NoSpace = capacity < end
+
+-- the same for an allocation, of which a full image has its own cause
+abbrev pub HasRefCause : ℕ → ℕ → ℕ → ℕ → RefStop → Type 0
+HasRefCause before now capacity end (Dev stop) = HasDevCause before now capacity end stop
+HasRefCause before now capacity end HostLimit = ⊤
+
+-- what is kept of one image before and after
+pub record IsAlike (old new : Kept) : Type 0 where
+  pub cluster_bits : new.cluster_bits ≡ old.cluster_bits
+  pub refcount_order : new.refcount_order ≡ old.refcount_order
+  pub table_offset : new.table_offset ≡ old.table_offset
+  pub table : length new.table ≡ length old.table
+  pub reach : length new.counts ≡ length old.counts

@@ -76,7 +76,7 @@ impl Refs {
     }
 
     /// The clusters that one refcount block counts.
-    fn per_block(&self) -> usize
+    pub(crate) fn per_block(&self) -> usize
         ensures { result ≡ per_block self.now }
     {
         (8 << self.cluster_bits) >> self.refcount_order

@@ -9,7 +9,7 @@ use blk_base::{DevStop, Device, Stop};
 use byteorder::{BigEndian, ByteOrder};
 
 /// The 8 bytes of a word.
-pub(crate) fn word_bytes(word: u64) -> [u8; 8]
+fn word_bytes(word: u64) -> [u8; 8]
     ensures { result ≡ big_bytes 8 word }
 {
     let mut bytes = [0; 8];
@@ -67,7 +67,7 @@ pub(crate) fn write_entry<D: Device>(dev: &mut D, at: u64, bytes: &[u8]) -> Resu
 }
 
 /// Writes bytes. After a refusal some of the first of them are written.
-pub(crate) fn write_bytes<D: Device>(dev: &mut D, at: u64, bytes: &[u8]) -> Result<(), DevStop>
+fn write_bytes<D: Device>(dev: &mut D, at: u64, bytes: &[u8]) -> Result<(), DevStop>
     requires some { 0 < length bytes.now }
     ensures written { OnOk result (D.content dev.new ≡ option_map (λ b. with_bytes b at bytes.now) (D.content dev.old)) }
     ensures partly { OnErr result ((n : ℕ) × (D.content dev.new ≡ option_map (λ b. with_bytes b at (take n bytes.now)) (D.content dev.old))) }
@@ -87,4 +87,27 @@ pub(crate) fn write_bytes<D: Device>(dev: &mut D, at: u64, bytes: &[u8]) -> Resu
             Stop::NoSpace => Err(DevStop::NoSpace),
         },
     }
+}
+
+/// Writes a new refcount block at `offset`, and then its entry in the refcount table. After a refusal some of
+/// the block's first bytes are written, and the entry isn't.
+pub(crate) fn write_block<D: Device>(
+    dev: &mut D,
+    offset: u64,
+    entry: u64,
+    block: &[u8],
+) -> Result<(), DevStop>
+    requires some { 0 < length block.now }
+    requires sector { entry % 512 + 8 ≤ 512 }
+    ensures written { OnOk result (D.content dev.new
+        ≡ option_map (λ b. with_bytes (with_bytes b offset block.now) entry (big_bytes 8 offset)) (D.content dev.old)) }
+    ensures partly { OnErr result ((n : ℕ) × (D.content dev.new ≡ option_map (λ b. with_bytes b offset (take n block.now)) (D.content dev.old))) }
+    ensures fits { OnOk result (max (offset + length block.now) (entry + 8) ≤ D.capacity dev.old) }
+    ensures grows { D.size dev.old ≤ D.size dev.new }
+    ensures cause { IfErr result (HasDevCause (D.faults dev.old) (D.faults dev.new) (D.capacity dev.old) (max (offset + length block.now) (entry + 8))) }
+    ensures faults { D.faults dev.old ≤ D.faults dev.new }
+    ensures capacity { D.capacity dev.new ≡ D.capacity dev.old }
+{
+    write_bytes(dev, offset, block)?;
+    write_entry(dev, entry, &word_bytes(offset))
 }

@@ -1,0 +1,137 @@
+//! Taking clusters that nothing uses.
+ghost use Rattle.std.specs.Prelude.{◌≡◌, ◌≢◌, ◌↔◌, ◌+◌, ◌*◌, ◌/◌, ◌%◌, ◌<◌, ◌≤◌, ℕ, true, List, [], ◌∷◌, length, slice_index, Some, Err, IfOk, IfErr, OnOk, OnErr};
+ghost use Rattle.q2_format.specs.Entry.{block_offset};
+ghost use Rattle.q2_format.specs.Header.{header_of};
+ghost use Rattle.q2_format.specs.References.{uses};
+ghost use Rattle.q2_format.specs.Sizes.{cluster_size};
+ghost use Rattle.q2_format.specs.declared.header.TheConstants.{MAX_FILE_CLUSTERS};
+ghost use Rattle.q2_refs.specs.Free.{free_clusters, will_be_given};
+ghost use Rattle.q2_refs.specs.Kept.{per_block};
+
+use crate::entries::block_offset;
+use crate::loading::first_free;
+use crate::refs::Refs;
+use crate::writing::{count_bytes, make_block, write_block, write_entry};
+use blk_base::{DevStop, Device};
+
+/// Why no cluster was given.
+#[derive(Clone, Copy, Debug, PartialEq, Eq)]
+pub enum RefStop {
+    /// A call of the device failed, or a write would have ended above its capacity.
+    Dev(DevStop),
+    /// The cluster that would be given isn't below the reach. Nothing was written.
+    HostLimit,
+}
+
+impl From<DevStop> for RefStop {
+    ghost use Rattle.std.specs.Prelude.{◌≡◌};
+    ghost use Rattle.q2_refs.specs.declared.allocating.RefStop.TheVariants.{Dev};
+
+    ghost from_gives = { λ dev stop. stop ≡ Dev dev };
+
+    fn from(stop: DevStop) -> Self {
+        RefStop::Dev(stop)
+    }
+}
+
+impl Refs {
+    ghost use Rattle.q2_refs.specs.Allocating.{IsInStep, KeepsCounted, HasDevCause, with_block, with_one, place_of_block, end_of_block, count_place};
+
+    /// Where the refcount of a cluster is, whose block is there.
+    fn count_place(&self, cluster: usize) -> u64
+        requires { cluster < length self.now.counts }
+        ensures place { result ≡ count_place self.now cluster }
+        ensures sector { result % 512 + 2 ≤ 512 }
+    {
+        let per_block = self.per_block();
+        block_offset(self.table[cluster / per_block]) + (cluster % per_block) as u64 * 2
+    }
+
+    /// Writes that a cluster whose refcount is 0, and whose block is there, counts one.
+    fn count_one<D: Device>(&mut self, dev: &mut D, cluster: usize) -> Result<(), DevStop>
+        requires cluster { cluster < length self.old.counts }
+        requires few { length self.old.counts ≤ MAX_FILE_CLUSTERS }
+        requires free { slice_index self.old.counts cluster ≡ 0 }
+        requires there { (file : List ℕ) → D.content dev.old ≡ Some file → block_offset (slice_index self.old.table (cluster / per_block self.old)) ≢ 0 }
+        requires step { (file : List ℕ) → D.content dev.old ≡ Some file → IsInStep file self.old }
+        ensures ok { OnOk result (self.new ≡ with_one self.old cluster) }
+        ensures err { OnErr result (self.new ≡ self.old) }
+        ensures unwritten { OnErr result (D.content dev.new ≡ D.content dev.old) }
+        ensures step { (file : List ℕ) → D.content dev.new ≡ Some file → IsInStep file self.new }
+        ensures keeps { (old new : List ℕ) → D.content dev.old ≡ Some old → D.content dev.new ≡ Some new → KeepsCounted old new (header_of old) }
+        ensures fits { OnOk result (count_place self.old cluster + 2 ≤ D.capacity dev.old) }
+        ensures cause { IfErr result (HasDevCause (D.faults dev.old) (D.faults dev.new) (D.capacity dev.old) (count_place self.old cluster + 2)) }
+        ensures grows { D.size dev.old ≤ D.size dev.new }
+        ensures faults { D.faults dev.old ≤ D.faults dev.new }
+        ensures capacity { D.capacity dev.new ≡ D.capacity dev.old }
+    {
+        let at = self.count_place(cluster);
+        write_entry(dev, at, &count_bytes(1))?;
+        self.counts[cluster] = 1;
+        Ok(())
+    }
+
+    /// The offset of the cluster that block `i` is put into.
+    fn block_place(&self, i: usize) -> u64
+        requires { place_of_block self.now i < length self.now.counts }
+        ensures { result ≡ place_of_block self.now i * cluster_size self.now.cluster_bits }
+    {
+        let cluster_bits = self.cluster_bits;
+        ((i * self.per_block()) as u64) << cluster_bits
+    }
+
+    /// Where entry `i` of the refcount table is.
+    fn entry_place(&self, i: usize) -> u64
+        requires { i < length self.now.table }
+        ensures place { result ≡ self.now.table_offset + 8 * i }
+        ensures sector { result % 512 + 8 ≤ 512 }
+    {
+        self.table_offset + 8 * i as u64
+    }
+
+    /// Keeps that block `i` is in its place.
+    fn put_block(&mut self, i: usize)
+        requires entry { i < length self.old.table }
+        requires place { place_of_block self.old i < length self.old.counts }
+        ensures { self.new ≡ with_block self.old i }
+    {
+        let cluster = i * self.per_block();
+        let offset = self.block_place(i);
+        self.table[i] = offset;
+        self.counts[cluster] = 1;
+    }
+
+    /// Puts block `i`, which is absent, into the first cluster of its range: first its bytes, in which that
+    /// cluster counts one, and then its entry in the table, which makes it visible.
+    fn place_block<D: Device>(&mut self, dev: &mut D, i: usize) -> Result<(), DevStop>
+        requires entry { i < length self.old.table }
+        requires absent { block_offset (slice_index self.old.table i) ≡ 0 }
+        requires place { place_of_block self.old i < length self.old.counts }
+        requires few { length self.old.counts ≤ MAX_FILE_CLUSTERS }
+        requires step { (file : List ℕ) → D.content dev.old ≡ Some file → IsInStep file self.old }
+        ensures ok { OnOk result (self.new ≡ with_block self.old i) }
+        ensures err { OnErr result (self.new ≡ self.old) }
+        ensures there { OnOk result ((file : List ℕ) → D.content dev.new ≡ Some file → block_offset (slice_index self.new.table i) ≢ 0) }
+        ensures step { (file : List ℕ) → D.content dev.new ≡ Some file → IsInStep file self.new }
+        ensures keeps { (old new : List ℕ) → D.content dev.old ≡ Some old → D.content dev.new ≡ Some new → KeepsCounted old new (header_of old) }
+        ensures fits { OnOk result (end_of_block self.old i ≤ D.capacity dev.old) }
+        ensures cause { IfErr result (HasDevCause (D.faults dev.old) (D.faults dev.new) (D.capacity dev.old) (end_of_block self.old i)) }
+        ensures grows { D.size dev.old ≤ D.size dev.new }
+        ensures faults { D.faults dev.old ≤ D.faults dev.new }
+        ensures capacity { D.capacity dev.new ≡ D.capacity dev.old }
+    {
+        let offset = self.block_place(i);
+        let entry = self.entry_place(i);
+        make_block(self.buffer.as_mut_slice());
+        write_block(dev, offset, entry, self.buffer.as_slice())?;
+        self.put_block(i);
+        Ok(())
+    }
+
+    /// Moves the cursor up to the first cluster whose refcount is 0.
+    fn skip_taken(&mut self)
+        ensures { self.new ≡ self.old }
+    {
+        self.cursor = first_free(self.counts.as_slice(), self.cursor);
+    }
+}
