@@ -1,5 +1,5 @@
 -- The steps of an allocation over a device that may tell its bytes.
-use Rattle.std.proofs.Common.{◌≡◌, ◌≢◌, ℕ, ◌+◌, ◌*◌, ◌/◌, ◌<◌, ◌≤◌, List, length, take, slice_index, Option, Some, None, option_map, refl, sym, ap, subst, ◌∙◌, arith}
+use Rattle.std.proofs.Common.{◌≡◌, ◌≢◌, ℕ, ◌+◌, ◌*◌, ◌/◌, ◌<◌, ◌≤◌, List, length, take, slice_index, Option, Some, None, is_some, option_map, refl, sym, ap, subst, ◌∙◌, arith}
 use Rattle.std.proofs.lemmas.List.{get_or-set_same}
 use Rattle.blk_base.specs.Content.{with_bytes}
 use Rattle.byteorder.specs.Endian.{big_bytes}
@@ -99,3 +99,8 @@ module _ (o m : Option (List ℕ)) (kept : Kept) (n : ℕ) (can : CanCount o kep
       let P : List ℕ → Type 0 = λ x. KeepsCounted old x (header_of old) in
       subst P (told_after (λ b. with_bytes b (count_place kept n) (big_bytes 2 1)) o m old new is was told)
       (counted_keeps old kept n (step old was) can.below can.few (can.there old was) can.free)
+
+-- Where the one tells, the other does.
+pub told_between : (m n : Option (List ℕ)) (file : List ℕ) → is_some n ≡ is_some m → n ≡ Some file → (between : List ℕ) × (m ≡ Some between)
+told_between None n file same told = absurd (let now = rw told at same in cc)
+told_between (Some between) n file same told = (between, refl)

@@ -66,12 +66,15 @@ end_of_block kept i = let c = cluster_size kept.cluster_bits in
 abbrev pub count_place : Kept → ℕ → ℕ
 count_place kept n = block_offset (slice_index kept.table (n / per_block kept)) + n % per_block kept * 2
 
+-- the byte behind the last that putting the block of a cluster writes, and 0 where it is there
+abbrev pub end_of_block_for : Kept → ℕ → ℕ
+end_of_block_for kept n =
+    let i = n / per_block kept in
+    if block_offset (slice_index kept.table i) == 0 then end_of_block kept i else 0
+
 -- the byte behind the last that a call writes which gives cluster n
 abbrev pub end_of_allocation : Kept → ℕ → ℕ
-end_of_allocation kept n =
-    let i = n / per_block kept in
-    let count = count_place (with_block_for kept n) n + 2 in
-    if block_offset (slice_index kept.table i) == 0 then max (end_of_block kept i) count else count
+end_of_allocation kept n = max (end_of_block_for kept n) (count_place (with_block_for kept n) n + 2)
 
 -- A failed call is answered only where the device's count rose, and names the count; want of space only where
 -- the call would write behind the capacity.

@@ -1,5 +1,5 @@
 //! Writes to a device: entries of a table, which are written whole or not at all, and clusters.
-ghost use Rattle.std.specs.Prelude.{◌≡◌, ◌+◌, ◌*◌, ◌%◌, ◌<◌, ◌≤◌, max, ℕ, length, take, slice_index, option_map, IfErr, OnOk, OnErr};
+ghost use Rattle.std.specs.Prelude.{◌≡◌, ◌+◌, ◌*◌, ◌%◌, ◌<◌, ◌≤◌, max, ℕ, length, take, slice_index, option_map, is_some, IfErr, OnOk, OnErr};
 ghost use Rattle.blk_base.specs.Content.{with_bytes};
 ghost use Rattle.byteorder.specs.Endian.{big_bytes};
 ghost use Rattle.q2_format.specs.Bytes.{number_at};
@@ -52,6 +52,7 @@ pub(crate) fn write_entry<D: Device>(dev: &mut D, at: u64, bytes: &[u8]) -> Resu
     ensures unwritten { OnErr result (D.content dev.new ≡ D.content dev.old) }
     ensures same_size { OnErr result (D.size dev.new ≡ D.size dev.old) }
     ensures cause { IfErr result (HasDevCause (D.faults dev.old) (D.faults dev.new) (D.capacity dev.old) (at + length bytes.now)) }
+    ensures told { is_some (D.content dev.new) ≡ is_some (D.content dev.old) }
     ensures faults { D.faults dev.old ≤ D.faults dev.new }
     ensures capacity { D.capacity dev.new ≡ D.capacity dev.old }
 {
@@ -75,6 +76,7 @@ fn write_bytes<D: Device>(dev: &mut D, at: u64, bytes: &[u8]) -> Result<(), DevS
     ensures fits { OnOk result (at + length bytes.now ≤ D.capacity dev.old) }
     ensures grows { D.size dev.old ≤ D.size dev.new }
     ensures cause { IfErr result (HasDevCause (D.faults dev.old) (D.faults dev.new) (D.capacity dev.old) (at + length bytes.now)) }
+    ensures told { is_some (D.content dev.new) ≡ is_some (D.content dev.old) }
     ensures faults { D.faults dev.old ≤ D.faults dev.new }
     ensures capacity { D.capacity dev.new ≡ D.capacity dev.old }
 {
@@ -105,6 +107,7 @@ pub(crate) fn write_block<D: Device>(
     ensures fits { OnOk result (max (offset + length block.now) (entry + 8) ≤ D.capacity dev.old) }
     ensures grows { D.size dev.old ≤ D.size dev.new }
     ensures cause { IfErr result (HasDevCause (D.faults dev.old) (D.faults dev.new) (D.capacity dev.old) (max (offset + length block.now) (entry + 8))) }
+    ensures told { is_some (D.content dev.new) ≡ is_some (D.content dev.old) }
     ensures faults { D.faults dev.old ≤ D.faults dev.new }
     ensures capacity { D.capacity dev.new ≡ D.capacity dev.old }
 {

@@ -1,4 +1,4 @@
-use Rattle.std.proofs.Common.{◌≡◌, ℕ, ◌*◌, ◌<◌, length, ap, arith}
+use Rattle.std.proofs.Common.{length, ap, arith}
 use Rattle.q2_refs.specs.Kept.{Kept}
 use Rattle.q2_refs.proofs.refs.Refs.block_place.Goals as goal
 

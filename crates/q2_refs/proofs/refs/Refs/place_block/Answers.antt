@@ -1,10 +1,10 @@
-use Rattle.std.proofs.Common.{◌≡◌, ◌≢◌, ℕ, ◌+◌, ◌*◌, List, length, slice_index, take, drop, Option, Some, option_map, refl, sym, ap, subst, ◌∙◌, arith}
+use Rattle.std.proofs.Common.{◌≡◌, ◌≢◌, ℕ, List, length, slice_index, take, drop, Option, Some, option_map, refl, sym, ap, subst, ◌∙◌, arith}
 use Rattle.std.proofs.lemmas.List.{take_at}
 use Rattle.blk_base.specs.Content.{with_bytes}
 use Rattle.byteorder.specs.Endian.{big_bytes}
 use Rattle.q2_format.specs.Entry.{block_offset}
 use Rattle.q2_format.specs.Sizes.{cluster_size}
-use Rattle.q2_refs.specs.Allocating.{place_of_block, with_block}
+use Rattle.q2_refs.specs.Allocating.{with_block}
 use Rattle.q2_refs.specs.Kept.{Kept}
 use Rattle.q2_refs.proofs.Told.{CanBePlaced, InStep, block_place, partly_step, partly_stays, placed_step, placed_stays, placed_there}
 use Rattle.q2_refs.proofs.refs.Refs.place_block.Goals as goal
