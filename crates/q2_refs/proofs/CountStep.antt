@@ -136,7 +136,7 @@ module _ (old new : List ℕ) (kept : Kept) (n : ℕ) (step : IsInStep old kept)
   one : refcount_of new h n ≡ 1
   one = number_of n refl new same_block ∙ written_number old new (count_at old h n) 2 1 written (omega arith)
 
-  same_uses : (j : ℕ) → uses new h j ≡ uses old h j
+  pub same_uses : (j : ℕ) → uses new h j ≡ uses old h j
   same_uses j = uses_alike old new h j same_table same_tree
 
   lies_on_block : refcount_uses old h k ≡ 0 → ⊥

@@ -1,16 +1,16 @@
 -- The numbers below n that pass a test, in order.
-use Rattle.std.proofs.Common.{◌≡◌, ℕ, zero, suc, ◌+◌, ◌-◌, ◌*◌, ◌/◌, ◌%◌, ◌<◌, ◌≤◌, ◌≢◌, inl, inr, Bool, true, false, not, ◌&&◌, ◌||◌, eqb, eq-eqb, List, [], ◌∷◌, ◌++◌, length, filter, get_or, slice_index, refl, sym, ap, ◌∙◌, arith, length-append}
+use Rattle.std.proofs.Common.{◌≡◌, ℕ, zero, suc, ◌+◌, ◌-◌, ◌*◌, ◌/◌, ◌%◌, ◌<◌, ◌≤◌, ◌≢◌, ◌⊎◌, inl, inr, Bool, true, false, not, ◌&&◌, ◌||◌, eqb, eq-eqb, List, [], ◌∷◌, ◌++◌, length, filter, get_or, slice_index, refl, sym, ap, subst, ◌∙◌, arith, length-append}
 use Rattle.std.specs.List.{range_with_len}
 use Rattle.std.proofs.lemmas.Bool.{ne_eqb, false≢true, eqb-true, and_right, cases_eq}
 use Rattle.std.proofs.Math.Bool.{and-true}
-use Rattle.std.proofs.lemmas.Nat.{div-add-mod', div-mul-add, mod-mul-add}
+use Rattle.std.proofs.lemmas.Nat.{div-add-mod', div-mul-add, mod-mul-add, div_below}
 use Rattle.q2_format.specs.Entry.{block_offset}
-use Rattle.q2_format.specs.Sizes.{cluster_size}
+use Rattle.q2_format.specs.Sizes.{cluster_size, block_entries}
 use Rattle.std.proofs.Math.ListN.{set, length-set}
 use Rattle.std.proofs.lemmas.List.{get_or-append_right, append-nil, get_or-set_same, get_or-set_other}
 use Rattle.std.proofs.lemmas.List.Elements.{filter-append}
 use Rattle.q2_refs.specs.Kept.{Kept, per_block}
-use Rattle.q2_refs.specs.Allocating.{with_one, with_block, place_of_block}
+use Rattle.q2_refs.specs.Allocating.{with_one, with_block, with_block_for, place_of_block, IsAlike}
 use Rattle.q2_refs.specs.Free.{free_clusters, free_cluster, will_be_given}
 
 range-split : (a n m : ℕ) → range_with_len a (n + m) ≡ range_with_len a n ++ range_with_len (a + n) m
@@ -176,16 +176,16 @@ block_same kept i k some in_table in_counts absent =
     let column : f % e ≡ 0 = ap (λ (n : ℕ). n % e) start ∙ mod-mul-add i e 0 some in
     elim (cases_eq (k / e) i) [
       | inl here ↦ elim (cases_eq (k % e) 0) [
-          | inl first ↦
-              let is : k ≡ f = sym (div-add-mod' k e) ∙ ap (λ (a : ℕ). a * e + k % e) here ∙ ap (λ (b : ℕ). i * e + b) first ∙ sym start in
-              let one = ap (λ (n : ℕ). get_or (set kept.counts f 1) n 0) is ∙ get_or-set_same kept.counts f 1 0 in_counts in
-              taken_not_given (with_block kept i) k (λ none. omega (arith, none, one))
-              ∙ sym (given_place kept k first (ap (λ (n : ℕ). block_offset (get_or kept.table n 0)) here ∙ absent))
-          | inr later ↦
-              given_later (with_block kept i) k later
-              ∙ ap (λ (n : ℕ). eqb n 0) (get_or-set_other kept.counts f k 1 0 (λ is. later (ap (λ (n : ℕ). n % e) is ∙ column)))
-              ∙ sym (given_later kept k later)
-        ]
+        | inl first ↦
+            let is : k ≡ f = sym (div-add-mod' k e) ∙ ap (λ (a : ℕ). a * e + k % e) here ∙ ap (λ (b : ℕ). i * e + b) first ∙ sym start in
+            let one = ap (λ (n : ℕ). get_or (set kept.counts f 1) n 0) is ∙ get_or-set_same kept.counts f 1 0 in_counts in
+            taken_not_given (with_block kept i) k (λ none. omega (arith, none, one))
+            ∙ sym (given_place kept k first (ap (λ (n : ℕ). block_offset (get_or kept.table n 0)) here ∙ absent))
+        | inr later ↦
+            given_later (with_block kept i) k later
+            ∙ ap (λ (n : ℕ). eqb n 0) (get_or-set_other kept.counts f k 1 0 (λ is. later (ap (λ (n : ℕ). n % e) is ∙ column)))
+            ∙ sym (given_later kept k later)
+      ]
       | inr elsewhere ↦
           let word = get_or-set_other kept.table i (k / e) (f * cluster_size kept.cluster_bits) 0 elsewhere in
           let count = get_or-set_other kept.counts f k 1 0 (λ is. elsewhere (ap (λ (n : ℕ). n / e) is ∙ row)) in
@@ -210,3 +210,59 @@ free_with_one kept n rest below is =
     ∙ rest_passes (will_be_given kept) (will_be_given (with_one kept n)) 0 (length kept.counts) n rest passes.0
     (taken_not_given (with_one kept n) n (λ e. omega (arith, e, get_or-set_same kept.counts n 1 0 below)))
     (λ k inside other. let same = get_or-set_other kept.counts n k 1 0 other in rw same refl) is
+
+-- The same for the block of a cluster, which is put only where it is absent.
+
+for_absent : (kept : Kept) (n : ℕ) → block_offset (slice_index kept.table (n / per_block kept)) ≡ 0 → with_block_for kept n ≡ with_block kept (n / per_block kept)
+for_absent kept n absent = let test = eq-eqb (block_offset (slice_index kept.table (n / per_block kept))) 0 absent in rw test refl
+
+for_present : (kept : Kept) (n : ℕ) → block_offset (slice_index kept.table (n / per_block kept)) ≢ 0 → with_block_for kept n ≡ kept
+for_present kept n there = let test = ne_eqb (block_offset (slice_index kept.table (n / per_block kept))) 0 there in rw test refl
+
+pub free_with_block_for : (kept : Kept) (n : ℕ) → 0 < per_block kept → length kept.counts ≤ length kept.table * per_block kept → n < length kept.counts
+    → free_clusters (with_block_for kept n) ≡ free_clusters kept
+free_with_block_for kept n some reach below = elim (cases_eq (block_offset (slice_index kept.table (n / per_block kept))) 0) [
+  | inl absent ↦
+      let e : ℕ = per_block kept in
+      let parts = div-add-mod' n e in
+      let row = div_below n e (length kept.table) some (omega (arith, below, reach)) in
+      ap free_clusters (for_absent kept n absent) ∙ free_with_block kept (n / e) some row (omega (arith, parts, below)) absent
+  | inr there ↦ ap free_clusters (for_present kept n there)
+]
+
+alike_for_block : (kept : Kept) (i : ℕ) → IsAlike kept (with_block kept i)
+alike_for_block kept i = record {
+  cluster_bits = refl;
+  refcount_order = refl;
+  table_offset = refl;
+  table = length-set kept.table i (place_of_block kept i * cluster_size kept.cluster_bits);
+  reach = length-set kept.counts (place_of_block kept i) 1;
+}
+
+alike_itself : (kept : Kept) → IsAlike kept kept
+alike_itself kept = record { cluster_bits = refl; refcount_order = refl; table_offset = refl; table = refl; reach = refl }
+
+pub alike_for : (kept : Kept) (n : ℕ) → IsAlike kept (with_block_for kept n)
+alike_for kept n = let P : Kept → Type 0 = λ k. IsAlike kept k in elim (cases_eq (block_offset (slice_index kept.table (n / per_block kept))) 0) [
+  | inl absent ↦ subst P (sym (for_absent kept n absent)) (alike_for_block kept (n / per_block kept))
+  | inr there ↦ subst P (sym (for_present kept n there)) (alike_itself kept)
+]
+
+-- after a refusal what is kept is as it was, or with the block
+pub alike_refused : (kept new : Kept) (n : ℕ) → (new ≡ kept) ⊎ (new ≡ with_block_for kept n) → IsAlike kept new
+alike_refused kept new n (inl same) = let P : Kept → Type 0 = λ k. IsAlike kept k in subst P (sym same) (alike_itself kept)
+alike_refused kept new n (inr placed) = let P : Kept → Type 0 = λ k. IsAlike kept k in subst P (sym placed) (alike_for kept n)
+
+pub free_refused : (kept new : Kept) (n : ℕ) → 0 < per_block kept → length kept.counts ≤ length kept.table * per_block kept → n < length kept.counts
+    → (new ≡ kept) ⊎ (new ≡ with_block_for kept n) → free_clusters new ≡ free_clusters kept
+free_refused kept new n some reach below (inl same) = ap free_clusters same
+free_refused kept new n some reach below (inr placed) = ap free_clusters placed ∙ free_with_block_for kept n some reach below
+
+-- after an answer the list goes on behind its first
+pub free_taken : (kept : Kept) (n : ℕ) (rest : List ℕ) → 0 < per_block kept → length kept.counts ≤ length kept.table * per_block kept → n < length kept.counts
+    → free_clusters kept ≡ n ∷ rest → free_clusters (with_one (with_block_for kept n) n) ≡ rest
+free_taken kept n rest some reach below is =
+    free_with_one (with_block_for kept n) n rest (let len = (alike_for kept n).reach in omega (arith, below, len)) (free_with_block_for kept n some reach below ∙ is)
+
+pub some_entries : {cluster_bits refcount_order : ℕ} → cluster_bits ≡ 16 → refcount_order ≡ 4 → 0 < block_entries (cluster_size cluster_bits) refcount_order
+some_entries bits order = rw (bits, order) (omega arith)

@@ -26,7 +26,7 @@ use Rattle.q2_refs.proofs.Uses.{unused_apart}
 use Rattle.q2_refs.proofs.Writes.{IsWithin, table_placed, block_placed, whole_of, below_of}
 use Rattle.q2_refs.proofs.Steps.{sound_shape, cluster_is, block_is, unused_keeps, unused_in_step}
 use Rattle.q2_refs.proofs.BlockStep.{IsNewBlock, block_keeps, block_in_step}
-use Rattle.q2_refs.proofs.CountStep.{count_at, count_keeps, count_in_step}
+use Rattle.q2_refs.proofs.CountStep.{count_at, count_keeps, count_in_step, same_uses}
 
 -- what was told before a change that is told after it
 pub told_before : (change : List ℕ → List ℕ) (old new : Option (List ℕ)) (file : List ℕ) → new ≡ option_map change old → new ≡ Some file
@@ -77,7 +77,12 @@ keeps_trans a b z first second =
 
 pub keeps_all : (file : List ℕ) → KeepsCounted file file (header_of file)
 keeps_all file = record {
-  header = refl; tree = refl; uses_stay = λ k some. refl; refcounts_stay = λ k some. refl; structure = λ k some. refl; bytes = λ i some none. refl;
+  header = refl;
+  tree = refl;
+  uses_stay = λ k some. refl;
+  refcounts_stay = λ k some. refl;
+  structure = λ k some. refl;
+  bytes = λ i some none. refl;
 }
 
 -- The facts of what is kept that a step needs, by the file's.
@@ -334,3 +339,17 @@ module _ (old : List ℕ) (kept : Kept) (n : ℕ) (step : IsInStep old kept) (be
 
   pub counted_keeps : KeepsCounted old counted h'
   counted_keeps = count_keeps old counted kept n step below there_too free_too counted_written counted_grows counted_short
+
+  -- nothing uses the cluster
+  pub counted_unused : uses counted (header_of counted) n ≡ 0
+  counted_unused =
+      let header = counted_keeps.header in
+      let same = same_uses old counted kept n step below there_too free_too counted_written counted_grows counted_short n in
+      let P : Header → Type 0 = λ x. uses counted x n ≡ 0 in
+      subst P (sym header) (same ∙ (let used = (sound_is_consistent old step.sound).counted n in omega (arith, used, free_too)))
+
+-- nothing uses a cluster whose kept count is 0
+pub unused_by_count : (file : List ℕ) (kept : Kept) (n : ℕ) → IsInStep file kept → n < length kept.counts → slice_index kept.counts n ≡ 0 → uses file (header_of file) n ≡ 0
+unused_by_count file kept n step below free =
+    let used = (sound_is_consistent file step.sound).counted n in
+    omega (arith, used, step.counts.counts n below, free)

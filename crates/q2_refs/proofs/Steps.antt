@@ -63,10 +63,10 @@ pub not_a_block : (file : List ℕ) (h : Header) (k : ℕ) → k ≢ 0 → block
 not_a_block file h k other none i = elim (cases_eq (block_at file h i) 0) [
   | inl absent ↦ λ e. other (sym e ∙ ap (λ (o : ℕ). o / cluster_size h.cluster_bits) absent ∙ omega arith)
   | inr there ↦ elim (cases_lt i (length (refcount_table file h))) [
-      | inl below ↦ names_another (cluster_size h.cluster_bits) k (block_at file h i) there
-          (count_zero (λ word. names_cluster (cluster_size h.cluster_bits) k (block_offset word)) (refcount_table file h) i none below)
-      | inr past ↦ absurd (there (ap block_offset (get_or_past (refcount_table file h) i 0 past)))
-    ]
+    | inl below ↦ names_another (cluster_size h.cluster_bits) k (block_at file h i) there
+        (count_zero (λ word. names_cluster (cluster_size h.cluster_bits) k (block_offset word)) (refcount_table file h) i none below)
+    | inr past ↦ absurd (there (ap block_offset (get_or_past (refcount_table file h) i 0 past)))
+  ]
 ]
 
 -- a byte of another cluster

@@ -6,11 +6,12 @@ use Rattle.byteorder.specs.Endian.{big_bytes}
 use Rattle.q2_format.specs.Bytes.{number_at}
 use Rattle.q2_format.specs.Entry.{block_offset}
 use Rattle.q2_format.specs.Header.{header_of}
+use Rattle.q2_format.specs.References.{uses}
 use Rattle.q2_format.specs.Sizes.{cluster_size}
 use Rattle.q2_refs.specs.Allocating.{IsInStep, KeepsCounted, with_one, with_block, place_of_block, count_place}
 use Rattle.q2_refs.specs.Kept.{Kept, per_block}
 use Rattle.q2_refs.proofs.BlockStep.{reads_back}
-use Rattle.q2_refs.proofs.Placing.{told_before, partly_in_step, partly_keeps, placed_in_step, placed_keeps, some_place, counted_in_step, counted_keeps}
+use Rattle.q2_refs.proofs.Placing.{told_before, partly_in_step, partly_keeps, placed_in_step, placed_keeps, some_place, counted_in_step, counted_keeps, counted_unused}
 
 -- what is told after a change of what was told
 told_after : (change : List ℕ → List ℕ) (o n : Option (List ℕ)) (old new : List ℕ) → n ≡ option_map change o → o ≡ Some old → n ≡ Some new → change old ≡ new
@@ -36,7 +37,6 @@ abbrev pub block_place : Kept → ℕ → ℕ
 block_place kept i = place_of_block kept i * cluster_size kept.cluster_bits
 
 module _ (o n : Option (List ℕ)) (kept : Kept) (i : ℕ) (block : List ℕ) (can : CanBePlaced kept i block) (step : InStep o kept) where
-
   pub partly_step : (k : ℕ) → n ≡ option_map (λ b. with_bytes b (block_place kept i) (take k block)) o → InStep n kept
   partly_step k is = λ file told.
       let was = told_before (λ b. with_bytes b (block_place kept i) (take k block)) o n file is told in
@@ -87,7 +87,6 @@ pub record CanCount (o : Option (List ℕ)) (kept : Kept) (n : ℕ) : Type 0 whe
 
 module _ (o m : Option (List ℕ)) (kept : Kept) (n : ℕ) (can : CanCount o kept n) (step : InStep o kept)
     (is : m ≡ option_map (λ b. with_bytes b (count_place kept n) (big_bytes 2 1)) o) where
-
   pub counted_step : InStep m (with_one kept n)
   counted_step = λ file told.
       let was = told_before (λ b. with_bytes b (count_place kept n) (big_bytes 2 1)) o m file is told in
@@ -99,6 +98,12 @@ module _ (o m : Option (List ℕ)) (kept : Kept) (n : ℕ) (can : CanCount o kep
       let P : List ℕ → Type 0 = λ x. KeepsCounted old x (header_of old) in
       subst P (told_after (λ b. with_bytes b (count_place kept n) (big_bytes 2 1)) o m old new is was told)
       (counted_keeps old kept n (step old was) can.below can.few (can.there old was) can.free)
+
+  pub counted_still_unused : (file : List ℕ) → m ≡ Some file → uses file (header_of file) n ≡ 0
+  counted_still_unused file told =
+      let was = told_before (λ b. with_bytes b (count_place kept n) (big_bytes 2 1)) o m file is told in
+      let P : List ℕ → Type 0 = λ x. uses x (header_of x) n ≡ 0 in
+      subst P was.2 (counted_unused was.0 kept n (step was.0 was.1) can.below can.few (can.there was.0 was.1) can.free)
 
 -- Where the one tells, the other does.
 pub told_between : (m n : Option (List ℕ)) (file : List ℕ) → is_some n ≡ is_some m → n ≡ Some file → (between : List ℕ) × (m ≡ Some between)

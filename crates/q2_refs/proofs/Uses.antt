@@ -63,9 +63,9 @@ pub run_lacks : (c cluster offset count : ℕ) → in_run c cluster offset count
 run_lacks c cluster offset count none = elim (cases_lt cluster (offset / c)) [
   | inl before ↦ inl before
   | inr low ↦ elim (cases_lt cluster (offset / c + count)) [
-      | inl high ↦ absurd (let some = run_has c cluster offset count low high in omega (arith, none, some))
-      | inr behind ↦ inr behind
-    ]
+    | inl high ↦ absurd (let some = run_has c cluster offset count low high in omega (arith, none, some))
+    | inr behind ↦ inr behind
+  ]
 ]
 
 -- The parts of a cluster's uses.
@@ -112,12 +112,15 @@ header_named cluster is = let test = eq-eqb cluster 0 is in rw test refl
 pub unused_apart : (file : List ℕ) (h : Header) (cluster : ℕ) → uses file h cluster ≡ 0
     → IsApart file h cluster × (table_run h cluster ≡ 0) × (block_uses file h cluster ≡ 0)
 unused_apart file h cluster none =
-    let parts = uses_parts file h cluster in
-    (record {
-      header = λ is. let one = header_named cluster is in omega (arith, parts, none, one);
-      l1 = omega (arith, parts, none);
-      l2 = omega (arith, parts, none);
-    }, omega (arith, parts, none), omega (arith, parts, none))
+    let parts = uses_parts file h cluster in (
+      record {
+        header = λ is. let one = header_named cluster is in omega (arith, parts, none, one);
+        l1 = omega (arith, parts, none);
+        l2 = omega (arith, parts, none);
+      },
+      omega (arith, parts, none),
+      omega (arith, parts, none),
+    )
 
 -- the cluster of a refcount block
 pub block_apart : (file : List ℕ) (h : Header) (cluster i : ℕ) → uses file h cluster ≤ 1 → i < length (refcount_table file h)
@@ -125,12 +128,14 @@ pub block_apart : (file : List ℕ) (h : Header) (cluster i : ℕ) → uses file
     → IsApart file h cluster × (table_run h cluster ≡ 0)
 block_apart file h cluster i once below named =
     let parts = uses_parts file h cluster in
-    let some = count_some (λ word. names_cluster (cluster_size h.cluster_bits) cluster (block_offset word)) (refcount_table file h) i below named in
-    (record {
-      header = λ is. let one = header_named cluster is in omega (arith, parts, once, one, some);
-      l1 = omega (arith, parts, once, some);
-      l2 = omega (arith, parts, once, some);
-    }, omega (arith, parts, once, some))
+    let some = count_some (λ word. names_cluster (cluster_size h.cluster_bits) cluster (block_offset word)) (refcount_table file h) i below named in (
+      record {
+        header = λ is. let one = header_named cluster is in omega (arith, parts, once, one, some);
+        l1 = omega (arith, parts, once, some);
+        l2 = omega (arith, parts, once, some);
+      },
+      omega (arith, parts, once, some),
+    )
 
 -- two entries of the refcount table name two clusters
 pub blocks_differ : (file : List ℕ) (h : Header) (cluster i j : ℕ) → uses file h cluster ≤ 1 → i < length (refcount_table file h) → j < length (refcount_table file h) → i ≢ j
@@ -148,9 +153,11 @@ blocks_differ file h cluster i j once in_i in_j other first second =
 pub table_apart : (file : List ℕ) (h : Header) (cluster : ℕ) → uses file h cluster ≤ 1 → table_run h cluster ≡ 1
     → IsApart file h cluster × (block_uses file h cluster ≡ 0)
 table_apart file h cluster once run =
-    let parts = uses_parts file h cluster in
-    (record {
-      header = λ is. let one = header_named cluster is in omega (arith, parts, once, one, run);
-      l1 = omega (arith, parts, once, run);
-      l2 = omega (arith, parts, once, run);
-    }, omega (arith, parts, once, run))
+    let parts = uses_parts file h cluster in (
+      record {
+        header = λ is. let one = header_named cluster is in omega (arith, parts, once, one, run);
+        l1 = omega (arith, parts, once, run);
+        l2 = omega (arith, parts, once, run);
+      },
+      omega (arith, parts, once, run),
+    )

@@ -112,7 +112,6 @@ blocks_whole c len table some none i = elim (cases_lt i (length table)) [
 
 module _ (old new : List ℕ) (h : Header) (len k at : ℕ) (bytes : List ℕ) (some : 0 < cluster_size h.cluster_bits) (written : IsWritten old new at bytes)
     (within : IsWithin k (cluster_size h.cluster_bits) at bytes) (nothing : FindsNothing old h len) where
-
   -- the refcount table stays where the cluster isn't one of its own
   pub table_stays : table_run h k ≡ 0 → refcount_table new h ≡ refcount_table old h
   unfolding refcount_table

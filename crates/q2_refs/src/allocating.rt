@@ -58,6 +58,7 @@ impl Refs {
         ensures err { OnErr result (self.new ≡ self.old) }
         ensures unwritten { OnErr result (D.content dev.new ≡ D.content dev.old) }
         ensures step { (file : List ℕ) → D.content dev.new ≡ Some file → IsInStep file self.new }
+        ensures unused { OnOk result ((file : List ℕ) → D.content dev.new ≡ Some file → uses file (header_of file) cluster ≡ 0) }
         ensures keeps { (old new : List ℕ) → D.content dev.old ≡ Some old → D.content dev.new ≡ Some new → KeepsCounted old new (header_of old) }
         ensures fits { OnOk result (count_place self.old cluster + 2 ≤ D.capacity dev.old) }
         ensures cause { IfErr result (HasDevCause (D.faults dev.old) (D.faults dev.new) (D.capacity dev.old) (count_place self.old cluster + 2)) }
@@ -170,6 +171,7 @@ impl Refs {
         ensures ok { OnOk result (self.new ≡ with_one (with_block_for self.old cluster) cluster) }
         ensures err { OnErr result ((self.new ≡ self.old) ⊎ (self.new ≡ with_block_for self.old cluster)) }
         ensures step { (file : List ℕ) → D.content dev.new ≡ Some file → IsInStep file self.new }
+        ensures unused { OnOk result ((file : List ℕ) → D.content dev.new ≡ Some file → uses file (header_of file) cluster ≡ 0) }
         ensures keeps { (old new : List ℕ) → D.content dev.old ≡ Some old → D.content dev.new ≡ Some new → KeepsCounted old new (header_of old) }
         ensures fits { OnOk result (end_of_allocation self.old cluster ≤ D.capacity dev.old) }
         ensures cause { IfErr result (HasDevCause (D.faults dev.old) (D.faults dev.new) (D.capacity dev.old) (end_of_allocation self.old cluster)) }

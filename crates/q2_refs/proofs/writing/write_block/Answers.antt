@@ -9,6 +9,9 @@ returns-clause-partly g c =
     let block : List ℕ = c.args.block.now in
     let all = take_all (length block) block (omega arith) in
     on_err_weaker c.write_entry.result
-    (λ same. (length block, same ∙ c.in_ok-write_bytes.ensures.written
-    ∙ ap (λ (bytes : List ℕ). option_map (λ (b : List ℕ). with_bytes b c.args.offset bytes) (g.D.Device.content c.args.dev.now)) (sym all)))
+    (λ same. (
+      length block,
+      same ∙ c.in_ok-write_bytes.ensures.written
+          ∙ ap (λ (bytes : List ℕ). option_map (λ (b : List ℕ). with_bytes b c.args.offset bytes) (g.D.Device.content c.args.dev.now)) (sym all),
+    ))
     c.write_entry.ensures.unwritten

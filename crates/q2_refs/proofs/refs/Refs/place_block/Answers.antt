@@ -19,14 +19,18 @@ returns-in_err-write_block-clause-step g c =
     let bytes : c.as_slice.result.now ≡ block = c.as_slice.ensures.value ∙ take_at block (drop (length block) c.self.inside.buffer.items) c.self.inside.buffer.len len in
     let view = ap (λ (k : Kept). cluster_size k.cluster_bits) c.self.view_is in
     let can : CanBePlaced kept c.args.i block = record {
-      in_table = c.requires.entry; absent = c.requires.absent; place = c.requires.place; few = c.requires.few;
+      in_table = c.requires.entry;
+      absent = c.requires.absent;
+      place = c.requires.place;
+      few = c.requires.few;
       whole = omega (arith, len, c.self.inside.buffer.ok.0, c.self.invariant.buffer, view);
-      own = c.make_block.ensures.own; others = c.make_block.ensures.others;
+      own = c.make_block.ensures.own;
+      others = c.make_block.ensures.others;
     } in
     let partly = c.in_err-write_block.ensures.partly in
     let is = partly.1
-        ∙ ap (λ (at : ℕ). option_map (λ (b : List ℕ). with_bytes b at (take partly.0 c.as_slice.result.now)) o) c.block_place-offset.ensures
-        ∙ ap (λ (xs : List ℕ). option_map (λ (b : List ℕ). with_bytes b (block_place kept c.args.i) (take partly.0 xs)) o) bytes in
+    ∙ ap (λ (at : ℕ). option_map (λ (b : List ℕ). with_bytes b at (take partly.0 c.as_slice.result.now)) o) c.block_place-offset.ensures
+    ∙ ap (λ (xs : List ℕ). option_map (λ (b : List ℕ). with_bytes b (block_place kept c.args.i) (take partly.0 xs)) o) bytes in
     let P : Kept → Type 0 = λ k. InStep n k in
     subst P (sym c.self.view_is) (partly_step o n kept c.args.i block can c.requires.step partly.0 is)
 
@@ -40,14 +44,18 @@ returns-in_err-write_block-clause-keeps g c =
     let bytes : c.as_slice.result.now ≡ block = c.as_slice.ensures.value ∙ take_at block (drop (length block) c.self.inside.buffer.items) c.self.inside.buffer.len len in
     let view = ap (λ (k : Kept). cluster_size k.cluster_bits) c.self.view_is in
     let can : CanBePlaced kept c.args.i block = record {
-      in_table = c.requires.entry; absent = c.requires.absent; place = c.requires.place; few = c.requires.few;
+      in_table = c.requires.entry;
+      absent = c.requires.absent;
+      place = c.requires.place;
+      few = c.requires.few;
       whole = omega (arith, len, c.self.inside.buffer.ok.0, c.self.invariant.buffer, view);
-      own = c.make_block.ensures.own; others = c.make_block.ensures.others;
+      own = c.make_block.ensures.own;
+      others = c.make_block.ensures.others;
     } in
     let partly = c.in_err-write_block.ensures.partly in
     let is = partly.1
-        ∙ ap (λ (at : ℕ). option_map (λ (b : List ℕ). with_bytes b at (take partly.0 c.as_slice.result.now)) o) c.block_place-offset.ensures
-        ∙ ap (λ (xs : List ℕ). option_map (λ (b : List ℕ). with_bytes b (block_place kept c.args.i) (take partly.0 xs)) o) bytes in
+    ∙ ap (λ (at : ℕ). option_map (λ (b : List ℕ). with_bytes b at (take partly.0 c.as_slice.result.now)) o) c.block_place-offset.ensures
+    ∙ ap (λ (xs : List ℕ). option_map (λ (b : List ℕ). with_bytes b (block_place kept c.args.i) (take partly.0 xs)) o) bytes in
     partly_stays o n kept c.args.i block can c.requires.step partly.0 is
 
 pub returns-clause-there : goal.returns-clause-there
@@ -60,15 +68,19 @@ returns-clause-there g c =
     let bytes : c.as_slice.result.now ≡ block = c.as_slice.ensures.value ∙ take_at block (drop (length block) c.self.inside.buffer.items) c.self.inside.buffer.len len in
     let view = ap (λ (k : Kept). cluster_size k.cluster_bits) c.self.view_is in
     let can : CanBePlaced kept c.args.i block = record {
-      in_table = c.requires.entry; absent = c.requires.absent; place = c.requires.place; few = c.requires.few;
+      in_table = c.requires.entry;
+      absent = c.requires.absent;
+      place = c.requires.place;
+      few = c.requires.few;
       whole = omega (arith, len, c.self.inside.buffer.ok.0, c.self.invariant.buffer, view);
-      own = c.make_block.ensures.own; others = c.make_block.ensures.others;
+      own = c.make_block.ensures.own;
+      others = c.make_block.ensures.others;
     } in
     let offset : ℕ = block_place kept c.args.i in
     let is = c.in_ok-write_block.ensures.written
-        ∙ ap (λ (at : ℕ). option_map (λ (b : List ℕ). with_bytes (with_bytes b at c.as_slice.result.now) c.entry_place-entry.result (big_bytes 8 at)) o) c.block_place-offset.ensures
-        ∙ ap (λ (xs : List ℕ). option_map (λ (b : List ℕ). with_bytes (with_bytes b offset xs) c.entry_place-entry.result (big_bytes 8 offset)) o) bytes
-        ∙ ap (λ (at : ℕ). option_map (λ (b : List ℕ). with_bytes (with_bytes b offset block) at (big_bytes 8 offset)) o) c.entry_place-entry.ensures.place in
+    ∙ ap (λ (at : ℕ). option_map (λ (b : List ℕ). with_bytes (with_bytes b at c.as_slice.result.now) c.entry_place-entry.result (big_bytes 8 at)) o) c.block_place-offset.ensures
+    ∙ ap (λ (xs : List ℕ). option_map (λ (b : List ℕ). with_bytes (with_bytes b offset xs) c.entry_place-entry.result (big_bytes 8 offset)) o) bytes
+    ∙ ap (λ (at : ℕ). option_map (λ (b : List ℕ). with_bytes (with_bytes b offset block) at (big_bytes 8 offset)) o) c.entry_place-entry.ensures.place in
     let after = c.put_block.ensures ∙ ap (λ (k : Kept). with_block k c.args.i) c.self.view_is in
     let bits = ap (λ (k : Kept). k.cluster_bits) (sym c.self.view_is) ∙ c.self.invariant.cluster_bits in
     let size : cluster_size kept.cluster_bits ≡ 65536 = rw bits refl in
@@ -85,15 +97,19 @@ returns-clause-step g c =
     let bytes : c.as_slice.result.now ≡ block = c.as_slice.ensures.value ∙ take_at block (drop (length block) c.self.inside.buffer.items) c.self.inside.buffer.len len in
     let view = ap (λ (k : Kept). cluster_size k.cluster_bits) c.self.view_is in
     let can : CanBePlaced kept c.args.i block = record {
-      in_table = c.requires.entry; absent = c.requires.absent; place = c.requires.place; few = c.requires.few;
+      in_table = c.requires.entry;
+      absent = c.requires.absent;
+      place = c.requires.place;
+      few = c.requires.few;
       whole = omega (arith, len, c.self.inside.buffer.ok.0, c.self.invariant.buffer, view);
-      own = c.make_block.ensures.own; others = c.make_block.ensures.others;
+      own = c.make_block.ensures.own;
+      others = c.make_block.ensures.others;
     } in
     let offset : ℕ = block_place kept c.args.i in
     let is = c.in_ok-write_block.ensures.written
-        ∙ ap (λ (at : ℕ). option_map (λ (b : List ℕ). with_bytes (with_bytes b at c.as_slice.result.now) c.entry_place-entry.result (big_bytes 8 at)) o) c.block_place-offset.ensures
-        ∙ ap (λ (xs : List ℕ). option_map (λ (b : List ℕ). with_bytes (with_bytes b offset xs) c.entry_place-entry.result (big_bytes 8 offset)) o) bytes
-        ∙ ap (λ (at : ℕ). option_map (λ (b : List ℕ). with_bytes (with_bytes b offset block) at (big_bytes 8 offset)) o) c.entry_place-entry.ensures.place in
+    ∙ ap (λ (at : ℕ). option_map (λ (b : List ℕ). with_bytes (with_bytes b at c.as_slice.result.now) c.entry_place-entry.result (big_bytes 8 at)) o) c.block_place-offset.ensures
+    ∙ ap (λ (xs : List ℕ). option_map (λ (b : List ℕ). with_bytes (with_bytes b offset xs) c.entry_place-entry.result (big_bytes 8 offset)) o) bytes
+    ∙ ap (λ (at : ℕ). option_map (λ (b : List ℕ). with_bytes (with_bytes b offset block) at (big_bytes 8 offset)) o) c.entry_place-entry.ensures.place in
     let after = c.put_block.ensures ∙ ap (λ (k : Kept). with_block k c.args.i) c.self.view_is in
     let P : Kept → Type 0 = λ k. InStep n k in
     subst P (sym after) (placed_step o n kept c.args.i block can c.requires.step is)
@@ -108,15 +124,18 @@ returns-clause-keeps g c =
     let bytes : c.as_slice.result.now ≡ block = c.as_slice.ensures.value ∙ take_at block (drop (length block) c.self.inside.buffer.items) c.self.inside.buffer.len len in
     let view = ap (λ (k : Kept). cluster_size k.cluster_bits) c.self.view_is in
     let can : CanBePlaced kept c.args.i block = record {
-      in_table = c.requires.entry; absent = c.requires.absent; place = c.requires.place; few = c.requires.few;
+      in_table = c.requires.entry;
+      absent = c.requires.absent;
+      place = c.requires.place;
+      few = c.requires.few;
       whole = omega (arith, len, c.self.inside.buffer.ok.0, c.self.invariant.buffer, view);
-      own = c.make_block.ensures.own; others = c.make_block.ensures.others;
+      own = c.make_block.ensures.own;
+      others = c.make_block.ensures.others;
     } in
     let offset : ℕ = block_place kept c.args.i in
     let is = c.in_ok-write_block.ensures.written
-        ∙ ap (λ (at : ℕ). option_map (λ (b : List ℕ). with_bytes (with_bytes b at c.as_slice.result.now) c.entry_place-entry.result (big_bytes 8 at)) o) c.block_place-offset.ensures
-        ∙ ap (λ (xs : List ℕ). option_map (λ (b : List ℕ). with_bytes (with_bytes b offset xs) c.entry_place-entry.result (big_bytes 8 offset)) o) bytes
-        ∙ ap (λ (at : ℕ). option_map (λ (b : List ℕ). with_bytes (with_bytes b offset block) at (big_bytes 8 offset)) o) c.entry_place-entry.ensures.place in
+    ∙ ap (λ (at : ℕ). option_map (λ (b : List ℕ). with_bytes (with_bytes b at c.as_slice.result.now) c.entry_place-entry.result (big_bytes 8 at)) o) c.block_place-offset.ensures
+    ∙ ap (λ (xs : List ℕ). option_map (λ (b : List ℕ). with_bytes (with_bytes b offset xs) c.entry_place-entry.result (big_bytes 8 offset)) o) bytes
+    ∙ ap (λ (at : ℕ). option_map (λ (b : List ℕ). with_bytes (with_bytes b offset block) at (big_bytes 8 offset)) o) c.entry_place-entry.ensures.place in
     let after = c.put_block.ensures ∙ ap (λ (k : Kept). with_block k c.args.i) c.self.view_is in
     placed_stays o n kept c.args.i block can c.requires.step is
-
