@@ -6,6 +6,8 @@ mod entries;
 mod loading;
 mod refs;
 mod stop;
+#[cfg(test)]
+mod tests;
 mod writing;
 
 pub use allocating::RefStop;
