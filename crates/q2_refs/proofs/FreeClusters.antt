@@ -1,5 +1,5 @@
 -- The numbers below n that pass a test, in order.
-use Rattle.std.proofs.Common.{◌≡◌, ℕ, zero, suc, ◌+◌, ◌-◌, ◌*◌, ◌/◌, ◌%◌, ◌<◌, ◌≤◌, ◌≢◌, ◌⊎◌, inl, inr, Bool, true, false, not, ◌&&◌, ◌||◌, eqb, eq-eqb, List, [], ◌∷◌, ◌++◌, length, filter, get_or, slice_index, refl, sym, ap, subst, ◌∙◌, arith, length-append}
+use Rattle.std.proofs.Common.{◌≡◌, ℕ, zero, suc, ◌+◌, ◌-◌, ◌*◌, ◌/◌, ◌%◌, ◌<◌, ◌≤◌, ◌≢◌, ◌⊎◌, inl, inr, Bool, true, false, not, ◌&&◌, ◌||◌, eqb, eq-eqb, List, [], ◌∷◌, ◌++◌, length, take, filter, get_or, slice_index, refl, sym, ap, subst, ◌∙◌, arith, length-append}
 use Rattle.std.specs.List.{range_with_len}
 use Rattle.std.proofs.lemmas.Bool.{ne_eqb, false≢true, eqb-true, and_right, cases_eq}
 use Rattle.std.proofs.Math.Bool.{and-true}
@@ -7,9 +7,10 @@ use Rattle.std.proofs.lemmas.Nat.{div-add-mod', div-mul-add, mod-mul-add, div_be
 use Rattle.q2_format.specs.Entry.{block_offset}
 use Rattle.q2_format.specs.Sizes.{cluster_size, block_entries}
 use Rattle.std.proofs.Math.ListN.{set, length-set}
-use Rattle.std.proofs.lemmas.List.{get_or-append_right, append-nil, get_or-set_same, get_or-set_other}
+use Rattle.std.proofs.lemmas.List.{get_or-append_right, append-nil, get_or-set_same, get_or-set_other, get_or-take, length-take}
 use Rattle.std.proofs.lemmas.List.Elements.{filter-append}
-use Rattle.q2_refs.specs.Kept.{Kept, per_block}
+use Rattle.q2_format.specs.declared.header.Header.{Header}
+use Rattle.q2_refs.specs.Kept.{Kept, per_block, IsCountsOf}
 use Rattle.q2_refs.specs.Allocating.{with_one, with_block, with_block_for, place_of_block, IsAlike}
 use Rattle.q2_refs.specs.Free.{free_clusters, free_cluster, will_be_given}
 
@@ -266,3 +267,20 @@ free_taken kept n rest some reach below is =
 
 pub some_entries : {cluster_bits refcount_order : ℕ} → cluster_bits ≡ 16 → refcount_order ≡ 4 → 0 < block_entries (cluster_size cluster_bits) refcount_order
 some_entries bits order = rw (bits, order) (omega arith)
+
+-- the cluster that was given counts one
+pub given_counts_one : (kept : Kept) (n : ℕ) → n < length kept.counts
+    → (n < length (with_one (with_block_for kept n) n).counts) × (slice_index (with_one (with_block_for kept n) n).counts n ≡ 1)
+given_counts_one kept n below =
+    let len = (alike_for kept n).reach in
+    let inside : n < length (with_block_for kept n).counts = omega (arith, below, len) in
+    (omega (arith, inside, length-set (with_block_for kept n).counts n 1), get_or-set_same (with_block_for kept n).counts n 1 0 inside)
+
+-- the first counts are still the file's
+pub IsCountsOf-take : (file : List ℕ) (h : Header) (kept : Kept) (reach : ℕ) → IsCountsOf file h kept → IsCountsOf file h (record kept { counts = take reach kept.counts })
+IsCountsOf-take file h kept reach counts = record {
+  shape = record { cluster_bits = counts.shape.cluster_bits; refcount_order = counts.shape.refcount_order; table_offset = counts.shape.table_offset };
+  table = counts.table;
+  counts = λ k below. get_or-take reach kept.counts k 0 (omega (arith, below, length-take reach kept.counts))
+      ∙ counts.counts k (omega (arith, below, length-take reach kept.counts));
+}

@@ -4,14 +4,14 @@ ghost use Rattle.q2_format.specs.Entry.{block_offset};
 ghost use Rattle.q2_format.specs.Header.{header_of};
 ghost use Rattle.q2_format.specs.References.{uses};
 ghost use Rattle.q2_format.specs.Sizes.{cluster_size};
+ghost use Rattle.q2_format.specs.Tables.{refcount_of};
 ghost use Rattle.q2_format.specs.declared.header.TheConstants.{MAX_FILE_CLUSTERS};
 ghost use Rattle.q2_refs.specs.Free.{free_cluster, free_clusters, will_be_given};
 ghost use Rattle.q2_refs.specs.Kept.{per_block};
 
 use crate::entries::block_offset;
-use crate::loading::first_free;
-use crate::refs::Refs;
-use crate::writing::{count_bytes, make_block, write_block, write_entry};
+use crate::refs::{Refs, first_free};
+use crate::writing::{count_bytes, make_block, write, write_block};
 use blk_base::{DevStop, Device};
 
 /// Why no cluster was given.
@@ -68,7 +68,7 @@ impl Refs {
         ensures capacity { D.capacity dev.new ≡ D.capacity dev.old }
     {
         let at = self.count_place(cluster);
-        write_entry(dev, at, &count_bytes(1))?;
+        write(dev, at, &count_bytes(1))?;
         self.counts[cluster] = 1;
         Ok(())
     }
@@ -201,6 +201,7 @@ impl Refs {
         ensures below { IfOk result (λ cluster. cluster < length self.old.counts) }
         ensures unused { IfOk result (λ cluster. (file : List ℕ) → D.content dev.old ≡ Some file → uses file (header_of file) cluster ≡ 0) }
         ensures unused_still { IfOk result (λ cluster. (file : List ℕ) → D.content dev.new ≡ Some file → uses file (header_of file) cluster ≡ 0) }
+        ensures counted { IfOk result (λ cluster. (file : List ℕ) → D.content dev.new ≡ Some file → refcount_of file (header_of file) cluster ≡ 1) }
         ensures kept { IfOk result (λ cluster. self.new ≡ with_one (with_block_for self.old cluster) cluster) }
 
         // when none is

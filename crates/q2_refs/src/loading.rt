@@ -7,11 +7,11 @@ ghost use Rattle.q2_format.specs.Header.{CanBeRead, refusal_in};
 ghost use Rattle.q2_format.specs.Sizes.{cluster_size, block_entries};
 ghost use Rattle.q2_format.specs.Sound.{bad_refcount_table};
 ghost use Rattle.q2_format.specs.Tables.{refcount_table};
-ghost use Rattle.q2_refs.specs.Kept.{AreTaken, AreWholeClusters, BeginBelow, IsCountsOf, IsShapedBy};
+ghost use Rattle.q2_refs.specs.Kept.{AreWholeClusters, BeginBelow, IsCountsOf, IsShapedBy};
 ghost use Rattle.q2_refs.specs.Loading.{table_entries, table_reach, refcounts_refusal, RefusedBy, HasCause, IsReadStop, HasShape, AreCounts, AreZeroFrom};
 
 use crate::entries::{block_offset, check_words, is_misplaced};
-use crate::refs::Refs;
+use crate::refs::{Refs, first_free};
 use crate::stop::RefsStop;
 use blk_base::{DevFault, Device};
 use byteorder::{BigEndian, ByteOrder};
@@ -241,22 +241,6 @@ fn read_counts<D: Device>(
         read_block(dev, h, table, i, buffer, counts)?;
     }
     Ok(())
-}
-
-/// The first cluster from `from` on whose refcount is 0, or the number of counts where there is none.
-pub(crate) fn first_free(counts: &[u16], from: usize) -> usize
-    requires within { from ≤ length counts.now }
-    requires taken { AreTaken counts.now from }
-    ensures within { result ≤ length counts.now }
-    ensures taken { AreTaken counts.now result }
-    ensures free { result < length counts.now → slice_index counts.now result ≡ 0 }
-{
-    for cluster in from..counts.len() {
-        if counts[cluster] == 0 {
-            return cluster;
-        }
-    }
-    counts.len()
 }
 
 /// Reads the words of the refcount table, and refuses what is refused of it.

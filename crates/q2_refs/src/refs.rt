@@ -1,6 +1,7 @@
 //! Refcounts in memory.
-ghost use Rattle.std.specs.Prelude.{◌≡◌, ◌+◌, ◌<◌, ◌≤◌, length, take, slice_index};
-ghost use Rattle.q2_refs.specs.Kept.{per_block};
+ghost use Rattle.std.specs.Prelude.{◌≡◌, ◌+◌, ◌<◌, ◌≤◌, ℕ, List, length, take, slice_index};
+ghost use Rattle.q2_format.specs.declared.header.Header.{Header};
+ghost use Rattle.q2_refs.specs.Kept.{per_block, AreTaken, IsCountsOf};
 ghost use Rattle.q2_refs.specs.Free.{free_cluster, will_be_given};
 
 use crate::entries::block_offset;
@@ -69,7 +70,8 @@ impl Refs {
     /// Keeps the refcounts of the first clusters alone, as many as `reach` says.
     pub fn keep_first(&mut self, reach: u64)
         requires { reach ≤ length self.old.counts }
-        ensures { self.new ≡ record self.old { counts = take reach self.old.counts } }
+        ensures kept { self.new ≡ record self.old { counts = take reach self.old.counts } }
+        ensures counts { (file : List ℕ) (h : Header) → IsCountsOf file h self.old → IsCountsOf file h self.new }
     {
         self.counts.truncate(reach as usize);
         self.cursor = self.cursor.min(reach as usize);
@@ -108,4 +110,20 @@ impl Refs {
         }
         self.counts.len() as u64
     }
+}
+
+/// The first cluster from `from` on whose refcount is 0, or the number of counts where there is none.
+pub(crate) fn first_free(counts: &[u16], from: usize) -> usize
+    requires within { from ≤ length counts.now }
+    requires taken { AreTaken counts.now from }
+    ensures within { result ≤ length counts.now }
+    ensures taken { AreTaken counts.now result }
+    ensures free { result < length counts.now → slice_index counts.now result ≡ 0 }
+{
+    for cluster in from..counts.len() {
+        if counts[cluster] == 0 {
+            return cluster;
+        }
+    }
+    counts.len()
 }

@@ -100,7 +100,11 @@ fn within(h: &Header, len: u64, reach: u64) -> u64
     ensures reach { result ≤ table_reach h.now }
     ensures small { result ≤ 1024 }
 {
-    if h.ref_clusters > 0 { reach.min(1_024) } else { 0 }
+    if h.ref_clusters > 0 {
+        reach.min(1_024)
+    } else {
+        0
+    }
 }
 
 /// What loading the first 8 refcounts answers, where these bytes of a created image are changed.
@@ -116,7 +120,9 @@ fn load_with(alloc: Global, edits: &[(usize, u8)], fails: &[FailAt]) -> Result<R
     let h = header(&bytes.as_slice()[..65_536], len)?;
     let reach = within(&h, len, 8);
     match load_refs(alloc, &mut dev, &h, reach) {
-        Ok(refs) => Ok(RefsStop::Io { count: refs.reach() + 100 }),
+        Ok(refs) => Ok(RefsStop::Io {
+            count: refs.reach() + 100,
+        }),
         Err(stop) => Ok(stop),
     }
 }
@@ -128,7 +134,11 @@ fn tables_are_refused(rt: HostRuntime) -> Result<(), Fail> {
     let table: [(&[(usize, u8)], &[FailAt], RefsStop); 8] = [
         (&[], &[], RefsStop::Io { count: 108 }),
         (&[(0x1_0007, 1)], &[], RefsStop::Reserved { index: 0 }),
-        (&[(0x1_0007, 1), (0x1_fffd, 4)], &[], RefsStop::Offset(262_144)),
+        (
+            &[(0x1_0007, 1), (0x1_fffd, 4)],
+            &[],
+            RefsStop::Offset(262_144),
+        ),
         (&[(0x1_ffff, 4)], &[], RefsStop::Reserved { index: 8_191 }),
         (&[(0x1_0005, 4)], &[], RefsStop::Offset(262_144)),
         (&[(0x1_0006, 2)], &[], RefsStop::Offset(131_584)),
@@ -138,8 +148,14 @@ fn tables_are_refused(rt: HostRuntime) -> Result<(), Fail> {
     for (edits, fails, want) in table {
         assert_eq!(rt; load_with(rt.alloc(), edits, fails)?, want);
     }
-    assert_eq!(rt; load_with(rt.alloc(), &[], &no_read)?, RefsStop::Io { count: 1 });
-    assert_eq!(rt; load_with(rt.alloc(), &[], &no_block)?, RefsStop::Io { count: 1 });
+    assert_eq!(rt;
+        load_with(rt.alloc(), &[], &no_read)?,
+        RefsStop::Io { count: 1 }
+    );
+    assert_eq!(rt;
+        load_with(rt.alloc(), &[], &no_block)?,
+        RefsStop::Io { count: 1 }
+    );
     Ok(())
 }
 
@@ -154,9 +170,15 @@ fn clusters_are_given_in_order(rt: HostRuntime) -> Result<(), Fail> {
     let mut refs = load_refs(rt.alloc(), &mut dev, &h, reach)?;
     assert_eq!(rt; refs.reach(), 9);
     refs.keep_first(6);
-    assert_eq!(rt; (refs.count_of(3), refs.count_of(4), refs.reach()), (1, 0, 6));
+    assert_eq!(rt;
+        (refs.count_of(3), refs.count_of(4), refs.reach()),
+        (1, 0, 6)
+    );
     assert_eq!(rt; refs.table().first().copied(), Some(0x2_0000));
-    assert_eq!(rt; (refs.next_free(0), refs.next_free(1), refs.next_free(2)), (4, 5, 6));
+    assert_eq!(rt;
+        (refs.next_free(0), refs.next_free(1), refs.next_free(2)),
+        (4, 5, 6)
+    );
     let failed = RefStop::Dev(DevStop::Io { count: 1 });
     assert_eq!(rt; refs.allocate(&mut dev), Err(failed));
     assert_eq!(rt; refs.allocate(&mut dev), Ok(4));

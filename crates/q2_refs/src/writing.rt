@@ -1,4 +1,4 @@
-//! Writes to a device: entries of a table, which are written whole or not at all, and clusters.
+//! Writes to a device, and the bytes that are written.
 ghost use Rattle.std.specs.Prelude.{◌≡◌, ◌+◌, ◌*◌, ◌%◌, ◌<◌, ◌≤◌, max, ℕ, length, take, slice_index, option_map, is_some, IfErr, OnOk, OnErr};
 ghost use Rattle.blk_base.specs.Content.{with_bytes};
 ghost use Rattle.byteorder.specs.Endian.{big_bytes};
@@ -42,40 +42,16 @@ pub(crate) fn make_block(block: &mut [u8])
     BigEndian::write_u16(block, 1);
 }
 
-/// Writes bytes of one sector. After a refusal the device's bytes are as before.
-pub(crate) fn write_entry<D: Device>(dev: &mut D, at: u64, bytes: &[u8]) -> Result<(), DevStop>
-    requires some { 0 < length bytes.now }
-    requires sector { at % 512 + length bytes.now ≤ 512 }
-    ensures written { OnOk result (D.content dev.new ≡ option_map (λ b. with_bytes b at bytes.now) (D.content dev.old)) }
-    ensures grown { OnOk result (D.size dev.new ≡ max (D.size dev.old) (at + length bytes.now)) }
-    ensures fits { OnOk result (at + length bytes.now ≤ D.capacity dev.old) }
-    ensures unwritten { OnErr result (D.content dev.new ≡ D.content dev.old) }
-    ensures same_size { OnErr result (D.size dev.new ≡ D.size dev.old) }
-    ensures cause { IfErr result (HasDevCause (D.faults dev.old) (D.faults dev.new) (D.capacity dev.old) (at + length bytes.now)) }
-    ensures told { is_some (D.content dev.new) ≡ is_some (D.content dev.old) }
-    ensures faults { D.faults dev.old ≤ D.faults dev.new }
-    ensures capacity { D.capacity dev.new ≡ D.capacity dev.old }
-{
-    match dev.write_at(at, bytes) {
-        Ok(()) => Ok(()),
-        Err(stop) => match stop.why {
-            Stop::Failed => Err(DevStop::Io {
-                count: dev.faults(),
-            }),
-            Stop::NoSpace => Err(DevStop::NoSpace),
-        },
-    }
-}
-
-/// Writes bytes. After a refusal some of the first of them are written.
-fn write_bytes<D: Device>(dev: &mut D, at: u64, bytes: &[u8]) -> Result<(), DevStop>
+/// Writes bytes. After a refusal some of the first of them are written, and none where all lie in one sector
+/// of 512 bytes.
+pub(crate) fn write<D: Device>(dev: &mut D, at: u64, bytes: &[u8]) -> Result<(), DevStop>
     requires some { 0 < length bytes.now }
     ensures written { OnOk result (D.content dev.new ≡ option_map (λ b. with_bytes b at bytes.now) (D.content dev.old)) }
     ensures partly { OnErr result ((n : ℕ) × (D.content dev.new ≡ option_map (λ b. with_bytes b at (take n bytes.now)) (D.content dev.old))) }
-    ensures grown { OnOk result (D.size dev.new ≡ max (D.size dev.old) (at + length bytes.now)) }
+    ensures unwritten { at % 512 + length bytes.now ≤ 512 → OnErr result (D.content dev.new ≡ D.content dev.old) }
     ensures fits { OnOk result (at + length bytes.now ≤ D.capacity dev.old) }
-    ensures grows { D.size dev.old ≤ D.size dev.new }
     ensures cause { IfErr result (HasDevCause (D.faults dev.old) (D.faults dev.new) (D.capacity dev.old) (at + length bytes.now)) }
+    ensures grows { D.size dev.old ≤ D.size dev.new }
     ensures told { is_some (D.content dev.new) ≡ is_some (D.content dev.old) }
     ensures faults { D.faults dev.old ≤ D.faults dev.new }
     ensures capacity { D.capacity dev.new ≡ D.capacity dev.old }
@@ -111,6 +87,6 @@ pub(crate) fn write_block<D: Device>(
     ensures faults { D.faults dev.old ≤ D.faults dev.new }
     ensures capacity { D.capacity dev.new ≡ D.capacity dev.old }
 {
-    write_bytes(dev, offset, block)?;
-    write_entry(dev, entry, &word_bytes(offset))
+    write(dev, offset, block)?;
+    write(dev, entry, &word_bytes(offset))
 }

@@ -1,9 +1,9 @@
-use Rattle.std.proofs.Common.{◌≡◌, ℕ, ◌*◌, ◌<◌, ◌≤◌, List, [], ◌∷◌, length, refl, sym, ap, subst, ◌∙◌, arith}
+use Rattle.std.proofs.Common.{◌≡◌, ℕ, ◌*◌, ◌<◌, ◌≤◌, List, [], ◌∷◌, length, slice_index, refl, sym, ap, subst, ◌∙◌, arith}
 use Rattle.std.proofs.lemmas.Result.{err_from_is_err_and}
 use Rattle.q2_refs.specs.Allocating.{IsInStep, IsAlike}
 use Rattle.q2_refs.specs.Free.{free_clusters}
 use Rattle.q2_refs.specs.Kept.{Kept, per_block}
-use Rattle.q2_refs.proofs.FreeClusters.{first_free_cluster, none_free, given_count, free_refused, alike_refused, free_taken, some_entries}
+use Rattle.q2_refs.proofs.FreeClusters.{first_free_cluster, none_free, given_count, free_refused, alike_refused, free_taken, some_entries, given_counts_one}
 use Rattle.q2_refs.proofs.Placing.{unused_by_count}
 use Rattle.q2_refs.proofs.refs.Refs.allocate.Goals as goal
 
@@ -90,3 +90,17 @@ returns-clause-unused g c =
 pub returns-clause-unused_still : goal.returns-clause-unused_still
 returns-clause-unused_still g c =
     λ file told. c.in_ok-take.ensures.unused file told
+
+pub returns-clause-counted : goal.returns-clause-counted
+returns-clause-counted g c =
+    let S : Kept = c.skip_taken.new.self in
+    let n : ℕ = c.next_free-cluster.result in
+    let counts = ap (λ (k : Kept). length k.counts) c.self.view_is in
+    let len : c.len.result ≡ length S.counts = omega (arith, counts, c.self.inside.counts.ok.0, c.len.ensures) in
+    let first = first_free_cluster S n c.next_free-cluster.ensures (λ e. c.if-cluster-len.false (e ∙ sym len)) in
+    λ file told.
+    let one = given_counts_one S n first.3 in
+    let step = c.in_ok-take.ensures.step file told in
+    let A : Kept → Type 0 = λ k. n < length k.counts in
+    let B : Kept → Type 0 = λ k. slice_index k.counts n ≡ 1 in
+    sym (step.counts.counts n (subst A (sym c.in_ok-take.ensures.ok) one.0)) ∙ subst B (sym c.in_ok-take.ensures.ok) one.1
