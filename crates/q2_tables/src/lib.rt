@@ -5,6 +5,8 @@ mod load;
 mod mapping;
 mod stop;
 mod tables;
+#[cfg(test)]
+mod tests;
 
 pub use load::load_tables;
 pub use mapping::Mapping;
