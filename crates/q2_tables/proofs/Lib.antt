@@ -1,3 +1,4 @@
 pub mod Loaded
 pub mod Refusals
 pub mod Uses
+pub mod Linked
