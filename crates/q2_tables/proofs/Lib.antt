@@ -2,3 +2,5 @@ pub mod Loaded
 pub mod Refusals
 pub mod Uses
 pub mod Linked
+pub mod Written
+pub mod Links

@@ -1,28 +1,28 @@
 -- The kept words after a write of one entry, or of a new L2 table, are those of the file's tree.
-use Rattle.std.proofs.Common.{◌≡◌, ◌≢◌, ◌⊎◌, ℕ, zero, suc, ◌+◌, ◌-◌, ◌*◌, ◌/◌, ◌%◌, ◌^◌, ◌<◌, ◌≤◌, inl, inr, true, false, cond, eqb, List, [], length, get_or, slice_index, refl, sym, ap, ◌∙◌, subst, arith}
+use Rattle.std.proofs.Common.{◌≡◌, ◌≢◌, ◌⊎◌, ℕ, zero, suc, ◌+◌, ◌*◌, ◌/◌, ◌%◌, ◌^◌, ◌<◌, ◌≤◌, inl, inr, false, eqb, List, [], length, get_or, slice_index, refl, sym, ap, ◌∙◌, subst, arith}
 use Rattle.std.proofs.Math.ListN.{set, length-set}
 use Rattle.std.proofs.Math.Nat.{div-add-mod'}
 use Rattle.std.proofs.lemmas.Bool.{cases_eq, eq-eqb, ne_eqb}
 use Rattle.std.proofs.lemmas.List.{get_or-set_same, get_or-set_other}
-use Rattle.std.proofs.lemmas.Nat.{div-mul-add, mod-mul-add, div_below}
+use Rattle.std.proofs.lemmas.Nat.{div_below}
 use Rattle.byteorder.specs.Endian.{big_bytes}
 use Rattle.byteorder.specs.Numbers.{length-bytes_high_first}
 use Rattle.q2_format.specs.Bytes.{words_at, ReadsAlike, IsWritten}
 use Rattle.q2_format.specs.Sizes.{entries_in_cluster}
 use Rattle.q2_format.specs.Entry.{host_offset}
 use Rattle.q2_format.specs.Tables.{tree_at, l2_table, l2_word_of}
-use Rattle.q2_format.proofs.ByPlace.{get_or-words_at, length-words_at}
+use Rattle.q2_format.proofs.ByPlace.{length-words_at}
 use Rattle.q2_format.proofs.Frames.{words_at-alike, words_at-set}
 use Rattle.q2_format.proofs.Trees.{l1_of_tree, l2_of_tree}
 use Rattle.q2_format.proofs.TreeFrames.{l2_table-alike}
 use Rattle.q2_tables.specs.Kept.{Kept, IsTreeOf}
-use Rattle.q2_tables.specs.Linking.{Apart, IsFreeBut, LieBesideL1, l1_index, table_of}
+use Rattle.q2_tables.specs.Linking.{Apart, IsFreeBut, LieBesideL1, HasOneEntry, l1_index, table_of}
 use Rattle.q2_tables.specs.Words.{AreTablesOf}
 use Rattle.q2_tables.proofs.Loaded.{table_word, words_of_tree, positive}
 
 -- A tree, by its rows.
 
-row_of : (k e n m : ℕ) → k < n * e → n ≡ m → k / e < m
+pub row_of : (k e n m : ℕ) → k < n * e → n ≡ m → k / e < m
 row_of k zero n m below same = absurd (omega arith)
 row_of k (suc e) n m below same = omega (arith, div_below k (suc e) n (omega arith) below)
 
@@ -34,7 +34,7 @@ tables_of_tree file c at n kept is len = record {
       let e : ℕ = entries_in_cluster c in
       let row : k / e < n = row_of k e (length kept.l1) n below len in
       let table : get_or (tree_at file c at n).l2 (k / e) [] ≡ l2_table file c (get_or kept.l1 (k / e) 0) =
-          l2_of_tree file c at n (k / e) row ∙ ap (λ (l : List ℕ). l2_table file c (get_or l (k / e) 0)) (sym is.l1) in
+      l2_of_tree file c at n (k / e) row ∙ ap (λ (l : List ℕ). l2_table file c (get_or l (k / e) 0)) (sym is.l1) in
       is.words k (subst (λ (m : ℕ). k < m) (sym is.entries) below) ∙ ap (λ (l : List ℕ). get_or l (k % e) 0) table;
 }
 
@@ -78,7 +78,7 @@ tables_after old new c l1 l1' words cluster word some tables same_length count b
             ∙ elim (cases_eq (k / e) (cluster / e)) [
               | inl in_row ↦
                   let beside : k % e ≢ cluster % e = λ in_column. other
-                      (sym (place_of k e) ∙ ap (λ (r : ℕ). r * e + k % e) in_row ∙ ap (λ (q : ℕ). cluster / e * e + q) in_column ∙ place_of cluster e) in
+                  (sym (place_of k e) ∙ ap (λ (r : ℕ). r * e + k % e) in_row ∙ ap (λ (q : ℕ). cluster / e * e + q) in_column ∙ place_of cluster e) in
                   ap (λ (r : ℕ). slice_index (l2_table old c (get_or l1 r 0)) (k % e)) in_row
                   ∙ sym (changes.beside (k % e) column beside)
                   ∙ ap (λ (r : ℕ). slice_index (l2_table new c (get_or l1' r 0)) (k % e)) (sym in_row)
@@ -196,11 +196,6 @@ beside_tables file new kept place but tree free none outside =
 
 -- A new L2 table was written, and then the entry of the L1 table that names it.
 
--- a table of one entry
-pub record HasOneEntry (file : List ℕ) (place e column word : ℕ) : Type 0 where
-  pub here : slice_index (words_at file place e) column ≡ word
-  pub beside : (q : ℕ) → q < e → q ≢ column → slice_index (words_at file place e) q ≡ 0
-
 -- what an entry of a row lies apart from, whatever the row lies apart from
 entry_apart : (old new : List ℕ) (at n i word place len : ℕ) → i < n → IsWritten old new (at + 8 * i) (big_bytes 8 word) → Apart place len at (8 * n) → ReadsAlike old new place len
 entry_apart old new at n i word place len below written apart =
@@ -227,20 +222,20 @@ linked_table file mid new kept cluster word table l1_word tree below none some n
     let l1 : List ℕ = set kept.l1 i l1_word in
     let before : kept.l1 ≡ words_at file kept.l1_offset n = tree.l1 ∙ l1_of_tree file kept.c kept.l1_offset n in
     let row : words_at new kept.l1_offset n ≡ l1 =
-        words_at-set mid new kept.l1_offset n i l1_word in_l1 written fits
-        ∙ ap (λ (l : List ℕ). set l i l1_word) (same_l1 file mid kept table i n free outside refl ∙ sym before) in
+    words_at-set mid new kept.l1_offset n i l1_word in_l1 written fits
+    ∙ ap (λ (l : List ℕ). set l i l1_word) (same_l1 file mid kept table i n free outside refl ∙ sym before) in
     let l1_here : get_or l1 i 0 ≡ l1_word = get_or-set_same kept.l1 i l1_word 0 in_l1 in
     let test : eqb (host_offset l1_word) 0 ≡ false = ne_eqb (host_offset l1_word) 0 (λ zero_there. some (sym named ∙ zero_there)) in
     let no_table = eq-eqb (table_of kept cluster) 0 none in
     let apart_here : ReadsAlike mid new table (8 * e) =
-        shorter mid new table kept.c (8 * e) (table_fits kept.c) (entry_apart mid new kept.l1_offset n i l1_word table kept.c in_l1 written free.l1_table) in
+    shorter mid new table kept.c (8 * e) (table_fits kept.c) (entry_apart mid new kept.l1_offset n i l1_word table kept.c in_l1 written free.l1_table) in
     let new_row : words_at new table e ≡ words_at mid table e = words_at-alike mid new table e apart_here in
     let this : l2_table new kept.c (get_or l1 i 0) ≡ words_at mid table e =
-        ap (λ (w : ℕ). l2_table new kept.c w) l1_here ∙ rw (test, named) new_row in
+    ap (λ (w : ℕ). l2_table new kept.c w) l1_here ∙ rw (test, named) new_row in
     let other_row : (r : ℕ) → r < n → r ≢ i → l2_table new kept.c (get_or kept.l1 r 0) ≡ l2_table mid kept.c (get_or kept.l1 r 0) = λ r in_n other.
-        l2_table-alike mid new kept.c (get_or kept.l1 r 0)
-        (λ there. shorter mid new (host_offset (get_or kept.l1 r 0)) kept.c (8 * e) (table_fits kept.c)
-        (entry_apart mid new kept.l1_offset n i l1_word (host_offset (get_or kept.l1 r 0)) kept.c in_l1 written (beside.each r in_n there))) in
+    l2_table-alike mid new kept.c (get_or kept.l1 r 0)
+    (λ there. shorter mid new (host_offset (get_or kept.l1 r 0)) kept.c (8 * e) (table_fits kept.c)
+    (entry_apart mid new kept.l1_offset n i l1_word (host_offset (get_or kept.l1 r 0)) kept.c in_l1 written (beside.each r in_n there))) in
     let changes : ChangesEntry file new kept.c kept.l1 l1 i (cluster % e) word = record {
       rows = λ r in_n other.
           ap (λ (w : ℕ). l2_table new kept.c w) (get_or-set_other kept.l1 i r l1_word 0 other)
