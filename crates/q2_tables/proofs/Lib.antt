@@ -4,3 +4,4 @@ pub mod Uses
 pub mod Linked
 pub mod Written
 pub mod Links
+pub mod Apart
