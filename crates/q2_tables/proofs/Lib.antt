@@ -5,3 +5,4 @@ pub mod Linked
 pub mod Written
 pub mod Links
 pub mod Apart
+pub mod SmallTables
