@@ -74,12 +74,18 @@ fn zeros(alloc: Global) -> Result<Vec<u8>, AllocError>
     vec![in alloc; 0; 262_144]
 }
 
+fn put_header(bytes: &mut [u8])
+    requires { length bytes.old ≡ 262144 }
+{
+    write_header(1_048_576, None, None, &mut bytes[..65_536]);
+}
+
 /// A created image of 1 MiB: the header, the refcount table, its block, and the L1 table.
 fn created(alloc: Global) -> Result<Vec<u8>, AllocError>
     ensures { IfOk result (λ bytes. length bytes.items ≡ 262144) }
 {
     let mut bytes = zeros(alloc)?;
-    write_header(1_048_576, None, None, &mut bytes.as_mut_slice()[..65_536]);
+    put_header(bytes.as_mut_slice());
     bytes[0x1_0005] = 2;
     for cluster in 0..4 {
         bytes[0x2_0001 + 2 * cluster] = 1;
@@ -186,7 +192,10 @@ fn clusters_are_given_in_order(rt: HostRuntime) -> Result<(), Fail> {
     assert_eq!(rt; refs.allocate(&mut dev), Ok(5));
     assert_eq!(rt; refs.allocate(&mut dev), Err(RefStop::HostLimit));
     assert_eq!(rt; dev.dev.logged(), Some(2));
-    assert_eq!(rt; dev.dev.log_at(0), (0x2_0008, [0, 1].as_slice()));
-    assert_eq!(rt; dev.dev.log_at(1), (0x2_000a, [0, 1].as_slice()));
+    for (k, place) in [(0, 0x2_0008), (1, 0x2_000a)] {
+        let (at, bytes) = dev.dev.log_at(k);
+        assert_eq!(rt; at, place);
+        assert_eq!(rt; bytes, [0, 1].as_slice());
+    }
     Ok(())
 }
