@@ -9,6 +9,8 @@ mod naming;
 mod opening;
 mod seen;
 mod stop;
+#[cfg(test)]
+mod tests;
 
 pub use image::Image;
 pub use opening::open_image;
