@@ -45,7 +45,7 @@ record Adds (w v : Face) (e : Event) : Type 0 where
   size : v.size ≡ w.size
   capacity : v.capacity ≡ w.capacity
   on_image : v.guest.node ≡ w.guest.node
-  may_write : v.guest.is_read_only ≡ w.guest.is_read_only
+  access : v.guest.is_read_only ≡ w.guest.is_read_only
   faults : w.faults ≤ v.faults
   licensed : IsLicensed w.faults v.faults (named_in e)
   space : HadNoSpace w.capacity (state_of w) e
@@ -73,7 +73,7 @@ comes-push o w v e comes adds = record {
   capacity = adds.capacity ∙ comes.capacity;
   faults = let before = comes.faults in let more = adds.faults in omega arith;
   on_image = adds.on_image ∙ comes.on_image;
-  may_write = adds.may_write ∙ comes.may_write;
+  access = adds.access ∙ comes.access;
   licensed = licensed-push o w v e comes adds;
   lines = rw adds.events (lines-push w.log.events e comes.lines adds.line);
   replay = rw (adds.events, run-push after (opening_state o) w.log.events e, comes.replay) adds.state;
@@ -88,7 +88,7 @@ adds-admission o w op comes idle judged = record {
   size = refl;
   capacity = refl;
   on_image = refl;
-  may_write = refl;
+  access = refl;
   faults = omega arith;
   licensed = tt;
   space = tt;
@@ -96,7 +96,7 @@ adds-admission o w op comes idle judged = record {
   told = λ is. is;
   fits = λ is. rw comes.on_image (
     record { idle = idle; number = refl },
-    record { inside = judged; allowed = λ forbidden. absurd (false≢true (rw comes.may_write at forbidden)) },
+    record { inside = judged; allowed = λ forbidden. absurd (false≢true (rw comes.access at forbidden)) },
   );
 }
 
@@ -107,7 +107,7 @@ adds-refusal o w op why comes idle judged = record {
   size = refl;
   capacity = refl;
   on_image = refl;
-  may_write = refl;
+  access = refl;
   faults = omega arith;
   licensed = tt;
   space = tt;
@@ -134,7 +134,7 @@ adds-retirement w is =
       size = refl;
       capacity = refl;
       on_image = refl;
-      may_write = refl;
+      access = refl;
       faults = omega arith;
       licensed = tt;
       space = tt;
@@ -173,7 +173,7 @@ adds-piece o w v f outcome got comes is can puts = record {
   size = puts.size;
   capacity = puts.made.capacity;
   on_image = ap (λ (g : Guest). g.node) puts.guest;
-  may_write = ap (λ (g : Guest). g.is_read_only) puts.guest;
+  access = ap (λ (g : Guest). g.is_read_only) puts.guest;
   faults = puts.made.faults;
   licensed = licensed-piece w.faults v.faults w.capacity (piece f.op f.next) outcome puts.made.cause;
   space = space-piece w f outcome v.faults w.guest.done got is puts.made.cause;
@@ -207,7 +207,7 @@ comes-start o log empty = record {
   capacity = refl;
   faults = omega arith;
   on_image = refl;
-  may_write = refl;
+  access = refl;
   licensed = record { risen = rw empty tt; last = (o.faults, rw empty refl, omega arith); space = rw empty tt };
   lines = rw empty tt;
   replay = rw empty refl;
