@@ -2,3 +2,9 @@ pub mod Sightings
 pub mod FirstCluster
 pub mod Named
 pub mod Counted
+pub mod Guests
+pub mod Merged
+pub mod Order
+pub mod Opened
+pub mod Whole
+pub mod Mapped

@@ -3,10 +3,10 @@ use Rattle.std.specs.Prelude.{◌≡◌, ℕ, ◌+◌, ◌*◌, ◌<◌, false, 
 use Rattle.std.specs.Option.{option_map}
 use Rattle.blk_base.specs.Counts.{Rose}
 use Rattle.q2_format.specs.Sizes.{cluster_size, clusters_for}
-use Rattle.q2_format.specs.Header.{first, header_of, header_refusal}
+use Rattle.q2_format.specs.Header.{first, refused_where, header_of, header_refusal}
 use Rattle.q2_format.specs.Entry.{host_offset, block_offset}
 use Rattle.q2_format.specs.References.{structure_uses, own_offset}
-use Rattle.q2_format.specs.Sound.{Refusal, InHeader, bad_refcount_table, bad_l1_table, is_misplaced, lowest}
+use Rattle.q2_format.specs.Sound.{Refusal, InHeader, bad_refcount_table, bad_l1_table, is_misplaced, lowest, is_header_full}
 use Rattle.q2_format.specs.Sound as sound
 use Rattle.q2_format.specs.declared.header.Header.{Header}
 use Rattle.q2_image.specs.Seen.{named_by}
@@ -26,10 +26,14 @@ refusal_of HeaderFull = Some sound.HeaderFull
 refusal_of (Io count) = None
 refusal_of NoMemory = None
 
+-- a stop that names a refusal names this one
+abbrev pub Names : Option Refusal → ImageStop → Type 0
+Names refusal stop = IfSome (refusal_of stop) (λ named. refusal ≡ Some named)
+
 -- an answer by content is the refusal
 abbrev pub Judges : {A : Type 0} → Option Refusal → Result A ImageStop → Type 0
 Judges refusal (Ok a) = refusal ≡ None
-Judges refusal (Err stop) = IfSome (refusal_of stop) (λ named. refusal ≡ Some named)
+Judges refusal (Err stop) = Names refusal stop
 
 -- a failed read is answered only where the device's count rose, and names the count
 abbrev pub HasCause : ℕ → ℕ → ImageStop → Type 0
@@ -42,6 +46,18 @@ HasCause before now (Refcount cluster) = Unit {0}
 HasCause before now HeaderFull = Unit {0}
 HasCause before now (Io count) = Rose before count × (count ≡ now)
 HasCause before now NoMemory = Unit {0}
+
+-- a stop that names no failed call
+abbrev pub IsNoFault : ImageStop → Type 0
+IsNoFault (HeaderStops stop) = Unit {0}
+IsNoFault (Offset offset) = Unit {0}
+IsNoFault (Reserved table index) = Unit {0}
+IsNoFault (Compressed cluster) = Unit {0}
+IsNoFault (Overlap cluster) = Unit {0}
+IsNoFault (Refcount cluster) = Unit {0}
+IsNoFault HeaderFull = Unit {0}
+IsNoFault (Io count) = ⊥
+IsNoFault NoMemory = Unit {0}
 
 -- the header's refusal, as one of an image
 abbrev pub header_stops : List ℕ → ℕ → Option Refusal
@@ -74,3 +90,11 @@ overlap_stop uses n = option_map sound.Overlap (lowest (λ k. nat_lt 1 (uses k))
 -- the refusal of the lowest cluster that is named and has refcount 0
 abbrev pub uncounted_stop : (ℕ → ℕ) → List ℕ → ℕ → Option Refusal
 uncounted_stop uses counts n = option_map sound.Refcount (lowest (λ k. not (uses k == 0) && (slice_index counts k == 0)) n)
+
+-- the refusals behind the tables' words, where the clusters are named so often and have these refcounts
+abbrev pub names_stops : Header → (ℕ → ℕ) → List ℕ → ℕ → Option Refusal
+names_stops h uses counts n = first (
+    overlap_stop uses n
+    ∷ uncounted_stop uses counts n
+    ∷ refused_where (is_header_full h) sound.HeaderFull
+    ∷ [])

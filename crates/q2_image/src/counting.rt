@@ -6,7 +6,7 @@ ghost use Rattle.q2_format.specs.Sound.{lowest};
 ghost use Rattle.q2_format.specs.References.{cluster_bound, reach_of};
 ghost use Rattle.q2_refs.specs.Loading.{table_reach};
 ghost use Rattle.q2_image.specs.Seen.{IsSeen, is_uncounted};
-ghost use Rattle.q2_image.specs.Opening.{Judges, HasCause, place_stops, refusal_of, uncounted_stop};
+ghost use Rattle.q2_image.specs.Opening.{Judges, HasCause, IsNoFault, place_stops, refusal_of, uncounted_stop};
 ghost use Rattle.q2_image.specs.Loading.{counts_loaded, reserved_entry, AreCountsOf, HaveCounts, TableTells, IsBlockStop};
 
 use crate::header::cluster_size;
@@ -18,6 +18,7 @@ use q2_refs::{Refs, RefsStop, load_refs};
 use std::alloc::Global;
 
 /// What loading the refcounts of an image gave, where its refcount table names no block outside its place.
+#[derive(Drop)]
 pub(crate) enum Counts {
     Loaded(Refs),
     /// A reserved bit is set in this entry of the refcount table. Other tables may have a refusal that comes before.
@@ -100,7 +101,8 @@ fn first_uncounted(seen: &Seen, refs: &Refs) -> Option<u64>
 #[tactic(auto, using(crate::proofs::Sightings::uncounted_seen))]
 pub(crate) fn check_counted(seen: &Seen, refs: &Refs) -> Result<(), ImageStop>
     requires { length seen.now.named ≤ length refs.now.counts }
-    ensures { (uses : ℕ → ℕ) → IsSeen uses seen.now → Judges (uncounted_stop uses refs.now.counts (length seen.now.named)) result }
+    ensures no_fault { IfErr result IsNoFault }
+    ensures judged { (uses : ℕ → ℕ) → IsSeen uses seen.now → Judges (uncounted_stop uses refs.now.counts (length seen.now.named)) result }
 {
     match first_uncounted(seen, refs) {
         None => Ok(()),

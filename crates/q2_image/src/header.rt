@@ -5,7 +5,7 @@ ghost use Rattle.blk_base.specs.Content.{bytes_at};
 ghost use Rattle.q2_format.specs.Sizes.{cluster_size};
 ghost use Rattle.q2_format.specs.Header.{header_of, header_refusal, IsWithinLimits, CanBeRead};
 ghost use Rattle.q2_format.specs.Sound.{is_misplaced};
-ghost use Rattle.q2_image.specs.Opening.{Judges, HasCause, refusal_of, header_stops, place_stops};
+ghost use Rattle.q2_image.specs.Opening.{Judges, HasCause, IsNoFault, refusal_of, header_stops, place_stops};
 
 use crate::stop::ImageStop;
 use blk_base::{Device, NoMemory};
@@ -86,7 +86,8 @@ fn is_misplaced(cluster_size: u64, len: u64, offset: u64) -> bool
 #[tactic(auto, unfolding(q2_format::specs::Sound::bad_refcount_table, q2_format::specs::Sound::bad_l1_table))]
 pub(crate) fn check_places(header: &Header, len: u64) -> Result<(), ImageStop>
     requires { IsWithinLimits header.now len }
-    ensures { Judges (place_stops header.now len) result }
+    ensures no_fault { IfErr result IsNoFault }
+    ensures judged { Judges (place_stops header.now len) result }
 {
     let cluster_size = cluster_size(header);
     if header.ref_clusters == 0 || is_misplaced(cluster_size, len, header.ref_offset) {

@@ -3,8 +3,13 @@
 
 mod counting;
 mod header;
+mod image;
+mod load;
 mod naming;
+mod opening;
 mod seen;
 mod stop;
 
+pub use image::Image;
+pub use opening::open_image;
 pub use stop::ImageStop;

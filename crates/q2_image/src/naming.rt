@@ -1,11 +1,11 @@
 //! What an image names, from its header and the words of its tables.
 
-ghost use Rattle.std.specs.Prelude.{◌≡◌, ◌^◌, ◌<◌, ℕ, length, IfOk, Some};
+ghost use Rattle.std.specs.Prelude.{◌≡◌, ◌^◌, ◌<◌, ℕ, length, IfOk, IfErr, Some};
 ghost use Rattle.std.specs.Option.{option_map};
 ghost use Rattle.q2_format.specs.Header.{IsWithinLimits};
 ghost use Rattle.q2_format.specs.References.{cluster_bound};
 ghost use Rattle.q2_image.specs.Seen.{IsSeen};
-ghost use Rattle.q2_image.specs.Opening.{Judges, ArePlaced, uses_in, overlap_stop};
+ghost use Rattle.q2_image.specs.Opening.{Judges, HasCause, IsNoFault, ArePlaced, uses_in, overlap_stop};
 
 use crate::header::cluster_size;
 use crate::seen::{Naming, Seen};
@@ -50,7 +50,8 @@ pub(crate) fn see_names(
 /// Refuses the lowest cluster that was named twice.
 #[tactic(auto, using(crate::proofs::Sightings::twice_lowest))]
 pub(crate) fn check_overlap(seen: &Seen) -> Result<(), ImageStop>
-    ensures { (uses : ℕ → ℕ) → IsSeen uses seen.now → Judges (overlap_stop uses (length seen.now.named)) result }
+    ensures no_fault { IfErr result IsNoFault }
+    ensures judged { (uses : ℕ → ℕ) → IsSeen uses seen.now → Judges (overlap_stop uses (length seen.now.named)) result }
 {
     match seen.twice() {
         None => Ok(()),

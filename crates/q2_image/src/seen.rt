@@ -21,6 +21,7 @@ pub(crate) enum Naming {
 }
 
 /// Which clusters were named so far, and the lowest that was named twice: their number where none was.
+#[derive(Drop)]
 pub(crate) struct Seen {
     named: Vec<bool>,
     twice: u64,

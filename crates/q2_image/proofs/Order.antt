@@ -1,0 +1,49 @@
+-- The first refusal of stages one after another.
+use Rattle.std.proofs.Common.{◌≡◌, ℕ, ◌≤◌, List, [], ◌∷◌, length, Option, Some, None, IfSome, refl, sym, ap, subst, ◌∙◌}
+use Rattle.std.specs.Option.{option_map}
+use Rattle.q2_format.specs.Header.{first, refused_where}
+use Rattle.q2_format.specs.Sound.{Refusal, is_header_full}
+use Rattle.q2_format.specs.Sound as sound
+use Rattle.q2_format.specs.declared.header.Header.{Header}
+use Rattle.q2_image.specs.declared.stop.ImageStop.{ImageStop}
+use Rattle.q2_image.specs.declared.stop.ImageStop.TheVariants as stops
+use Rattle.q2_image.specs.Opening.{Names, HasCause, IsNoFault, refusal_of, overlap_stop, uncounted_stop, names_stops}
+use Rattle.q2_image.specs.Seen.{Sightings, IsSeen}
+
+named_head : (o : Option Refusal) (rest : List (Option Refusal)) (named : Option Refusal) → IfSome named (λ n. o ≡ Some n) → IfSome named (λ n. first (o ∷ rest) ≡ Some n)
+named_head o rest None is = tt
+named_head o rest (Some n) is = rw is refl
+
+-- a stop that names the first of a list of refusals names the list's first
+pub names_head : (o : Option Refusal) (rest : List (Option Refusal)) (stop : ImageStop) → Names o stop → Names (first (o ∷ rest)) stop
+names_head o rest stop is = named_head o rest (refusal_of stop) is
+
+-- and so it does behind one that isn't there
+pub names_tail : (o : Option Refusal) (rest : List (Option Refusal)) (stop : ImageStop) → o ≡ None → Names (first rest) stop → Names (first (o ∷ rest)) stop
+names_tail o rest stop none is = rw none is
+
+pub overlap_names : (h : Header) (uses : ℕ → ℕ) (counts : List ℕ) (n : ℕ) (s : Sightings) (stop : ImageStop) → length s.named ≡ n
+    → Names (overlap_stop uses (length s.named)) stop → Names (names_stops h uses counts n) stop
+overlap_names h uses counts n s stop len is =
+    let P : ℕ → Type 0 = λ m. Names (overlap_stop uses m) stop in
+    names_head (overlap_stop uses n) (uncounted_stop uses counts n ∷ refused_where (is_header_full h) sound.HeaderFull ∷ []) stop (subst P len is)
+
+pub uncounted_names : (h : Header) (uses : ℕ → ℕ) (counts : List ℕ) (n : ℕ) (s : Sightings) (stop : ImageStop) → length s.named ≡ n
+    → overlap_stop uses (length s.named) ≡ None → Names (uncounted_stop uses counts (length s.named)) stop → Names (names_stops h uses counts n) stop
+uncounted_names h uses counts n s stop len none is =
+    let P : ℕ → Type 0 = λ m. Names (uncounted_stop uses counts m) stop in
+    let N : ℕ → Type 0 = λ m. overlap_stop uses m ≡ None in
+    names_tail (overlap_stop uses n) (uncounted_stop uses counts n ∷ refused_where (is_header_full h) sound.HeaderFull ∷ []) stop (subst N len none)
+        (names_head (uncounted_stop uses counts n) (refused_where (is_header_full h) sound.HeaderFull ∷ []) stop (subst P len is))
+
+-- a stop that names no failed call has no cause to show
+pub no_fault_cause : (before now : ℕ) (stop : ImageStop) → IsNoFault stop → HasCause before now stop
+no_fault_cause before now (stops.Header s) is = tt
+no_fault_cause before now (stops.Offset o) is = tt
+no_fault_cause before now (stops.Reserved t i) is = tt
+no_fault_cause before now (stops.Compressed c) is = tt
+no_fault_cause before now (stops.Overlap c) is = tt
+no_fault_cause before now (stops.Refcount c) is = tt
+no_fault_cause before now stops.HeaderFull is = tt
+no_fault_cause before now (stops.Io n) is = absurd is
+no_fault_cause before now stops.NoMemory is = tt

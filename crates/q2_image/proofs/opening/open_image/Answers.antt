@@ -1,0 +1,65 @@
+use Rattle.std.proofs.Common.{◌≡◌, ◌≤◌, ℕ, List, length, max, Option, Some, None, IfOk, sym, ap, subst, ◌∙◌, arith}
+use Rattle.std.proofs.lemmas.Result.{err_from_is_err_and}
+use Rattle.q2_format.specs.Header.{header_of}
+use Rattle.q2_format.specs.References.{cluster_bound, reach_of}
+use Rattle.q2_image.specs.Loading.{counts_loaded}
+use Rattle.q2_image.specs.Opening.{Names, header_stops, place_stops}
+use Rattle.q2_image.proofs.Order.{no_fault_cause}
+use Rattle.q2_image.proofs.Whole.{loaded_from, header_named, place_named, word_named, last_judged, ok_image, ok_reach, err_cause}
+use Rattle.q2_image.proofs.opening.open_image.Goals as goal
+
+pub returns-in_err-header-clause-judged : goal.returns-in_err-header-clause-judged
+returns-in_err-header-clause-judged g c =
+    let p = err_from_is_err_and c.from_residual.result c.from_residual.ensures.1 in
+    rw (p.1, p.2) (λ file told. header_named file (g.D.Device.size c.args.dev.now) c.in_err-header.field-0.0 (g.met.D.Device.told_size c.args.dev.now file told) (c.in_err-header.ensures.judged file told))
+
+pub returns-in_err-check_places-clause-judged : goal.returns-in_err-check_places-clause-judged
+returns-in_err-check_places-clause-judged g c =
+    let p = err_from_is_err_and c.from_residual-in_err-check_places.result c.from_residual-in_err-check_places.ensures.1 in
+    let len : c.length-len.result ≡ g.D.Device.size c.args.dev.now = c.length-len.ensures ∙ c.in_ok-header.ensures.size in
+    let P : ℕ → Type 0 = λ n. Names (place_stops c.in_ok-header.header n) c.in_err-check_places.field-0.0 in
+    rw (p.1, p.2) (λ file told. place_named file c.in_ok-header.header (g.D.Device.size c.args.dev.now) c.in_err-check_places.field-0.0
+        (g.met.D.Device.told_size c.args.dev.now file told) (c.in_ok-header.ensures.header file told) (c.in_ok-header.ensures.judged file told)
+        (subst P len c.in_err-check_places.ensures.judged))
+
+pub returns-in_err-check_places-clause-cause : goal.returns-in_err-check_places-clause-cause
+returns-in_err-check_places-clause-cause g c =
+    let p = err_from_is_err_and c.from_residual-in_err-check_places.result c.from_residual-in_err-check_places.ensures.1 in
+    rw (p.1, p.2) (no_fault_cause _ _ c.in_err-check_places.field-0.0 c.in_err-check_places.ensures.no_fault)
+
+pub returns-in-Ok-clause-judged : goal.returns-in-Ok-clause-judged
+returns-in-Ok-clause-judged g c = λ file told. last_judged file c.in_ok-header.header c.length-len.result c.in-Ok.refs c.in-Ok.tables c.finish.result
+    (loaded_from file c.in_ok-header.header c.length-len.result (g.D.Device.size c.args.dev.now) (g.D.Device.size c.open_header.new.dev) c.in-Ok.refs c.in-Ok.tables
+        c.length-len.ensures c.in_ok-header.ensures.size (g.met.D.Device.told_size c.args.dev.now file told) (c.in_ok-header.ensures.header file told)
+        (c.in_ok-header.ensures.judged file told) c.in_ok-check_places.ensures.judged (c.in-Ok.ensures.judged file (c.in_ok-header.ensures.content ∙ told))
+        (c.in-Ok.ensures.counts file (c.in_ok-header.ensures.content ∙ told)) (c.in-Ok.ensures.tree file (c.in_ok-header.ensures.content ∙ told)) c.in-Ok.ensures.has_counts.reach)
+    c.finish.ensures.judged
+
+pub returns-in-Ok-clause-image : goal.returns-in-Ok-clause-image
+returns-in-Ok-clause-image g c = ok_image c.in_ok-header.header c.length-len.result c.in-Ok.refs c.in-Ok.tables c.finish.result
+    (λ file told. loaded_from file c.in_ok-header.header c.length-len.result (g.D.Device.size c.args.dev.now) (g.D.Device.size c.open_header.new.dev) c.in-Ok.refs c.in-Ok.tables
+        c.length-len.ensures c.in_ok-header.ensures.size (g.met.D.Device.told_size c.args.dev.now file told) (c.in_ok-header.ensures.header file told)
+        (c.in_ok-header.ensures.judged file told) c.in_ok-check_places.ensures.judged (c.in-Ok.ensures.judged file (c.in_ok-header.ensures.content ∙ told))
+        (c.in-Ok.ensures.counts file (c.in_ok-header.ensures.content ∙ told)) (c.in-Ok.ensures.tree file (c.in_ok-header.ensures.content ∙ told)) c.in-Ok.ensures.has_counts.reach)
+    c.finish.ensures.judged c.finish.ensures.known
+
+pub returns-in-Ok-clause-reach : goal.returns-in-Ok-clause-reach
+returns-in-Ok-clause-reach g c =
+    let len : c.length-len.result ≡ g.D.Device.size c.args.dev.now = c.length-len.ensures ∙ c.in_ok-header.ensures.size in
+    let asked : c.length-len.result ≡ g.D.Device.size c.open_header.new.dev = c.length-len.ensures in
+    let C : ℕ → Type 0 = λ n. length c.in-Ok.refs.counts ≡ counts_loaded c.in_ok-header.header n in
+    let R : ℕ → Type 0 = λ n. IfOk c.finish.result (λ image. length image.refs.counts ≡ reach_of image.header n) in
+    subst R len (ok_reach c.in_ok-header.header c.length-len.result c.in-Ok.refs c.in-Ok.tables c.finish.result (subst C (sym asked) c.in-Ok.ensures.has_counts.reach) c.finish.ensures.known)
+
+pub returns-in-Ok-clause-cause : goal.returns-in-Ok-clause-cause
+returns-in-Ok-clause-cause g c = err_cause _ _ c.finish.result c.finish.ensures.no_fault
+
+pub returns-in-Err-clause-judged : goal.returns-in-Err-clause-judged
+returns-in-Err-clause-judged g c = λ file told.
+    let same : g.D.Device.size c.open_header.new.dev ≡ g.D.Device.size c.args.dev.now = c.in_ok-header.ensures.size in
+    let size : g.D.Device.size c.open_header.new.dev ≡ length file = same ∙ g.met.D.Device.told_size c.args.dev.now file told in
+    let H : ℕ → Type 0 = λ n. header_stops file n ≡ None in
+    let P : ℕ → Type 0 = λ n. place_stops c.in_ok-header.header n ≡ None in
+    word_named file c.in_ok-header.header (g.D.Device.size c.open_header.new.dev) c.in-Err.stop size (c.in_ok-header.ensures.header file told)
+        (subst H (sym same) (c.in_ok-header.ensures.judged file told)) (subst P c.length-len.ensures c.in_ok-check_places.ensures.judged)
+        (c.in-Err.ensures.judged file (c.in_ok-header.ensures.content ∙ told))

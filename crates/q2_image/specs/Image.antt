@@ -1,0 +1,47 @@
+-- An image that is open, and the file that it is the image of.
+use Rattle.std.specs.Prelude.{◌≡◌, ℕ, ◌*◌, ◌<◌, ◌≤◌, true, List, length, slice_index}
+use Rattle.q2_format.specs.Sizes.{cluster_size, clusters_for, entries_in_cluster, l1_entries_for}
+use Rattle.q2_format.specs.Entry.{l2_entry}
+use Rattle.q2_format.specs.Header.{header_of}
+use Rattle.q2_format.specs.Tables.{active_tree}
+use Rattle.q2_format.specs.Sound.{IsSound}
+use Rattle.q2_format.specs.declared.header.Header.{Header}
+use Rattle.q2_format.specs.declared.header.TheConstants.{MAX_DISK_SIZE}
+use Rattle.q2_format.specs.declared.entries.L2Entry.{L2Entry}
+use Rattle.q2_tables.specs.Kept.{IsTreeOf, is_plain}
+use Rattle.q2_tables.specs.Kept as tables
+use Rattle.q2_refs.specs.Kept.{IsCountsOf}
+use Rattle.q2_refs.specs.Kept as refs
+
+-- what is known of an image: its header, and its tables and refcounts as they are kept
+pub record Known : Type 0 where
+  pub header : Header
+  pub tables : tables.Kept
+  pub refs : refs.Kept
+
+-- the bytes of its clusters, and how many clusters its disk has
+abbrev pub cluster_size_in : Known → ℕ
+cluster_size_in image = cluster_size image.header.cluster_bits
+
+abbrev pub clusters_in : Known → ℕ
+clusters_in image = clusters_for (cluster_size_in image) image.header.size
+
+-- what is known is so of a file, which is sound
+pub record IsImageOf (file : List ℕ) (image : Known) : Type 0 where
+  pub sound : IsSound file
+  pub header : header_of file ≡ image.header
+  pub tables : IsTreeOf (cluster_size_in image) image.tables (active_tree file image.header)
+  pub refs : IsCountsOf file image.header image.refs
+
+-- the L2 entry of a guest cluster, as it is known
+abbrev pub entry_in : Known → ℕ → L2Entry
+entry_in image cluster = l2_entry (slice_index image.tables.words cluster)
+
+-- what holds of every image that is open, whether or not its device tells its bytes: each guest cluster has an entry
+pub record IsOpen (image : Known) : Type 0 where
+  pub cluster_bits : image.header.cluster_bits ≡ 16
+  pub tables_size : image.tables.c ≡ cluster_size_in image
+  pub disk : image.header.size ≤ MAX_DISK_SIZE
+  pub l1 : l1_entries_for (cluster_size_in image) image.header.size ≤ length image.tables.l1
+  pub words : length image.tables.words ≡ length image.tables.l1 * entries_in_cluster (cluster_size_in image)
+  pub plain : (cluster : ℕ) → cluster < length image.tables.words → is_plain (slice_index image.tables.words cluster) ≡ true

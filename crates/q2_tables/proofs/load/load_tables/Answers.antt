@@ -1,0 +1,72 @@
+use Rattle.std.proofs.Common.{◌≡◌, ◌*◌, ℕ, List, length, None, refl, sym, ap, ◌∙◌}
+use Rattle.std.proofs.lemmas.Result.{err_from_is_err_and}
+use Rattle.q2_format.specs.Sizes.{cluster_size, entries_in_cluster}
+use Rattle.q2_format.specs.Tables.{active_tree}
+use Rattle.q2_tables.specs.Kept.{Kept, IsTreeOf}
+use Rattle.q2_tables.specs.Loading.{load_refusal}
+use Rattle.q2_tables.specs.Words.{misplaced_table, refused_words}
+use Rattle.q2_tables.proofs.Loaded.{read_as, filled_again}
+use Rattle.q2_tables.proofs.Refusals.{refused_of, in_order, tables_placed}
+use Rattle.q2_tables.proofs.load.load_tables.Goals as goal
+
+pub returns-in_err-check_words-clause-told : goal.returns-in_err-check_words-clause-told
+returns-in_err-check_words-clause-told g c = λ file told.
+    let p = err_from_is_err_and c.from_residual-in_err-check_words.result c.from_residual-in_err-check_words.ensures.1 in
+    let kept : Kept = record { c = c.cluster_len-c.result; l1_offset = c.args.h.now.l1_offset; l1 = c.in_ok-l1.l1.items; words = c.in_ok-words.words.items } in
+    let room : length c.as_mut_slice.result.now ≡ kept.c = ap length c.as_mut_slice.ensures.value ∙ c.in_ok-buffer.ensures in
+    let tree : IsTreeOf (cluster_size c.args.h.now.cluster_bits) kept (active_tree file c.args.h.now) =
+    read_as file c.args.h.now kept (length c.as_mut_slice.result.now) c.as_slice.result.now c.cluster_len-c.ensures.size (c.in_ok-l1.ensures.told file told)
+    room c.as_slice.ensures.value (c.in_ok-words.ensures.told file (c.in_ok-l1.ensures.content ∙ told)) c.in_ok-words.ensures.len in
+    let refused = refused_of file c.args.h.now c.length-len.result kept c.cluster_len-c.ensures.size tree c.in_ok-l1.ensures.placed.0 c.in_ok-l1.ensures.placed.1 in
+    rw (p.1, p.2) (λ named.
+    ap (λ (len : ℕ). load_refusal c.args.h.now len (active_tree file c.args.h.now)) (sym c.length-len.ensures)
+    ∙ refused ∙ rw (← c.as_slice-2.ensures.value, ← c.as_slice-3.ensures.value) (sym c.in_err-check_words.ensures.refused))
+
+pub invariant_of-result : goal.invariant_of-result
+invariant_of-result g c =
+    let refused : refused_words c.cluster_len-c.result c.length-len.result c.in_ok-l1.l1.items c.in_ok-words.words.items ≡ None =
+    rw (← c.as_slice-2.ensures.value, ← c.as_slice-3.ensures.value) (sym c.in_ok-check_words.ensures.refused) in
+    let room : length c.as_mut_slice.result.now ≡ c.cluster_len-c.result = ap length c.as_mut_slice.ensures.value ∙ c.in_ok-buffer.ensures in
+    record {
+      entries = c.in_ok-words.ensures.len ∙ ap (λ (l : List ℕ). length l * entries_in_cluster (length c.as_mut_slice.result.now)) c.as_slice.ensures.value
+          ∙ ap (λ (n : ℕ). length c.in_ok-l1.l1.items * entries_in_cluster n) room;
+      plain = (in_order c.cluster_len-c.result c.length-len.result c.in_ok-l1.l1.items c.in_ok-words.words.items refused).plain;
+      room = filled_again c.in_ok-buffer.buffer.len c.read_l2.new.buffer c.in_ok-buffer.buffer.items c.in_ok-buffer.buffer.ok.0
+          (c.read_l2.auto.buffer ∙ ap length c.as_mut_slice.ensures.value) ∙ c.in_ok-buffer.ensures;
+    }
+
+pub returns-clause-told : goal.returns-clause-told
+returns-clause-told g c = λ file told.
+    let kept : Kept = record { c = c.cluster_len-c.result; l1_offset = c.args.h.now.l1_offset; l1 = c.in_ok-l1.l1.items; words = c.in_ok-words.words.items } in
+    let room : length c.as_mut_slice.result.now ≡ kept.c = ap length c.as_mut_slice.ensures.value ∙ c.in_ok-buffer.ensures in
+    let tree : IsTreeOf (cluster_size c.args.h.now.cluster_bits) kept (active_tree file c.args.h.now) =
+    read_as file c.args.h.now kept (length c.as_mut_slice.result.now) c.as_slice.result.now c.cluster_len-c.ensures.size (c.in_ok-l1.ensures.told file told)
+    room c.as_slice.ensures.value (c.in_ok-words.ensures.told file (c.in_ok-l1.ensures.content ∙ told)) c.in_ok-words.ensures.len in
+    let refused = refused_of file c.args.h.now c.length-len.result kept c.cluster_len-c.ensures.size tree c.in_ok-l1.ensures.placed.0 c.in_ok-l1.ensures.placed.1 in (
+      ap (λ (len : ℕ). load_refusal c.args.h.now len (active_tree file c.args.h.now)) (sym c.length-len.ensures)
+          ∙ refused ∙ rw (← c.as_slice-2.ensures.value, ← c.as_slice-3.ensures.value) (sym c.in_ok-check_words.ensures.refused),
+      tree,
+    )
+
+pub returns-clause-loaded : goal.returns-clause-loaded
+returns-clause-loaded g c =
+    let n : ℕ = c.cluster_len-c.result in
+    let l1 : List ℕ = c.in_ok-l1.l1.items in
+    let words : List ℕ = c.in_ok-words.words.items in
+    let refused : refused_words n c.length-len.result l1 words ≡ None =
+    rw (← c.as_slice-2.ensures.value, ← c.as_slice-3.ensures.value) (sym c.in_ok-check_words.ensures.refused) in
+    let refused_here : refused_words n (g.D.Device.size c.args.dev.now) l1 words ≡ None = ap (λ (len : ℕ). refused_words n len l1 words) (sym c.length-len.ensures) ∙ refused in
+    let tables : misplaced_table n (g.D.Device.size c.args.dev.now) l1 ≡ None = ap (λ (len : ℕ). misplaced_table n len l1) (sym c.length-len.ensures) ∙ c.in_ok-l1.ensures.placed.1 in
+    let room : length c.as_mut_slice.result.now ≡ n = ap length c.as_mut_slice.ensures.value ∙ c.in_ok-buffer.ensures in
+    let found = in_order n (g.D.Device.size c.args.dev.now) l1 words refused_here in
+    record {
+      c = c.cluster_len-c.ensures.size;
+      l1_offset = refl;
+      l1_size = c.in_ok-l1.ensures.entries;
+      entries = c.in_ok-words.ensures.len ∙ ap (λ (l : List ℕ). length l * entries_in_cluster (length c.as_mut_slice.result.now)) c.as_slice.ensures.value
+          ∙ ap (λ (m : ℕ). length l1 * entries_in_cluster m) room;
+      tables = tables_placed n (g.D.Device.size c.args.dev.now) l1 tables;
+      hosts = found.hosts;
+      unreserved = found.unreserved;
+      plain = found.plain;
+    }

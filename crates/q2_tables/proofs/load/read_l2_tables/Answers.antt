@@ -1,0 +1,45 @@
+use Rattle.std.proofs.Common.{◌≡◌, ◌≢◌, ◌+◌, ◌-◌, ◌*◌, ◌/◌, ◌≤◌, ℕ, length, get_or, sym, ◌∙◌, arith}
+use Rattle.q2_format.specs.Entry.{host_offset}
+use Rattle.q2_tables.proofs.Loaded.{no_table, one_table, zeros_behind, fewer_zeros, all_tables, rows_fit, row_size}
+use Rattle.q2_tables.proofs.load.read_l2_tables.Goals as goal
+use Rattle.q2_tables.proofs.load.read_l2_tables.Goals.{then-offset-ne0+in_ok-read_table, else-offset-ne0}
+
+pub loop-i-preserved : goal.loop-i-preserved
+loop-i-preserved g c =
+    let L : ℕ = length c.args.buffer.now in
+    let i : ℕ = c.loop-i.i in
+    let k : ℕ = (i + 1) * (L / 8) - i * (L / 8) in
+    let size : k ≡ L / 8 = row_size i (L / 8) in
+    let fits : (i + 1) * (L / 8) ≤ length c.loop-i.words = rows_fit i (length c.args.l1.now) (L / 8) (length c.loop-i.words) c.loop-i-test.true (c.loop-i.auto.words ∙ c.requires.whole) in
+    let offset : c.offset_in-offset.result ≡ host_offset (get_or c.args.l1.now i 0) = c.offset_in-offset.ensures.offset in
+    let had = c.loop-i.invariant in
+    elim c.if-offset-ne0.branch [
+      | then-offset-ne0+in_ok-read_table w ↦
+          let some : host_offset (get_or c.args.l1.now i 0) ≢ 0 = λ none. w.if-offset-ne0.true (offset ∙ none) in
+          record {
+            told = λ file told.
+                rw w.words-is (one_table file L i k c.offset_in-offset.result c.args.l1.now c.loop-i.words w.read_table.new.words (had.told file told) some
+                offset (w.in_ok-read_table.ensures.told file (had.content ∙ told)) fits size);
+            zeros = rw w.words-is (zeros_behind (L / 8) i k c.loop-i.words w.read_table.new.words had.zeros fits size w.read_table.auto.words);
+            faults = rw w.dev-is (omega (arith, w.read_table.ensures.faults, had.faults));
+            content = rw w.dev-is (w.read_table.ensures.content ∙ had.content);
+            flushed = rw w.dev-is (w.read_table.ensures.flushed ∙ had.flushed);
+            log = rw w.dev-is (w.read_table.ensures.log ∙ had.log);
+            size = rw w.dev-is (w.read_table.ensures.size ∙ had.size);
+            capacity = rw w.dev-is (w.read_table.ensures.capacity ∙ had.capacity);
+          }
+      | else-offset-ne0 w ↦ record {
+        told = λ file told. rw w.words-is (no_table file L i c.args.l1.now c.loop-i.words (had.told file told) had.zeros (sym offset ∙ w.if-offset-ne0.false));
+        zeros = rw w.words-is (fewer_zeros (L / 8) i c.loop-i.words had.zeros);
+        faults = rw w.dev-is had.faults;
+        content = rw w.dev-is had.content;
+        flushed = rw w.dev-is had.flushed;
+        log = rw w.dev-is had.log;
+        size = rw w.dev-is had.size;
+        capacity = rw w.dev-is had.capacity;
+      }
+    ]
+
+pub returns-clause-told : goal.returns-clause-told
+returns-clause-told g c = λ file told.
+    all_tables file (length c.args.buffer.now) c.loop-i.i c.args.l1.now c.loop-i.words (c.loop-i.invariant.told file told) c.loop-i-test.false

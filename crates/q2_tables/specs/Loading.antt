@@ -1,0 +1,59 @@
+-- What loading refuses, and what it keeps.
+use Rattle.std.specs.Prelude.{◌≡◌, ℕ, ◌*◌, ◌<◌, true, false, [], ◌∷◌, length, slice_index, Option, None, Some, Result, Ok, Err}
+use Rattle.std.specs.Option.{option_map}
+use Rattle.blk_base.specs.Counts.{Rose}
+use Rattle.q2_format.specs.Sizes.{cluster_size, entries_in_cluster}
+use Rattle.q2_format.specs.Entry.{host_offset, has_reserved_in_l1}
+use Rattle.q2_format.specs.Header.{first}
+use Rattle.q2_format.specs.Tables.{Tree}
+use Rattle.q2_format.specs.References.{own_offset}
+use Rattle.q2_format.specs.Sound.{is_misplaced, bad_l1_table, bad_l2_table, bad_host, reserved_in_l1, reserved_in_l2, compressed_cluster}
+use Rattle.q2_format.specs.declared.header.Header.{Header}
+use Rattle.q2_tables.specs.Kept.{Kept, IsTreeOf, is_plain}
+use Rattle.q2_tables.specs.declared.stop.TablesStop.{TablesStop}
+use Rattle.q2_tables.specs.declared.stop.TablesStop.TheVariants.{Offset, ReservedInL1, ReservedInL2, Compressed, Io, NoMemory}
+
+-- what is refused of a tree in a file of `len` bytes, in the order in which it is looked at
+unfoldable pub load_refusal : Header → ℕ → Tree → Option TablesStop
+load_refusal h len tree = let c = cluster_size h.cluster_bits in first (
+    option_map Offset (bad_l1_table h len)
+    ∷ option_map Offset (bad_l2_table c len tree)
+    ∷ option_map Offset (bad_host c len tree)
+    ∷ option_map ReservedInL1 (reserved_in_l1 tree)
+    ∷ option_map (λ entry. ReservedInL2 entry.0 entry.1) (reserved_in_l2 c tree)
+    ∷ option_map Compressed (compressed_cluster c tree)
+    ∷ [])
+
+-- the answers that speak of the tables
+abbrev pub IsRefusal : TablesStop → Type 0
+IsRefusal (Offset offset) = Unit {0}
+IsRefusal (ReservedInL1 index) = Unit {0}
+IsRefusal (ReservedInL2 table index) = Unit {0}
+IsRefusal (Compressed cluster) = Unit {0}
+IsRefusal (Io count) = ⊥
+IsRefusal NoMemory = ⊥
+
+-- what the loading of a tree answers
+abbrev pub Loads : Header → ℕ → Tree → Result Kept TablesStop → Type 0
+Loads h len tree (Ok kept) = (load_refusal h len tree ≡ None) × IsTreeOf (cluster_size h.cluster_bits) kept tree
+Loads h len tree (Err stop) = IsRefusal stop → load_refusal h len tree ≡ Some stop
+
+-- a fault comes with a count of faults that has risen, and tells it
+abbrev pub HasCause : ℕ → ℕ → TablesStop → Type 0
+HasCause before now (Io count) = Rose before count × (count ≡ now)
+HasCause before now (Offset offset) = Unit {0}
+HasCause before now (ReservedInL1 index) = Unit {0}
+HasCause before now (ReservedInL2 table index) = Unit {0}
+HasCause before now (Compressed cluster) = Unit {0}
+HasCause before now NoMemory = Unit {0}
+
+-- what is kept of a file of `len` bytes, whether or not it tells its bytes
+pub record IsLoaded (h : Header) (len : ℕ) (kept : Kept) : Type 0 where
+  pub c : kept.c ≡ cluster_size h.cluster_bits
+  pub l1_offset : kept.l1_offset ≡ h.l1_offset
+  pub l1_size : length kept.l1 ≡ h.l1_size
+  pub entries : length kept.words ≡ length kept.l1 * entries_in_cluster kept.c
+  pub tables : (i : ℕ) → i < length kept.l1 → is_misplaced kept.c len (host_offset (slice_index kept.l1 i)) ≡ false
+  pub hosts : (cluster : ℕ) → cluster < length kept.words → is_misplaced kept.c len (own_offset (slice_index kept.words cluster)) ≡ false
+  pub unreserved : (i : ℕ) → i < length kept.l1 → has_reserved_in_l1 (slice_index kept.l1 i) ≡ false
+  pub plain : (cluster : ℕ) → cluster < length kept.words → is_plain (slice_index kept.words cluster) ≡ true

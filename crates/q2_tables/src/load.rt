@@ -1,0 +1,409 @@
+//! Loading the tables of an image: one read a table, and a look at each word for each kind of fault.
+ghost use Rattle.std.specs.Prelude.{◌≡◌, ◌*◌, ◌+◌, ◌/◌, ◌^◌, ◌<◌, ◌≤◌, not, ◌&&◌, ℕ, List, length, position, slice_index, Some, None, IfOk, IfErr, OnOk, option_map, vec_len};
+ghost use Rattle.q2_format.specs.Bytes.{words_at};
+ghost use Rattle.q2_format.specs.Sizes.{cluster_size, entries_in_cluster, l1_entries_for};
+ghost use Rattle.q2_format.specs.Entry.{bits_of, host_offset, is_compressed, has_reserved_in_l1, has_reserved_in_l2};
+ghost use Rattle.q2_format.specs.Header.{CanBeRead, refusal_in};
+ghost use Rattle.q2_format.specs.References.{own_offset};
+ghost use Rattle.q2_format.specs.Sound.{is_misplaced, bad_l1_table};
+ghost use Rattle.q2_format.specs.Tables.{active_tree, l2_table};
+ghost use Rattle.q2_tables.specs.Loading.{Loads, load_refusal, HasCause, IsLoaded, IsRefusal};
+ghost use Rattle.q2_tables.specs.Words.{AreTablesOf, IsReadStop, misplaced_table, misplaced_host, reserved_in_table, reserved_in_words, compressed_in_words, refused_words};
+ghost use Rattle.q2_tables.specs.declared.stop.TablesStop.TheVariants.{Offset, ReservedInL1, ReservedInL2, Compressed};
+
+use crate::stop::TablesStop;
+use crate::tables::Tables;
+use blk_base::Device;
+use byteorder::{BigEndian, ByteOrder};
+use q2_format::Header;
+use std::alloc::{AllocError, Global};
+
+/// The bytes of an entry of a table.
+const ENTRY: usize = 8;
+
+/// The number in `count` bits of a word, from bit `first` on.
+#[tactic(auto, using(q2_format::proofs::Words::masked))]
+fn bits_of(word: u64, first: u32, count: u32) -> u64
+    requires { first + count < 64 }
+    ensures { result ≡ bits_of word first count }
+{
+    (word >> first) & ((1 << count) - 1)
+}
+
+/// The offset that an entry names: of an L2 table, or of a host cluster.
+fn offset_in(word: u64) -> u64
+    ensures offset { result ≡ host_offset word }
+    ensures small { result < 2 ^ 56 }
+{
+    bits_of(word, 9, 47) * 512
+}
+
+/// The host offset of an L2 entry, 0 where the cluster is compressed.
+fn own_offset(word: u64) -> u64
+    ensures { result ≡ own_offset word }
+{
+    if is_compressed(word) {
+        0
+    } else {
+        offset_in(word)
+    }
+}
+
+fn is_compressed(word: u64) -> bool
+    ensures { result ≡ is_compressed word }
+{
+    bits_of(word, 62, 1) == 1
+}
+
+fn has_reserved_in_l1(word: u64) -> bool
+    ensures { result ≡ has_reserved_in_l1 word }
+{
+    bits_of(word, 0, 9) != 0 || bits_of(word, 56, 7) != 0
+}
+
+fn has_reserved_in_l2(word: u64) -> bool
+    ensures { result ≡ has_reserved_in_l2 word }
+{
+    bits_of(word, 1, 8) != 0 || bits_of(word, 56, 6) != 0
+}
+
+/// Whether an offset isn't a multiple of the cluster size, or isn't below the file's length.
+fn is_misplaced(c: u64, len: u64, offset: u64) -> bool
+    requires { 0 < c }
+    ensures { result ≡ is_misplaced c len offset }
+{
+    offset % c != 0 || offset >= len
+}
+
+/// Reads the words of a table that begins at `at`. The buffer has the room for its bytes.
+fn read_table<D: Device>(
+    dev: &mut D,
+    at: u64,
+    buffer: &mut [u8],
+    words: &mut [u64],
+) -> Result<(), TablesStop>
+    requires { length buffer.old ≡ 8 * length words.old }
+    ensures told { OnOk result ((file : List ℕ) → D.content dev.old ≡ Some file → words.new ≡ words_at file at (length words.old)) }
+    ensures stop { IfErr result (IsReadStop (D.faults dev.old) (D.faults dev.new)) }
+    ensures faults { D.faults dev.old ≤ D.faults dev.new }
+    ensures content { D.content dev.new ≡ D.content dev.old }
+    ensures flushed { D.is_flushed dev.new ≡ D.is_flushed dev.old }
+    ensures log { D.log dev.new ≡ D.log dev.old }
+    ensures size { D.size dev.new ≡ D.size dev.old }
+    ensures capacity { D.capacity dev.new ≡ D.capacity dev.old }
+{
+    match dev.read_at(at, buffer) {
+        Ok(()) => {
+            BigEndian::read_u64_into(buffer, words);
+            Ok(())
+        }
+        Err(_) => Err(TablesStop::Io {
+            count: dev.faults(),
+        }),
+    }
+}
+
+/// Reads the L2 tables that the entries of an L1 table name, one behind the other. An entry that names none
+/// leaves its words, which are 0.
+fn read_l2_tables<D: Device>(
+    dev: &mut D,
+    l1: &[u64],
+    buffer: &mut [u8],
+    words: &mut [u64],
+) -> Result<(), TablesStop>
+    requires table { length buffer.old ≡ 8 * (length buffer.old / 8) }
+    requires whole { length words.old ≡ length l1.now * entries_in_cluster (length buffer.old) }
+    requires zeros { (k : ℕ) → slice_index words.old k ≡ 0 }
+    ensures told { OnOk result ((file : List ℕ) → D.content dev.old ≡ Some file → AreTablesOf file (length buffer.old) l1.now words.new) }
+    ensures stop { IfErr result (IsReadStop (D.faults dev.old) (D.faults dev.new)) }
+    ensures faults { D.faults dev.old ≤ D.faults dev.new }
+    ensures content { D.content dev.new ≡ D.content dev.old }
+    ensures flushed { D.is_flushed dev.new ≡ D.is_flushed dev.old }
+    ensures log { D.log dev.new ≡ D.log dev.old }
+    ensures size { D.size dev.new ≡ D.size dev.old }
+    ensures capacity { D.capacity dev.new ≡ D.capacity dev.old }
+{
+    let entries = buffer.len() / ENTRY;
+    for (i, word) in l1.iter().enumerate() {
+        let offset = offset_in(*word);
+        if offset != 0 {
+            let table = &mut words[i * entries..(i + 1) * entries];
+            read_table(dev, offset, buffer, table)?;
+        }
+    }
+    Ok(())
+}
+
+/// Whether the L1 table lies in its place and has the entries that the disk needs.
+#[tactic(auto, unfolding(q2_format::specs::Sound::bad_l1_table))]
+fn check_l1_table(h: &Header, c: u64, len: u64) -> Result<(), TablesStop>
+    requires size { c ≡ cluster_size h.now.cluster_bits }
+    requires entries { 8 ≤ c }
+    ensures refused { refusal_in result ≡ option_map Offset (bad_l1_table h.now len) }
+    ensures stop { IfErr result IsRefusal }
+{
+    let needed = h.size.div_ceil(c).div_ceil(c / 8);
+    if u64::from(h.l1_size) < needed || is_misplaced(c, len, h.l1_offset) {
+        return Err(TablesStop::Offset(h.l1_offset));
+    }
+    Ok(())
+}
+
+/// The first entry of an L1 table whose L2 table isn't in its place.
+fn first_misplaced_table(l1: &[u64], c: u64, len: u64) -> Option<usize>
+    requires { 0 < c }
+    ensures { result ≡ position (λ word. is_misplaced c len (host_offset word)) l1.now }
+{
+    l1.iter()
+        .position(|word| is_misplaced(c, len, offset_in(*word)))
+}
+
+/// The first L2 entry whose host cluster isn't in its place.
+fn first_misplaced_host(words: &[u64], c: u64, len: u64) -> Option<usize>
+    requires { 0 < c }
+    ensures { result ≡ position (λ word. is_misplaced c len (own_offset word)) words.now }
+{
+    words
+        .iter()
+        .position(|word| is_misplaced(c, len, own_offset(*word)))
+}
+
+fn first_reserved_in_l1(l1: &[u64]) -> Option<usize>
+    ensures { result ≡ position has_reserved_in_l1 l1.now }
+{
+    l1.iter().position(|word| has_reserved_in_l1(*word))
+}
+
+/// The first L2 entry with a reserved bit, but for those of compressed clusters.
+fn first_reserved_in_l2(words: &[u64]) -> Option<usize>
+    ensures { result ≡ position (λ word. not (is_compressed word) && has_reserved_in_l2 word) words.now }
+{
+    words
+        .iter()
+        .position(|word| !is_compressed(*word) && has_reserved_in_l2(*word))
+}
+
+fn first_compressed(words: &[u64]) -> Option<usize>
+    ensures { result ≡ position is_compressed words.now }
+{
+    words.iter().position(|word| is_compressed(*word))
+}
+
+/// Whether each L2 table lies in its place.
+#[tactic(auto, unfolding(crate::specs::Words::misplaced_table))]
+fn check_l2_tables(l1: &[u64], c: u64, len: u64) -> Result<(), TablesStop>
+    requires { 0 < c }
+    ensures refused { refusal_in result ≡ misplaced_table c len l1.now }
+    ensures stop { IfErr result IsRefusal }
+{
+    match first_misplaced_table(l1, c, len) {
+        Some(i) => Err(TablesStop::Offset(offset_in(l1[i]))),
+        None => Ok(()),
+    }
+}
+
+/// Whether each host cluster lies in its place.
+#[tactic(auto, unfolding(crate::specs::Words::misplaced_host))]
+fn check_hosts(words: &[u64], c: u64, len: u64) -> Result<(), TablesStop>
+    requires { 0 < c }
+    ensures refused { refusal_in result ≡ misplaced_host c len words.now }
+    ensures stop { IfErr result IsRefusal }
+{
+    match first_misplaced_host(words, c, len) {
+        Some(i) => Err(TablesStop::Offset(own_offset(words[i]))),
+        None => Ok(()),
+    }
+}
+
+/// Whether no entry of the L1 table has a reserved bit.
+#[tactic(auto, unfolding(crate::specs::Words::reserved_in_table))]
+fn check_l1_bits(l1: &[u64]) -> Result<(), TablesStop>
+    ensures refused { refusal_in result ≡ reserved_in_table l1.now }
+    ensures stop { IfErr result IsRefusal }
+{
+    match first_reserved_in_l1(l1) {
+        Some(i) => Err(TablesStop::ReservedInL1 { index: i as u64 }),
+        None => Ok(()),
+    }
+}
+
+/// Whether no entry of an L2 table has a reserved bit, but for those of compressed clusters.
+#[tactic(auto, unfolding(crate::specs::Words::reserved_in_words))]
+fn check_l2_bits(l1: &[u64], words: &[u64], entries: usize) -> Result<(), TablesStop>
+    requires some { 0 < entries }
+    requires whole { length words.now ≡ length l1.now * entries }
+    ensures refused { refusal_in result ≡ reserved_in_words entries l1.now words.now }
+    ensures stop { IfErr result IsRefusal }
+{
+    match first_reserved_in_l2(words) {
+        Some(i) => Err(TablesStop::ReservedInL2 {
+            table: offset_in(l1[i / entries]),
+            index: (i % entries) as u64,
+        }),
+        None => Ok(()),
+    }
+}
+
+/// Whether no guest cluster is compressed.
+#[tactic(auto, unfolding(crate::specs::Words::compressed_in_words))]
+fn check_compressed(words: &[u64]) -> Result<(), TablesStop>
+    ensures refused { refusal_in result ≡ compressed_in_words words.now }
+    ensures stop { IfErr result IsRefusal }
+{
+    match first_compressed(words) {
+        Some(i) => Err(TablesStop::Compressed(i as u64)),
+        None => Ok(()),
+    }
+}
+
+/// Whether the words of both kinds of tables are in order.
+#[tactic(auto, unfolding(crate::specs::Words::refused_words))]
+fn check_words(l1: &[u64], words: &[u64], c: usize, len: u64) -> Result<(), TablesStop>
+    requires some { 8 ≤ c }
+    requires whole { length words.now ≡ length l1.now * entries_in_cluster c }
+    ensures refused { refusal_in result ≡ refused_words c len l1.now words.now }
+    ensures stop { IfErr result IsRefusal }
+{
+    check_hosts(words, c as u64, len)?;
+    check_l1_bits(l1)?;
+    check_l2_bits(l1, words, c / ENTRY)?;
+    check_compressed(words)?;
+    Ok(())
+}
+
+/// So many bytes, which are 0.
+fn zero_bytes(alloc: Global, n: usize) -> Result<Vec<u8>, AllocError>
+    ensures { IfOk result (λ bytes. length bytes.items ≡ n) }
+{
+    vec![in alloc; 0; n]
+}
+
+/// So many words, which are 0.
+fn zero_words(alloc: Global, n: usize) -> Result<Vec<u64>, AllocError>
+    ensures len { IfOk result (λ words. length words.items ≡ n) }
+    ensures zeros { IfOk result (λ words. (k : ℕ) → slice_index words.items k ≡ 0) }
+{
+    vec![in alloc; 0; n]
+}
+
+/// Reads the L1 table that begins at `at`.
+fn read_l1<D: Device>(
+    alloc: Global,
+    dev: &mut D,
+    at: u64,
+    entries: usize,
+) -> Result<Vec<u64>, TablesStop>
+    requires { entries < 2 ^ 32 }
+    ensures told { IfOk result (λ l1. (file : List ℕ) → D.content dev.old ≡ Some file → l1.items ≡ words_at file at entries) }
+    ensures len { IfOk result (λ l1. length l1.items ≡ entries) }
+    ensures stop { IfErr result (IsReadStop (D.faults dev.old) (D.faults dev.new)) }
+    ensures faults { D.faults dev.old ≤ D.faults dev.new }
+    ensures content { D.content dev.new ≡ D.content dev.old }
+    ensures flushed { D.is_flushed dev.new ≡ D.is_flushed dev.old }
+    ensures log { D.log dev.new ≡ D.log dev.old }
+    ensures size { D.size dev.new ≡ D.size dev.old }
+    ensures capacity { D.capacity dev.new ≡ D.capacity dev.old }
+{
+    let mut l1 = zero_words(alloc, entries)?;
+    let mut bytes = zero_bytes(alloc, ENTRY * entries)?;
+    read_table(dev, at, bytes.as_mut_slice(), l1.as_mut_slice())?;
+    Ok(l1)
+}
+
+/// Reads the L2 tables of an L1 table. The buffer has the bytes of a cluster.
+fn read_l2<D: Device>(
+    alloc: Global,
+    dev: &mut D,
+    l1: &[u64],
+    buffer: &mut [u8],
+) -> Result<Vec<u64>, TablesStop>
+    requires table { length buffer.old ≡ 8 * (length buffer.old / 8) }
+    requires small { length l1.now * entries_in_cluster (length buffer.old) < 2 ^ 62 }
+    ensures told { IfOk result (λ words. (file : List ℕ) → D.content dev.old ≡ Some file → AreTablesOf file (length buffer.old) l1.now words.items) }
+    ensures len { IfOk result (λ words. length words.items ≡ length l1.now * entries_in_cluster (length buffer.old)) }
+    ensures stop { IfErr result (IsReadStop (D.faults dev.old) (D.faults dev.new)) }
+    ensures faults { D.faults dev.old ≤ D.faults dev.new }
+    ensures content { D.content dev.new ≡ D.content dev.old }
+    ensures flushed { D.is_flushed dev.new ≡ D.is_flushed dev.old }
+    ensures log { D.log dev.new ≡ D.log dev.old }
+    ensures size { D.size dev.new ≡ D.size dev.old }
+    ensures capacity { D.capacity dev.new ≡ D.capacity dev.old }
+{
+    let mut words = zero_words(alloc, l1.len() * (buffer.len() / ENTRY))?;
+    read_l2_tables(dev, l1, buffer, words.as_mut_slice())?;
+    Ok(words)
+}
+
+/// Loads the L1 table of an image with clusters of `c` bytes.
+fn load_l1<D: Device>(
+    alloc: Global,
+    dev: &mut D,
+    h: &Header,
+    c: u64,
+    len: u64,
+) -> Result<Vec<u64>, TablesStop>
+    requires size { c ≡ cluster_size h.now.cluster_bits }
+    requires some { 8 ≤ c }
+    ensures told { IfOk result (λ l1. (file : List ℕ) → D.content dev.old ≡ Some file → l1.items ≡ words_at file h.now.l1_offset h.now.l1_size) }
+    ensures refused { IfErr result (λ stop. (file : List ℕ) → D.content dev.old ≡ Some file → IsRefusal stop → load_refusal h.now len (active_tree file h.now) ≡ Some stop) }
+    ensures placed { IfOk result (λ l1. (option_map Offset (bad_l1_table h.now len) ≡ None) × (misplaced_table c len l1.items ≡ None)) }
+    ensures entries { IfOk result (λ l1. length l1.items ≡ h.now.l1_size) }
+    ensures cause { IfErr result (HasCause (D.faults dev.old) (D.faults dev.new)) }
+    ensures faults { D.faults dev.old ≤ D.faults dev.new }
+    ensures content { D.content dev.new ≡ D.content dev.old }
+    ensures flushed { D.is_flushed dev.new ≡ D.is_flushed dev.old }
+    ensures log { D.log dev.new ≡ D.log dev.old }
+    ensures size { D.size dev.new ≡ D.size dev.old }
+    ensures capacity { D.capacity dev.new ≡ D.capacity dev.old }
+{
+    check_l1_table(h, c, len)?;
+    let l1 = read_l1(alloc, dev, h.l1_offset, h.l1_size as usize)?;
+    check_l2_tables(l1.as_slice(), c, len)?;
+    Ok(l1)
+}
+
+/// The bytes of a cluster.
+#[tactic(auto, using(q2_format::proofs::Limits::read_within))]
+fn cluster_len(h: &Header, len: u64) -> u64
+    requires { CanBeRead h.now len }
+    ensures size { result ≡ cluster_size h.now.cluster_bits }
+    ensures entries { result ≡ 8 * (result / 8) }
+    ensures some { 8 ≤ result }
+    ensures small { result < 2 ^ 32 }
+    ensures l1 { h.now.l1_size ≤ 1024 }
+{
+    1 << h.cluster_bits
+}
+
+/// Loads the tables of an image by its header: the L1 table in one read, and each L2 table in one. All memory is
+/// taken here.
+///
+/// The refusal is the first that holds of: the L1 table's offset or size, an L2 table's offset, a host cluster's
+/// offset (`Offset`), a reserved bit in the L1 table, one in an L2 table, a compressed cluster. Of several entries
+/// the first is named. A failed read or want of memory takes the place of what it would have told.
+pub fn load_tables<D: Device>(alloc: Global, dev: &mut D, h: &Header) -> Result<Tables, TablesStop>
+    requires { CanBeRead h.now (D.size dev.old) }
+    ensures told { (file : List ℕ) → D.content dev.old ≡ Some file → Loads h.now (D.size dev.old) (active_tree file h.now) result }
+    ensures loaded { IfOk result (IsLoaded h.now (D.size dev.old)) }
+    ensures cause { IfErr result (HasCause (D.faults dev.old) (D.faults dev.new)) }
+    ensures faults { D.faults dev.old ≤ D.faults dev.new }
+    ensures content { D.content dev.new ≡ D.content dev.old }
+    ensures flushed { D.is_flushed dev.new ≡ D.is_flushed dev.old }
+    ensures log { D.log dev.new ≡ D.log dev.old }
+    ensures size { D.size dev.new ≡ D.size dev.old }
+    ensures capacity { D.capacity dev.new ≡ D.capacity dev.old }
+{
+    let len = dev.length();
+    let c = cluster_len(h, len);
+    let l1 = load_l1(alloc, dev, h, c, len)?;
+    let mut buffer = zero_bytes(alloc, c as usize)?;
+    let words = read_l2(alloc, dev, l1.as_slice(), buffer.as_mut_slice())?;
+    check_words(l1.as_slice(), words.as_slice(), c as usize, len)?;
+    Ok(Tables {
+        cluster_size: c,
+        l1_offset: h.l1_offset,
+        l1,
+        words,
+        buffer,
+    })
+}
