@@ -1,5 +1,5 @@
 //! A device whose bytes are read as a disk, by the image's format.
-ghost use Rattle.std.specs.Prelude.{◌≡◌, ◌+◌, ◌/◌, ◌<◌, ◌≤◌, ℕ, List, [], length, Some, option_map};
+ghost use Rattle.std.specs.Prelude.{◌≡◌, ◌+◌, ◌/◌, ◌<◌, ◌≤◌, ℕ, List, [], length, replicate, Some};
 ghost use Rattle.blk_base.specs.Pieces.{end_of};
 ghost use Rattle.q2_format.specs.Contents.{image_disk};
 ghost use Rattle.q2_image.specs.Image.{IsImageOf, clusters_in};
@@ -15,6 +15,7 @@ use std::marker::Model;
 use trace_codec::Op;
 
 /// What reads a disk from a device's bytes.
+#[derive(Drop)]
 pub(crate) enum Driver {
     /// The bytes are the disk's.
     Raw,
@@ -46,11 +47,13 @@ impl<D: Device> Model for Medium<D> {
     ghost invariant = { λ m. (bytes : List ℕ) → D.content m.device ≡ Some bytes → IsReadBy m.driver bytes };
 }
 
-/// Makes all bytes 0.
-fn clear(buffer: &mut [u8])
-    ensures { buffer.new ≡ replicate (length buffer.old) 0 }
+/// Reads zeros.
+fn read_zeros(buffer: &mut [u8]) -> Outcome
+    ensures zeros { buffer.new ≡ replicate (length buffer.old) 0 }
+    ensures good { result ≡ Outcome.Good }
 {
     buffer.fill(0);
+    Outcome::Good
 }
 
 /// Reads a part of one cluster of an image's disk.
@@ -73,17 +76,16 @@ fn read_image<D: Device>(device: &mut D, image: &Image, part: Span, buffer: &mut
             Err(DevStop::Io { count }) => Outcome::Io { dev: DEVICE, count },
             Err(DevStop::NoSpace) => unreachable!(),
         },
-        Mapping::Unallocated | Mapping::Zero { .. } => {
-            clear(buffer);
-            Outcome::Good
-        }
+        Mapping::Zero { .. } => read_zeros(buffer),
+        Mapping::Unallocated => read_zeros(buffer),
     }
 }
 
 impl<D: Device> Medium<D> {
-    ghost use Rattle.std.specs.Prelude.{◌≡◌, ◌&&◌, ◌≤◌, ◌<◌, ℕ, List, length, true, false, is_some, Some, Option, option_map, MatchOption};
+    ghost use Rattle.std.specs.Prelude.{◌≡◌, ◌&&◌, ◌≤◌, ◌<◌, ℕ, List, length, true, false, take, is_some, Some, Option, option_map, MatchOption};
     ghost use Rattle.blk_base.specs.Pieces.{end_of};
     ghost use Rattle.blk_base.specs.Counts.{Rose};
+    ghost use Rattle.blk_base.specs.Content.{with_bytes};
     ghost use Rattle.blk_base.specs.declared.fault.FaultFrom.{FaultFrom};
     ghost use Rattle.blk_history.specs.Disk.{done_in, is_write};
     ghost use Rattle.blk_history.specs.Machine.{done_by};

@@ -26,7 +26,7 @@ pub fn run_io<S: Store, K: Sink>(
 {
     let mut store = store;
     let status = match io_words(words) {
-        Some(io) => run_on(alloc, &io, &mut store, out),
+        Some(io) => run_on(alloc, io.format, io.image, io.trace, &mut store, out),
         None => unreachable!(),
     };
     (status, store)

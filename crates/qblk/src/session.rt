@@ -13,7 +13,7 @@ ghost use Rattle.qblk.specs.Run.{guest_names, Answers};
 use crate::engine::Engine;
 use crate::opening::{MediumStop, open_medium};
 use crate::transfer::DEVICE;
-use crate::words::IoWords;
+use crate::words::Format;
 use crate::input::{MAX_TRACE, Prepared, TraceRead, judge, refused};
 use crate::output::send_transcript;
 use crate::requests::run_requests;
@@ -96,25 +96,27 @@ fn image_status(alloc: Global, image: &str, stop: MediumStop) -> Status
 /// Makes the requests of a trace on an image, and flushes it. A refused input leaves what the device holds.
 fn make_run<D: Device>(
     alloc: Global,
-    io: &IoWords<'_>,
+    format: Format,
+    image: &str,
+    trace: &str,
     read: TraceRead,
     device: D,
 ) -> (Result<Made, Status>, D)
     ensures made { IfOk result.0 (λ made. (bytes : List ℕ) × (w : Face) × (read ≡ TraceRead.Whole bytes)
-        × IsMade io.entry.now.format bytes
+        × IsMade format bytes
         (record { content = D.content device; is_flushed = D.is_flushed device; faults = D.faults device; capacity = D.capacity device; size = D.size device })
         (record { content = D.content result.1; is_flushed = D.is_flushed result.1; faults = D.faults result.1; capacity = D.capacity result.1; size = D.size result.1 }) w made.fault
         × (made.history ≡ w.log) × (made.names ≡ guest_names) × (made.line.bytes ≡ []) × (393476 ≤ made.line.spare)) }
-    ensures stop { IfErr result.0 (IsRunStop io.entry.now.format io.entry.now.image.now io.entry.now.trace.now read
+    ensures stop { IfErr result.0 (IsRunStop format image.now trace.now read
         (record { content = D.content device; is_flushed = D.is_flushed device; faults = D.faults device; capacity = D.capacity device; size = D.size device })
         (record { content = D.content result.1; is_flushed = D.is_flushed result.1; faults = D.faults result.1; capacity = D.capacity result.1; size = D.size result.1 })) }
     ensures untouched { OnErr result.0 (IsUntouched
         (record { content = D.content device; is_flushed = D.is_flushed device; faults = D.faults device; capacity = D.capacity device; size = D.size device })
         (record { content = D.content result.1; is_flushed = D.is_flushed result.1; faults = D.faults result.1; capacity = D.capacity result.1; size = D.size result.1 })) }
 {
-    let medium = match open_medium(alloc, io.format, device) {
+    let medium = match open_medium(alloc, format, device) {
         Ok(medium) => medium,
-        Err((stop, device)) => return (Err(image_status(alloc, io.image, stop)), device),
+        Err((stop, device)) => return (Err(image_status(alloc, image, stop)), device),
     };
     let Prepared {
         ops,
@@ -122,7 +124,7 @@ fn make_run<D: Device>(
         buffer,
         names,
         line,
-    } = match judge(alloc, io.trace, read) {
+    } = match judge(alloc, trace, read) {
         Ok(prepared) => prepared,
         Err(status) => return (Err(status), medium.into_device()),
     };
@@ -185,25 +187,27 @@ fn failed(fault: Option<FaultAt>, count: u64) -> Status
 /// puts the transcript.
 pub(crate) fn run_on<S: Store, K: Sink>(
     alloc: Global,
-    io: &IoWords<'_>,
+    format: Format,
+    image: &str,
+    trace: &str,
     store: &mut S,
     out: &mut K,
 ) -> Status
     requires { NoneOut (S.opened store.old) }
-    ensures { Answers io.entry.now.format io.entry.now.image.now io.entry.now.trace.now
+    ensures { Answers format image.now trace.now
         (record { files = S.files store.old; opened = S.opened store.old; store_faults = S.faults store.old; sent = K.sent out.old; sink_faults = K.faults out.old })
         (record { files = S.files store.new; opened = S.opened store.new; store_faults = S.faults store.new; sent = K.sent out.new; sink_faults = K.faults out.new }) result }
 {
-    let read = match read_trace_file(store, io.trace) {
+    let read = match read_trace_file(store, trace) {
         Ok(read) => read,
         Err(status) => return status,
     };
-    let device = match open_image(alloc, store, io.image) {
+    let device = match open_image(alloc, store, image) {
         Ok(device) => device,
         Err(status) => return status,
     };
-    let (made, device) = make_run(alloc, io, read, device);
-    store.give_back(io.image, device);
+    let (made, device) = make_run(alloc, format, image, trace, read, device);
+    store.give_back(image, device);
     match made {
         Ok(made) => write_out(made, out),
         Err(status) => status,

@@ -43,6 +43,7 @@ fn format_named(word: &Text) -> Option<Format>
 }
 
 /// The words of the form `io FORMAT IMAGE TRACE`.
+#[derive(Clone, Copy, Debug)]
 pub(crate) struct IoWords<'a> {
     pub format: Format,
     pub image: &'a str,
