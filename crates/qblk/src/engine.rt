@@ -9,8 +9,7 @@ ghost use Rattle.blk_history.specs.declared.event.Event.{Event};
 
 use crate::flight::InFlight;
 use crate::medium::Medium;
-use crate::transfer::{is_write, request_piece, request_span, shown_part};
-use crate::words::Format;
+use crate::transfer::{request_piece, request_span, shown_part};
 use blk_base::{Device, FaultAt, Outcome};
 use blk_history::{Asked, Entry, History, Refused};
 use std::marker::Model;
@@ -211,7 +210,7 @@ impl<D: Device> Engine<D> {
             self.done += 1;
             return Some(Refused::Range);
         }
-        if self.medium.format() == Format::Qcow2 && is_write(&op) {
+        if self.medium.forbids(&op) {
             note_refusal(&mut self.history, self.done, op, Refused::ReadOnly);
             self.done += 1;
             return Some(Refused::ReadOnly);

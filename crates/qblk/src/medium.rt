@@ -6,8 +6,7 @@ ghost use Rattle.q2_image.specs.Image.{IsImageOf, clusters_in};
 ghost use Rattle.q2_image.specs.Reading.{IsWithinCluster};
 ghost use Rattle.qblk.specs.Steps.{HasCause, IsRead};
 
-use crate::transfer::{DEVICE, last_flush, load_payload, read_part, write_part};
-use crate::words::Format;
+use crate::transfer::{DEVICE, is_write, last_flush, load_payload, read_part, write_part};
 use blk_base::{DevStop, Device, FaultAt, Outcome, Span};
 use q2_image::Image;
 use q2_tables::Mapping;
@@ -96,13 +95,13 @@ impl<D: Device> Medium<D> {
     ghost use Rattle.qblk.specs.Steps.{HasCause, IsRead, IsWritten, shown_of};
     ghost use Rattle.qblk.specs.declared.words.Format.TheVariants as formats;
 
-    /// The format that the bytes are read by.
-    pub(crate) fn format(&self) -> Format
-        ensures { result ≡ self.now.format }
+    /// Whether a request would change a disk whose guest may only read.
+    pub(crate) fn forbids(&self, op: &Op) -> bool
+        ensures { result ≡ (only_reads self.now.format && is_write op.now) }
     {
         match self.driver {
-            Driver::Raw => Format::Raw,
-            Driver::Qcow2(_) => Format::Qcow2,
+            Driver::Raw => false,
+            Driver::Qcow2(_) => is_write(op),
         }
     }
 
