@@ -25,21 +25,24 @@ asked-all e w ops empty made = made.asked ∙ ap (λ es. asked_by 0 es ++ ops) e
 
 pub made-run : (format : Format) (size faults : ℕ) (d n : Seen) (w : Face) (log : Recorded) (ops : List Op) (bytes : List ℕ) (fault : Option FaultAt)
     → IsGood format size d.content → d.faults ≤ faults → IsUtf8 bytes → ops_of bytes ≡ Ok ops → log.events ≡ [] → RequestsDone (begun format size faults d log) w ops
-    → option_map (disk_of format) n.content ≡ w.disk → n.capacity ≡ w.capacity → w.faults ≤ n.faults → ((bytes : List ℕ) → n.content ≡ Some bytes → is_some n.is_flushed ≡ true) → IsFlushed n w.faults fault
+    → option_map (disk_of w.format) n.content ≡ w.disk → n.capacity ≡ w.capacity → w.faults ≤ n.faults → ((bytes : List ℕ) → n.content ≡ Some bytes → is_some n.is_flushed ≡ true) → IsFlushed n w.faults fault
     → IsMade format bytes d n w fault
-made-run format size start d n w log ops bytes fault good later text is empty made content capacity faults tells flushed = record {
-  size = size;
-  good = good;
-  text = text;
-  ops = is ∙ ap (λ asked. Ok asked) (sym (asked-all (begun format size start d log) w ops empty made));
-  comes = made.comes (opening_of format size d) (comes-start (opening_of format size d) start log later empty);
-  idle = made.idle;
-  content = content;
-  capacity = capacity;
-  faults = faults;
-  tells = tells;
-  flushed = flushed;
-}
+made-run format size start d n w log ops bytes fault good later text is empty made content capacity faults tells flushed =
+    let comes = made.comes (opening_of format size d) (comes-start (opening_of format size d) start log later empty) in
+    let C : Format → Type 0 = λ f. option_map (disk_of f) n.content ≡ w.disk in
+    record {
+      size = size;
+      good = good;
+      text = text;
+      ops = is ∙ ap (λ asked. Ok asked) (sym (asked-all (begun format size start d log) w ops empty made));
+      comes = comes;
+      idle = made.idle;
+      content = subst C comes.format content;
+      capacity = capacity;
+      faults = faults;
+      tells = tells;
+      flushed = flushed;
+    }
 
 pub flushed-as : (n : Seen) (faults : ℕ) (fault : Option FaultAt)
     → MatchOption fault ((bytes : List ℕ) → n.content ≡ Some bytes → n.is_flushed ≡ Some true) (λ f. (f.from ≡ Dev (record { 0 = 0 })) × Rose faults f.count × (f.count ≡ n.faults))
