@@ -1,3 +1,4 @@
 pub mod Places
 pub mod Logs
 pub mod Shelves
+pub mod Sure

@@ -10,7 +10,7 @@ use Rattle.blk_base.specs.Files.{file_at, put_file, is_out_as, is_out, given_bac
 use Rattle.blk_base.specs.declared.file.File.{File}
 use Rattle.blk_base.specs.declared.file.Opened.{Opened}
 use Rattle.blk_fakes.specs.Disk.{DeviceState}
-use Rattle.blk_fakes.specs.Shelf.{FileState, told_as, told_file, place_of, is_held, device_at, remade, zeros_as}
+use Rattle.blk_fakes.specs.Shelf.{FileState, told_as, told_file, place_of, is_held, device_at, remade, zeros_as, zeroed, with_made, with_device}
 
 same_from : (a b : List ℕ) → bytes_eq a b ≡ true → a ≡ b
 same_from a b is = (bytes_eq-Decides a b).0 is
@@ -207,3 +207,34 @@ has_file name [] at place = absurd (cc place)
 has_file name (f ∷ files) at place =
     let is = first (λ (f : FileState). bytes_eq name f.name) (f ∷ files) at f place in
     (told_file (get_or (f ∷ files) at f), file_found name (f ∷ files) at f is, tt)
+
+-- a device in the place of another, by its name
+device_put : (name : List ℕ) (files : List FileState) (at : ℕ) (d : FileState) (dev : DeviceState) → IsFirst (λ (f : FileState). bytes_eq name f.name) files at d
+    → set files at (record (get_or files at d) { device = dev }) ≡ with_device name dev files
+device_put name [] at d dev is = absurd (omega (arith, is.within))
+device_put name (f ∷ files) zero d dev is = rw is.passes refl
+device_put name (f ∷ files) (suc at) d dev is =
+    rw (is.before 0 (omega arith)) (ap (λ (fs : List FileState). f ∷ fs) (device_put name files at d dev (later _ f files at d is)))
+
+pub device_at_place : (name : List ℕ) (files : List FileState) (at : ℕ) (d : FileState) (dev : DeviceState) → place_of name files ≡ Some at
+    → set files at (record (get_or files at d) { device = dev }) ≡ with_device name dev files
+device_at_place name files at d dev place = device_put name files at d dev (first (λ (f : FileState). bytes_eq name f.name) files at d place)
+
+-- zeros in the place of a file
+zeros_put : (name : List ℕ) (files : List FileState) (at : ℕ) (d : FileState) (len room : ℕ) → IsFirst (λ (f : FileState). bytes_eq name f.name) files at d
+    → set files at (record (get_or files at d) { device = remade (get_or files at d).device len room }) ≡ with_made name len room files
+zeros_put name [] at d len room is = absurd (omega (arith, is.within))
+zeros_put name (f ∷ files) zero d len room is = rw is.passes refl
+zeros_put name (f ∷ files) (suc at) d len room is =
+    rw (is.before 0 (omega arith)) (ap (λ (fs : List FileState). f ∷ fs) (zeros_put name files at d len room (later _ f files at d is)))
+
+pub made_at_place : (name : List ℕ) (files : List FileState) (at : ℕ) (r : FileState) (dev : DeviceState) (len room : ℕ) → place_of name files ≡ Some at → r ≡ get_or files at r
+    → dev ≡ remade r.device len room → set files at (record (get_or files at r) { device = dev }) ≡ with_made name len room files
+made_at_place name files at r dev len room place read is =
+    let same : dev ≡ remade (get_or files at r).device len room = is ∙ ap (λ (f : FileState). remade f.device len room) read in
+    rw same (zeros_put name files at r len room (first (λ (f : FileState). bytes_eq name f.name) files at r place))
+
+pub made_at_end : (name : List ℕ) (files : List FileState) (len room : ℕ) → IsNowhere name files
+    → files ++ record { name = name; device = zeroed len room } ∷ [] ≡ with_made name len room files
+made_at_end name [] len room is = refl
+made_at_end name (f ∷ files) len room is = rw (is.none 0 f (omega arith)) (ap (λ (fs : List FileState). f ∷ fs) (made_at_end name files len room (nowhere_later name f files is)))

@@ -4,7 +4,7 @@ use Rattle.std.specs.List.{position, list_any}
 use Rattle.blk_base.specs.Files.{is_out}
 use Rattle.blk_base.specs.declared.file.File.{File}
 use Rattle.blk_base.specs.declared.file.Opened.{Opened}
-use Rattle.blk_fakes.specs.Calls.{CallState}
+use Rattle.blk_fakes.specs.Calls.{CallState, NeverFails, no_calls}
 use Rattle.blk_fakes.specs.Disk.{DeviceState, bytes_of, fresh}
 
 -- a file: its name, and its device as it is while it is not out, and as it was opened while it is
@@ -52,3 +52,22 @@ zeros_as name len room = record { name = name; bytes = replicate len 0; capacity
 -- a device that holds so many zeros in the place of what it held: its calls go on
 abbrev pub remade : DeviceState → ℕ → ℕ → DeviceState
 remade device len room = record { disk = fresh (replicate len 0) room device.disk.log_writes device.disk.log_bytes; calls = device.calls }
+
+-- a device of so many zeros as a store makes it: none of its calls fails, and its log has room for 1,024 writes of 4,194,304 bytes
+abbrev pub zeroed : ℕ → ℕ → DeviceState
+zeroed len room = record { disk = fresh (replicate len 0) room 1024 4194304; calls = no_calls [] }
+
+-- the files once the one of that name holds so many zeros
+abbrev pub with_made : List ℕ → ℕ → ℕ → List FileState → List FileState
+with_made name len room [] = record { name = name; device = zeroed len room } ∷ []
+with_made name len room (f ∷ files) = if bytes_eq name f.name then record f { device = remade f.device len room } ∷ files else f ∷ with_made name len room files
+
+-- the files with this device under that name
+abbrev pub with_device : List ℕ → DeviceState → List FileState → List FileState
+with_device name device [] = []
+with_device name device (f ∷ files) = if bytes_eq name f.name then record f { device = device } ∷ files else f ∷ with_device name device files
+
+-- no device of these files fails
+abbrev pub NoneFails : List FileState → Type 0
+NoneFails [] = Unit {0}
+NoneFails (f ∷ files) = NeverFails f.device.calls × NoneFails files

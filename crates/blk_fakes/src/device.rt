@@ -116,7 +116,7 @@ impl Device for MemDevice {
     ghost use Rattle.blk_base.specs.Content.{Log, after_writes, GoesOn, bytes_at, with_bytes, size_with};
     ghost use Rattle.blk_fakes.specs.Disk.{DeviceState, bytes_of, log_of, log_after, torn_at};
     ghost use Rattle.blk_base.specs.Counts.{IsFailedWrite, taken};
-    ghost use Rattle.blk_fakes.specs.Calls.{fails_next, with_go, done_at, one_more};
+    ghost use Rattle.blk_fakes.specs.Calls.{fails_next, with_go, done_at, after_call, write_fails};
     ghost use Rattle.blk_fakes.specs.Laws.{size_told, log_told};
 
     ghost content = { λ d. Some (bytes_of d.disk) };
@@ -150,8 +150,7 @@ impl Device for MemDevice {
     fn write_at(&mut self, off: u64, bytes: &[u8]) -> Result<(), WriteStop>
         ensures goes { OnOk result ((done_at self.old.calls.made self.old.calls.fails ≡ None) ⊎ (length bytes.now ≡ 0)) }
         ensures torn { IfErr result (λ stop. stop.why ≡ Stop.Failed → option_map (torn_at off (length bytes.now)) (done_at self.old.calls.made self.old.calls.fails) ≡ Some stop.done) }
-        ensures numbers { self.new.calls.made ≡ one_more self.old.calls.made }
-        ensures list { self.new.calls.fails ≡ self.old.calls.fails }
+        ensures calls { self.new.calls ≡ after_call (write_fails result) self.old.calls }
         ensures room { (self.new.disk.log_writes ≡ self.old.disk.log_writes) × (self.new.disk.log_bytes ≡ self.old.disk.log_bytes) }
         ensures kept { self.new.disk.log ≡ log_after self.old.disk.log off (taken result bytes.now) }
 

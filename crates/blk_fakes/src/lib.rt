@@ -1,4 +1,4 @@
-//! Devices, a store and a sink in memory: they tell what they hold, and fail where a list says so.
+//! Devices, a store and a sink in memory: they tell what they hold, and fail where a list says so, or never.
 #![tactic(auto)]
 
 mod bytes;
@@ -9,6 +9,8 @@ mod log;
 mod shelf;
 mod sink;
 mod store;
+mod sure_device;
+mod sure_store;
 #[cfg(test)]
 mod tests;
 
@@ -16,3 +18,5 @@ pub use calls::FailAt;
 pub use device::MemDevice;
 pub use sink::MemSink;
 pub use store::MemStore;
+pub use sure_device::SureDevice;
+pub use sure_store::SureStore;

@@ -51,9 +51,9 @@ impl MemSink {
 }
 
 impl Sink for MemSink {
-    ghost use Rattle.std.specs.Prelude.{◌≡◌, ◌⊎◌, ◌<◌, ◌≤◌, ◌++◌, length, take, Some, None, IsTrue, OnOk, OnErr};
+    ghost use Rattle.std.specs.Prelude.{◌≡◌, ◌⊎◌, ◌<◌, ◌≤◌, ◌++◌, length, take, Some, None, IsTrue, OnOk, OnErr, not, is_ok};
     ghost use Rattle.blk_base.specs.Counts.{Rose};
-    ghost use Rattle.blk_fakes.specs.Calls.{done_at, fails_next, one_more};
+    ghost use Rattle.blk_fakes.specs.Calls.{done_at, fails_next, after_call};
     ghost use Rattle.blk_fakes.specs.Sunk.{SinkState, fitting, sent_at};
 
     ghost sent = { λ s. Some s.sent };
@@ -66,8 +66,7 @@ impl Sink for MemSink {
         ensures sent { OnOk result (self.new.sent ≡ self.old.sent ++ bytes.now) }
         ensures partly { OnErr result (self.new.sent ≡ self.old.sent ++ take (sent_at self.old (length bytes.now)) bytes.now) }
         ensures cause { OnErr result (IsTrue (fails_next self.old.calls) ⊎ (fitting self.old (length bytes.now) < length bytes.now)) }
-        ensures numbers { self.new.calls.made ≡ one_more self.old.calls.made }
-        ensures list { self.new.calls.fails ≡ self.old.calls.fails }
+        ensures calls { self.new.calls ≡ after_call (not (is_ok result)) self.old.calls }
         ensures room { self.new.room ≡ self.old.room }
         ensures failed { OnErr result (Rose self.old.calls.faults self.new.calls.faults) }
         ensures faults { self.old.calls.faults ≤ self.new.calls.faults }

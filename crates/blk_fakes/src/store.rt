@@ -33,7 +33,7 @@ impl MemStore {
     ghost use Rattle.blk_base.specs.Files.{file_at, put_file, is_out, is_out_as, given_back};
     ghost use Rattle.std.specs.List.{position};
     ghost use Rattle.blk_base.specs.Stored.{HoldsBytes};
-    ghost use Rattle.blk_fakes.specs.Shelf.{FileState, StoreState, told_as, told_files, zeros_as, place_of, is_held, device_at};
+    ghost use Rattle.blk_fakes.specs.Shelf.{FileState, StoreState, told_as, told_files, zeros_as, place_of, is_held, device_at, with_made};
     ghost use Rattle.blk_fakes.specs.Calls.{no_calls};
 
     /// A store with no file yet, whose calls of those numbers fail. Files that it makes have the capacity `room`.
@@ -160,6 +160,7 @@ impl MemStore {
         requires place { place_of name.now self.old.files ≡ Some at }
         requires fits { len ≤ self.old.room }
         ensures ok { OnOk result (told_files self.new ≡ put_file (zeros_as name.now len self.old.room) (told_files self.old)) }
+        ensures devices { OnOk result (self.new.files ≡ with_made name.now len self.old.room self.old.files) }
         ensures err { OnErr result (self.new ≡ self.old) }
         ensures rest { self.new ≡ record self.old { files = self.new.files } }
     {
@@ -173,6 +174,7 @@ impl MemStore {
         requires place { place_of name.now self.old.files ≡ None }
         requires fits { len ≤ self.old.room }
         ensures ok { OnOk result (told_files self.new ≡ put_file (zeros_as name.now len self.old.room) (told_files self.old)) }
+        ensures devices { OnOk result (self.new.files ≡ with_made name.now len self.old.room self.old.files) }
         ensures err { OnErr result (self.new ≡ self.old) }
         ensures rest { self.new ≡ record self.old { files = self.new.files } }
     {
@@ -187,6 +189,7 @@ impl MemStore {
     fn make(&mut self, name: &str, len: u64) -> Result<(), NoMemory>
         requires { len ≤ self.old.room }
         ensures ok { OnOk result (told_files self.new ≡ put_file (zeros_as name.now len self.old.room) (told_files self.old)) }
+        ensures devices { OnOk result (self.new.files ≡ with_made name.now len self.old.room self.old.files) }
         ensures err { OnErr result (self.new ≡ self.old) }
         ensures rest { self.new ≡ record self.old { files = self.new.files } }
     {
@@ -211,12 +214,13 @@ impl MemStore {
 }
 
 impl Store for MemStore {
-    ghost use Rattle.std.specs.Prelude.{◌≡◌, ◌≤◌, ◌++◌, [], ◌∷◌, true, false, Some, None, IfOk, IfErr, OnOk, MatchResult};
-    ghost use Rattle.blk_base.specs.Stored.{IsDeviceOf};
-    ghost use Rattle.blk_base.specs.Answers.{OpenAnswers};
-    ghost use Rattle.blk_fakes.specs.Calls.{fails_next, one_more};
+    ghost use Rattle.std.specs.Prelude.{◌≡◌, ◌≢◌, ◌≤◌, ◌++◌, [], ◌∷◌, true, false, replicate, Some, None, IsTrue, IfOk, IfErr, OnOk, OnErr, MatchResult};
+    ghost use Rattle.blk_base.specs.Stored.{IsDeviceOf, HoldsBytes, LeavesOthers};
+    ghost use Rattle.blk_base.specs.Files.{file_at, put_file, is_out, given_back};
+    ghost use Rattle.blk_base.specs.Answers.{OpenAnswers, CreateAnswers, ReadAnswers};
+    ghost use Rattle.blk_fakes.specs.Calls.{fails_next, after_call, store_fails};
     ghost use Rattle.blk_fakes.specs.Disk.{bytes_of};
-    ghost use Rattle.blk_fakes.specs.Shelf.{StoreState, told_files, device_at};
+    ghost use Rattle.blk_fakes.specs.Shelf.{StoreState, told_as, told_files, zeros_as, device_at, with_made, with_device};
 
     type Dev = MemDevice;
 
@@ -233,8 +237,7 @@ impl Store for MemStore {
         ensures lent { IfOk result (λ dev. device_at name.now self.old.files ≡ Some dev) }
         ensures goes { OnOk result (fails_next self.old.calls ≡ false) }
         ensures fails { IfErr result (λ e. e ≡ StoreStop.Failed → fails_next self.old.calls ≡ true) }
-        ensures numbers { self.new.calls.made ≡ one_more self.old.calls.made }
-        ensures list { self.new.calls.fails ≡ self.old.calls.fails }
+        ensures calls { self.new.calls ≡ after_call (store_fails result) self.old.calls }
         ensures devices { self.new.files ≡ self.old.files }
 
         // what each store promises
@@ -264,7 +267,22 @@ impl Store for MemStore {
         }
     }
 
-    fn create_file(&mut self, name: &str, len: u64) -> Result<(), StoreStop> {
+    /// Fails exactly where the list says so, unless the file is out or the length is above the room.
+    fn create_file(&mut self, name: &str, len: u64) -> Result<(), StoreStop>
+        ensures goes { OnOk result (fails_next self.old.calls ≡ false) }
+        ensures fails { IfErr result (λ e. e ≡ StoreStop.Failed → fails_next self.old.calls ≡ true) }
+        ensures calls { self.new.calls ≡ after_call (store_fails result) self.old.calls }
+        ensures devices { MatchResult result
+            (λ _. self.new.files ≡ with_made name.now len self.old.room self.old.files)
+            (λ _. self.new.files ≡ self.old.files) }
+
+        // what each store promises
+        ensures made { OnOk result (told_files self.new ≡ put_file (zeros_as name.now len self.old.room) (told_files self.old)) }
+        ensures cause { CreateAnswers name.now len self.old.room self.old.opened self.old.calls.faults self.new.calls.faults result }
+        ensures opened { self.new.opened ≡ self.old.opened }
+        ensures room { self.new.room ≡ self.old.room }
+        ensures faults { self.old.calls.faults ≤ self.new.calls.faults }
+    {
         let fails = self.calls.next().is_some();
         if self.is_out(name) {
             return Err(StoreStop::InUse);
@@ -283,7 +301,20 @@ impl Store for MemStore {
     }
 
     #[tactic(auto, using(crate::proofs::Shelves::lacks))]
-    fn read_all(&mut self, name: &str, limit: u64) -> Result<Bytes, StoreStop> {
+    /// Fails exactly where the list says so, unless there is no such file, it is out, or it is longer than the limit.
+    fn read_all(&mut self, name: &str, limit: u64) -> Result<Bytes, StoreStop>
+        ensures goes { OnOk result (fails_next self.old.calls ≡ false) }
+        ensures fails { IfErr result (λ e. e ≡ StoreStop.Failed → fails_next self.old.calls ≡ true) }
+        ensures calls { self.new.calls ≡ after_call (store_fails result) self.old.calls }
+        ensures devices { self.new.files ≡ self.old.files }
+
+        // what each store promises
+        ensures read { IfOk result (λ bytes. HoldsBytes name.now bytes (told_files self.old)) }
+        ensures cause { ReadAnswers name.now limit (Some (told_files self.old)) self.old.opened self.old.calls.faults self.new.calls.faults result }
+        ensures opened { self.new.opened ≡ self.old.opened }
+        ensures room { self.new.room ≡ self.old.room }
+        ensures faults { self.old.calls.faults ≤ self.new.calls.faults }
+    {
         let fails = self.calls.next().is_some();
         if self.is_out(name) {
             return Err(StoreStop::InUse);
@@ -305,7 +336,17 @@ impl Store for MemStore {
         }
     }
 
-    fn give_back(&mut self, name: &str, dev: MemDevice) {
+    fn give_back(&mut self, name: &str, dev: MemDevice)
+        requires { IsTrue (is_out name.now self.old.opened) }
+        ensures devices { self.new.files ≡ with_device name.now dev self.old.files }
+        ensures calls { self.new.calls ≡ self.old.calls }
+
+        // what each store promises
+        ensures files { told_files self.new ≡ put_file (told_as name.now dev) (told_files self.old) }
+        ensures opened { self.new.opened ≡ given_back name.now dev.calls.faults self.old.opened }
+        ensures room { self.new.room ≡ self.old.room }
+        ensures faults { self.old.calls.faults ≤ self.new.calls.faults }
+    {
         let faults = dev.faults();
         let at = self.place_of_out(name);
         self.set_device(at, dev);

@@ -158,3 +158,41 @@ fn a_sink_sends_what_fits(rt: HostRuntime) -> Result<(), Fail> {
     assert_eq!(rt; out.faults(), 2);
     Ok(())
 }
+
+#[test]
+fn the_sure_kinds_count_no_fault(rt: HostRuntime) -> Result<(), Fail> {
+    let mut store = SureStore::new(rt.alloc(), 4)?;
+    let dev = SureDevice::new(rt.alloc(), b"abc", 5, 2, 8)?;
+    store.add_file("a", dev)?;
+    assert_eq!(rt; store.create_file("b", 4), Ok(()));
+    assert_eq!(rt; store.create_file("c", 5), Err(StoreStop::TooLong));
+    assert_eq!(rt; store.read_all("c", 9).err(), Some(StoreStop::Absent));
+    let mut dev = store.open_file("a")?;
+    let no_space = WriteStop {
+        done: 0,
+        why: Stop::NoSpace,
+    };
+    assert_eq!(rt; dev.write_at(4, b"xy"), Err(no_space));
+    assert_eq!(rt; dev.write_at(3, b"xy"), Ok(()));
+    let mut buf = [0; 3];
+    assert_eq!(rt; dev.read_at(2, &mut buf), Ok(()));
+    assert_eq!(rt; buf.as_slice(), b"cxy".as_slice());
+    assert_eq!(rt; dev.flush(), Ok(()));
+    assert_eq!(rt; dev.bytes(), b"abcxy".as_slice());
+    assert_eq!(rt; dev.logged(), Some(1));
+    let (off, bytes) = dev.log_at(0);
+    assert_eq!(rt; off, 3);
+    assert_eq!(rt; bytes, b"xy".as_slice());
+    assert_eq!(rt; dev.faults(), 0);
+    store.give_back("a", dev);
+    let bytes = store.read_all("a", 5)?;
+    assert_eq!(rt; bytes.as_slice(), b"abcxy".as_slice());
+    assert_eq!(rt; store.name_at(1), Some("b"));
+    assert_eq!(rt; store.room(), 4);
+    assert_eq!(rt; store.faults(), 0);
+    let Some(file) = store.file("b") else {
+        return Err(Fail::new("no file"));
+    };
+    assert_eq!(rt; file.bytes(), [0; 4].as_slice());
+    Ok(())
+}

@@ -1,8 +1,8 @@
 -- What is true of every graph stays true at each edit.
 use Rattle.std.proofs.Common.{◌≡◌, ℕ, ◌-◌, ◌≤◌, List, [], ◌∷◌, length, map, refl, sym, ◌∙◌, ap, inl, inr, arith, Bool, Option, Result, Ok, Err}
 use Rattle.std.specs.Prelude.{OnOk, OnErr, not}
-use Rattle.blk_graph.specs.Edges.{same_parent}
-use Rattle.std.specs.List.{Contains}
+use Rattle.blk_graph.specs.Edges.{same_parent, DifferInRole}
+use Rattle.std.specs.List.{AllPairs, Contains}
 use Rattle.std.proofs.lemmas.List.Elements.{Contains-push_cases}
 use Rattle.blk_base.specs.Written.{Written}
 use Rattle.slab.specs.Slab.{Slab}
@@ -10,7 +10,7 @@ use Rattle.blk_graph.specs.declared.edge.Edge.{Edge}
 use Rattle.blk_graph.specs.declared.edge.Perms.{Perms}
 use Rattle.blk_graph.specs.declared.edge.Parent.{Parent}
 use Rattle.blk_graph.specs.declared.stop.GraphStop.{GraphStop}
-use Rattle.blk_graph.specs.Edits.{with_edge, with_replaced, replaced, moved, with_filter, filter_edge, without_filter, without_parent}
+use Rattle.blk_graph.specs.Edits.{IsLone, with_edge, with_replaced, replaced, moved, with_filter, filter_edge, without_filter, without_parent}
 use Rattle.blk_graph.specs.Graph.{NodeRow, Graph, ids, HasNode, HasParent, IsSound, PathsAreShort}
 use Rattle.blk_graph.specs.Layout.{graph_of, IsKept}
 use Rattle.blk_graph.specs.Paths.{IsAcyclic}
@@ -20,18 +20,20 @@ use Rattle.blk_graph.proofs.EditLemmas.{Contains-with_edge, moved-parent, moved-
 use Rattle.blk_graph.proofs.PathLemmas.{IsAcyclic-fewer}
 use Rattle.blk_graph.proofs.FilterLemmas.{IsAcyclic-without_filter}
 use Rattle.blk_graph.proofs.LengthLemmas.{length-IsPath}
+use Rattle.blk_graph.proofs.RoleLemmas.{AllPairs-with_edge, AllPairs-with_replaced, AllPairs-moved, AllPairs-with_filter, AllPairs-without_filter, AllPairs-without_parent}
 
 -- the ids of the rows are the keys
 pub ids-graph_of : (names : Slab Written) (order : List ℕ) (edges : List Edge) → ids (graph_of names order edges) ≡ order
 ids-graph_of names [] edges = refl
 ids-graph_of names (id ∷ order) edges = ap (λ xs. id ∷ xs) (ids-graph_of names order edges)
 
--- the ends of the edges are nodes
-pub record HasEnds (g : Graph) (edges : List Edge) : Type 0 where
+-- the ends of the edges are nodes, and those of one parent differ
+pub record IsFit (g : Graph) (edges : List Edge) : Type 0 where
   pub parents : (e : Edge) → Contains edges e → HasParent g e.parent
   pub children : (e : Edge) → Contains edges e → HasNode g e.child
+  pub roles : AllPairs DifferInRole edges
 
-pub IsSound-edges : (g : Graph) (edges : List Edge) → IsSound g → length edges ≤ 2048 → HasEnds g edges
+pub IsSound-edges : (g : Graph) (edges : List Edge) → IsSound g → length edges ≤ 2048 → IsFit g edges
     → IsAcyclic edges → IsSound (record g { edges = edges })
 IsSound-edges g edges sound few ends acyclic = record {
   different_nodes = sound.different_nodes;
@@ -40,11 +42,12 @@ IsSound-edges g edges sound few ends acyclic = record {
   parents = ends.parents;
   children = ends.children;
   acyclic = acyclic;
+  roles = ends.roles;
 }
 
-pub HasEnds-with_edge : (g : Graph) (new : Edge) → IsSound g → HasParent g new.parent → HasNode g new.child
-    → HasEnds g (with_edge new g.edges)
-HasEnds-with_edge g new sound parent child = record {
+pub IsFit-with_edge : (g : Graph) (new : Edge) → IsSound g → HasParent g new.parent → HasNode g new.child
+    → IsFit g (with_edge new g.edges)
+IsFit-with_edge g new sound parent child = record {
   parents = λ e h. elim (Contains-with_edge new g.edges e h) [
     | inl is_new ↦ rw is_new parent
     | inr kept ↦ sound.parents e kept
@@ -53,11 +56,12 @@ HasEnds-with_edge g new sound parent child = record {
     | inl is_new ↦ rw is_new child
     | inr kept ↦ sound.children e kept
   ];
+  roles = AllPairs-with_edge new g.edges sound.roles;
 }
 
-pub HasEnds-with_replaced : (g : Graph) (from to : ℕ) (but : Option Parent) → IsSound g → HasNode g to
-    → HasEnds g (with_replaced from to but g.edges)
-HasEnds-with_replaced g from to but sound child = record {
+pub IsFit-with_replaced : (g : Graph) (from to : ℕ) (but : Option Parent) → IsSound g → HasNode g to
+    → IsFit g (with_replaced from to but g.edges)
+IsFit-with_replaced g from to but sound child = record {
   parents = λ e h. let r = Contains-map (replaced from to but) g.edges e h in
       let same : e.parent ≡ r.0.parent = ap (λ (x : Edge). x.parent) r.2 ∙ replaced-parent from to but r.0 in
       rw same (sound.parents r.0 r.1);
@@ -66,11 +70,12 @@ HasEnds-with_replaced g from to but sound child = record {
         | inl leads ↦ rw (ap (λ (x : Edge). x.child) r.2 ∙ leads) child
         | inr same ↦ rw (ap (λ (x : Edge). x.child) (r.2 ∙ same)) (sound.children r.0 r.1)
       ];
+  roles = AllPairs-with_replaced from to but g.edges sound.roles;
 }
 
-pub HasEnds-moved : (g : Graph) (edges : List Edge) (from to : ℕ) → HasEnds g edges → HasNode g to
-    → HasEnds g (map (moved from to) edges)
-HasEnds-moved g edges from to ends child = record {
+pub IsFit-moved : (g : Graph) (edges : List Edge) (from to : ℕ) → IsFit g edges → HasNode g to
+    → IsFit g (map (moved from to) edges)
+IsFit-moved g edges from to ends child = record {
   parents = λ e h. let r = Contains-map (moved from to) edges e h in
       let same : e.parent ≡ r.0.parent = ap (λ (x : Edge). x.parent) r.2 ∙ moved-parent from to r.0 in
       rw same (ends.parents r.0 r.1);
@@ -79,14 +84,15 @@ HasEnds-moved g edges from to ends child = record {
         | inl leads ↦ rw (ap (λ (x : Edge). x.child) (r.2 ∙ leads.1)) child
         | inr same ↦ rw (ap (λ (x : Edge). x.child) (r.2 ∙ same.1)) (ends.children r.0 r.1)
       ];
+  roles = AllPairs-moved from to edges ends.roles;
 }
 
-pub HasEnds-with_filter : (g : Graph) (node over : ℕ) (perm shared : Perms) → IsSound g → HasNode g node
-    → HasNode g over → HasEnds g (with_filter node over perm shared g.edges)
-HasEnds-with_filter g node over perm shared sound child filter_node =
-    let moved_ends : HasEnds g (map (moved node over) g.edges)
-    = HasEnds-moved g g.edges node over
-    (record { parents = sound.parents; children = sound.children }) filter_node in
+pub IsFit-with_filter : (g : Graph) (node over : ℕ) (perm shared : Perms) → IsSound g → HasNode g node
+    → HasNode g over → IsLone g.edges over → IsFit g (with_filter node over perm shared g.edges)
+IsFit-with_filter g node over perm shared sound child filter_node lone =
+    let moved_ends : IsFit g (map (moved node over) g.edges)
+    = IsFit-moved g g.edges node over
+    (record { parents = sound.parents; children = sound.children; roles = sound.roles }) filter_node in
     record {
       parents = λ e h.
           elim (Contains-push_cases (map (moved node over) g.edges) (filter_edge over node perm shared) e h) [
@@ -98,26 +104,29 @@ HasEnds-with_filter g node over perm shared sound child filter_node =
             | inl was ↦ moved_ends.children e was
             | inr is ↦ rw (← is) child
           ];
+      roles = AllPairs-with_filter node over perm shared g.edges lone sound.roles;
     }
 
-pub HasEnds-without_filter : (g : Graph) (node : ℕ) → IsSound g → HasEnds g (without_filter node g.edges)
-HasEnds-without_filter g node sound = record {
+pub IsFit-without_filter : (g : Graph) (node : ℕ) → IsSound g → IsFit g (without_filter node g.edges)
+IsFit-without_filter g node sound = record {
   parents = λ e h. let r = HasOldEnds-without_filter node g.edges e h in
       rw r.parent (sound.parents r.from r.from_there);
   children = λ e h. let r = HasOldEnds-without_filter node g.edges e h in
       rw r.child (sound.children r.to r.to_there);
+  roles = AllPairs-without_filter node g.edges sound.roles;
 }
 
-pub HasEnds-fewer : (g : Graph) (edges : List Edge) → IsSound g
-    → ((e : Edge) → Contains edges e → Contains g.edges e) → HasEnds g edges
-HasEnds-fewer g edges sound kept = record {
+pub IsFit-fewer : (g : Graph) (edges : List Edge) → IsSound g
+    → ((e : Edge) → Contains edges e → Contains g.edges e) → AllPairs DifferInRole edges → IsFit g edges
+IsFit-fewer g edges sound kept roles = record {
   parents = λ e h. sound.parents e (kept e h);
   children = λ e h. sound.children e (kept e h);
+  roles = roles;
 }
 
 -- an edited list that can't be refused stands in the place of the other
 pub IsKept-edges : (names : Slab Written) (order : List ℕ) (old new : List Edge) (a b c b' c' : ℕ)
-    → IsKept names order old a b c → length new ≤ 2048 → HasEnds (graph_of names order old) new
+    → IsKept names order old a b c → length new ≤ 2048 → IsFit (graph_of names order old) new
     → IsAcyclic new → 2048 ≤ b' → 2048 ≤ c' → IsKept names order new a b' c'
 IsKept-edges names order old new a b c b' c' kept few ends acyclic room spare = record {
   named = kept.named;
@@ -137,7 +146,7 @@ IsKept-without_parent names order old a b c b' c' parent kept =
     = λ e h. (Contains-filter test old e h).0 in
     IsKept-edges names order old (without_parent parent old) a b c b' c' kept
     (omega (arith, length-filter-le test old, kept.sound.few_edges))
-    (HasEnds-fewer (graph_of names order old) (without_parent parent old) kept.sound there)
+    (IsFit-fewer (graph_of names order old) (without_parent parent old) kept.sound there (AllPairs-without_parent parent old kept.sound.roles))
     (IsAcyclic-fewer (without_parent parent old) old there kept.sound.acyclic)
 
 pub IsKept-without_filter : (names : Slab Written) (order : List ℕ) (old : List Edge) (a b c b' c' node : ℕ)
@@ -145,13 +154,13 @@ pub IsKept-without_filter : (names : Slab Written) (order : List ℕ) (old : Lis
 IsKept-without_filter names order old a b c b' c' node kept =
     IsKept-edges names order old (without_filter node old) a b c b' c' kept
     (omega (arith, length-without_filter node old, kept.sound.few_edges))
-    (HasEnds-without_filter (graph_of names order old) node kept.sound)
+    (IsFit-without_filter (graph_of names order old) node kept.sound)
     (IsAcyclic-without_filter old node kept.sound.acyclic)
 
 -- an edited list that was judged stands in the place of the other, or the other stays
 pub IsKept-settled : (names : Slab Written) (order : List ℕ) (old edited new : List Edge)
     (a b c b' c' : ℕ) (nodes : List ℕ) (result : Result (Unit {0}) GraphStop)
-    → IsKept names order old a b c → length edited ≤ 2048 → HasEnds (graph_of names order old) edited
+    → IsKept names order old a b c → length edited ≤ 2048 → IsFit (graph_of names order old) edited
     → IsJudged nodes edited result → OnOk result (new ≡ edited) → OnErr result (new ≡ old)
     → 2048 ≤ b' → 2048 ≤ c' → IsKept names order new a b' c'
 IsKept-settled names order old edited new a b c b' c' nodes (Ok u) kept few ends judged ok err room spare = record {

@@ -11,3 +11,4 @@ pub mod JudgeLemmas
 pub mod GraphLemmas
 pub mod NodeLemmas
 pub mod ShareLemmas
+pub mod RoleLemmas

@@ -45,6 +45,7 @@ IsKept-empty names a b c empty room a_fits b_fits c_fits = record {
     parents = λ e h. absurd (Contains-nil e h);
     children = λ e h. absurd (Contains-nil e h);
     acyclic = λ node cycle. absurd (Contains-nil cycle.first cycle.path.0);
+    roles = λ i j d below within. absurd (omega (arith, within));
   };
 }
 
@@ -166,6 +167,7 @@ IsKept-added old new order edges key text a b c kept few vacant updates count ro
         parents = λ e h. HasParent-kept before after stays e.parent (kept.sound.parents e h);
         children = λ e h. stays e.child (kept.sound.children e h);
         acyclic = kept.sound.acyclic;
+        roles = kept.sound.roles;
       };
     }
 
@@ -297,6 +299,7 @@ IsKept-removed old new order edges node a b c kept there no_child no_parent upda
         parents = λ e h. HasParent-unless before after node stays e.parent (no_parent e h) (kept.sound.parents e h);
         children = λ e h. stays e.child (no_child e h) (kept.sound.children e h);
         acyclic = kept.sound.acyclic;
+        roles = kept.sound.roles;
       };
     }
 

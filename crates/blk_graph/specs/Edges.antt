@@ -1,9 +1,10 @@
 -- Who makes an edge, what it is for, and what it asks and shares.
-use Rattle.std.specs.Prelude.{◌==◌, Bool, true, false, IsTrue}
+use Rattle.std.specs.Prelude.{◌≡◌, ◌≢◌, ◌==◌, Bool, true, false, IsTrue}
 use Rattle.blk_graph.specs.declared.edge.Parent.{Parent}
 use Rattle.blk_graph.specs.declared.edge.Parent.TheVariants.{Node, Guest, Job}
 use Rattle.blk_graph.specs.declared.edge.Role.{Role}
 use Rattle.blk_graph.specs.declared.edge.Role.TheVariants.{Drive, File, Backing, Filtered, Source, Target, Between, Base}
+use Rattle.blk_graph.specs.declared.edge.Edge.{Edge}
 use Rattle.blk_graph.specs.declared.edge.Perms.{Perms}
 use Rattle.blk_graph.specs.declared.edge.Perm.{Perm}
 use Rattle.blk_graph.specs.declared.edge.Perm.TheVariants.{Read, Write, Unchanged}
@@ -30,6 +31,14 @@ same_role Target Target = true
 same_role Between Between = true
 same_role Base Base = true
 same_role _ _ = false
+
+-- of one parent no two edges have the same role, but for the role Between
+abbrev pub DifferInRole : Edge → Edge → Type 0
+DifferInRole a b = a.parent ≡ b.parent → a.role ≡ b.role → a.role ≡ Between
+
+-- and those of the role Between lead to different children
+abbrev pub DifferInPlace : Edge → Edge → Type 0
+DifferInPlace a b = a.parent ≡ b.parent → a.role ≡ b.role → (a.role ≡ Between) × (a.child ≢ b.child)
 
 -- whether a permission is one of these
 abbrev pub holds : Perms → Perm → Bool

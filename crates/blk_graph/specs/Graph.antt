@@ -1,9 +1,10 @@
 -- What a contract sees of a graph.
-use Rattle.std.specs.Prelude.{ℕ, ◌-◌, ◌≤◌, List, length, map, Contains, nat_eq}
+use Rattle.std.specs.Prelude.{ℕ, ◌-◌, ◌≤◌, List, length, map, AllPairs, Contains, nat_eq}
 use Rattle.std.specs.List.{IsDistinct}
 use Rattle.blk_graph.specs.declared.edge.Edge.{Edge}
 use Rattle.blk_graph.specs.declared.edge.Parent.{Parent}
 use Rattle.blk_graph.specs.declared.edge.Parent.TheVariants.{Node, Guest, Job}
+use Rattle.blk_graph.specs.Edges.{DifferInRole}
 use Rattle.blk_graph.specs.Paths.{IsAcyclic, IsPath}
 
 -- a node, and its name as bytes
@@ -41,6 +42,7 @@ pub record IsSound (graph : Graph) : Type 0 where
   pub parents : (edge : Edge) → Contains graph.edges edge → HasParent graph edge.parent
   pub children : (edge : Edge) → Contains graph.edges edge → HasNode graph edge.child
   pub acyclic : IsAcyclic graph.edges
+  pub roles : AllPairs DifferInRole graph.edges
 
 -- no path has more edges than there are nodes beside its first
 abbrev pub PathsAreShort : Graph → Type 0

@@ -1,6 +1,7 @@
 //! The graph: nodes, and edges between them.
-ghost use Rattle.std.specs.Prelude.{◌≡◌, ◌≢◌, ◌↔◌, ℕ, ◌+◌, ◌<◌, ◌≤◌, [], ◌∷◌, ◌++◌, length, Contains, IsTrue, IsNone, IfOk, IfErr, OnOk, OnErr, IfSome, IfNone, Ok, Err, MatchOption};
+ghost use Rattle.std.specs.Prelude.{◌≡◌, ◌≢◌, ◌↔◌, ℕ, ◌+◌, ◌<◌, ◌≤◌, [], ◌∷◌, ◌++◌, length, AllPairs, Contains, IsTrue, IsNone, IfOk, IfErr, OnOk, OnErr, IfSome, IfNone, Ok, Err, MatchOption};
 ghost use Rattle.blk_graph.specs.declared.edge.Edge.{Edge as Use};
+ghost use Rattle.blk_graph.specs.Edges.{DifferInPlace};
 ghost use Rattle.blk_graph.specs.Edits.{with_edge, with_replaced, with_filter, IsLone, without_filter, without_parent};
 ghost use Rattle.blk_graph.specs.Graph.{ids, HasNode, HasParent, HasName, IsSound, PathsAreShort};
 ghost use Rattle.blk_graph.specs.Judged.{IsAdditionStop, IsJudged, first_parent, without_node};
@@ -102,7 +103,8 @@ impl Graph {
     }
 
     /// Sets an edge in the place of the one with that parent and role, or else at the end. Of the role
-    /// Between a parent has one edge to each child.
+    /// Between a parent has one edge to each child, and `places` says that this stays so. (Moves of edges can lead two of
+    /// them to one child.)
     pub fn set_edge(&mut self, edge: Edge) -> Result<(), GraphStop>
         requires room { length self.old.edges < 2048 }
         requires child { HasNode self.old edge.child }
@@ -110,6 +112,7 @@ impl Graph {
         ensures judged { IsJudged (ids self.old) (with_edge edge self.old.edges) result }
         ensures cycle { (result ≡ Err GraphStop.Cycle) ↔ LeadsBack self.old.edges edge.child edge.parent }
         ensures ok { OnOk result (self.new ≡ record self.old { edges = with_edge edge self.old.edges }) }
+        ensures places { OnOk result (AllPairs DifferInPlace self.old.edges → AllPairs DifferInPlace self.new.edges) }
         ensures room { length self.new.edges ≤ length self.old.edges + 1 }
         ensures err { OnErr result (self.new ≡ self.old) }
     {

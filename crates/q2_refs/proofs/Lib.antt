@@ -1,3 +1,13 @@
 pub mod Decoding
 pub mod Ranges
 pub mod Shapes
+pub mod FreeClusters
+pub mod Uses
+pub mod Writes
+pub mod SoundAfter
+pub mod Steps
+pub mod CountStep
+pub mod BlockStep
+pub mod Made
+pub mod Placing
+pub mod Told

@@ -46,6 +46,8 @@ AreTaken counts below = (k : ℕ) → k < below → slice_index counts k ≢ 0
 pub record IsReady (kept : Kept) (free_from buffer_length : ℕ) : Type 0 where
   pub cluster_bits : kept.cluster_bits ≡ 16
   pub refcount_order : kept.refcount_order ≡ 4
+  pub table_place : kept.table_offset % cluster_size kept.cluster_bits ≡ 0
+  pub table_low : kept.table_offset < 2 ^ 40
   pub table : length kept.table ≤ 2 ^ 17
   pub blocks : AreWholeClusters (cluster_size kept.cluster_bits) kept.table
   pub reach : length kept.counts ≤ length kept.table * per_block kept

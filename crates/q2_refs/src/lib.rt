@@ -1,11 +1,16 @@
 //! The refcounts of a qcow2 image: read into memory, looked up, and clusters that nothing uses.
 #![tactic(auto)]
 
+mod allocating;
 mod entries;
 mod loading;
 mod refs;
 mod stop;
+#[cfg(test)]
+mod tests;
+mod writing;
 
+pub use allocating::RefStop;
 pub use loading::load_refs;
 pub use refs::Refs;
 pub use stop::RefsStop;

@@ -1,5 +1,5 @@
 //! Reading the refcount table and the blocks that it names.
-ghost use Rattle.std.specs.Prelude.{◌≡◌, ◌+◌, ◌-◌, ◌*◌, ◌^◌, ◌<◌, ◌≤◌, ℕ, List, length, slice_index, None, Some, IfOk, IfErr, OnOk};
+ghost use Rattle.std.specs.Prelude.{◌≡◌, ◌+◌, ◌-◌, ◌*◌, ◌%◌, ◌^◌, ◌<◌, ◌≤◌, ℕ, List, length, slice_index, None, Some, IfOk, IfErr, OnOk};
 ghost use Rattle.std.specs.Option.{option_map};
 ghost use Rattle.blk_base.specs.Content.{bytes_at};
 ghost use Rattle.q2_format.specs.Bytes.{number_at, words_at};
@@ -7,11 +7,11 @@ ghost use Rattle.q2_format.specs.Header.{CanBeRead, refusal_in};
 ghost use Rattle.q2_format.specs.Sizes.{cluster_size, block_entries};
 ghost use Rattle.q2_format.specs.Sound.{bad_refcount_table};
 ghost use Rattle.q2_format.specs.Tables.{refcount_table};
-ghost use Rattle.q2_refs.specs.Kept.{AreTaken, AreWholeClusters, BeginBelow, IsCountsOf, IsShapedBy};
+ghost use Rattle.q2_refs.specs.Kept.{AreWholeClusters, BeginBelow, IsCountsOf, IsShapedBy};
 ghost use Rattle.q2_refs.specs.Loading.{table_entries, table_reach, refcounts_refusal, RefusedBy, HasCause, IsReadStop, HasShape, AreCounts, AreZeroFrom};
 
 use crate::entries::{block_offset, check_words, is_misplaced};
-use crate::refs::Refs;
+use crate::refs::{Refs, first_free};
 use crate::stop::RefsStop;
 use blk_base::{DevFault, Device};
 use byteorder::{BigEndian, ByteOrder};
@@ -243,22 +243,6 @@ fn read_counts<D: Device>(
     Ok(())
 }
 
-/// The first cluster from `from` on whose refcount is 0, or the number of counts where there is none.
-pub(crate) fn first_free(counts: &[u16], from: usize) -> usize
-    requires within { from ≤ length counts.now }
-    requires taken { AreTaken counts.now from }
-    ensures within { result ≤ length counts.now }
-    ensures taken { AreTaken counts.now result }
-    ensures free { result < length counts.now → slice_index counts.now result ≡ 0 }
-{
-    for cluster in from..counts.len() {
-        if counts[cluster] == 0 {
-            return cluster;
-        }
-    }
-    counts.len()
-}
-
 /// Reads the words of the refcount table, and refuses what is refused of it.
 fn open_table<D: Device>(alloc: Global, dev: &mut D, h: &Header) -> Result<Vec<u64>, RefsStop>
     requires { HasShape h.now }
@@ -285,6 +269,8 @@ fn open_table<D: Device>(alloc: Global, dev: &mut D, h: &Header) -> Result<Vec<u
 /// What is kept of a table and its counts.
 fn refs_of(h: &Header, table: Vec<u64>, counts: Vec<u16>, buffer: Vec<u8>) -> Refs
     requires shape { HasShape h.now }
+    requires place { h.now.ref_offset % cluster_size h.now.cluster_bits ≡ 0 }
+    requires low { h.now.ref_offset < 2 ^ 40 }
     requires table { length table.items ≡ table_entries h.now }
     requires blocks { AreWholeClusters (cluster_size h.now.cluster_bits) table.items }
     requires reach { length counts.items ≤ table_reach h.now }

@@ -1,7 +1,10 @@
 //! Refcounts in memory.
-ghost use Rattle.std.specs.Prelude.{◌≡◌, ◌+◌, ◌<◌, ◌≤◌, length, take, slice_index};
+ghost use Rattle.std.specs.Prelude.{◌≡◌, ◌+◌, ◌<◌, ◌≤◌, ℕ, List, length, take, slice_index};
+ghost use Rattle.q2_format.specs.declared.header.Header.{Header};
+ghost use Rattle.q2_refs.specs.Kept.{per_block, AreTaken, IsCountsOf};
 ghost use Rattle.q2_refs.specs.Free.{free_cluster, will_be_given};
 
+use crate::entries::block_offset;
 use std::marker::Model;
 
 /// The refcount table of an image and the refcounts of its first clusters.
@@ -67,9 +70,60 @@ impl Refs {
     /// Keeps the refcounts of the first clusters alone, as many as `reach` says.
     pub fn keep_first(&mut self, reach: u64)
         requires { reach ≤ length self.old.counts }
-        ensures { self.new ≡ record self.old { counts = take reach self.old.counts } }
+        ensures kept { self.new ≡ record self.old { counts = take reach self.old.counts } }
+        ensures counts { (file : List ℕ) (h : Header) → IsCountsOf file h self.old → IsCountsOf file h self.new }
     {
         self.counts.truncate(reach as usize);
         self.cursor = self.cursor.min(reach as usize);
     }
+
+    /// The clusters that one refcount block counts.
+    pub(crate) fn per_block(&self) -> usize
+        ensures { result ≡ per_block self.now }
+    {
+        (8 << self.cluster_bits) >> self.refcount_order
+    }
+
+    /// Whether a cluster is among those that `allocate` will give.
+    fn will_be_given(&self, cluster: usize) -> bool
+        requires { cluster < length self.now.counts }
+        ensures { result ≡ will_be_given self.now cluster }
+    {
+        let per_block = self.per_block();
+        self.counts[cluster] == 0
+            && (block_offset(self.table[cluster / per_block]) != 0 || cluster % per_block != 0)
+    }
+
+    /// The cluster that the `k`-th call of `allocate` from now would give, counted from 0, or the reach where
+    /// that call would answer `HostLimit`.
+    pub fn next_free(&self, k: u64) -> u64
+        ensures { result ≡ free_cluster self.now k }
+    {
+        let mut left = k;
+        for cluster in self.cursor..self.counts.len() {
+            if self.will_be_given(cluster) {
+                if left == 0 {
+                    return cluster as u64;
+                }
+                left -= 1;
+            }
+        }
+        self.counts.len() as u64
+    }
+}
+
+/// The first cluster from `from` on whose refcount is 0, or the number of counts where there is none.
+pub(crate) fn first_free(counts: &[u16], from: usize) -> usize
+    requires within { from ≤ length counts.now }
+    requires taken { AreTaken counts.now from }
+    ensures within { result ≤ length counts.now }
+    ensures taken { AreTaken counts.now result }
+    ensures free { result < length counts.now → slice_index counts.now result ≡ 0 }
+{
+    for cluster in from..counts.len() {
+        if counts[cluster] == 0 {
+            return cluster;
+        }
+    }
+    counts.len()
 }

@@ -89,7 +89,7 @@ pub record HasTables (file : List ℕ) (c i : ℕ) (l1 words : List ℕ) : Type 
 abbrev pub HasZerosFrom : ℕ → ℕ → List ℕ → Type 0
 HasZerosFrom entries i words = (k : ℕ) → i * entries ≤ k → slice_index words k ≡ 0
 
-table_word-at : (file : List ℕ) (c : ℕ) (l1 : List ℕ) (i j : ℕ) → j < entries_in_cluster c
+pub table_word-at : (file : List ℕ) (c : ℕ) (l1 : List ℕ) (i j : ℕ) → j < entries_in_cluster c
     → table_word file c l1 (i * entries_in_cluster c + j) ≡ slice_index (l2_table file c (slice_index l1 i)) j
 table_word-at file c l1 i j h =
     let row = div-mul-add i (entries_in_cluster c) j h in
@@ -151,7 +151,7 @@ zeros_behind e i k words table zeros_there fits size same = λ n from.
 pub fewer_zeros : (e i : ℕ) (words : List ℕ) → HasZerosFrom e i words → HasZerosFrom e (i + 1) words
 fewer_zeros e i words zeros_there = λ n from. zeros_there n (omega arith)
 
-row_below : (n i e k : ℕ) → n ≤ i → k < n * e → k < i * e
+pub row_below : (n i e k : ℕ) → n ≤ i → k < n * e → k < i * e
 row_below n i e k past below = grind arith
 
 -- after the last
@@ -162,14 +162,14 @@ all_tables file c i l1 words had past = record {
 
 -- The words are those of the tree.
 
-positive : (k n e : ℕ) → k < n * e → 0 < e
+pub positive : (k n e : ℕ) → k < n * e → 0 < e
 positive k n zero below = absurd (omega arith)
 positive k n (suc e) below = omega arith
 
 pub l1_of_active : (file : List ℕ) (h : Header) → (active_tree file h).l1 ≡ words_at file h.l1_offset h.l1_size
 l1_of_active file h = l1_of_tree file (cluster_size h.cluster_bits) h.l1_offset h.l1_size
 
-words_of_tree : (file : List ℕ) (c at n : ℕ) (l1 words : List ℕ) → l1 ≡ words_at file at n → AreTablesOf file c l1 words
+pub words_of_tree : (file : List ℕ) (c at n : ℕ) (l1 words : List ℕ) → l1 ≡ words_at file at n → AreTablesOf file c l1 words
     → (k : ℕ) → k < length l1 * entries_in_cluster c → slice_index words k ≡ l2_word_of (tree_at file c at n) c k
 unfolding l2_word_of
 words_of_tree file c at n l1 words is tables k below =

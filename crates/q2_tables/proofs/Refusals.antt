@@ -1,17 +1,19 @@
 -- What is refused of the words is what is refused of the tree.
-use Rattle.std.proofs.Common.{◌≡◌, ℕ, zero, suc, ◌+◌, ◌*◌, ◌/◌, ◌%◌, ◌<◌, Bool, true, false, not, ◌&&◌, cond, ltb, List, [], ◌∷◌, length, get_or, slice_index, Option, None, Some, refl, sym, ap, ◌∙◌, arith}
+use Rattle.std.proofs.Common.{◌≡◌, ℕ, zero, suc, ◌+◌, ◌*◌, ◌/◌, ◌%◌, ◌<◌, Bool, true, false, not, ◌&&◌, ◌||◌, cond, eqb, ltb, List, [], ◌∷◌, length, get_or, slice_index, Option, None, Some, refl, sym, ap, ◌∙◌, arith}
 use Rattle.std.specs.Option.{option_map}
 use Rattle.std.specs.List.{find, range_with_len, position, position_or_len}
 use Rattle.std.proofs.lemmas.List.Quantifiers.{position-Some}
+use Rattle.std.proofs.Math.Nat.{div-add-mod', mul-mod_right}
 use Rattle.std.proofs.lemmas.List.Sums.{fails_before_first}
-use Rattle.std.proofs.lemmas.Bool.{ltb-false}
-use Rattle.q2_format.specs.Sizes.{cluster_size, entries_in_cluster}
+use Rattle.std.proofs.lemmas.Bool.{ltb-false, ltb-true, eqb-true, or_parts, not-false}
+use Rattle.q2_format.specs.Sizes.{cluster_size, entries_in_cluster, l1_entries_for}
 use Rattle.q2_format.specs.Entry.{host_offset, is_compressed, has_reserved_in_l1, has_reserved_in_l2}
+use Rattle.q2_format.specs.Header.{refused_where}
 use Rattle.q2_format.specs.References.{own_offset}
 use Rattle.q2_format.specs.Sound.{lowest, is_misplaced, bad_l1_table, bad_l2_table, bad_host, reserved_in_l1, reserved_in_l2, compressed_cluster, guest_clusters}
 use Rattle.q2_format.specs.Tables.{Tree, active_tree, l2_word_of}
 use Rattle.q2_format.specs.declared.header.Header.{Header}
-use Rattle.q2_format.proofs.Firsts.{lowest_at, none_lowest, first-none, option_map-none}
+use Rattle.q2_format.proofs.Firsts.{lowest_at, none_lowest, first-none, option_map-none, refused_where-none}
 use Rattle.q2_tables.specs.Kept.{Kept, IsTreeOf, is_plain}
 use Rattle.q2_tables.specs.Loading.{load_refusal}
 use Rattle.q2_tables.specs.Words.{misplaced_table, misplaced_host, reserved_in_table, reserved_in_words, compressed_in_words, refused_words}
@@ -175,3 +177,28 @@ in_order c len l1 words none =
       unreserved = position-none has_reserved_in_l1 l1 (option_map-none ReservedInL1 (position has_reserved_in_l1 l1) all.1.0);
       plain = λ k below. plain_word (is_compressed (slice_index words k)) (has_reserved_in_l2 (slice_index words k)) (compressed k below) (reserved k below);
     }
+
+-- The L1 table's own place.
+
+unrefused : (test : Bool) (o : ℕ) → option_map Offset (refused_where test o) ≡ None → test ≡ false
+unrefused test o none = refused_where-none test o (option_map-none Offset (refused_where test o) none)
+
+pub l1_placed : (h : Header) (len : ℕ) → option_map Offset (bad_l1_table h len) ≡ None → is_misplaced (cluster_size h.cluster_bits) len h.l1_offset ≡ false
+unfolding bad_l1_table
+l1_placed h len none =
+    let c : ℕ = cluster_size h.cluster_bits in
+    (or_parts (ltb h.l1_size (l1_entries_for c h.size)) (is_misplaced c len h.l1_offset)
+    (unrefused (ltb h.l1_size (l1_entries_for c h.size) || is_misplaced c len h.l1_offset) h.l1_offset none)).1
+
+pub placed_parts : (c len offset : ℕ) → is_misplaced c len offset ≡ false → (offset % c ≡ 0) × (offset < len)
+placed_parts c len offset placed =
+    let parts = or_parts (not (eqb (offset % c) 0)) (not (ltb offset len)) placed in
+    (eqb-true (offset % c) 0 (not-false (eqb (offset % c) 0) parts.0), ltb-true offset len (not-false (ltb offset len) parts.1))
+
+pub aligned_to_entries : (offset c e : ℕ) → c ≡ 8 * e → offset % c ≡ 0 → offset % 8 ≡ 0
+aligned_to_entries offset c e is aligned =
+    let q : ℕ = offset / c in
+    let parts : q * c + offset % c ≡ offset = div-add-mod' offset c in
+    let product : q * c ≡ q * (8 * e) = ap (λ (m : ℕ). q * m) is in
+    let whole : offset ≡ 8 * (e * q) = omega (arith, parts, product, aligned) in
+    ap (λ (m : ℕ). m % 8) whole ∙ mul-mod_right 8 (e * q)

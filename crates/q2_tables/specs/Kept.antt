@@ -1,5 +1,5 @@
 -- The tables of a tree as they are kept: the words of the L1 table, and behind each other those of all L2 tables.
-use Rattle.std.specs.Prelude.{◌≡◌, ℕ, ◌*◌, ◌<◌, Bool, true, not, ◌&&◌, List, length, slice_index}
+use Rattle.std.specs.Prelude.{◌≡◌, ℕ, ◌*◌, ◌%◌, ◌^◌, ◌<◌, ◌≤◌, Bool, true, not, ◌&&◌, List, length, slice_index}
 use Rattle.q2_format.specs.Sizes.{entries_in_cluster}
 use Rattle.q2_format.specs.Entry.{is_compressed, has_reserved_in_l2}
 use Rattle.q2_format.specs.Tables.{Tree, l2_word_of}
@@ -22,8 +22,13 @@ pub record IsTreeOf (c : ℕ) (kept : Kept) (tree : Tree) : Type 0 where
 abbrev pub is_plain : ℕ → Bool
 is_plain word = not (is_compressed word) && not (has_reserved_in_l2 word)
 
--- the words fill whole tables, and there is a buffer for one more
-pub record AreWhole (c : ℕ) (l1 words buffer : List ℕ) : Type 0 where
-  pub entries : length words ≡ length l1 * entries_in_cluster c
-  pub plain : (cluster : ℕ) → cluster < length words → is_plain (slice_index words cluster) ≡ true
-  pub room : length buffer ≡ c
+-- what always holds of tables in memory, and of the buffer for a new L2 table
+pub record AreWhole (kept : Kept) (buffer : List ℕ) : Type 0 where
+  pub entries : length kept.words ≡ length kept.l1 * entries_in_cluster kept.c
+  pub plain : (cluster : ℕ) → cluster < length kept.words → is_plain (slice_index kept.words cluster) ≡ true
+  pub room : length buffer ≡ kept.c
+  pub whole : kept.c ≡ 8 * entries_in_cluster kept.c
+  pub small : kept.c < 2 ^ 32
+  pub aligned : kept.l1_offset % 8 ≡ 0
+  pub near : kept.l1_offset < 2 ^ 40
+  pub few : length kept.l1 ≤ 1024

@@ -1,10 +1,15 @@
 //! The L1 table and the L2 tables of a qcow2 image: loaded once, looked up in memory, and written entry by entry.
 #![tactic(auto)]
 
+mod check;
+mod link;
 mod load;
 mod mapping;
 mod stop;
 mod tables;
+#[cfg(test)]
+mod tests;
+mod words;
 
 pub use load::load_tables;
 pub use mapping::Mapping;

@@ -1,10 +1,16 @@
 //! The tables in memory.
-ghost use Rattle.std.specs.Prelude.{◌≡◌, ◌<◌, length, slice_index};
-ghost use Rattle.q2_format.specs.Entry.{l2_entry};
+ghost use Rattle.std.specs.Prelude.{◌≡◌, ◌≢◌, ◌%◌, ◌^◌, ◌<◌, ◌≤◌, max, ℕ, List, length, slice_index, true, false, Some, OnOk, OnErr, IfErr, is_ok, option_map, if◌then◌else◌};
+ghost use Rattle.q2_format.specs.Entry.{l2_entry, l2_spelling, IsWritable, CanBeSingle};
+ghost use Rattle.q2_format.specs.Tables.{tree_at};
 ghost use Rattle.q2_tables.specs.Entries.{entry_of};
+ghost use Rattle.q2_tables.specs.Kept.{IsTreeOf, is_plain};
+ghost use Rattle.q2_tables.specs.Linking.{CanLink, FileAfter, IsFreeBut, IsLinkStop, LieBesideL1, entry_at, l1_index, link_end, table_len, table_of, with_entry};
 
+use crate::link::{write_entry, write_table};
 use crate::mapping::Mapping;
-use q2_format::{L2Entry, read_l2};
+use crate::words::offset_in;
+use blk_base::{DevStop, Device};
+use q2_format::{L2Entry, l2_word, read_l2};
 use std::marker::Model;
 
 /// The L1 table and the L2 tables of an image, as its file has them.
@@ -28,7 +34,21 @@ impl Model for Tables {
 
     ghost view = { λ t. record { c = t.cluster_size; l1_offset = t.l1_offset; l1 = t.l1.items; words = t.words.items } };
 
-    ghost invariant = { λ t. AreWhole t.cluster_size t.l1.items t.words.items t.buffer.items };
+    ghost invariant = { λ t. AreWhole (record { c = t.cluster_size; l1_offset = t.l1_offset; l1 = t.l1.items; words = t.words.items }) t.buffer.items };
+}
+
+/// The bit of an L1 entry that says that the refcount of its L2 table is exactly one.
+const SINGLE_FLAG: u64 = 1 << 63;
+
+/// The L2 entry of a mapping.
+fn entry(mapping: Mapping) -> L2Entry
+    ensures { result ≡ entry_of mapping }
+{
+    match mapping {
+        Mapping::Unallocated => L2Entry::Unallocated,
+        Mapping::Zero { host } => L2Entry::Zero { host },
+        Mapping::Host { host } => L2Entry::Host { host },
+    }
 }
 
 impl Tables {
@@ -59,5 +79,98 @@ impl Tables {
         ensures { result.now ≡ self.now.words }
     {
         self.words.as_slice()
+    }
+
+    /// Writes the L2 entry of a guest cluster that has an L2 table.
+    fn link_entry<D: Device>(&mut self, dev: &mut D, cluster: u64, word: u64) -> Result<(), DevStop>
+        requires can { CanLink self.old cluster 0 }
+        requires plain { is_plain word ≡ true }
+        ensures told { (file : List ℕ) → D.content dev.old ≡ Some file → IsTreeOf self.old.c self.old (tree_at file self.old.c self.old.l1_offset (length self.old.l1))
+            → FileAfter self.new file (D.content dev.new) (entry_at self.old cluster 0) (if is_ok result then 8 else 0) 0 (table_len self.old 0) }
+        ensures linked { OnOk result (self.new ≡ with_entry self.old cluster word 0) }
+        ensures kept { OnErr result (self.new ≡ self.old) }
+        ensures stop { IfErr result (IsLinkStop (link_end self.old cluster 0) (D.capacity dev.old) (D.faults dev.old) (D.faults dev.new)) }
+        ensures fits { OnOk result (link_end self.old cluster 0 ≤ D.capacity dev.old) }
+        ensures flushed { D.is_flushed dev.new ≡ option_map (λ _. false) (D.is_flushed dev.old) }
+        ensures faults { D.faults dev.old ≤ D.faults dev.new }
+        ensures capacity { D.capacity dev.new ≡ D.capacity dev.old }
+        ensures grows { D.size dev.old ≤ D.size dev.new }
+        ensures bound { D.size dev.new ≤ max (D.size dev.old) (link_end self.old cluster 0) }
+    {
+        let entries = self.cluster_size / 8;
+        let table = offset_in(self.l1[(cluster / entries) as usize]);
+        write_entry(dev, table + 8 * (cluster % entries), word)?;
+        self.words[cluster as usize] = word;
+        Ok(())
+    }
+
+    /// Writes a new L2 table with the entry of a guest cluster, and then the L1 entry that names it.
+    fn link_table<D: Device>(
+        &mut self,
+        dev: &mut D,
+        cluster: u64,
+        word: u64,
+        table: u64,
+    ) -> Result<(), DevStop>
+        requires can { CanLink self.old cluster table }
+        requires some { 0 < table }
+        requires plain { is_plain word ≡ true }
+        ensures told { (file : List ℕ) → D.content dev.old ≡ Some file → IsTreeOf self.old.c self.old (tree_at file self.old.c self.old.l1_offset (length self.old.l1))
+            → FileAfter self.new file (D.content dev.new) (entry_at self.old cluster table) (if is_ok result then 8 else 0) table (table_len self.old table) }
+        ensures linked { OnOk result (self.new ≡ with_entry self.old cluster word table) }
+        ensures kept { OnErr result (self.new ≡ self.old) }
+        ensures stop { IfErr result (IsLinkStop (link_end self.old cluster table) (D.capacity dev.old) (D.faults dev.old) (D.faults dev.new)) }
+        ensures fits { OnOk result (link_end self.old cluster table ≤ D.capacity dev.old) }
+        ensures flushed { D.is_flushed dev.new ≡ option_map (λ _. false) (D.is_flushed dev.old) }
+        ensures faults { D.faults dev.old ≤ D.faults dev.new }
+        ensures capacity { D.capacity dev.new ≡ D.capacity dev.old }
+        ensures grows { D.size dev.old ≤ D.size dev.new }
+        ensures bound { D.size dev.new ≤ max (D.size dev.old) (link_end self.old cluster table) }
+    {
+        let entries = self.cluster_size / 8;
+        let index = cluster / entries;
+        let column = (cluster % entries) as usize;
+        write_table(dev, table, self.buffer.as_mut_slice(), column, word)?;
+        let l1_word = table + SINGLE_FLAG;
+        write_entry(dev, self.l1_offset + 8 * index, l1_word)?;
+        self.l1[index as usize] = l1_word;
+        self.words[cluster as usize] = word;
+        Ok(())
+    }
+
+    /// Maps a guest cluster: writes its L2 entry. `single` says that the refcount of its host cluster is exactly
+    /// one. `table` is the offset for a new L2 table, whose refcount is one, where the cluster has none, and else 0.
+    ///
+    /// A new table is written whole, with the entry in it, before the L1 entry that names it. After a stop the
+    /// mapping is as before; the cluster at `table` may then hold any bytes. No memory is taken.
+    pub fn link<D: Device>(
+        &mut self,
+        dev: &mut D,
+        cluster: u64,
+        to: Mapping,
+        single: bool,
+        table: u64,
+    ) -> Result<(), DevStop>
+        requires can { CanLink self.old cluster table }
+        requires entry { IsWritable (entry_of to) }
+        requires single { CanBeSingle (entry_of to) single }
+        ensures told { (file : List ℕ) → D.content dev.old ≡ Some file → IsTreeOf self.old.c self.old (tree_at file self.old.c self.old.l1_offset (length self.old.l1))
+            → FileAfter self.new file (D.content dev.new) (entry_at self.old cluster table) (if is_ok result then 8 else 0) table (table_len self.old table) }
+        ensures linked { OnOk result (self.new ≡ with_entry self.old cluster (l2_spelling (entry_of to) single) table) }
+        ensures kept { OnErr result (self.new ≡ self.old) }
+        ensures stop { IfErr result (IsLinkStop (link_end self.old cluster table) (D.capacity dev.old) (D.faults dev.old) (D.faults dev.new)) }
+        ensures fits { OnOk result (link_end self.old cluster table ≤ D.capacity dev.old) }
+        ensures flushed { D.is_flushed dev.new ≡ option_map (λ _. false) (D.is_flushed dev.old) }
+        ensures faults { D.faults dev.old ≤ D.faults dev.new }
+        ensures capacity { D.capacity dev.new ≡ D.capacity dev.old }
+        ensures grows { D.size dev.old ≤ D.size dev.new }
+        ensures bound { D.size dev.new ≤ max (D.size dev.old) (link_end self.old cluster table) }
+    {
+        let word = l2_word(entry(to), single);
+        if table == 0 {
+            self.link_entry(dev, cluster, word)
+        } else {
+            self.link_table(dev, cluster, word, table)
+        }
     }
 }

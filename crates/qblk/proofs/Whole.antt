@@ -19,6 +19,7 @@ use Rattle.blk_history.specs.Fold.{Each}
 use Rattle.blk_history.specs.Machine.{State, Guest, disk_in, after, replay}
 use Rattle.blk_history.specs.Legal.{Legal}
 use Rattle.blk_history.specs.Owned.{asked_by, IsIdle}
+use Rattle.blk_history.specs.Licence.{RoseSince}
 use Rattle.blk_history.specs.Transcript.{transcript}
 use Rattle.blk_history.specs.declared.event.Event.{Event}
 use Rattle.qblk.proofs.Disks.{told_bytes}
@@ -224,13 +225,14 @@ ends format image trace bytes read d n w (Some fault) old new (Fault from count)
     let R : ℕ → Type 0 = λ c. WasRun format image trace false old new (asked_by 0 w.log.events) w.log.events d.faults c (length end.2) in
     let run = was-run format image trace bytes read d n w (Some fault) false old new (length end.2) refl sized none device read-is is made files opened (front-taken old.sent new.sent end.2 end.3 _ end.4 end.5) in
     let last = made.comes.licensed.last in
+    let S : List ℕ → Type 0 = λ cs. RoseSince cs (Some (record { dev = 0; count = count })) in
     let failed : FailsToFlush format image trace old new count = (
       asked_by 0 w.log.events,
       w.log.events,
       d.faults,
       length end.2,
       subst R (sym same) run,
-      (let rose = flushed.1 in let named = end.1 in let before = made.comes.faults in omega arith),
+      subst S (sym last.1) (omega arith, (let rose = flushed.1 in let named = end.1 in let le = last.2 in omega arith)),
       all-of end.2 end.3 _ old.sink_faults new.sink_faults end.4 end.6,
     ) in
     let faulty : IsFaulty format image trace old new (Dev (record { 0 = 0 })) count = (refl, inr failed) in

@@ -15,3 +15,4 @@ pub mod Words
 pub mod Untold
 pub mod Openings
 pub mod Exit
+pub mod StatusText

@@ -15,7 +15,7 @@ use Rattle.blk_history.specs.Fold.{Each, With}
 use Rattle.blk_history.specs.Machine.{State, disk_in, after, replay}
 use Rattle.blk_history.specs.Legal.{Legal}
 use Rattle.blk_history.specs.Owned.{asked_by, IsIdle}
-use Rattle.blk_history.specs.Licence.{counted, HaveRisen, NameNone}
+use Rattle.blk_history.specs.Licence.{counted, RoseSince, HaveRisen, NameNone}
 use Rattle.blk_history.specs.Transcript.{RowNames, transcript}
 use Rattle.blk_history.specs.declared.event.Event.{Event}
 use Rattle.q2_format.specs.Header.{header_of}
@@ -131,10 +131,11 @@ pub record FailsToOpen (format : Format) (image : List ℕ) (old new : Outside) 
   pub opened : new.opened ≡ old.opened ++ record { name = image; faults = before; returned = Some count } ∷ []
   pub rose : Rose before count
 
--- the device failed in the last flush, after which the transcript goes out nevertheless
+-- the device failed in the last flush, after which the transcript goes out nevertheless: a rise that no entry names
 abbrev pub FailsToFlush : Format → List ℕ → List ℕ → Outside → Outside → ℕ → Type 0
 FailsToFlush format image trace old new count = (ops : List Op) × (h : List Event) × (before : ℕ) × (n : ℕ)
-    × WasRun format image trace false old new ops h before count n × Rose before count
+    × WasRun format image trace false old new ops h before count n
+    × RoseSince (counted (before ∷ []) h) (Some (record { dev = 0; count = count }))
     × ((n ≡ length (transcript guest_names h)) ⊎ Rose old.sink_faults new.sink_faults)
 
 -- the first fault: while the inputs were read, while the image was opened, in the last flush, or while the transcript went out

@@ -65,6 +65,11 @@ impl Status {
 }
 
 impl fmt::Display for InputWhy {
+    ghost use Rattle.std.specs.Prelude.{Some};
+    ghost use Rattle.qblk.specs.StatusText.{why_text};
+
+    ghost output = { λ why. Some (why_text why) };
+
     fn fmt<W: fmt::Write>(&self, f: &mut fmt::Formatter<W>) -> fmt::Result {
         match self {
             InputWhy::Absent => f.write_str("Absent"),
@@ -81,6 +86,11 @@ impl fmt::Display for InputWhy {
 
 /// The text of the status, for standard error. `Done` has none.
 impl fmt::Display for Status {
+    ghost use Rattle.std.specs.Prelude.{Some};
+    ghost use Rattle.qblk.specs.StatusText.{status_text};
+
+    ghost output = { λ status. Some (status_text status) };
+
     fn fmt<W: fmt::Write>(&self, f: &mut fmt::Formatter<W>) -> fmt::Result {
         match self {
             Status::Done => Ok(()),

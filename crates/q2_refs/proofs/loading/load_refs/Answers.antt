@@ -1,5 +1,5 @@
 use Rattle.std.proofs.Common.{arith}
-use Rattle.q2_refs.proofs.Shapes.{shape_of, blocks_whole, blocks_below}
+use Rattle.q2_refs.proofs.Shapes.{shape_of, blocks_whole, blocks_below, table_whole, table_low}
 use Rattle.q2_refs.proofs.loading.load_refs.Goals as goal
 
 pub open_table-requires : goal.open_table-requires
@@ -20,3 +20,9 @@ refs_of-requires-clause-blocks g c = blocks_whole c.args.h.now _ c.in_ok-table.t
 pub returns-clause-below : goal.returns-clause-below
 returns-clause-below g c =
     rw c.refs_of.ensures.table (blocks_below c.args.h.now _ c.in_ok-table.table.items c.in_ok-table.ensures.accepted)
+
+pub refs_of-requires-clause-place : goal.refs_of-requires-clause-place
+refs_of-requires-clause-place g c = table_whole c.args.h.now _ c.in_ok-table.table.items c.in_ok-table.ensures.accepted
+
+pub refs_of-requires-clause-low : goal.refs_of-requires-clause-low
+refs_of-requires-clause-low g c = table_low c.args.h.now _ c.in_ok-table.table.items c.requires.header c.in_ok-table.ensures.accepted

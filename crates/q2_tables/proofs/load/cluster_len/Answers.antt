@@ -1,4 +1,6 @@
-use Rattle.std.proofs.Common.{◌≡◌, refl, arith}
+use Rattle.std.proofs.Common.{◌≡◌, ◌≤◌, refl, arith}
+use Rattle.q2_format.specs.Sizes.{cluster_size, clusters_for}
+use Rattle.q2_format.specs.Header.{IsWithinLimits}
 use Rattle.q2_format.proofs.Limits.{read_within}
 use Rattle.q2_tables.proofs.load.cluster_len.Goals as goal
 
@@ -19,3 +21,10 @@ returns-clause-small c = let e : c.args.h.now.cluster_bits ≡ 16 = (read_within
 
 pub returns-clause-l1 : goal.returns-clause-l1
 returns-clause-l1 c = (read_within c.args.h.now c.args.len c.requires).l1_size
+
+pub returns-clause-len : goal.returns-clause-len
+returns-clause-len c =
+    let w : IsWithinLimits c.args.h.now c.args.len = read_within c.args.h.now c.args.len c.requires in
+    let e : c.args.h.now.cluster_bits ≡ 16 = w.cluster_bits in
+    let file : clusters_for (cluster_size 16) c.args.len ≤ 8388608 = rw e at w.file_clusters in
+    omega (arith, file)

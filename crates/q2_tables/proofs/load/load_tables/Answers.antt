@@ -1,12 +1,13 @@
-use Rattle.std.proofs.Common.{◌≡◌, ◌*◌, ℕ, List, length, None, refl, sym, ap, ◌∙◌}
+use Rattle.std.proofs.Common.{◌≡◌, ◌*◌, ◌/◌, false, ℕ, List, length, None, refl, sym, ap, ◌∙◌, arith}
 use Rattle.std.proofs.lemmas.Result.{err_from_is_err_and}
 use Rattle.q2_format.specs.Sizes.{cluster_size, entries_in_cluster}
 use Rattle.q2_format.specs.Tables.{active_tree}
+use Rattle.q2_format.specs.Sound.{is_misplaced}
 use Rattle.q2_tables.specs.Kept.{Kept, IsTreeOf}
 use Rattle.q2_tables.specs.Loading.{load_refusal}
 use Rattle.q2_tables.specs.Words.{misplaced_table, refused_words}
 use Rattle.q2_tables.proofs.Loaded.{read_as, filled_again}
-use Rattle.q2_tables.proofs.Refusals.{refused_of, in_order, tables_placed}
+use Rattle.q2_tables.proofs.Refusals.{refused_of, in_order, tables_placed, l1_placed, placed_parts, aligned_to_entries}
 use Rattle.q2_tables.proofs.load.load_tables.Goals as goal
 
 pub returns-in_err-check_words-clause-told : goal.returns-in_err-check_words-clause-told
@@ -27,12 +28,21 @@ invariant_of-result g c =
     let refused : refused_words c.cluster_len-c.result c.length-len.result c.in_ok-l1.l1.items c.in_ok-words.words.items ≡ None =
     rw (← c.as_slice-2.ensures.value, ← c.as_slice-3.ensures.value) (sym c.in_ok-check_words.ensures.refused) in
     let room : length c.as_mut_slice.result.now ≡ c.cluster_len-c.result = ap length c.as_mut_slice.ensures.value ∙ c.in_ok-buffer.ensures in
+    let placed : is_misplaced c.cluster_len-c.result c.length-len.result c.args.h.now.l1_offset ≡ false =
+    ap (λ (n : ℕ). is_misplaced n c.length-len.result c.args.h.now.l1_offset) c.cluster_len-c.ensures.size
+    ∙ l1_placed c.args.h.now c.length-len.result c.in_ok-l1.ensures.placed.0 in
+    let place = placed_parts c.cluster_len-c.result c.length-len.result c.args.h.now.l1_offset placed in
     record {
       entries = c.in_ok-words.ensures.len ∙ ap (λ (l : List ℕ). length l * entries_in_cluster (length c.as_mut_slice.result.now)) c.as_slice.ensures.value
           ∙ ap (λ (n : ℕ). length c.in_ok-l1.l1.items * entries_in_cluster n) room;
       plain = (in_order c.cluster_len-c.result c.length-len.result c.in_ok-l1.l1.items c.in_ok-words.words.items refused).plain;
       room = filled_again c.in_ok-buffer.buffer.len c.read_l2.new.buffer c.in_ok-buffer.buffer.items c.in_ok-buffer.buffer.ok.0
           (c.read_l2.auto.buffer ∙ ap length c.as_mut_slice.ensures.value) ∙ c.in_ok-buffer.ensures;
+      whole = c.cluster_len-c.ensures.entries;
+      small = c.cluster_len-c.ensures.small;
+      aligned = aligned_to_entries c.args.h.now.l1_offset c.cluster_len-c.result (c.cluster_len-c.result / 8) c.cluster_len-c.ensures.entries place.0;
+      near = omega (arith, place.1, c.cluster_len-c.ensures.len);
+      few = omega (arith, c.in_ok-l1.ensures.entries, c.cluster_len-c.ensures.l1);
     }
 
 pub returns-clause-told : goal.returns-clause-told

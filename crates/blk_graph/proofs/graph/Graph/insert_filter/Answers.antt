@@ -8,7 +8,7 @@ use Rattle.blk_graph.specs.Paths.{IsAcyclic}
 use Rattle.blk_graph.proofs.EditLemmas.{length-with_filter}
 use Rattle.blk_graph.proofs.FilterLemmas.{IsAcyclic-with_filter}
 use Rattle.blk_graph.proofs.InverseLemmas.{without_filter-with_filter}
-use Rattle.blk_graph.proofs.GraphLemmas.{HasEnds, HasEnds-with_filter, IsKept-settled, OnOk-then, Contains-slice, IsJudged-seen}
+use Rattle.blk_graph.proofs.GraphLemmas.{IsFit, IsFit-with_filter, IsKept-settled, OnOk-then, Contains-slice, IsJudged-seen}
 use Rattle.blk_graph.proofs.graph.Graph.insert_filter.Goals as goal
 
 acyclic : (c : goal.After-settle-arg-2-1)
@@ -21,10 +21,11 @@ settle-requires-clause-through c =
     rw (c.put_filter.ensures.items, c.as_slice.ensures.value) (λ _. acyclic c)
 
 ends : (c : goal.After-settle-arg-2-1)
-    → HasEnds (graph_of c.self.inside.names c.self.inside.order.items c.self.inside.edges.items)
+    → IsFit (graph_of c.self.inside.names c.self.inside.order.items c.self.inside.edges.items)
     (with_filter c.args.node c.args.filter c.args.perm c.args.shared c.self.inside.edges.items)
-ends c = HasEnds-with_filter _ c.args.node c.args.filter c.args.perm c.args.shared c.self.invariant.sound
+ends c = IsFit-with_filter _ c.args.node c.args.filter c.args.perm c.args.shared c.self.invariant.sound
     (rw (← c.self.view_is) at c.requires.node) (rw (← c.self.view_is) at c.requires.filter)
+    (rw (← c.self.view_is) at c.requires.lone)
 
 pub settle-requires-clause-children : goal.settle-requires-clause-children
 settle-requires-clause-children c = λ e h.
@@ -45,8 +46,9 @@ invariant_of-self c =
     c.settle.new.edges.items (vec_capacity c.self.inside.order) (vec_capacity c.self.inside.edges)
     (vec_capacity c.self.inside.staged) (vec_capacity c.settle.new.edges) (vec_capacity c.settle.new.edited)
     c.as_slice-2.result.now c.settle.result c.self.invariant (rw is few)
-    (rw is (HasEnds-with_filter _ c.args.node c.args.filter c.args.perm c.args.shared c.self.invariant.sound
-    (rw (← c.self.view_is) at c.requires.node) (rw (← c.self.view_is) at c.requires.filter)))
+    (rw is (IsFit-with_filter _ c.args.node c.args.filter c.args.perm c.args.shared c.self.invariant.sound
+    (rw (← c.self.view_is) at c.requires.node) (rw (← c.self.view_is) at c.requires.filter)
+    (rw (← c.self.view_is) at c.requires.lone)))
     c.settle.ensures.judged c.settle.ensures.ok c.settle.ensures.err
     (c.settle.ensures.room 2048 c.self.invariant.edges_fit spare)
     (c.settle.ensures.spare 2048 c.self.invariant.edges_fit spare)

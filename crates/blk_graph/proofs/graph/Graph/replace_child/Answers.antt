@@ -6,7 +6,7 @@ use Rattle.blk_graph.specs.Layout.{graph_of}
 use Rattle.blk_graph.specs.Judged.{IsJudged}
 use Rattle.std.proofs.lemmas.List.{length-map}
 use Rattle.blk_graph.proofs.CycleLemmas.{IsAcyclic-with_replaced}
-use Rattle.blk_graph.proofs.GraphLemmas.{HasEnds, HasEnds-with_replaced, IsKept-settled, Contains-slice, IsJudged-seen}
+use Rattle.blk_graph.proofs.GraphLemmas.{IsFit, IsFit-with_replaced, IsKept-settled, Contains-slice, IsJudged-seen}
 use Rattle.blk_graph.proofs.graph.Graph.replace_child.Goals as goal
 
 pub settle-requires-clause-through : goal.settle-requires-clause-through
@@ -15,9 +15,9 @@ settle-requires-clause-through c =
     (IsAcyclic-with_replaced c.args.from c.args.to c.args.but c.self.inside.edges.items c.self.invariant.sound.acyclic)
 
 ends : (c : goal.After-settle-arg-2-1)
-    → HasEnds (graph_of c.self.inside.names c.self.inside.order.items c.self.inside.edges.items)
+    → IsFit (graph_of c.self.inside.names c.self.inside.order.items c.self.inside.edges.items)
     (with_replaced c.args.from c.args.to c.args.but c.self.inside.edges.items)
-ends c = HasEnds-with_replaced _ c.args.from c.args.to c.args.but c.self.invariant.sound (rw (← c.self.view_is) at c.requires)
+ends c = IsFit-with_replaced _ c.args.from c.args.to c.args.but c.self.invariant.sound (rw (← c.self.view_is) at c.requires)
 
 pub settle-requires-clause-children : goal.settle-requires-clause-children
 settle-requires-clause-children c = λ e h.
@@ -41,7 +41,7 @@ invariant_of-self c =
     c.settle.new.edges.items (vec_capacity c.self.inside.order) (vec_capacity c.self.inside.edges)
     (vec_capacity c.self.inside.staged) (vec_capacity c.settle.new.edges) (vec_capacity c.settle.new.edited)
     c.as_slice-2.result.now c.settle.result c.self.invariant (rw is few)
-    (rw is (HasEnds-with_replaced _ c.args.from c.args.to c.args.but c.self.invariant.sound (rw (← c.self.view_is) at c.requires)))
+    (rw is (IsFit-with_replaced _ c.args.from c.args.to c.args.but c.self.invariant.sound (rw (← c.self.view_is) at c.requires)))
     c.settle.ensures.judged c.settle.ensures.ok c.settle.ensures.err
     (c.settle.ensures.room 2048 c.self.invariant.edges_fit spare)
     (c.settle.ensures.spare 2048 c.self.invariant.edges_fit spare)

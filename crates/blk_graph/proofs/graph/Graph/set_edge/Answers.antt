@@ -7,7 +7,8 @@ use Rattle.blk_graph.specs.Judged.{IsJudged}
 use Rattle.blk_graph.specs.Paths.{IsAcyclic}
 use Rattle.blk_graph.proofs.EditLemmas.{length-with_edge}
 use Rattle.blk_graph.proofs.CycleLemmas.{IsAcyclic-with_edge, LeadsBack-from_HasCycle, HasCycle-from_LeadsBack}
-use Rattle.blk_graph.proofs.GraphLemmas.{HasEnds, HasEnds-with_edge, IsKept-settled, Contains-slice, IsJudged-seen, settled_room}
+use Rattle.blk_graph.proofs.GraphLemmas.{IsFit, IsFit-with_edge, IsKept-settled, Contains-slice, IsJudged-seen, settled_room}
+use Rattle.blk_graph.proofs.RoleLemmas.{AllPairs-with_edge_in_place, settled_in_place}
 use Rattle.blk_graph.proofs.graph.Graph.set_edge.Goals as goal
 
 pub settle-requires-clause-through : goal.settle-requires-clause-through
@@ -16,9 +17,9 @@ settle-requires-clause-through c =
     (IsAcyclic-with_edge c.args.edge c.self.inside.edges.items c.self.invariant.sound.acyclic)
 
 ends : (c : goal.After-settle-arg-2-1)
-    → HasEnds (graph_of c.self.inside.names c.self.inside.order.items c.self.inside.edges.items)
+    → IsFit (graph_of c.self.inside.names c.self.inside.order.items c.self.inside.edges.items)
     (with_edge c.args.edge c.self.inside.edges.items)
-ends c = HasEnds-with_edge _ c.args.edge c.self.invariant.sound
+ends c = IsFit-with_edge _ c.args.edge c.self.invariant.sound
     (rw (← c.self.view_is) at c.requires.parent) (rw (← c.self.view_is) at c.requires.child)
 
 pub settle-requires-clause-children : goal.settle-requires-clause-children
@@ -40,7 +41,7 @@ invariant_of-self c =
     c.settle.new.edges.items (vec_capacity c.self.inside.order) (vec_capacity c.self.inside.edges)
     (vec_capacity c.self.inside.staged) (vec_capacity c.settle.new.edges) (vec_capacity c.settle.new.edited)
     c.as_slice-2.result.now c.settle.result c.self.invariant (rw is few)
-    (rw is (HasEnds-with_edge _ c.args.edge c.self.invariant.sound
+    (rw is (IsFit-with_edge _ c.args.edge c.self.invariant.sound
     (rw (← c.self.view_is) at c.requires.parent) (rw (← c.self.view_is) at c.requires.child)))
     c.settle.ensures.judged c.settle.ensures.ok c.settle.ensures.err
     (c.settle.ensures.room 2048 c.self.invariant.edges_fit spare)
@@ -73,3 +74,11 @@ returns-clause-room c =
     (let same : length c.self.inside.edges.items ≡ length c.args.self.now.edges
     = ap (λ (g : Graph). length g.edges) c.self.view_is in omega (arith, same))
     c.settle.ensures.ok c.settle.ensures.err
+
+pub returns-clause-places : goal.returns-clause-places
+returns-clause-places c =
+    let is : c.put_edge.new.out.items ≡ with_edge c.args.edge c.args.self.now.edges
+    = c.put_edge.ensures.items ∙ ap (with_edge c.args.edge) c.as_slice.ensures.value
+    ∙ ap (λ (g : Graph). with_edge c.args.edge g.edges) c.self.view_is in
+    settled_in_place c.settle.result c.settle.new.edges.items c.put_edge.new.out.items c.args.self.now.edges
+    (rw is (AllPairs-with_edge_in_place c.args.edge c.args.self.now.edges)) c.settle.ensures.ok

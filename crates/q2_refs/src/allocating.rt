@@ -1,0 +1,233 @@
+//! Taking clusters that nothing uses.
+ghost use Rattle.std.specs.Prelude.{◌≡◌, ◌≢◌, ◌↔◌, ◌⊎◌, ◌+◌, ◌*◌, ◌/◌, ◌%◌, ◌<◌, ◌≤◌, ℕ, true, List, [], ◌∷◌, length, slice_index, Some, is_some, Err, IfOk, IfErr, OnOk, OnErr};
+ghost use Rattle.q2_format.specs.Entry.{block_offset};
+ghost use Rattle.q2_format.specs.Header.{header_of};
+ghost use Rattle.q2_format.specs.References.{uses};
+ghost use Rattle.q2_format.specs.Sizes.{cluster_size};
+ghost use Rattle.q2_format.specs.Tables.{refcount_of};
+ghost use Rattle.q2_format.specs.declared.header.TheConstants.{MAX_FILE_CLUSTERS};
+ghost use Rattle.q2_refs.specs.Free.{free_cluster, free_clusters, will_be_given};
+ghost use Rattle.q2_refs.specs.Kept.{per_block};
+
+use crate::entries::block_offset;
+use crate::refs::{Refs, first_free};
+use crate::writing::{count_bytes, make_block, write, write_block};
+use blk_base::{DevStop, Device};
+
+/// Why no cluster was given.
+#[derive(Clone, Copy, Debug, PartialEq, Eq)]
+pub enum RefStop {
+    /// A call of the device failed, or a write would have ended above its capacity.
+    Dev(DevStop),
+    /// The cluster that would be given isn't below the reach. Nothing was written.
+    HostLimit,
+}
+
+impl From<DevStop> for RefStop {
+    ghost use Rattle.std.specs.Prelude.{◌≡◌};
+    ghost use Rattle.q2_refs.specs.declared.allocating.RefStop.TheVariants.{Dev};
+
+    ghost from_gives = { λ dev stop. stop ≡ Dev dev };
+
+    fn from(stop: DevStop) -> Self {
+        RefStop::Dev(stop)
+    }
+}
+
+impl Refs {
+    ghost use Rattle.q2_refs.specs.Allocating.{IsInStep, KeepsCounted, HasDevCause, HasRefCause, IsAlike, with_block, with_block_for, with_one, place_of_block, end_of_block, end_of_block_for, end_of_allocation, count_place};
+
+    /// Where the refcount of a cluster is, whose block is there.
+    fn count_place(&self, cluster: usize) -> u64
+        requires { cluster < length self.now.counts }
+        ensures place { result ≡ count_place self.now cluster }
+        ensures sector { result % 512 + 2 ≤ 512 }
+    {
+        let per_block = self.per_block();
+        block_offset(self.table[cluster / per_block]) + (cluster % per_block) as u64 * 2
+    }
+
+    /// Writes that a cluster whose refcount is 0, and whose block is there, counts one.
+    fn count_one<D: Device>(&mut self, dev: &mut D, cluster: usize) -> Result<(), DevStop>
+        requires cluster { cluster < length self.old.counts }
+        requires few { length self.old.counts ≤ MAX_FILE_CLUSTERS }
+        requires free { slice_index self.old.counts cluster ≡ 0 }
+        requires there { (file : List ℕ) → D.content dev.old ≡ Some file → block_offset (slice_index self.old.table (cluster / per_block self.old)) ≢ 0 }
+        requires step { (file : List ℕ) → D.content dev.old ≡ Some file → IsInStep file self.old }
+        ensures ok { OnOk result (self.new ≡ with_one self.old cluster) }
+        ensures err { OnErr result (self.new ≡ self.old) }
+        ensures unwritten { OnErr result (D.content dev.new ≡ D.content dev.old) }
+        ensures step { (file : List ℕ) → D.content dev.new ≡ Some file → IsInStep file self.new }
+        ensures unused { OnOk result ((file : List ℕ) → D.content dev.new ≡ Some file → uses file (header_of file) cluster ≡ 0) }
+        ensures keeps { (old new : List ℕ) → D.content dev.old ≡ Some old → D.content dev.new ≡ Some new → KeepsCounted old new (header_of old) }
+        ensures fits { OnOk result (count_place self.old cluster + 2 ≤ D.capacity dev.old) }
+        ensures cause { IfErr result (HasDevCause (D.faults dev.old) (D.faults dev.new) (D.capacity dev.old) (count_place self.old cluster + 2)) }
+        ensures grows { D.size dev.old ≤ D.size dev.new }
+        ensures told { is_some (D.content dev.new) ≡ is_some (D.content dev.old) }
+        ensures faults { D.faults dev.old ≤ D.faults dev.new }
+        ensures capacity { D.capacity dev.new ≡ D.capacity dev.old }
+    {
+        let at = self.count_place(cluster);
+        write(dev, at, &count_bytes(1))?;
+        self.counts[cluster] = 1;
+        Ok(())
+    }
+
+    /// The offset of the cluster that block `i` is put into.
+    fn block_place(&self, i: usize) -> u64
+        requires { place_of_block self.now i < length self.now.counts }
+        ensures { result ≡ place_of_block self.now i * cluster_size self.now.cluster_bits }
+    {
+        let cluster_bits = self.cluster_bits;
+        ((i * self.per_block()) as u64) << cluster_bits
+    }
+
+    /// Where entry `i` of the refcount table is.
+    fn entry_place(&self, i: usize) -> u64
+        requires { i < length self.now.table }
+        ensures place { result ≡ self.now.table_offset + 8 * i }
+        ensures sector { result % 512 + 8 ≤ 512 }
+    {
+        self.table_offset + 8 * i as u64
+    }
+
+    /// Keeps that block `i` is in its place.
+    fn put_block(&mut self, i: usize)
+        requires entry { i < length self.old.table }
+        requires place { place_of_block self.old i < length self.old.counts }
+        ensures { self.new ≡ with_block self.old i }
+    {
+        let cluster = i * self.per_block();
+        let offset = self.block_place(i);
+        self.table[i] = offset;
+        self.counts[cluster] = 1;
+    }
+
+    /// Puts block `i`, which is absent, into the first cluster of its range: first its bytes, in which that
+    /// cluster counts one, and then its entry in the table, which makes it visible.
+    fn place_block<D: Device>(&mut self, dev: &mut D, i: usize) -> Result<(), DevStop>
+        requires entry { i < length self.old.table }
+        requires absent { block_offset (slice_index self.old.table i) ≡ 0 }
+        requires place { place_of_block self.old i < length self.old.counts }
+        requires few { length self.old.counts ≤ MAX_FILE_CLUSTERS }
+        requires step { (file : List ℕ) → D.content dev.old ≡ Some file → IsInStep file self.old }
+        ensures ok { OnOk result (self.new ≡ with_block self.old i) }
+        ensures err { OnErr result (self.new ≡ self.old) }
+        ensures there { OnOk result ((file : List ℕ) → D.content dev.new ≡ Some file → block_offset (slice_index self.new.table i) ≢ 0) }
+        ensures step { (file : List ℕ) → D.content dev.new ≡ Some file → IsInStep file self.new }
+        ensures keeps { (old new : List ℕ) → D.content dev.old ≡ Some old → D.content dev.new ≡ Some new → KeepsCounted old new (header_of old) }
+        ensures fits { OnOk result (end_of_block self.old i ≤ D.capacity dev.old) }
+        ensures cause { IfErr result (HasDevCause (D.faults dev.old) (D.faults dev.new) (D.capacity dev.old) (end_of_block self.old i)) }
+        ensures grows { D.size dev.old ≤ D.size dev.new }
+        ensures told { is_some (D.content dev.new) ≡ is_some (D.content dev.old) }
+        ensures faults { D.faults dev.old ≤ D.faults dev.new }
+        ensures capacity { D.capacity dev.new ≡ D.capacity dev.old }
+    {
+        let offset = self.block_place(i);
+        let entry = self.entry_place(i);
+        make_block(self.buffer.as_mut_slice());
+        write_block(dev, offset, entry, self.buffer.as_slice())?;
+        self.put_block(i);
+        Ok(())
+    }
+
+    /// Moves the cursor up to the first cluster whose refcount is 0.
+    fn skip_taken(&mut self)
+        ensures { self.new ≡ self.old }
+    {
+        self.cursor = first_free(self.counts.as_slice(), self.cursor);
+    }
+
+    /// Puts the block of a cluster where it is absent.
+    fn ensure_block<D: Device>(&mut self, dev: &mut D, cluster: usize) -> Result<(), DevStop>
+        requires cluster { cluster < length self.old.counts }
+        requires few { length self.old.counts ≤ MAX_FILE_CLUSTERS }
+        requires step { (file : List ℕ) → D.content dev.old ≡ Some file → IsInStep file self.old }
+        ensures ok { OnOk result (self.new ≡ with_block_for self.old cluster) }
+        ensures err { OnErr result (self.new ≡ self.old) }
+        ensures there { OnOk result ((file : List ℕ) → D.content dev.new ≡ Some file → block_offset (slice_index self.new.table (cluster / per_block self.new)) ≢ 0) }
+        ensures step { (file : List ℕ) → D.content dev.new ≡ Some file → IsInStep file self.new }
+        ensures keeps { (old new : List ℕ) → D.content dev.old ≡ Some old → D.content dev.new ≡ Some new → KeepsCounted old new (header_of old) }
+        ensures fits { OnOk result (end_of_block_for self.old cluster ≤ D.capacity dev.old) }
+        ensures cause { IfErr result (HasDevCause (D.faults dev.old) (D.faults dev.new) (D.capacity dev.old) (end_of_block_for self.old cluster)) }
+        ensures grows { D.size dev.old ≤ D.size dev.new }
+        ensures told { is_some (D.content dev.new) ≡ is_some (D.content dev.old) }
+        ensures faults { D.faults dev.old ≤ D.faults dev.new }
+        ensures capacity { D.capacity dev.new ≡ D.capacity dev.old }
+    {
+        let i = cluster / self.per_block();
+        if block_offset(self.table[i]) != 0 {
+            return Ok(());
+        }
+        self.place_block(dev, i)
+    }
+
+    /// Takes a cluster that will be given: puts its block where that is absent, and counts it once.
+    fn take<D: Device>(&mut self, dev: &mut D, cluster: usize) -> Result<(), DevStop>
+        requires cluster { cluster < length self.old.counts }
+        requires given { will_be_given self.old cluster ≡ true }
+        requires few { length self.old.counts ≤ MAX_FILE_CLUSTERS }
+        requires step { (file : List ℕ) → D.content dev.old ≡ Some file → IsInStep file self.old }
+        ensures ok { OnOk result (self.new ≡ with_one (with_block_for self.old cluster) cluster) }
+        ensures err { OnErr result ((self.new ≡ self.old) ⊎ (self.new ≡ with_block_for self.old cluster)) }
+        ensures step { (file : List ℕ) → D.content dev.new ≡ Some file → IsInStep file self.new }
+        ensures unused { OnOk result ((file : List ℕ) → D.content dev.new ≡ Some file → uses file (header_of file) cluster ≡ 0) }
+        ensures keeps { (old new : List ℕ) → D.content dev.old ≡ Some old → D.content dev.new ≡ Some new → KeepsCounted old new (header_of old) }
+        ensures fits { OnOk result (end_of_allocation self.old cluster ≤ D.capacity dev.old) }
+        ensures cause { IfErr result (HasDevCause (D.faults dev.old) (D.faults dev.new) (D.capacity dev.old) (end_of_allocation self.old cluster)) }
+        ensures grows { D.size dev.old ≤ D.size dev.new }
+        ensures told { is_some (D.content dev.new) ≡ is_some (D.content dev.old) }
+        ensures faults { D.faults dev.old ≤ D.faults dev.new }
+        ensures capacity { D.capacity dev.new ≡ D.capacity dev.old }
+    {
+        self.ensure_block(dev, cluster)?;
+        self.count_one(dev, cluster)
+    }
+
+    /// Gives the lowest cluster whose refcount is 0, after a new refcount block was put where one is needed, and
+    /// counts it once. It is below the reach, and nothing uses it. Up to three writes are made, in this order:
+    /// a new block, which lies in the first cluster that it counts; its entry of 8 bytes in the refcount
+    /// table; a refcount of 2 bytes.
+    ///
+    /// It needs a file that is sound, and whose refcounts are the kept ones; so the file is after every answer,
+    /// and its header, its tables and all that is counted in it stay. After `HostLimit` nothing was written.
+    /// After a refusal by the device the next call gives the same cluster.
+    pub fn allocate<D: Device>(&mut self, dev: &mut D) -> Result<u64, RefStop>
+        requires few { length self.old.counts ≤ MAX_FILE_CLUSTERS }
+        requires step { (file : List ℕ) → D.content dev.old ≡ Some file → IsInStep file self.old }
+
+        // what is given
+        ensures given { IfOk result (λ cluster. free_clusters self.old ≡ cluster ∷ free_clusters self.new) }
+        ensures below { IfOk result (λ cluster. cluster < length self.old.counts) }
+        ensures unused { IfOk result (λ cluster. (file : List ℕ) → D.content dev.old ≡ Some file → uses file (header_of file) cluster ≡ 0) }
+        ensures unused_still { IfOk result (λ cluster. (file : List ℕ) → D.content dev.new ≡ Some file → uses file (header_of file) cluster ≡ 0) }
+        ensures counted { IfOk result (λ cluster. (file : List ℕ) → D.content dev.new ≡ Some file → refcount_of file (header_of file) cluster ≡ 1) }
+        ensures kept { IfOk result (λ cluster. self.new ≡ with_one (with_block_for self.old cluster) cluster) }
+
+        // when none is
+        ensures full { (result ≡ Err RefStop.HostLimit) ↔ (free_clusters self.old ≡ []) }
+        ensures untouched { result ≡ Err RefStop.HostLimit → (self.new ≡ self.old)
+            × (D.content dev.new ≡ D.content dev.old) × (D.log dev.new ≡ D.log dev.old) × (D.is_flushed dev.new ≡ D.is_flushed dev.old)
+            × (D.size dev.new ≡ D.size dev.old) × (D.faults dev.new ≡ D.faults dev.old) }
+        ensures again { OnErr result (free_clusters self.new ≡ free_clusters self.old) }
+        ensures cause { IfErr result (HasRefCause (D.faults dev.old) (D.faults dev.new) (D.capacity dev.old) (end_of_allocation self.old (free_cluster self.old 0))) }
+        ensures fits { IfOk result (λ cluster. end_of_allocation self.old cluster ≤ D.capacity dev.old) }
+
+        // the file
+        ensures step { (file : List ℕ) → D.content dev.new ≡ Some file → IsInStep file self.new }
+        ensures keeps { (old new : List ℕ) → D.content dev.old ≡ Some old → D.content dev.new ≡ Some new → KeepsCounted old new (header_of old) }
+        ensures alike { IsAlike self.old self.new }
+        ensures told { is_some (D.content dev.new) ≡ is_some (D.content dev.old) }
+        ensures grows { D.size dev.old ≤ D.size dev.new }
+        ensures faults { D.faults dev.old ≤ D.faults dev.new }
+        ensures capacity { D.capacity dev.new ≡ D.capacity dev.old }
+    {
+        self.skip_taken();
+        let cluster = self.next_free(0) as usize;
+        if cluster == self.counts.len() {
+            return Err(RefStop::HostLimit);
+        }
+        self.take(dev, cluster)?;
+        Ok(cluster as u64)
+    }
+}

@@ -1,0 +1,5 @@
+use Rattle.q2_tables.proofs.SmallTables.{can_link}
+use Rattle.q2_tables.proofs.tests.links_a_new_table.Goals as goal
+
+pub link-linked-requires-clause-can : goal.link-linked-requires-clause-can
+link-linked-requires-clause-can g c = can_link c.in_ok-tables.tables c.in_ok-tables.ensures

@@ -1,0 +1,101 @@
+-- What linking a guest cluster needs, and what it changes.
+use Rattle.std.specs.Prelude.{◌≡◌, ◌≢◌, ◌⊎◌, ℕ, ◌+◌, ◌*◌, ◌/◌, ◌%◌, ◌^◌, ◌<◌, ◌≤◌, max, ◌==◌, if◌then◌else◌, List, length, slice_index, slice_set, Option, Some}
+use Rattle.blk_base.specs.Counts.{Rose}
+use Rattle.blk_base.specs.declared.fault.DevStop.{DevStop}
+use Rattle.blk_base.specs.declared.fault.DevStop.TheVariants.{Io, NoSpace}
+use Rattle.blk_base.specs.declared.device.Stop.{Stop}
+use Rattle.blk_base.specs.declared.device.Stop.TheVariants as why
+use Rattle.q2_format.specs.Bytes.{words_at}
+use Rattle.q2_format.specs.Sizes.{entries_in_cluster}
+use Rattle.q2_format.specs.Entry.{host_offset}
+use Rattle.q2_format.specs.Tables.{tree_at}
+use Rattle.q2_tables.specs.Kept.{Kept, IsTreeOf}
+
+-- the entry of the L1 table that a guest cluster's L2 table stands in
+abbrev pub l1_index : Kept → ℕ → ℕ
+l1_index kept cluster = cluster / entries_in_cluster kept.c
+
+-- the offset of a guest cluster's L2 table, 0 where it has none
+abbrev pub table_of : Kept → ℕ → ℕ
+table_of kept cluster = host_offset (slice_index kept.l1 (l1_index kept cluster))
+
+-- n bytes from a place on have no byte in common with m bytes from another
+abbrev pub Apart : ℕ → ℕ → ℕ → ℕ → Type 0
+Apart at n other m = (at + n ≤ other) ⊎ (other + m ≤ at)
+
+-- a cluster at an offset is no part of the L1 table, and no L2 table but that of one L1 entry
+pub record IsFreeBut (kept : Kept) (offset but : ℕ) : Type 0 where
+  pub l1_table : Apart offset kept.c kept.l1_offset (8 * length kept.l1)
+  pub l2_tables : (i : ℕ) → i < length kept.l1 → i ≢ but → host_offset (slice_index kept.l1 i) ≢ 0 → Apart offset kept.c (host_offset (slice_index kept.l1 i)) kept.c
+
+-- no L2 table has a byte of the L1 table
+pub record LieBesideL1 (kept : Kept) : Type 0 where
+  pub each : (i : ℕ) → i < length kept.l1 → host_offset (slice_index kept.l1 i) ≢ 0 → Apart (host_offset (slice_index kept.l1 i)) kept.c kept.l1_offset (8 * length kept.l1)
+
+-- What a caller of `link` has to know of the place of the entry.
+pub record CanLink (kept : Kept) (cluster table : ℕ) : Type 0 where
+  pub below : cluster < length kept.words
+  -- a new table exactly where there is none
+  pub named : table ≡ 0 → table_of kept cluster ≢ 0
+  pub new : table ≢ 0 → table_of kept cluster ≡ 0
+  pub aligned : table % 512 ≡ 0
+  pub small : table < 2 ^ 56
+  -- the table that is written lies apart from every other
+  pub free : IsFreeBut kept (if table == 0 then table_of kept cluster else table) (l1_index kept cluster)
+  pub beside : LieBesideL1 kept
+
+-- where the last write goes: to the L1 entry of a new table, else to the L2 entry
+abbrev pub entry_at : Kept → ℕ → ℕ → ℕ
+entry_at kept cluster table =
+    if table == 0 then table_of kept cluster + 8 * (cluster % entries_in_cluster kept.c)
+    else kept.l1_offset + 8 * l1_index kept cluster
+
+-- the bytes of a new table
+abbrev pub table_len : Kept → ℕ → ℕ
+table_len kept table = if table == 0 then 0 else kept.c
+
+-- the highest end of the writes
+abbrev pub link_end : Kept → ℕ → ℕ → ℕ
+link_end kept cluster table = max (table + table_len kept table) (entry_at kept cluster table + 8)
+
+-- the L1 entry of a table whose refcount is one
+abbrev pub l1_spelling : ℕ → ℕ
+l1_spelling table = table + 2 ^ 63
+
+-- the words with another L2 entry, in a new table where that isn't 0
+abbrev pub with_entry : Kept → ℕ → ℕ → ℕ → Kept
+with_entry kept cluster word table = record {
+  c = kept.c;
+  l1_offset = kept.l1_offset;
+  l1 = if table == 0 then kept.l1 else slice_set kept.l1 (l1_index kept cluster) (l1_spelling table);
+  words = slice_set kept.words cluster word;
+}
+
+-- The file behind a link: of it `len` bytes from an entry's place on were written, and of a cluster of a new
+-- table any; all else reads as before, and the kept words are those of its tree.
+pub record FileAfter (kept : Kept) (old : List ℕ) (told : Option (List ℕ)) (entry len table table_bytes : ℕ) : Type 0 where
+  pub file : List ℕ
+  pub is : told ≡ Some file
+  pub tree : IsTreeOf kept.c kept (tree_at file kept.c kept.l1_offset (length kept.l1))
+  pub outside : (i : ℕ) → (i < entry) ⊎ (entry + len ≤ i) → (i < table) ⊎ (table + table_bytes ≤ i) → slice_index file i ≡ slice_index old i
+
+-- why writes up to an end stop: a fault, or want of space exactly above the capacity
+abbrev pub IsLinkStop : ℕ → ℕ → ℕ → ℕ → DevStop → Type 0
+IsLinkStop end capacity before now (Io count) = Rose before count × (count ≡ now)
+IsLinkStop end capacity before now NoSpace = capacity < end
+
+-- what a device's stop is to the caller
+abbrev pub stop_of : Stop → ℕ → DevStop
+stop_of why.Failed count = Io count
+stop_of why.NoSpace count = NoSpace
+
+-- a table of one entry
+pub record HasOneEntry (file : List ℕ) (place e column word : ℕ) : Type 0 where
+  pub here : slice_index (words_at file place e) column ≡ word
+  pub beside : (q : ℕ) → q < e → q ≢ column → slice_index (words_at file place e) q ≡ 0
+
+-- the file behind a write of so many bytes at a place, whole or not
+pub record TableAfter (old : List ℕ) (told : Option (List ℕ)) (at n : ℕ) : Type 0 where
+  pub file : List ℕ
+  pub is : told ≡ Some file
+  pub outside : (i : ℕ) → (i < at) ⊎ (at + n ≤ i) → slice_index file i ≡ slice_index old i

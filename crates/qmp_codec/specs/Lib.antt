@@ -1,0 +1,15 @@
+pub mod Tables
+pub mod Verbs
+pub mod Forms
+pub mod Walk
+pub mod Words
+pub mod Fields
+pub mod Jobs
+pub mod Nodes
+pub mod Bitmaps
+pub mod Commands
+pub mod Lines
+pub mod Replies
+pub mod Events
+pub mod Acceptance
+pub mod Stops
