@@ -6,8 +6,6 @@ mod entries;
 mod loading;
 mod refs;
 mod stop;
-#[cfg(test)]
-mod tests;
 mod writing;
 
 pub use allocating::RefStop;

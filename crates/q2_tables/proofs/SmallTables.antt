@@ -1,9 +1,9 @@
 -- The tables of the tests of `link`.
-use Rattle.std.proofs.Common.{◌≡◌, ◌<◌, ◌≤◌, ℕ, inr, length, replicate, get_or, refl, sym, ap, subst, arith}
+use Rattle.std.proofs.Common.{◌≡◌, ◌<◌, ℕ, inr, replicate, get_or, refl, sym, ap, subst, arith}
 use Rattle.std.proofs.lemmas.List.{get_or-replicate}
 use Rattle.q2_format.specs.Entry.{host_offset}
 use Rattle.q2_tables.specs.Kept.{Kept}
-use Rattle.q2_tables.specs.Linking.{CanLink, IsFreeBut, LieBesideL1}
+use Rattle.q2_tables.specs.Linking.{CanLink}
 
 abbrev pub small_tables : Kept
 small_tables = record { c = 64; l1_offset = 64; l1 = replicate 2 0; words = replicate 16 0 }

@@ -160,8 +160,14 @@ fn links_a_new_table(rt: HostRuntime) -> Result<(), Fail> {
     // First the table, whole, and then the entry that names it.
     assert_eq!(rt; dev.length(), 1_088);
     let bytes = dev.bytes();
-    assert_eq!(rt; bytes.get(72..80), Some([0x80, 0, 0, 0, 0, 0, 4, 0].as_slice()));
-    assert_eq!(rt; bytes.get(1_032..1_040), Some([0x80, 0, 0, 0, 0, 0, 2, 0].as_slice()));
+    assert_eq!(rt;
+        bytes.get(72..80),
+        Some([0x80, 0, 0, 0, 0, 0, 4, 0].as_slice())
+    );
+    assert_eq!(rt;
+        bytes.get(1_032..1_040),
+        Some([0x80, 0, 0, 0, 0, 0, 2, 0].as_slice())
+    );
     assert_eq!(rt; bytes.get(1_024..1_032), Some([0; 8].as_slice()));
     assert_eq!(rt; bytes.get(1_080..1_088), Some([0; 8].as_slice()));
     Ok(())

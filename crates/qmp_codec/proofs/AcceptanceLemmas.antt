@@ -1,5 +1,5 @@
 -- Where the walk finds nothing, the tables accept: each needed member is there, and each value is of its kind.
-use Rattle.std.proofs.Common.{◌≡◌, ℕ, zero, suc, List, [], ◌∷◌, Bool, true, false, if◌then◌else◌, codes, Option, Some, None, unwrap_or, refl}
+use Rattle.std.proofs.Common.{◌≡◌, ℕ, zero, suc, [], ◌∷◌, Bool, true, false, if◌then◌else◌, codes, Option, Some, None, unwrap_or, refl}
 use Rattle.serde_json.specs.Data.{Data, null, boolean, number, string, array, object, Items, no_items, item}
 use Rattle.serde_json.specs.Find.{get}
 use Rattle.qmp_codec.specs.declared.form.Form.{Form}
@@ -12,7 +12,7 @@ use Rattle.qmp_codec.specs.declared.walk.Search.TheVariants.{Missing, Mistyped}
 use Rattle.qmp_codec.specs.Tables.{Rows, members, name_of}
 use Rattle.qmp_codec.specs.Forms.{settled}
 use Rattle.qmp_codec.specs.Walk.{Name, fits, or_else, part_fault, parts_fault, list_fault, value_fault, member_fault, rows_fault, first_fault}
-use Rattle.qmp_codec.specs.Lines.{Stop, first_cause, cause_in, arguments_of}
+use Rattle.qmp_codec.specs.Lines.{first_cause, cause_in, arguments_of}
 use Rattle.qmp_codec.specs.Acceptance.{IsPart, AreParts, IsList, IsValue, IsMember, AreMembers, IsAccepted}
 
 none_first : (a b : Option Name) → or_else a b ≡ None → a ≡ None

@@ -1,6 +1,6 @@
 -- What it means that a table accepts an object, said without a walk.
-use Rattle.std.specs.Prelude.{◌≡◌, ℕ, zero, suc, List, [], ◌∷◌, Bool, true, false, Option, Some, None}
-use Rattle.serde_json.specs.Data.{Data, null, boolean, number, string, array, object, Items, no_items, item}
+use Rattle.std.specs.Prelude.{◌≡◌, ℕ, zero, suc, [], ◌∷◌, Bool, true, false, Option, Some, None}
+use Rattle.serde_json.specs.Data.{Data, string, array, object, Items, no_items, item}
 use Rattle.serde_json.specs.Find.{get}
 use Rattle.qmp_codec.specs.declared.form.Form.{Form}
 use Rattle.qmp_codec.specs.declared.row.Kind.{Kind}
