@@ -1,17 +1,18 @@
 -- What an open image says of a cluster is what its file says.
-use Rattle.std.proofs.Common.{◌≡◌, ℕ, ◌+◌, ◌/◌, ◌%◌, ◌^◌, ◌<◌, ◌≤◌, Bool, true, false, cond, eqb, List, length, get_or, refl, sym, ap, subst, ◌∙◌, arith}
+use Rattle.std.proofs.Common.{◌≡◌, ℕ, ◌+◌, ◌/◌, ◌%◌, ◌^◌, ◌<◌, ◌≤◌, Bool, true, false, cond, eqb, List, [], length, get_or, replicate, refl, sym, ap, subst, ◌∙◌, arith}
 use Rattle.blk_base.specs.Content.{bytes_at}
 use Rattle.blk_base.specs.Pieces.{Extent}
 use Rattle.q2_format.specs.Sizes.{cluster_size}
 use Rattle.q2_format.specs.Entry.{l2_entry, is_compressed, has_reserved_in_l2, reads_as_zeros, host_offset}
 use Rattle.q2_format.specs.Header.{header_of}
+use Rattle.q2_format.specs.Contents.{image_disk}
 use Rattle.q2_format.specs.Tables.{active_tree, l2_word_of}
 use Rattle.q2_format.specs.declared.header.Header.{Header}
 use Rattle.q2_format.specs.declared.entries.L2Entry.{L2Entry}
 use Rattle.q2_format.specs.declared.entries.L2Entry.TheVariants.{Unallocated, Zero, Host, Compressed, Reserved}
 use Rattle.q2_image.specs.Image.{Known, IsImageOf, IsOpen, cluster_size_in, clusters_in, entry_in}
 use Rattle.q2_image.specs.Guest.{file_entry, guest_bytes}
-use Rattle.q2_image.proofs.Guests.{read_mapped}
+use Rattle.q2_image.proofs.Guests.{read_mapped, read_zero, read_unmapped, disk_part}
 
 pub entry_of_file : (file : List ℕ) (image : Known) (cluster : ℕ) → IsImageOf file image → cluster < length image.tables.words → file_entry file cluster ≡ entry_in image cluster
 entry_of_file file image cluster is below =
@@ -49,3 +50,25 @@ below_words image cluster ready below =
     let words = rw bits at ready.words in
     let within = rw bits at below in
     omega arith
+
+-- The disk of an image without a backing disk, by what was read of a part of it.
+pub disk_read : (file buffer : List ℕ) (image : Known) (start n : ℕ) → IsImageOf file image → start + n ≤ image.header.size
+    → buffer ≡ guest_bytes file [] start n → buffer ≡ bytes_at (image_disk file []) start n
+disk_read file buffer image start n is within read =
+    let size = ap (λ (h : Header). h.size) is.header in
+    read ∙ sym (disk_part file start n (omega arith))
+
+file_bits : (file : List ℕ) (image : Known) → IsImageOf file image → image.header.cluster_bits ≡ 16 → (header_of file).cluster_bits ≡ 16
+file_bits file image is bits = ap (λ (h : Header). h.cluster_bits) is.header ∙ bits
+
+pub disk_zero : (file buffer : List ℕ) (image : Known) (start n host : ℕ) → IsImageOf file image → image.header.cluster_bits ≡ 16
+    → file_entry file (start / 65536) ≡ Zero host → start % 65536 + n ≤ 65536 → start + n ≤ image.header.size → buffer ≡ replicate n 0
+    → buffer ≡ bytes_at (image_disk file []) start n
+disk_zero file buffer image start n host is bits entry block within zeros =
+    disk_read file buffer image start n is within (read_zero file [] buffer start n host (file_bits file image is bits) entry block zeros)
+
+pub disk_unmapped : (file buffer : List ℕ) (image : Known) (start n : ℕ) → IsImageOf file image → image.header.cluster_bits ≡ 16
+    → file_entry file (start / 65536) ≡ Unallocated → start % 65536 + n ≤ 65536 → start + n ≤ image.header.size → buffer ≡ replicate n 0
+    → buffer ≡ bytes_at (image_disk file []) start n
+disk_unmapped file buffer image start n is bits entry block within zeros =
+    disk_read file buffer image start n is within (read_unmapped file buffer start n (file_bits file image is bits) entry block zeros)

@@ -52,9 +52,10 @@ impl Image {
         self.header.name.is_some()
     }
 
-    /// The bytes of a cluster.
+    /// The bytes of a cluster: 65,536 in the shape that is supported.
     pub fn cluster_size(&self) -> u64
-        ensures { result ≡ cluster_size_in self.now }
+        ensures size { result ≡ cluster_size_in self.now }
+        ensures bits { self.now.header.cluster_bits ≡ 16 }
     {
         cluster_size(&self.header)
     }

@@ -1,5 +1,5 @@
 -- Each step of a run leaves a history from the same opening.
-use Rattle.std.proofs.Common.{◌≡◌, ℕ, ◌≤◌, List, [], ◌∷◌, ◌++◌, refl, ◌∙◌, ap, arith, Option, Some, None, IsSome}
+use Rattle.std.proofs.Common.{◌≡◌, ℕ, ◌≤◌, List, [], ◌∷◌, ◌++◌, refl, sym, ◌∙◌, ap, arith, Option, Some, None, IsSome}
 use Rattle.std.specs.Prelude.{option_map}
 use Rattle.std.proofs.lemmas.Bool.{false≢true}
 use Rattle.blk_base.specs.Counts.{Rose}
@@ -17,6 +17,7 @@ use Rattle.blk_history.specs.declared.entry.Refused.{Refused}
 use Rattle.blk_history.specs.declared.event.Event.{Event}
 use Rattle.blk_history.specs.declared.event.Event.TheVariants.{Admit, Refuse, Piece, Retire}
 use Rattle.blk_history.proofs.Folds.{run-push, each-push}
+use Rattle.qblk.specs.Format.{only_reads}
 use Rattle.qblk.specs.Face.{Face, new_guest, state_of}
 use Rattle.qblk.specs.Steps.{after_admission, IsJudged, after_retirement, CanPiece, PutsPiece, HasCause}
 use Rattle.qblk.specs.Comes.{Opening, opening_state, HadNoSpace, AreLicensed, HasLine, HaveLines, Comes}
@@ -42,10 +43,11 @@ rose-next counts before now (Some n) last licensed = rw (last.1, licensed.0) (om
 record Adds (w v : Face) (e : Event) : Type 0 where
   events : v.log.events ≡ w.log.events ++ e ∷ []
   line : HasLine e
+  format : v.format ≡ w.format
   size : v.size ≡ w.size
   capacity : v.capacity ≡ w.capacity
   on_image : v.guest.node ≡ w.guest.node
-  may_write : v.guest.is_read_only ≡ w.guest.is_read_only
+  access : v.guest.is_read_only ≡ w.guest.is_read_only
   faults : w.faults ≤ v.faults
   licensed : IsLicensed w.faults v.faults (named_in e)
   space : HadNoSpace w.capacity (state_of w) e
@@ -69,11 +71,12 @@ lines-push (x ∷ es) e all one = (all.0, lines-push es e all.1 one)
 
 comes-push : (o : Opening) (w v : Face) (e : Event) → Comes o w → Adds w v e → Comes o v
 comes-push o w v e comes adds = record {
+  format = adds.format ∙ comes.format;
   size = adds.size ∙ comes.size;
   capacity = adds.capacity ∙ comes.capacity;
   faults = let before = comes.faults in let more = adds.faults in omega arith;
   on_image = adds.on_image ∙ comes.on_image;
-  may_write = adds.may_write ∙ comes.may_write;
+  access = adds.access ∙ comes.access ∙ sym (ap only_reads adds.format);
   licensed = licensed-push o w v e comes adds;
   lines = rw adds.events (lines-push w.log.events e comes.lines adds.line);
   replay = rw (adds.events, run-push after (opening_state o) w.log.events e, comes.replay) adds.state;
@@ -85,10 +88,11 @@ adds-admission : (o : Opening) (w : Face) (op : Op) → Comes o w → w.guest.fl
 adds-admission o w op comes idle judged = record {
   events = refl;
   line = record { whose = refl; shown = omega arith };
+  format = refl;
   size = refl;
   capacity = refl;
   on_image = refl;
-  may_write = refl;
+  access = refl;
   faults = omega arith;
   licensed = tt;
   space = tt;
@@ -96,7 +100,7 @@ adds-admission o w op comes idle judged = record {
   told = λ is. is;
   fits = λ is. rw comes.on_image (
     record { idle = idle; number = refl },
-    record { inside = judged; allowed = λ forbidden. absurd (false≢true (rw comes.may_write at forbidden)) },
+    record { inside = judged.0; allowed = judged.1 },
   );
 }
 
@@ -104,10 +108,11 @@ adds-refusal : (o : Opening) (w : Face) (op : Op) (why : Refused) → Comes o w 
 adds-refusal o w op why comes idle judged = record {
   events = refl;
   line = record { whose = refl; shown = omega arith };
+  format = refl;
   size = refl;
   capacity = refl;
   on_image = refl;
-  may_write = refl;
+  access = refl;
   faults = omega arith;
   licensed = tt;
   space = tt;
@@ -131,10 +136,11 @@ adds-retirement w is =
     record {
       events = refl;
       line = record { whose = refl; shown = omega arith };
+      format = refl;
       size = refl;
       capacity = refl;
       on_image = refl;
-      may_write = refl;
+      access = refl;
       faults = omega arith;
       licensed = tt;
       space = tt;
@@ -170,10 +176,11 @@ adds-piece : (o : Opening) (w v : Face) (f : Flight) (outcome : Outcome) (got : 
 adds-piece o w v f outcome got comes is can puts = record {
   events = ap (λ (l : Recorded). l.events) puts.made.log;
   line = record { whose = refl; shown = puts.made.small };
+  format = puts.format;
   size = puts.size;
   capacity = puts.made.capacity;
   on_image = ap (λ (g : Guest). g.node) puts.guest;
-  may_write = ap (λ (g : Guest). g.is_read_only) puts.guest;
+  access = ap (λ (g : Guest). g.is_read_only) puts.guest;
   faults = puts.made.faults;
   licensed = licensed-piece w.faults v.faults w.capacity (piece f.op f.next) outcome puts.made.cause;
   space = space-piece w f outcome v.faults w.guest.done got is puts.made.cause;
@@ -201,14 +208,15 @@ pub piece-made : (w v : Face) (outcome : Outcome) → With w.guest.flight (CanPi
 piece-made w v outcome can puts = piece-of w v outcome w.guest.flight refl can puts
 
 -- a run begins at its opening
-pub comes-start : (o : Opening) (log : Recorded) → log.events ≡ [] → Comes o (record { disk = o.disk; faults = o.faults; capacity = o.capacity; size = o.size; guest = new_guest; log = log })
-comes-start o log empty = record {
+pub comes-start : (o : Opening) (faults : ℕ) (log : Recorded) → o.faults ≤ faults → log.events ≡ [] → Comes o (record { format = o.format; disk = o.disk; faults = faults; capacity = o.capacity; size = o.size; guest = new_guest o.format; log = log })
+comes-start o faults log later empty = record {
+  format = refl;
   size = refl;
   capacity = refl;
-  faults = omega arith;
+  faults = later;
   on_image = refl;
-  may_write = refl;
-  licensed = record { risen = rw empty tt; last = (o.faults, rw empty refl, omega arith); space = rw empty tt };
+  access = refl;
+  licensed = record { risen = rw empty tt; last = (o.faults, rw empty refl, later); space = rw empty tt };
   lines = rw empty tt;
   replay = rw empty refl;
   told = λ bytes is. rw is refl;

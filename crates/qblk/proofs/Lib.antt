@@ -8,3 +8,4 @@ pub mod Whole
 pub mod Forms
 pub mod Returned
 pub mod Quiet
+pub mod Disks

@@ -10,10 +10,13 @@ use Rattle.blk_history.specs.Legal.{Legal}
 use Rattle.blk_history.specs.Licence.{counted, HaveRisen}
 use Rattle.blk_history.specs.declared.event.Event.{Event}
 use Rattle.blk_history.specs.declared.event.Event.TheVariants.{Admit, Refuse, Piece, Retire}
+use Rattle.qblk.specs.Format.{only_reads}
+use Rattle.qblk.specs.declared.words.Format.{Format}
 use Rattle.qblk.specs.Face.{Face, state_with, state_of, new_guest}
 
 -- the image as it was opened
 pub record Opening : Type 0 where
+  pub format : Format
   pub disk : Option (List ℕ)
   pub faults : ℕ
   pub capacity : ℕ
@@ -21,7 +24,7 @@ pub record Opening : Type 0 where
 
 -- the machine before the first request
 abbrev pub opening_state : Opening → State
-opening_state o = state_with o.size new_guest o.disk
+opening_state o = state_with o.size (new_guest o.format) o.disk
 
 -- a piece found no space exactly where it would have ended above the capacity
 abbrev pub HadNoSpace : ℕ → State → Event → Type 0
@@ -50,12 +53,13 @@ HaveLines (e ∷ es) = HasLine e × HaveLines es
 
 -- the run so far is a history from this opening, and the machine after it is what is seen
 pub record Comes (o : Opening) (w : Face) : Type 0 where
+  pub format : w.format ≡ o.format
   pub size : w.size ≡ o.size
   pub capacity : w.capacity ≡ o.capacity
   pub faults : o.faults ≤ w.faults
-  -- the guest is on the image's node, and may write
+  -- the guest is on the image's node
   pub on_image : w.guest.node ≡ 1
-  pub may_write : w.guest.is_read_only ≡ false
+  pub access : w.guest.is_read_only ≡ only_reads w.format
   pub licensed : AreLicensed o w
   pub lines : HaveLines w.log.events
   pub replay : replay (opening_state o) w.log.events ≡ state_of w

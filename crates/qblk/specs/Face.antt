@@ -1,14 +1,20 @@
 -- What is seen of one disk and its guest while a trace is run on them.
-use Rattle.std.specs.Prelude.{◌≡◌, ℕ, false, List, [], ◌∷◌, slice_get, Option, Some, None, option_map, option_and_then}
+use Rattle.std.specs.Prelude.{◌≡◌, ℕ, ◌≤◌, ◌&&◌, false, List, [], ◌∷◌, slice_get, Option, Some, None, option_map, option_and_then}
 use Rattle.trace_codec.specs.declared.op.Op.{Op}
+use Rattle.blk_base.specs.Pieces.{end_of}
+use Rattle.blk_history.specs.Disk.{is_write, span_of}
 use Rattle.blk_history.specs.Machine.{Node, Flight, Guest, State}
 use Rattle.blk_history.specs.Recorded.{Recorded}
 use Rattle.blk_history.specs.Line.{admitted_by}
 use Rattle.blk_history.specs.declared.event.Event.{Event}
+use Rattle.qblk.specs.Format.{only_reads}
+use Rattle.qblk.specs.declared.words.Format.{Format}
 use Rattle.qblk.specs.declared.flight.InFlight.{InFlight}
 
 pub record Face : Type 0 where
-  -- the bytes of the device, where it tells them, its count of faults, and the highest end that a write may have
+  -- how the image's file reads as a disk
+  pub format : Format
+  -- the disk, where the device tells its bytes, the device's count of faults, and the highest end that a write may have
   pub disk : Option (List ℕ)
   pub faults : ℕ
   pub capacity : ℕ
@@ -28,14 +34,19 @@ flight_with f op = record { op = op; next = f.next; is_stopped = f.is_stopped }
 abbrev pub flight_of : List Event → InFlight → Option Flight
 flight_of events f = option_map (flight_with f) (request_at events f.place)
 
--- the guest's row: it is on the image's node, and may write
-abbrev pub row_of : List Event → ℕ → Option InFlight → Guest
-row_of events done flight = record { node = 1; is_read_only = false; done = done; flight = option_and_then (flight_of events) flight }
+-- the guest's row: it is on the image's node
+abbrev pub row_of : Format → List Event → ℕ → Option InFlight → Guest
+row_of format events done flight = record { node = 1; is_read_only = only_reads format; done = done; flight = option_and_then (flight_of events) flight }
+
+-- a request that the guest may ask for, within a disk of so many bytes
+pub record MayRun (format : Format) (size : ℕ) (op : Op) : Type 0 where
+  pub allowed : (only_reads format && is_write op) ≡ false
+  pub inside : end_of (span_of op) ≤ size
 
 -- what is in flight was admitted
-abbrev pub WasAdmitted : List Event → Option InFlight → Type 0
-WasAdmitted events None = Unit {0}
-WasAdmitted events (Some f) = (op : Op) × (request_at events f.place ≡ Some op)
+abbrev pub WasAdmitted : Format → ℕ → List Event → Option InFlight → Type 0
+WasAdmitted format size events None = Unit {0}
+WasAdmitted format size events (Some f) = (op : Op) × (request_at events f.place ≡ Some op) × MayRun format size op
 
 abbrev pub node_of : ℕ → Node
 node_of size = record { size = size }
@@ -51,5 +62,5 @@ abbrev pub state_of : Face → State
 state_of w = state_with w.size w.guest w.disk
 
 -- before its first request
-abbrev pub new_guest : Guest
-new_guest = record { node = 1; is_read_only = false; done = 0; flight = None }
+abbrev pub new_guest : Format → Guest
+new_guest format = record { node = 1; is_read_only = only_reads format; done = 0; flight = None }

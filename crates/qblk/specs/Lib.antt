@@ -1,5 +1,8 @@
+pub mod Format
+pub mod Medium
 pub mod Face
 pub mod Steps
+pub mod Running
 pub mod Comes
 pub mod Requests
 pub mod Run
@@ -7,6 +10,7 @@ pub mod Inputs
 pub mod Ready
 pub mod Output
 pub mod Session
+pub mod Opened
 pub mod Words
 pub mod Untold
 pub mod Openings

@@ -1,5 +1,5 @@
 -- The parts of a run on an image, from its inputs to the transcript.
-use Rattle.std.specs.Prelude.{◌≡◌, ◌⊎◌, ℕ, ◌+◌, ◌*◌, ◌^◌, ◌<◌, ◌≤◌, Bool, true, List, [], length, IsUtf8, IsSome, Option, Some, None, MatchOption, is_some, Ok, Err, Result, ◌++◌, option_map}
+use Rattle.std.specs.Prelude.{◌≡◌, ◌≢◌, ◌⊎◌, ℕ, ◌+◌, ◌*◌, ◌^◌, ◌<◌, ◌≤◌, Bool, true, List, [], length, IsUtf8, IsSome, Option, Some, None, MatchOption, is_some, Ok, Err, Result, ◌++◌, option_map}
 use Rattle.blk_base.specs.Counts.{Rose}
 use Rattle.blk_base.specs.Files.{file_at, IfTold, is_out}
 use Rattle.blk_base.specs.Answers.{HasFile, LacksFile}
@@ -14,7 +14,10 @@ use Rattle.trace_codec.specs.declared.op.Op.{Op}
 use Rattle.blk_history.specs.Owned.{asked_by}
 use Rattle.qblk.specs.Face.{Face}
 use Rattle.qblk.specs.Comes.{Opening, Comes, HaveLines}
-use Rattle.qblk.specs.Run.{guest_names, IsBadTrace, IsRefusedTrace}
+use Rattle.qblk.specs.Format.{disk_of, IsGoodImage}
+use Rattle.qblk.specs.declared.words.Format.{Format}
+use Rattle.qblk.specs.declared.words.Format.TheVariants.{Qcow2}
+use Rattle.qblk.specs.Run.{guest_names, IsBadTrace, IsBadBytes, IsRefusedTrace}
 use Rattle.qblk.specs.Output.{SendsFront}
 use Rattle.qblk.specs.declared.input.TraceRead.{TraceRead}
 use Rattle.qblk.specs.declared.input.TraceRead.TheVariants as reads
@@ -61,8 +64,14 @@ pub record Seen : Type 0 where
   pub capacity : ℕ
   pub size : ℕ
 
-abbrev pub opening_of : Seen → Opening
-opening_of d = record { disk = d.content; faults = d.faults; capacity = d.capacity; size = d.size }
+-- the opening of an image in that format, whose disk has so many bytes
+abbrev pub opening_of : Format → ℕ → Seen → Opening
+opening_of format size d = record { format = format; disk = option_map (disk_of format) d.content; faults = d.faults; capacity = d.capacity; size = size }
+
+-- where a device tells its bytes, they are a good image whose disk has so many bytes
+pub record IsGood (format : Format) (size : ℕ) (content : Option (List ℕ)) : Type 0 where
+  pub image : (bytes : List ℕ) → content ≡ Some bytes → IsGoodImage format bytes
+  pub sized : (bytes : List ℕ) → content ≡ Some bytes → size ≡ length (disk_of format bytes)
 
 -- the last flush was good, or its fault is told
 abbrev pub IsFlushed : Seen → ℕ → Option FaultAt → Type 0
@@ -70,16 +79,17 @@ IsFlushed now faults None = (bytes : List ℕ) → now.content ≡ Some bytes �
 IsFlushed now faults (Some fault) = (fault.from ≡ Dev (record { 0 = 0 })) × Rose faults fault.count × (fault.count ≡ now.faults)
 
 -- the requests of a trace were made on a device
-pub record IsMade (bytes : List ℕ) (before now : Seen) (w : Face) (fault : Option FaultAt) : Type 0 where
-  pub fits : before.size ≤ 274877906944
+pub record IsMade (format : Format) (bytes : List ℕ) (before now : Seen) (w : Face) (fault : Option FaultAt) : Type 0 where
+  pub size : ℕ
+  pub good : IsGood format size before.content
   pub text : IsUtf8 bytes
   pub ops : ops_of bytes ≡ Ok (asked_by 0 w.log.events)
-  pub comes : Comes (opening_of before) w
+  pub comes : Comes (opening_of format size before) w
   pub idle : w.guest.flight ≡ None
-  pub content : now.content ≡ w.disk
+  pub content : option_map (disk_of format) now.content ≡ w.disk
   pub capacity : now.capacity ≡ w.capacity
   pub faults : w.faults ≤ now.faults
-  pub tells : (disk : List ℕ) → w.disk ≡ Some disk → is_some now.is_flushed ≡ true
+  pub tells : (bytes : List ℕ) → now.content ≡ Some bytes → is_some now.is_flushed ≡ true
   pub flushed : IsFlushed now w.faults fault
 
 -- why what was read of a trace is refused
@@ -96,15 +106,27 @@ IsTraceStop trace read (Input name line why) = (name.bytes ≡ trace) × IsRefus
 IsTraceStop trace read (Fault from count) = ⊥
 IsTraceStop trace read NoMemory = Unit {0}
 
--- so is the image, which is judged before it
-abbrev pub IsRunStop : List ℕ → List ℕ → TraceRead → ℕ → Status → Type 0
-IsRunStop image trace read size Done = ⊥
-IsRunStop image trace read size Usage = ⊥
-IsRunStop image trace read size (Input name line why) =
-    ((name.bytes ≡ image) × (line ≡ 0) × (why ≡ TooLarge) × (274877906944 < size))
-    ⊎ ((size ≤ 274877906944) × (name.bytes ≡ trace) × IsRefusedRead read why line)
-IsRunStop image trace read size (Fault from count) = ⊥
-IsRunStop image trace read size NoMemory = Unit {0}
+-- why an image isn't opened, by what its device tells
+pub record IsRefusedImage (format : Format) (why : InputWhy) (content : Option (List ℕ)) : Type 0 where
+  pub bytes : (bytes : List ℕ) → content ≡ Some bytes → IsBadBytes format why bytes
+  pub there : why ≢ Absent
+
+-- the image, which is judged before the trace, or the trace is refused; or the image's device failed
+abbrev pub IsRunStop : Format → List ℕ → List ℕ → TraceRead → Seen → Seen → Status → Type 0
+IsRunStop format image trace read before now Done = ⊥
+IsRunStop format image trace read before now Usage = ⊥
+IsRunStop format image trace read before now (Input name line why) =
+    ((name.bytes ≡ image) × (line ≡ 0) × IsRefusedImage format why before.content)
+    ⊎ (((bytes : List ℕ) → before.content ≡ Some bytes → IsGoodImage format bytes) × (name.bytes ≡ trace) × IsRefusedRead read why line)
+IsRunStop format image trace read before now (Fault from count) =
+    (format ≡ Qcow2) × (from ≡ Dev (record { 0 = 0 })) × Rose before.faults count × (count ≡ now.faults)
+IsRunStop format image trace read before now NoMemory = Unit {0}
+
+-- what an image that isn't opened leaves of its device
+pub record IsUntouched (before now : Seen) : Type 0 where
+  pub content : now.content ≡ before.content
+  pub is_flushed : now.is_flushed ≡ before.is_flushed
+  pub capacity : now.capacity ≡ before.capacity
 
 -- A transcript went out whole, or a front of it did, and a put failed. The fault of the last flush is named before that.
 abbrev pub EndsAs : Option FaultAt → Option (List ℕ) → Option (List ℕ) → List ℕ → ℕ → ℕ → Status → Type 0

@@ -3,8 +3,9 @@ use Rattle.std.specs.Prelude.{ℕ, List, [], ◌++◌, codes, decimal}
 use Rattle.blk_base.specs.declared.fault.DevNo.{DevNo}
 use Rattle.blk_base.specs.declared.fault.FaultFrom.{FaultFrom}
 use Rattle.blk_base.specs.declared.fault.FaultFrom.TheVariants.{Store, Dev, Sink}
+use Rattle.q2_image.specs.Text as image
 use Rattle.qblk.specs.declared.status.InputWhy.{InputWhy}
-use Rattle.qblk.specs.declared.status.InputWhy.TheVariants.{Absent, NotUtf8, TooLong, BadLine, TooMany, TooLarge}
+use Rattle.qblk.specs.declared.status.InputWhy.TheVariants.{Absent, NotUtf8, TooLong, BadLine, TooMany, TooLarge, NeedsBacking, Image}
 use Rattle.qblk.specs.declared.status.Status.{Status}
 use Rattle.qblk.specs.declared.status.Status.TheVariants.{Done, Usage, Input, Fault, NoMemory}
 
@@ -15,6 +16,8 @@ why_text TooLong = codes "TooLong"
 why_text BadLine = codes "BadLine"
 why_text TooMany = codes "TooMany"
 why_text TooLarge = codes "TooLarge"
+why_text NeedsBacking = codes "NeedsBacking"
+why_text (Image stop) = codes "Image(" ++ image.stop_text stop ++ codes ")"
 
 -- whose count of faults rose
 abbrev pub from_text : FaultFrom → List ℕ

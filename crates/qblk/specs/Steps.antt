@@ -12,7 +12,7 @@ use Rattle.blk_base.specs.Content.{bytes_at}
 use Rattle.trace_codec.specs.Request.{pieces_of}
 use Rattle.blk_history.specs.Disk.{piece, done_in}
 use Rattle.blk_history.specs.Machine.{Flight, done_by, admitted, finished, past_piece}
-use Rattle.blk_history.specs.Legal.{IsInside, IsRefusedFor, Tells}
+use Rattle.blk_history.specs.Legal.{IsInside, IsForbidden, IsRefusedFor, Tells}
 use Rattle.blk_history.specs.Recorded.{Recorded}
 use Rattle.blk_history.specs.declared.entry.Refused.{Refused}
 use Rattle.blk_history.specs.declared.event.Event.{Event}
@@ -38,7 +38,7 @@ after_admission w op None = record w { guest = admitted op w.guest; log = log_of
 after_admission w op (Some why) = record w { guest = finished w.guest; log = log_of w.log (events.Refuse 0 w.guest.done op why) }
 
 abbrev pub IsJudged : Face → Op → Option Refused → Type 0
-IsJudged w op None = IsInside op (node_of w.size)
+IsJudged w op None = IsInside op (node_of w.size) × (IsForbidden op w.guest → ⊥)
 IsJudged w op (Some why) = IsRefusedFor op w.guest (node_of w.size) why
 
 -- a request is over
@@ -99,6 +99,7 @@ pub record PutsPiece (old new : Face) (f : Flight) (outcome : Outcome) (got : Li
   pub made : MakesPiece (side_of old) (side_of new) old.log new.log old.guest.done f outcome got
   pub guest : new.guest ≡ past_piece outcome old.guest
   pub size : new.size ≡ old.size
+  pub format : new.format ≡ old.format
 
 -- so many bytes of a payload
 abbrev pub payload_bytes : Payload → ℕ → List ℕ

@@ -1,14 +1,16 @@
 //! One guest on one image, on one thread: each call is one event.
-ghost use Rattle.std.specs.Prelude.{◌≡◌, ◌<◌, ◌≤◌, length, List, ℕ, Some, true, MatchOption, option_map};
-ghost use Rattle.blk_base.specs.Counts.{Rose};
+ghost use Rattle.std.specs.Prelude.{◌≡◌, ◌<◌, ◌≤◌, length, List, ℕ, Some};
 ghost use Rattle.qblk.specs.Steps.{log_of, log_with, CanPiece, MakesPiece};
 ghost use Rattle.qblk.specs.Face.{request_at, flight_of, WasAdmitted};
+ghost use Rattle.qblk.specs.Running.{side_in};
+ghost use Rattle.trace_codec.specs.declared.op.Op.{Op};
 ghost use Rattle.blk_history.specs.Fold.{With};
 ghost use Rattle.blk_history.specs.declared.event.Event.{Event};
 
 use crate::flight::InFlight;
-use crate::transfer::{DEVICE, request_piece, request_span, shown_part, transfer};
-use blk_base::{Device, FaultAt, FaultFrom, Outcome};
+use crate::medium::Medium;
+use crate::transfer::{request_piece, request_span, shown_part};
+use blk_base::{Device, FaultAt, Outcome};
 use blk_history::{Asked, Entry, History, Refused};
 use std::marker::Model;
 use trace_codec::Op;
@@ -18,7 +20,8 @@ pub(crate) const BLOCK: usize = 65536;
 
 /// A device, the guest on it, and the history so far. The buffer of the pieces is taken once.
 pub(crate) struct Engine<D: Device> {
-    device: D,
+    medium: Medium<D>,
+    /// The bytes of the disk, as it was opened.
     size: u64,
     done: u32,
     flight: Option<InFlight>,
@@ -27,39 +30,23 @@ pub(crate) struct Engine<D: Device> {
 }
 
 impl<D: Device> Model for Engine<D> {
-    ghost use Rattle.std.specs.Prelude.{◌≡◌, length};
-    ghost use Rattle.qblk.specs.Face.{Face, row_of, WasAdmitted};
+    ghost use Rattle.qblk.specs.Face.{Face, row_of};
+    ghost use Rattle.qblk.specs.Medium.{disk_in};
+    ghost use Rattle.qblk.specs.Running.{IsRunning};
 
     ghost Value = { Face };
 
     ghost view = { λ a. record {
-      disk = D.content a.device;
-      faults = D.faults a.device;
-      capacity = D.capacity a.device;
+      format = a.medium.format;
+      disk = disk_in a.medium;
+      faults = a.medium.faults;
+      capacity = a.medium.capacity;
       size = a.size;
-      guest = row_of a.history.events a.done a.flight;
+      guest = row_of a.medium.format a.history.events a.done a.flight;
       log = a.history;
     } };
 
-    ghost invariant = { λ a. WasAdmitted a.history.events a.flight × (length a.buffer.items ≡ 65536) };
-}
-
-/// Flushes a device, and tells the fault where that failed.
-fn last_flush<D: Device>(device: &mut D) -> Option<FaultAt>
-    ensures content { D.content device.new ≡ D.content device.old }
-    ensures capacity { D.capacity device.new ≡ D.capacity device.old }
-    ensures faults { D.faults device.old ≤ D.faults device.new }
-    ensures flushed { MatchOption result
-        (D.is_flushed device.new ≡ option_map (λ _. true) (D.is_flushed device.old))
-        (λ fault. (fault.from ≡ FaultFrom.Dev (record { 0 = 0 })) × Rose (D.faults device.old) fault.count × (fault.count ≡ D.faults device.new)) }
-{
-    match device.flush() {
-        Ok(()) => None,
-        Err(_) => Some(FaultAt {
-            from: FaultFrom::Dev(DEVICE),
-            count: device.faults(),
-        }),
-    }
+    ghost invariant = { λ a. IsRunning a.medium a.size a.history.events a.flight a.buffer.items };
 }
 
 /// Adds the entry of an admitted request, and says where it stands.
@@ -116,7 +103,7 @@ fn note_retirement(history: &mut History, request: u32)
 
 /// The request that is in flight.
 fn flying<'a>(history: &'a History, flight: &InFlight) -> &'a Op
-    requires { WasAdmitted history.now.events (Some flight.now) }
+    requires { (op : Op) × (request_at history.now.events flight.now.place ≡ Some op) }
     ensures { request_at history.now.events flight.now.place ≡ Some result.now }
 {
     history.admitted_at(flight.place).unwrap()
@@ -124,7 +111,7 @@ fn flying<'a>(history: &'a History, flight: &InFlight) -> &'a Op
 
 /// Makes the next piece of the request in flight, and adds its entry.
 fn make_piece<D: Device>(
-    device: &mut D,
+    medium: &mut Medium<D>,
     history: &mut History,
     buffer: &mut [u8],
     request: u32,
@@ -132,15 +119,16 @@ fn make_piece<D: Device>(
 ) -> Outcome
     requires block { length buffer.old ≡ 65536 }
     requires can { With (flight_of history.old.events flight.now) (CanPiece history.old) }
-    ensures { With (flight_of history.old.events flight.now) (λ f. (got : List ℕ)
-        × MakesPiece (record { disk = D.content device.old; faults = D.faults device.old; capacity = D.capacity device.old })
-        (record { disk = D.content device.new; faults = D.faults device.new; capacity = D.capacity device.new })
-        history.old history.new request f result got) }
+    requires admitted { WasAdmitted medium.old.format medium.old.size history.old.events (Some flight.now) }
+    ensures made { With (flight_of history.old.events flight.now) (λ f. (got : List ℕ)
+        × MakesPiece (side_in medium.old) (side_in medium.new) history.old history.new request f result got) }
+    ensures format { medium.new.format ≡ medium.old.format }
+    ensures size { medium.old.size ≤ medium.new.size }
 {
     let op = flying(history, flight);
     let part = request_piece(op, u64::from(flight.next));
     let bytes = &mut buffer[..part.len as usize];
-    let outcome = transfer(device, op, part, bytes);
+    let outcome = medium.transfer(op, part, bytes);
     let shown = shown_part(op, outcome, bytes);
     note_piece(history, request, flight.next, outcome, shown);
     outcome
@@ -149,7 +137,11 @@ fn make_piece<D: Device>(
 impl<D: Device> Engine<D> {
     ghost use Rattle.std.specs.Prelude.{true, is_some, Some, MatchOption};
     ghost use Rattle.blk_base.specs.Counts.{Rose};
+    ghost use Rattle.blk_base.specs.declared.fault.FaultFrom.{FaultFrom};
+    ghost use Rattle.std.specs.Prelude.{option_map};
     ghost use Rattle.qblk.specs.Face.{new_guest};
+    ghost use Rattle.qblk.specs.Format.{disk_of};
+    ghost use Rattle.qblk.specs.Medium.{disk_in};
     ghost use Rattle.std.specs.Prelude.{◌≡◌, ◌+◌, ◌<◌, ◌≤◌, ◌^◌, ℕ, List, None};
     ghost use Rattle.qblk.specs.Face.{Face};
     ghost use Rattle.qblk.specs.Steps.{after_admission, IsJudged, after_retirement, PutsPiece, CanPiece};
@@ -158,19 +150,21 @@ impl<D: Device> Engine<D> {
     ghost use Rattle.qblk.specs.Comes.{Opening, Comes};
 
     /// A guest that has asked for nothing yet, on a device that was opened.
-    pub(crate) fn new(device: D, size: u64, history: History, buffer: Vec<u8>) -> Self
+    pub(crate) fn new(medium: Medium<D>, history: History, buffer: Vec<u8>) -> Self
         requires block { length buffer.items ≡ 65536 }
         ensures { result ≡ record {
-          disk = D.content device;
-          faults = D.faults device;
-          capacity = D.capacity device;
-          size = size;
-          guest = new_guest;
+          format = medium.format;
+          disk = disk_in medium;
+          faults = medium.faults;
+          capacity = medium.capacity;
+          size = medium.size;
+          guest = new_guest medium.format;
           log = history;
         } }
     {
+        let size = medium.size();
         Engine {
-            device,
+            medium,
             size,
             done: 0,
             flight: None,
@@ -181,24 +175,24 @@ impl<D: Device> Engine<D> {
 
     /// Flushes the device, and gives it back with the history, and with the fault where the flush failed.
     pub(crate) fn finish(self) -> (D, History, Option<FaultAt>)
-        ensures disk { D.content result.0 ≡ self.disk }
+        ensures disk { option_map (disk_of self.format) (D.content result.0) ≡ self.disk }
         ensures capacity { D.capacity result.0 ≡ self.capacity }
         ensures faults { self.faults ≤ D.faults result.0 }
         ensures history { result.1 ≡ self.log }
         ensures flushed { MatchOption result.2
-            ((bytes : List ℕ) → self.disk ≡ Some bytes → D.is_flushed result.0 ≡ Some true)
+            ((bytes : List ℕ) → D.content result.0 ≡ Some bytes → D.is_flushed result.0 ≡ Some true)
             (λ fault. (fault.from ≡ FaultFrom.Dev (record { 0 = 0 })) × Rose self.faults fault.count × (fault.count ≡ D.faults result.0)) }
-        ensures tells { (bytes : List ℕ) → self.disk ≡ Some bytes → is_some (D.is_flushed result.0) ≡ true }
+        ensures tells { (bytes : List ℕ) → D.content result.0 ≡ Some bytes → is_some (D.is_flushed result.0) ≡ true }
     {
         let Engine {
-            mut device,
+            medium,
             size: _,
             done: _,
             flight: _,
             history,
             buffer: _,
         } = self;
-        let fault = last_flush(&mut device);
+        let (device, fault) = medium.close();
         (device, history, fault)
     }
 
@@ -215,6 +209,11 @@ impl<D: Device> Engine<D> {
             note_refusal(&mut self.history, self.done, op, Refused::Range);
             self.done += 1;
             return Some(Refused::Range);
+        }
+        if self.medium.forbids(&op) {
+            note_refusal(&mut self.history, self.done, op, Refused::ReadOnly);
+            self.done += 1;
+            return Some(Refused::ReadOnly);
         }
         let place = note_admission(&mut self.history, self.done, op);
         self.flight = Some(InFlight {
@@ -234,7 +233,7 @@ impl<D: Device> Engine<D> {
             unreachable!()
         };
         let outcome = make_piece(
-            &mut self.device,
+            &mut self.medium,
             &mut self.history,
             &mut self.buffer,
             self.done,

@@ -1,11 +1,13 @@
-//! The block layer of QEMU as a program: `qblk io raw IMAGE TRACE` runs a trace of reads and writes on a raw image, and
-//! writes the transcript to standard output.
+//! The block layer of QEMU as a program: `qblk io FORMAT IMAGE TRACE` runs a trace of reads and writes on a raw image, or of
+//! reads on a qcow2 image, and writes the transcript to standard output.
 #![tactic(auto)]
 
 mod engine;
 mod files;
 mod flight;
 mod input;
+mod medium;
+mod opening;
 mod output;
 mod requests;
 mod run;
@@ -20,6 +22,7 @@ mod words;
 use blk_base::{NoMemory, Text};
 pub use run::{qblk, run_io};
 pub use status::{InputWhy, Status};
+pub use words::Format;
 use std::alloc::Global;
 use std::process::ExitCode;
 use std::rt::Env;

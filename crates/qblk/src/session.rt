@@ -3,13 +3,17 @@ ghost use Rattle.std.specs.Prelude.{◌≡◌, ◌≤◌, List, ℕ, MatchResult
 ghost use Rattle.blk_base.specs.Files.{IfTold};
 ghost use Rattle.blk_base.specs.Stored.{IsDeviceOf};
 ghost use Rattle.blk_base.specs.declared.file.Opened.{Opened};
-ghost use Rattle.qblk.specs.Session.{NoneOut, IsReadOf, IsStoreStop, IsOpenStop, IsMade, IsRunStop, EndsAs, ended_as, failed_as};
+ghost use Rattle.qblk.specs.Session.{NoneOut, IsReadOf, IsStoreStop, IsOpenStop, IsMade, IsRunStop, IsUntouched, EndsAs, ended_as, failed_as};
+ghost use Rattle.qblk.specs.Opened.{IsImageStatus};
 ghost use Rattle.blk_history.specs.Transcript.{transcript};
 ghost use Rattle.qblk.specs.Comes.{HaveLines};
 ghost use Rattle.qblk.specs.Face.{Face};
 ghost use Rattle.qblk.specs.Run.{guest_names, Answers};
 
 use crate::engine::Engine;
+use crate::opening::{MediumStop, open_medium};
+use crate::transfer::DEVICE;
+use crate::words::Format;
 use crate::input::{MAX_TRACE, Prepared, TraceRead, judge, refused};
 use crate::output::send_transcript;
 use crate::requests::run_requests;
@@ -17,9 +21,6 @@ use crate::status::{InputWhy, Status};
 use blk_base::{Device, FaultAt, FaultFrom, Sink, Store, StoreStop, Text};
 use blk_history::{History, Rows};
 use std::alloc::Global;
-
-/// How many bytes an image may have: 256 GiB.
-const MAX_DISK: u64 = 256 << 30;
 
 /// The history of a run, what its transcript is written with, and the fault of the last flush.
 struct Made {
@@ -78,25 +79,45 @@ fn open_image<S: Store>(alloc: Global, store: &mut S, name: &str) -> Result<S::D
     }
 }
 
-/// Makes the requests of a trace on an image, and flushes it. A refused input leaves the device untouched.
+/// The status of an image that isn't opened.
+fn image_status(alloc: Global, image: &str, stop: MediumStop) -> Status
+    ensures { IsImageStatus image.now stop result }
+{
+    match stop {
+        MediumStop::Refused(why) => refused(alloc, image, 0, why),
+        MediumStop::Io { count } => Status::Fault {
+            from: FaultFrom::Dev(DEVICE),
+            count,
+        },
+        MediumStop::NoMemory => Status::NoMemory,
+    }
+}
+
+/// Makes the requests of a trace on an image, and flushes it. A refused input leaves what the device holds.
 fn make_run<D: Device>(
     alloc: Global,
+    format: Format,
     image: &str,
     trace: &str,
     read: TraceRead,
     device: D,
 ) -> (Result<Made, Status>, D)
     ensures made { IfOk result.0 (λ made. (bytes : List ℕ) × (w : Face) × (read ≡ TraceRead.Whole bytes)
-        × IsMade bytes (record { content = D.content device; is_flushed = D.is_flushed device; faults = D.faults device; capacity = D.capacity device; size = D.size device })
+        × IsMade format bytes
+        (record { content = D.content device; is_flushed = D.is_flushed device; faults = D.faults device; capacity = D.capacity device; size = D.size device })
         (record { content = D.content result.1; is_flushed = D.is_flushed result.1; faults = D.faults result.1; capacity = D.capacity result.1; size = D.size result.1 }) w made.fault
         × (made.history ≡ w.log) × (made.names ≡ guest_names) × (made.line.bytes ≡ []) × (393476 ≤ made.line.spare)) }
-    ensures stop { IfErr result.0 (IsRunStop image.now trace.now read (D.size device)) }
-    ensures untouched { OnErr result.0 (result.1 ≡ device) }
+    ensures stop { IfErr result.0 (IsRunStop format image.now trace.now read
+        (record { content = D.content device; is_flushed = D.is_flushed device; faults = D.faults device; capacity = D.capacity device; size = D.size device })
+        (record { content = D.content result.1; is_flushed = D.is_flushed result.1; faults = D.faults result.1; capacity = D.capacity result.1; size = D.size result.1 })) }
+    ensures untouched { OnErr result.0 (IsUntouched
+        (record { content = D.content device; is_flushed = D.is_flushed device; faults = D.faults device; capacity = D.capacity device; size = D.size device })
+        (record { content = D.content result.1; is_flushed = D.is_flushed result.1; faults = D.faults result.1; capacity = D.capacity result.1; size = D.size result.1 })) }
 {
-    let size = device.length();
-    if size > MAX_DISK {
-        return (Err(refused(alloc, image, 0, InputWhy::TooLarge)), device);
-    }
+    let medium = match open_medium(alloc, format, device) {
+        Ok(medium) => medium,
+        Err((stop, device)) => return (Err(image_status(alloc, image, stop)), device),
+    };
     let Prepared {
         ops,
         history,
@@ -105,9 +126,9 @@ fn make_run<D: Device>(
         line,
     } = match judge(alloc, trace, read) {
         Ok(prepared) => prepared,
-        Err(status) => return (Err(status), device),
+        Err(status) => return (Err(status), medium.into_device()),
     };
-    let mut engine = Engine::new(device, size, history, buffer);
+    let mut engine = Engine::new(medium, history, buffer);
     run_requests(&mut engine, ops);
     let (device, history, fault) = engine.finish();
     let made = Made {
@@ -166,13 +187,14 @@ fn failed(fault: Option<FaultAt>, count: u64) -> Status
 /// puts the transcript.
 pub(crate) fn run_on<S: Store, K: Sink>(
     alloc: Global,
+    format: Format,
     image: &str,
     trace: &str,
     store: &mut S,
     out: &mut K,
 ) -> Status
     requires { NoneOut (S.opened store.old) }
-    ensures { Answers image.now trace.now
+    ensures { Answers format image.now trace.now
         (record { files = S.files store.old; opened = S.opened store.old; store_faults = S.faults store.old; sent = K.sent out.old; sink_faults = K.faults out.old })
         (record { files = S.files store.new; opened = S.opened store.new; store_faults = S.faults store.new; sent = K.sent out.new; sink_faults = K.faults out.new }) result }
 {
@@ -184,7 +206,7 @@ pub(crate) fn run_on<S: Store, K: Sink>(
         Ok(device) => device,
         Err(status) => return status,
     };
-    let (made, device) = make_run(alloc, image, trace, read, device);
+    let (made, device) = make_run(alloc, format, image, trace, read, device);
     store.give_back(image, device);
     match made {
         Ok(made) => write_out(made, out),

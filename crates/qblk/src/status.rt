@@ -3,6 +3,7 @@ ghost use Rattle.std.specs.Prelude.{◌≡◌};
 ghost use Rattle.qblk.specs.Exit.{exit_of};
 
 use blk_base::{FaultFrom, Text};
+use q2_image::ImageStop;
 use std::fmt;
 
 /// Why an input is refused.
@@ -18,8 +19,12 @@ pub enum InputWhy {
     BadLine,
     /// A trace asks for more than a run takes.
     TooMany,
-    /// The image is larger than 256 GiB.
+    /// A raw image is larger than 256 GiB.
     TooLarge,
+    /// A qcow2 image names a backing file.
+    NeedsBacking,
+    /// A qcow2 image is refused.
+    Image(ImageStop),
 }
 
 /// How a run ended.
@@ -66,14 +71,16 @@ impl fmt::Display for InputWhy {
     ghost output = { λ why. Some (why_text why) };
 
     fn fmt<W: fmt::Write>(&self, f: &mut fmt::Formatter<W>) -> fmt::Result {
-        f.write_str(match self {
-            InputWhy::Absent => "Absent",
-            InputWhy::NotUtf8 => "NotUtf8",
-            InputWhy::TooLong => "TooLong",
-            InputWhy::BadLine => "BadLine",
-            InputWhy::TooMany => "TooMany",
-            InputWhy::TooLarge => "TooLarge",
-        })
+        match self {
+            InputWhy::Absent => f.write_str("Absent"),
+            InputWhy::NotUtf8 => f.write_str("NotUtf8"),
+            InputWhy::TooLong => f.write_str("TooLong"),
+            InputWhy::BadLine => f.write_str("BadLine"),
+            InputWhy::TooMany => f.write_str("TooMany"),
+            InputWhy::TooLarge => f.write_str("TooLarge"),
+            InputWhy::NeedsBacking => f.write_str("NeedsBacking"),
+            InputWhy::Image(stop) => write!(f, "Image({stop})"),
+        }
     }
 }
 

@@ -44,6 +44,49 @@ fn words(rt: &HostRuntime, text: &str) -> Result<Vec<Text>, Fail> {
     Ok(words)
 }
 
+/// The header of a qcow2 image of 1 MiB.
+const HEADER: [u8; 112] = [
+    0x51, 0x46, 0x49, 0xfb, 0, 0, 0, 3, 0, 0, 0, 0, 0, 0, 0, 0, //
+    0, 0, 0, 0, 0, 0, 0, 0x10, 0, 0, 0, 0, 0, 0x10, 0, 0, //
+    0, 0, 0, 0, 0, 0, 0, 1, 0, 0, 0, 0, 0, 3, 0, 0, //
+    0, 0, 0, 0, 0, 1, 0, 0, 0, 0, 0, 1, 0, 0, 0, 0, //
+    0, 0, 0, 0, 0, 0, 0, 0, 0, 0, 0, 0, 0, 0, 0, 0, //
+    0, 0, 0, 0, 0, 0, 0, 0, 0, 0, 0, 0, 0, 0, 0, 0, //
+    0, 0, 0, 4, 0, 0, 0, 0x70, 0, 0, 0, 0, 0, 0, 0, 0,
+];
+
+/// Bytes that are put at places of a file.
+type Edits<'a> = &'a [(usize, &'a [u8])];
+
+/// The tables of an image whose guest cluster 1 lies in the last of its six clusters, and is 1, 2, 3 at its end. Guest
+/// cluster 2 has no bytes in the file and reads as zeros.
+const TABLES: [(usize, &[u8]); 6] = [
+    (0x10000, &[0, 0, 0, 0, 0, 2, 0, 0]),
+    (0x20000, &[0, 1, 0, 1, 0, 1, 0, 1, 0, 1, 0, 1]),
+    (0x30000, &[0x80, 0, 0, 0, 0, 4, 0, 0]),
+    (0x40008, &[0x80, 0, 0, 0, 0, 5, 0, 0]),
+    (0x40010, &[0, 0, 0, 0, 0, 0, 0, 1]),
+    (0x5fffd, &[1, 2, 3]),
+];
+
+fn put(bytes: &mut [u8], edits: Edits) {
+    for (at, edit) in edits {
+        for (to, byte) in bytes.iter_mut().skip(*at).zip(edit.iter()) {
+            *to = *byte;
+        }
+    }
+}
+
+// A device of that image with these edits, whose calls of these numbers fail.
+fn qcow2(rt: &HostRuntime, edits: Edits, fails: &[FailAt]) -> Result<MemDevice, Fail> {
+    let mut bytes = vec![in rt.alloc(); 0; 393_216]?;
+    put(&mut bytes, &[(0, &HEADER)]);
+    put(&mut bytes, &TABLES);
+    put(&mut bytes, edits);
+    let dev = MemDevice::new(rt.alloc(), &bytes, bytes.len() as u64, fails, 0, 0)?;
+    Ok(dev)
+}
+
 // The words on a store whose files are `disk.img` and `t`, and whose calls of these numbers fail.
 fn run(
     rt: &HostRuntime,
@@ -303,5 +346,47 @@ fn a_store_or_sink_fails(rt: HostRuntime) -> Result<(), Fail> {
     let ran = run(&rt, words, &[], zeros(&rt, 8, &[])?, b"read 0 1", out)?;
     assert!(rt; is_so(&rt, &ran, "fault sink 1", "admit")?);
     assert_eq!(rt; ran.status.exit(), 3);
+    Ok(())
+}
+
+#[test]
+fn a_qcow2_image_is_read(rt: HostRuntime) -> Result<(), Fail> {
+    let trace = b"read 65534 4\nwrite -P 1 0 1\nread 131069 5\nread 1048575 2\n";
+    let transcript = "admit disk 0 read 65534 4\n\
+        piece disk 0 0 ok 00*2\n\
+        piece disk 0 1 ok 00*2\n\
+        retire disk 0\n\
+        refuse disk 1 write 0 1 readonly\n\
+        admit disk 2 read 131069 5\n\
+        piece disk 2 0 ok 01*1 02*1 03*1\n\
+        piece disk 2 1 ok 00*2\n\
+        retire disk 2\n\
+        refuse disk 3 read 1048575 2 range\n";
+    let words = "io qcow2 disk.img t";
+    let disk = qcow2(&rt, &[], &[])?;
+    let ran = run(&rt, words, &[], disk, trace, sink(&rt, &[])?)?;
+    assert!(rt; is_so(&rt, &ran, "", transcript)?);
+    assert_eq!(rt; ran.status.exit(), 0);
+    Ok(())
+}
+
+#[test]
+fn a_qcow2_image_that_is_not_opened(rt: HostRuntime) -> Result<(), Fail> {
+    let names: Edits = &[(14, &[0x80, 0, 0, 0, 0, 1]), (0x8000, b"a")];
+    let table: [(Edits, &[FailAt], &str, u8); 7] = [
+        (&[(3, &[0])], &[], "input disk.img line 0: Image(Magic)", 2),
+        (&[(7, &[2])], &[], "input disk.img line 0: Image(Version)", 2),
+        (&[(23, &[15])], &[], "input disk.img line 0: Image(ClusterBits)", 2),
+        (&[(0x4000d, &[6])], &[], "input disk.img line 0: Image(Offset(393216))", 2),
+        (&[(0x4000d, &[4])], &[], "input disk.img line 0: Image(Overlap(4))", 2),
+        (names, &[], "input disk.img line 0: NeedsBacking", 2),
+        (&[], &[FailAt { call: 0, done: 0 }], "fault dev0 1", 3),
+    ];
+    for (edits, fails, status, exit) in table {
+        let disk = qcow2(&rt, edits, fails)?;
+        let ran = run(&rt, "io qcow2 disk.img t", &[], disk, b"read 0 1", sink(&rt, &[])?)?;
+        assert!(rt; is_so(&rt, &ran, status, "")?, "{status}");
+        assert_eq!(rt; ran.status.exit(), exit, "{status}");
+    }
     Ok(())
 }

@@ -1,14 +1,15 @@
 //! One piece on a device.
-ghost use Rattle.std.specs.Prelude.{◌≡◌, ◌+◌, ◌<◌, ◌≤◌, List, ℕ, [], length, take, Option, Some, option_map, IsTrue};
-ghost use Rattle.blk_base.specs.Pieces.{count_of_pieces, piece_of};
+ghost use Rattle.std.specs.Prelude.{◌≡◌, ◌+◌, ◌<◌, ◌≤◌, ◌||◌, List, ℕ, [], true, is_ok, MatchOption, length, take, Option, Some, option_map, IsTrue};
+ghost use Rattle.blk_base.specs.Counts.{Rose};
+ghost use Rattle.blk_base.specs.Pieces.{count_of_pieces, piece_of, end_of};
+ghost use Rattle.q2_image.specs.Reading.{IsWithinCluster};
 ghost use Rattle.trace_codec.specs.Request.{pieces_of};
 ghost use Rattle.blk_base.specs.Content.{bytes_at, with_bytes};
-ghost use Rattle.blk_history.specs.Disk.{span_of, piece, done_in};
+ghost use Rattle.blk_history.specs.Disk.{span_of, is_write, piece};
 ghost use Rattle.blk_history.specs.Machine.{done_by};
-ghost use Rattle.blk_history.specs.Legal.{Tells};
 ghost use Rattle.qblk.specs.Steps.{HasCause, shown_of, IsRead, IsWritten, payload_bytes, shows_in};
 
-use blk_base::{DevNo, Device, Outcome, Span, Stop, piece_at};
+use blk_base::{DevNo, Device, FaultAt, FaultFrom, Outcome, Span, Stop, piece_at};
 use trace_codec::{Op, Payload};
 
 /// The only device of this run.
@@ -23,11 +24,24 @@ pub(crate) fn request_span(op: &Op) -> Span
     }
 }
 
+/// Whether a request changes the disk.
+pub(crate) fn is_write(op: &Op) -> bool
+    ensures { result ≡ is_write op.now }
+{
+    match op {
+        Op::Read(_) => false,
+        Op::Write(..) => true,
+    }
+}
+
 /// Piece `k` of a request.
 pub(crate) fn request_piece(op: &Op, k: u64) -> Span
     requires { k < pieces_of op.now }
     ensures cut { result ≡ piece op.now k }
     ensures small { result.len ≤ 65536 }
+    ensures some { 0 < result.len }
+    ensures block { IsWithinCluster 65536 result }
+    ensures inside { end_of result ≤ end_of (span_of op.now) }
 {
     match op {
         Op::Read(span) | Op::Write(span, _) => small_piece(*span, k),
@@ -35,11 +49,14 @@ pub(crate) fn request_piece(op: &Op, k: u64) -> Span
 }
 
 /// Piece `k` of a span. It lies in one block.
-#[tactic(auto, unfolding(blk_base::specs::Pieces::piece_of))]
+#[tactic(auto, unfolding(blk_base::specs::Pieces::piece_of, blk_base::specs::Pieces::count_of_pieces))]
 fn small_piece(span: Span, k: u64) -> Span
     requires { k < count_of_pieces span }
     ensures cut { result ≡ piece_of span k }
     ensures small { result.len ≤ 65536 }
+    ensures some { 0 < result.len }
+    ensures block { IsWithinCluster 65536 result }
+    ensures inside { end_of result ≤ end_of span }
 {
     piece_at(span, k)
 }
@@ -56,7 +73,7 @@ pub(crate) fn shown_part<'a>(op: &Op, outcome: Outcome, buffer: &'a [u8]) -> &'a
 }
 
 /// Puts what a write puts into a part of its span into the buffer.
-fn load_payload(payload: &Payload, buffer: &mut [u8])
+pub(crate) fn load_payload(payload: &Payload, buffer: &mut [u8])
     ensures { buffer.new ≡ payload_bytes payload.now (length buffer.old) }
 {
     match payload {
@@ -65,10 +82,12 @@ fn load_payload(payload: &Payload, buffer: &mut [u8])
 }
 
 /// Reads a part of the disk.
-fn read_part<D: Device>(device: &mut D, part: Span, buffer: &mut [u8]) -> Outcome
+pub(crate) fn read_part<D: Device>(device: &mut D, part: Span, buffer: &mut [u8]) -> Outcome
     requires { length buffer.old ≡ part.len }
     ensures read { (disk : List ℕ) → D.content device.old ≡ Some disk → IsRead result disk part buffer.new }
     ensures content { D.content device.new ≡ D.content device.old }
+    ensures flushed { D.is_flushed device.new ≡ D.is_flushed device.old }
+    ensures size { D.size device.new ≡ D.size device.old }
     ensures cause { HasCause (D.faults device.old) (D.faults device.new) (D.capacity device.old) part result }
     ensures faults { D.faults device.old ≤ D.faults device.new }
     ensures capacity { D.capacity device.new ≡ D.capacity device.old }
@@ -83,9 +102,10 @@ fn read_part<D: Device>(device: &mut D, part: Span, buffer: &mut [u8]) -> Outcom
 }
 
 /// Writes a part of the disk.
-fn write_part<D: Device>(device: &mut D, part: Span, bytes: &[u8]) -> Outcome
+pub(crate) fn write_part<D: Device>(device: &mut D, part: Span, bytes: &[u8]) -> Outcome
     requires { length bytes.now ≡ part.len }
     ensures written { IsWritten result part }
+    ensures size { D.size device.old ≤ D.size device.new }
     ensures content { D.content device.new ≡ option_map (λ disk. with_bytes disk part.start (take (done_by result part) bytes.now)) (D.content device.old) }
     ensures cause { HasCause (D.faults device.old) (D.faults device.new) (D.capacity device.old) part result }
     ensures faults { D.faults device.old ≤ D.faults device.new }
@@ -106,20 +126,20 @@ fn write_part<D: Device>(device: &mut D, part: Span, bytes: &[u8]) -> Outcome
     }
 }
 
-/// Makes one piece of a request. A good read leaves its bytes in the buffer.
-pub(crate) fn transfer<D: Device>(device: &mut D, op: &Op, part: Span, buffer: &mut [u8]) -> Outcome
-    requires { length buffer.old ≡ part.len }
-    ensures tells { (disk : List ℕ) → D.content device.old ≡ Some disk → Tells result op.now part (Some disk) (shown_of op.now result buffer.new) }
-    ensures content { D.content device.new ≡ option_map (done_in op.now part (done_by result part)) (D.content device.old) }
-    ensures cause { HasCause (D.faults device.old) (D.faults device.new) (D.capacity device.old) part result }
-    ensures faults { D.faults device.old ≤ D.faults device.new }
+/// Flushes a device, and tells the fault where that failed.
+pub(crate) fn last_flush<D: Device>(device: &mut D) -> Option<FaultAt>
+    ensures content { D.content device.new ≡ D.content device.old }
     ensures capacity { D.capacity device.new ≡ D.capacity device.old }
+    ensures faults { D.faults device.old ≤ D.faults device.new }
+    ensures flushed { MatchOption result
+        (D.is_flushed device.new ≡ option_map (λ _. true) (D.is_flushed device.old))
+        (λ fault. (fault.from ≡ FaultFrom.Dev (record { 0 = 0 })) × Rose (D.faults device.old) fault.count × (fault.count ≡ D.faults device.new)) }
 {
-    match op {
-        Op::Read(_) => read_part(device, part, buffer),
-        Op::Write(_, payload) => {
-            load_payload(payload, buffer);
-            write_part(device, part, buffer)
-        }
+    match device.flush() {
+        Ok(()) => None,
+        Err(_) => Some(FaultAt {
+            from: FaultFrom::Dev(DEVICE),
+            count: device.faults(),
+        }),
     }
 }

@@ -12,12 +12,17 @@ returns-clause-made g c =
     let back = c.finish-device.result.0 in
     let n : Seen = record { content = D.content back; is_flushed = D.is_flushed back; faults = D.faults back; capacity = D.capacity back; size = D.size back } in
     let w = c.run_requests.new.engine in
-    let ok = c.in-Ok.ensures.ok in
-    let p = c.in-Ok.prepared in
-    let same : c.new-engine.result ≡ begun d p.history = rw (c.new-engine.ensures, c.length-size.ensures) refl in
+    let m = c.in-Ok.medium in
+    let opened = c.in-Ok.ensures.opened in
+    let ok = c.in-Ok-judge.ensures.ok in
+    let p = c.in-Ok-judge.prepared in
+    let format = opened.read in
+    let bytes = opened.bytes in
+    let room = opened.room in
+    let same : c.new-engine.result ≡ begun c.args.format m.size m.faults d p.history = rw (c.new-engine.ensures, format, bytes, room) refl in
     let P : Face → Type 0 = λ e. RequestsDone e w p.ops.items in
-    let done : RequestsDone (begun d p.history) w p.ops.items = subst P same c.run_requests.ensures in
-    let whole = made-run d n w p.history p.ops.items ok.0 c.finish-device.result.2 (omega arith) ok.2 ok.3 ok.4.empty done
-    c.finish-device.ensures.disk c.finish-device.ensures.capacity c.finish-device.ensures.faults c.finish-device.ensures.tells
-    (flushed-as n w.faults w.disk c.finish-device.result.2 c.finish-device.ensures.disk c.finish-device.ensures.flushed) in
+    let done : RequestsDone (begun c.args.format m.size m.faults d p.history) w p.ops.items = subst P same c.run_requests.ensures in
+    let whole = made-run c.args.format m.size m.faults d n w p.history p.ops.items ok.0 c.finish-device.result.2 opened.good opened.later ok.2 ok.3 ok.4.empty done
+        c.finish-device.ensures.disk c.finish-device.ensures.capacity c.finish-device.ensures.faults c.finish-device.ensures.tells
+        (flushed-as n w.faults c.finish-device.result.2 c.finish-device.ensures.flushed) in
     (ok.0, w, ok.1, whole, c.finish-device.ensures.history, ok.4.named, ok.4.blank, ok.4.line_room)

@@ -40,7 +40,7 @@ returns-in-Ok-made g c =
     let end = subst E (ap (λ (l : Recorded). l.events) made.4) c.write_out.ensures in
     let files = c.give_back.ensures.files ∙ ap (files_with_returned c.args.image.now n.content n.capacity n.is_flushed) files2 in
     let opened = c.give_back.ensures.opened ∙ ap (given_back c.args.image.now n.faults) opened1 in
-    ends c.args.image.now c.args.trace.now made.0 c.in-Ok.read d n w c.in-Ok-made.made.fault old new c.write_out.result sized none device c.in-Ok.ensures.read made.2 made.3 files opened end
+    ends c.args.format c.args.image.now c.args.trace.now made.0 c.in-Ok.read d n w c.in-Ok-made.made.fault old new c.write_out.result sized none device c.in-Ok.ensures.read made.2 made.3 files opened end
 
 pub returns-in-Err-made : goal.returns-in-Err-made
 returns-in-Err-made g c =
@@ -62,7 +62,7 @@ returns-in-Err-made g c =
     let P : Option (List File) → Type 0 = λ fs. IsDeviceOf fs c.args.image.now d.content d.capacity d.is_flushed in
     let device = subst P files1 c.in-Ok-open_image.ensures.device in
     let stop = rw c.in-Err-made.is at c.make_run-made.ensures.stop in
-    let same : back ≡ dev = rw c.in-Err-made.is at c.make_run-made.ensures.untouched in
-    let F = λ (x : g.row.S-Dev.Denot). files_with_returned c.args.image.now (D.content x) (D.capacity x) (D.is_flushed x) old.files in
-    let files = c.give_back.ensures.files ∙ ap (files_with_returned c.args.image.now n.content n.capacity n.is_flushed) files2 ∙ ap F same in
-    stops c.args.image.now c.args.trace.now c.in-Ok.read d old new c.in-Err-made.status sized device c.in-Ok.ensures.read stop files refl
+    let same = rw c.in-Err-made.is at c.make_run-made.ensures.untouched in
+    let files = c.give_back.ensures.files ∙ ap (files_with_returned c.args.image.now n.content n.capacity n.is_flushed) files2 in
+    let opened = c.give_back.ensures.opened ∙ ap (given_back c.args.image.now n.faults) opened1 in
+    stops c.args.format c.args.image.now c.args.trace.now c.in-Ok.read d n old new c.in-Err-made.status sized none device c.in-Ok.ensures.read stop same files opened refl
