@@ -1,17 +1,15 @@
 -- The refusals of the refcount table, and how many refcounts it has.
-use Rattle.std.proofs.Common.{◌≡◌, ℕ, ◌+◌, ◌*◌, ◌<◌, ◌≤◌, ◌≢◌, max, Bool, true, false, ◌||◌, not, eqb, ltb, List, [], ◌∷◌, Option, Some, None, refl, sym, ap, ◌∙◌, arith}
+use Rattle.std.proofs.Common.{◌≡◌, ℕ, ◌≤◌, ◌||◌, eqb, List, [], ◌∷◌, Option, Some, None, refl, sym, ◌∙◌, arith}
 use Rattle.std.specs.Option.{option_map}
 use Rattle.std.proofs.lemmas.Bool.Decides.{nat_tests}
 use Rattle.q2_format.specs.Sizes.{cluster_size}
-use Rattle.q2_format.specs.Header.{first, IsWithinLimits, refused_where}
+use Rattle.q2_format.specs.Header.{first, IsWithinLimits}
 use Rattle.q2_format.specs.Tables.{refcount_table}
-use Rattle.q2_format.specs.References.{cluster_bound, reach_of}
 use Rattle.q2_format.specs.Sound.{bad_refcount_table, bad_l1_table, bad_block, reserved_in_refcount_table, is_misplaced}
 use Rattle.q2_format.specs.Sound as sound
 use Rattle.q2_format.specs.declared.header.Header.{Header}
 use Rattle.q2_format.proofs.Firsts.{first-none, option_map-none, refused_where-none}
 use Rattle.q2_refs.specs.Loading.{refcounts_refusal, table_reach}
-use Rattle.q2_refs.specs.declared.stop.RefsStop.{RefsStop}
 use Rattle.q2_refs.specs.declared.stop.RefsStop.TheVariants.{Offset, Reserved}
 use Rattle.q2_image.specs.Opening.{place_stops}
 use Rattle.q2_image.specs.Loading.{TableTells, counts_loaded, IsBlockStop}
@@ -47,21 +45,24 @@ an_entry (Some o) r index h = absurd (cc)
 pub accepted_tells : (file : List ℕ) (h : Header) (len : ℕ) → place_stops h len ≡ None → refcounts_refusal h len (refcount_table file h) ≡ None → TableTells file h len None None
 accepted_tells file h len placed none =
     let both = nothing (bad_block (cluster_size h.cluster_bits) len (refcount_table file h)) (reserved_in_refcount_table (refcount_table file h))
-        (sym (words_alone h len (refcount_table file h) (both_placed h len placed).0) ∙ none) in
+    (sym (words_alone h len (refcount_table file h) (both_placed h len placed).0) ∙ none) in
     record { block = both.0; reserved = both.1 }
 
 pub reserved_tells : (file : List ℕ) (h : Header) (len index : ℕ) → place_stops h len ≡ None
     → refcounts_refusal h len (refcount_table file h) ≡ Some (Reserved index) → TableTells file h len None (Some index)
 reserved_tells file h len index placed some =
     let both = an_entry (bad_block (cluster_size h.cluster_bits) len (refcount_table file h)) (reserved_in_refcount_table (refcount_table file h)) index
-        (sym (words_alone h len (refcount_table file h) (both_placed h len placed).0) ∙ some) in
+    (sym (words_alone h len (refcount_table file h) (both_placed h len placed).0) ∙ some) in
     record { block = both.0; reserved = both.1 }
 
 pub offset_tells : (file : List ℕ) (h : Header) (len offset : ℕ) → place_stops h len ≡ None
     → refcounts_refusal h len (refcount_table file h) ≡ Some (Offset offset) → IsBlockStop file h len (sound.Offset offset)
-offset_tells file h len offset placed some =
-    (offset, refl, a_block (bad_block (cluster_size h.cluster_bits) len (refcount_table file h)) (reserved_in_refcount_table (refcount_table file h)) offset
-        (sym (words_alone h len (refcount_table file h) (both_placed h len placed).0) ∙ some))
+offset_tells file h len offset placed some = (
+  offset,
+  refl,
+  a_block (bad_block (cluster_size h.cluster_bits) len (refcount_table file h)) (reserved_in_refcount_table (refcount_table file h)) offset
+      (sym (words_alone h len (refcount_table file h) (both_placed h len placed).0) ∙ some),
+)
 
 -- a refcount table in its place has a cluster
 some_cluster : (h : Header) (len : ℕ) → bad_refcount_table h len ≡ None → 1 ≤ h.ref_clusters

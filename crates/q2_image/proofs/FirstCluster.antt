@@ -1,11 +1,11 @@
 -- A header is judged and read by the file's first cluster.
-use Rattle.std.proofs.Common.{◌≡◌, ℕ, ◌+◌, ◌<◌, ◌≤◌, ltb, List, [], ◌∷◌, Option, Some, None, get_or, sym, ap, ◌∙◌, arith}
+use Rattle.std.proofs.Common.{◌≡◌, ℕ, ◌≤◌, ltb, List, [], ◌∷◌, Some, None, get_or, sym, ap, ◌∙◌, arith}
 use Rattle.std.specs.Option.{option_map}
 use Rattle.blk_base.specs.Content.{bytes_at}
 use Rattle.blk_base.proofs.Contents.{get_or-bytes_at}
 use Rattle.q2_format.specs.Bytes.{ReadsAlike}
 use Rattle.q2_format.specs.Sizes.{cluster_size}
-use Rattle.q2_format.specs.Header.{header_of, header_refusal, first, format_refusal, profile_refusal, name_refusal, extension_refusal, size_refusal, refused_where, area_end, cluster_bits_of}
+use Rattle.q2_format.specs.Header.{header_of, header_refusal, format_refusal, profile_refusal, name_refusal, extension_refusal, size_refusal, refused_where, area_end}
 use Rattle.q2_format.specs.declared.header.HeaderStop.{HeaderStop}
 use Rattle.q2_format.specs.declared.header.HeaderStop.TheVariants.{Short}
 use Rattle.q2_format.proofs.Firsts.{first-none}
@@ -16,7 +16,7 @@ use Rattle.q2_image.specs.Opening.{header_stops}
 -- a buffer that was read from a file's beginning reads as the file there
 pub buffer_alike : (file cluster : List ℕ) → cluster ≡ bytes_at file 0 65536 → ReadsAlike file cluster 0 65536
 buffer_alike file cluster is = record {
-  same = λ i low high. ap (λ (b : List ℕ). get_or b i 0) is ∙ get_or-bytes_at file 0 65536 i (omega arith) ∙ ap (λ (j : ℕ). get_or file j 0) (omega arith)
+  same = λ i low high. ap (λ (b : List ℕ). get_or b i 0) is ∙ get_or-bytes_at file 0 65536 i (omega arith) ∙ ap (λ (j : ℕ). get_or file j 0) (omega arith);
 }
 
 pub refusal_alike : (file cluster : List ℕ) (len : ℕ) → cluster ≡ bytes_at file 0 65536 → header_refusal cluster len ≡ header_refusal file len

@@ -1,16 +1,14 @@
 -- What an open image says of a cluster is what its file says.
-use Rattle.std.proofs.Common.{◌≡◌, ℕ, ◌+◌, ◌/◌, ◌%◌, ◌^◌, ◌<◌, ◌≤◌, Bool, true, false, cond, eqb, List, [], length, get_or, replicate, refl, sym, ap, subst, ◌∙◌, arith}
+use Rattle.std.proofs.Common.{◌≡◌, ℕ, ◌+◌, ◌/◌, ◌%◌, ◌^◌, ◌<◌, ◌≤◌, Bool, true, false, cond, eqb, List, [], length, replicate, sym, ap, subst, ◌∙◌, arith}
 use Rattle.blk_base.specs.Content.{bytes_at}
-use Rattle.blk_base.specs.Pieces.{Extent}
 use Rattle.q2_format.specs.Sizes.{cluster_size}
 use Rattle.q2_format.specs.Entry.{l2_entry, is_compressed, has_reserved_in_l2, reads_as_zeros, host_offset}
 use Rattle.q2_format.specs.Header.{header_of}
 use Rattle.q2_format.specs.Contents.{image_disk}
 use Rattle.q2_format.specs.Tables.{active_tree, l2_word_of}
 use Rattle.q2_format.specs.declared.header.Header.{Header}
-use Rattle.q2_format.specs.declared.entries.L2Entry.{L2Entry}
 use Rattle.q2_format.specs.declared.entries.L2Entry.TheVariants.{Unallocated, Zero, Host, Compressed, Reserved}
-use Rattle.q2_image.specs.Image.{Known, IsImageOf, IsOpen, cluster_size_in, clusters_in, entry_in}
+use Rattle.q2_image.specs.Image.{Known, IsImageOf, IsOpen, clusters_in, entry_in}
 use Rattle.q2_image.specs.Guest.{file_entry, guest_bytes}
 use Rattle.q2_image.proofs.Guests.{read_mapped, read_zero, read_unmapped, disk_part}
 
@@ -40,7 +38,7 @@ pub read_of_image : (file backing buffer : List ℕ) (image : Known) (start n ho
     → buffer ≡ bytes_at file (host + start % 65536) n → buffer ≡ guest_bytes file backing start n
 read_of_image file backing buffer image start n host is bits below entry within read =
     read_mapped file backing buffer start n host (ap (λ (h : Header). h.cluster_bits) is.header ∙ bits)
-        (entry_of_file file image (start / 65536) is below ∙ entry) within read
+    (entry_of_file file image (start / 65536) is below ∙ entry) within read
 
 -- a guest cluster has an entry
 pub below_words : (image : Known) (cluster : ℕ) → IsOpen image → cluster < clusters_in image → cluster < length image.tables.words

@@ -1,9 +1,9 @@
 -- The refusals of both loaders in one order.
-use Rattle.std.proofs.Common.{◌≡◌, ℕ, List, [], ◌∷◌, Option, Some, None, IfSome, refl, sym, ap, ◌∙◌}
+use Rattle.std.proofs.Common.{◌≡◌, ℕ, List, [], ◌∷◌, Option, Some, None, IfSome, refl, ap, ◌∙◌}
 use Rattle.std.specs.Option.{option_map}
 use Rattle.q2_format.specs.Sizes.{cluster_size}
 use Rattle.q2_format.specs.Header.{first}
-use Rattle.q2_format.specs.Tables.{Tree, refcount_table, active_tree}
+use Rattle.q2_format.specs.Tables.{Tree, refcount_table}
 use Rattle.q2_format.specs.Sound.{Refusal, bad_l1_table, bad_block, bad_l2_table, bad_host, reserved_in_l1, reserved_in_l2, reserved_in_refcount_table, compressed_cluster}
 use Rattle.q2_format.specs.Sound as sound
 use Rattle.q2_format.specs.declared.header.Header.{Header}
@@ -58,7 +58,7 @@ stops_merged file h len in_refs tree placed tells =
     let block = tells.block in
     let reserved = tells.reserved in
     rw (block, reserved, l1) (merges h (bad_l2_table (cluster_size h.cluster_bits) len tree) (bad_host (cluster_size h.cluster_bits) len tree)
-        (reserved_in_l1 tree) in_refs (reserved_in_l2 (cluster_size h.cluster_bits) tree) (compressed_cluster (cluster_size h.cluster_bits) tree))
+    (reserved_in_l1 tree) in_refs (reserved_in_l2 (cluster_size h.cluster_bits) tree) (compressed_cluster (cluster_size h.cluster_bits) tree))
 
 -- a block out of its place comes before all of it
 pub block_first : (file : List ℕ) (h : Header) (len : ℕ) (tree : Tree) (named : Refusal) → IsBlockStop file h len named

@@ -1,10 +1,10 @@
 -- The first refusal of an image, by its stages.
-use Rattle.std.proofs.Common.{◌≡◌, ℕ, ◌+◌, ◌*◌, ◌%◌, ◌<◌, ◌≤◌, max, Bool, true, false, not, ◌&&◌, ◌||◌, eqb, ltb, List, [], ◌∷◌, ◌++◌, length, get_or, count_by, Option, Some, None, IfSome, refl, sym, ap, subst, ◌∙◌, arith, eq-eqb, lt-ltb}
+use Rattle.std.proofs.Common.{◌≡◌, ℕ, ◌%◌, ◌<◌, ◌≤◌, Bool, true, false, not, ◌&&◌, ◌||◌, eqb, ltb, List, [], ◌∷◌, ◌++◌, length, get_or, Option, Some, None, IfSome, refl, sym, ap, subst, ◌∙◌, arith, eq-eqb, lt-ltb}
 use Rattle.std.specs.Option.{option_map}
 use Rattle.std.proofs.lemmas.Bool.Decides.{nat_tests}
-use Rattle.q2_format.specs.Sizes.{cluster_size, clusters_for, entries_in_cluster, l1_entries_for}
+use Rattle.q2_format.specs.Sizes.{cluster_size, l1_entries_for}
 use Rattle.q2_format.specs.Entry.{host_offset, block_offset}
-use Rattle.q2_format.specs.Header.{first, refused_where, header_of, header_refusal, IsWithinLimits}
+use Rattle.q2_format.specs.Header.{first, refused_where, header_of, IsWithinLimits}
 use Rattle.q2_format.specs.Tables.{active_tree, refcount_table, refcount_of}
 use Rattle.q2_format.specs.References.{uses, structure_uses, cluster_bound, own_offset}
 use Rattle.q2_format.specs.Sound.{Refusal, IsSound, image_refusal, table_refusals, overlap, uncounted, lowest, is_header_full, is_misplaced, bad_refcount_table, bad_l1_table, bad_block, bad_l2_table, bad_host, reserved_in_l1, reserved_in_l2, reserved_in_refcount_table, compressed_cluster}
@@ -18,9 +18,9 @@ use Rattle.q2_tables.specs.Kept as tables
 use Rattle.q2_tables.specs.Loading.{IsLoaded}
 use Rattle.q2_tables.proofs.Uses.{tree_uses_of}
 use Rattle.q2_image.specs.declared.stop.ImageStop.{ImageStop}
-use Rattle.q2_image.specs.Opening.{Names, refusal_of, header_stops, place_stops, names_stops, uses_in, overlap_stop, uncounted_stop, ArePlaced}
+use Rattle.q2_image.specs.Opening.{Names, refusal_of, header_stops, place_stops, names_stops, uses_in, ArePlaced}
 use Rattle.q2_image.specs.Loading.{table_stops, HasCounts}
-use Rattle.q2_image.specs.Image.{Known, IsOpen}
+use Rattle.q2_image.specs.Image.{IsOpen}
 use Rattle.q2_image.proofs.Counted.{both_placed}
 
 -- one refusal, or the next
@@ -46,13 +46,13 @@ unfolding table_refusals table_stops place_list
 tables_by_stages file h len =
     let c : ℕ = cluster_size h.cluster_bits in
     let words : List (Option Refusal) = option_map sound.Offset (bad_block c len (refcount_table file h))
-        ∷ option_map sound.Offset (bad_l2_table c len (active_tree file h))
-        ∷ option_map sound.Offset (bad_host c len (active_tree file h))
-        ∷ option_map (sound.Reserved h.l1_offset) (reserved_in_l1 (active_tree file h))
-        ∷ option_map (sound.Reserved h.ref_offset) (reserved_in_refcount_table (refcount_table file h))
-        ∷ option_map (λ entry. sound.Reserved entry.0 entry.1) (reserved_in_l2 c (active_tree file h))
-        ∷ option_map sound.Compressed (compressed_cluster c (active_tree file h))
-        ∷ [] in
+    ∷ option_map sound.Offset (bad_l2_table c len (active_tree file h))
+    ∷ option_map sound.Offset (bad_host c len (active_tree file h))
+    ∷ option_map (sound.Reserved h.l1_offset) (reserved_in_l1 (active_tree file h))
+    ∷ option_map (sound.Reserved h.ref_offset) (reserved_in_refcount_table (refcount_table file h))
+    ∷ option_map (λ entry. sound.Reserved entry.0 entry.1) (reserved_in_l2 c (active_tree file h))
+    ∷ option_map sound.Compressed (compressed_cluster c (active_tree file h))
+    ∷ [] in
     let names : List (Option Refusal) = option_map sound.Overlap (overlap file h len) ∷ option_map sound.Refcount (uncounted file h len) ∷ refused_where (is_header_full h) sound.HeaderFull ∷ [] in
     first-append (place_list h len) (words ++ names) ∙ ap (or_else (first (place_list h len))) (first-append words names)
 
@@ -85,10 +85,10 @@ names_of_file file h len r t counts tree room =
     let n : ℕ = cluster_bound h len in
     let u : ℕ → ℕ = uses_in h r.table t.l1 t.words in
     let twice : lowest (λ k. ltb 1 (u k)) n ≡ lowest (λ k. ltb 1 (uses file h k)) n =
-        lowest_alike (λ k. ltb 1 (u k)) (λ k. ltb 1 (uses file h k)) n (λ k below. ap (ltb 1) (sym (same_uses file h r t k counts tree))) in
+    lowest_alike (λ k. ltb 1 (u k)) (λ k. ltb 1 (uses file h k)) n (λ k below. ap (ltb 1) (sym (same_uses file h r t k counts tree))) in
     let bare : lowest (λ k. not (eqb (u k) 0) && eqb (get_or r.counts k 0) 0) n ≡ lowest (λ k. not (eqb (uses file h k) 0) && eqb (refcount_of file h k) 0) n =
-        lowest_alike (λ k. not (eqb (u k) 0) && eqb (get_or r.counts k 0) 0) (λ k. not (eqb (uses file h k) 0) && eqb (refcount_of file h k) 0) n
-        (λ k below. let same = same_uses file h r t k counts tree in let count = counts.counts k (omega arith) in rw (same, count) refl) in
+    lowest_alike (λ k. not (eqb (u k) 0) && eqb (get_or r.counts k 0) 0) (λ k. not (eqb (uses file h k) 0) && eqb (refcount_of file h k) 0) n
+    (λ k below. let same = same_uses file h r t k counts tree in let count = counts.counts k (omega arith) in rw (same, count) refl) in
     rw (twice, bare) refl
 
 -- a stop that names the first refusal of a stage, where the stages before it have none

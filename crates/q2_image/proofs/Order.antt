@@ -1,6 +1,5 @@
 -- The first refusal of stages one after another.
-use Rattle.std.proofs.Common.{◌≡◌, ℕ, ◌≤◌, List, [], ◌∷◌, length, Option, Some, None, IfSome, refl, sym, ap, subst, ◌∙◌}
-use Rattle.std.specs.Option.{option_map}
+use Rattle.std.proofs.Common.{◌≡◌, ℕ, List, [], ◌∷◌, length, Option, Some, None, IfSome, refl, subst}
 use Rattle.q2_format.specs.Header.{first, refused_where}
 use Rattle.q2_format.specs.Sound.{Refusal, is_header_full}
 use Rattle.q2_format.specs.Sound as sound
@@ -8,7 +7,7 @@ use Rattle.q2_format.specs.declared.header.Header.{Header}
 use Rattle.q2_image.specs.declared.stop.ImageStop.{ImageStop}
 use Rattle.q2_image.specs.declared.stop.ImageStop.TheVariants as stops
 use Rattle.q2_image.specs.Opening.{Names, HasCause, IsNoFault, refusal_of, overlap_stop, uncounted_stop, names_stops}
-use Rattle.q2_image.specs.Seen.{Sightings, IsSeen}
+use Rattle.q2_image.specs.Seen.{Sightings}
 
 named_head : (o : Option Refusal) (rest : List (Option Refusal)) (named : Option Refusal) → IfSome named (λ n. o ≡ Some n) → IfSome named (λ n. first (o ∷ rest) ≡ Some n)
 named_head o rest None is = tt
@@ -34,7 +33,7 @@ uncounted_names h uses counts n s stop len none is =
     let P : ℕ → Type 0 = λ m. Names (uncounted_stop uses counts m) stop in
     let N : ℕ → Type 0 = λ m. overlap_stop uses m ≡ None in
     names_tail (overlap_stop uses n) (uncounted_stop uses counts n ∷ refused_where (is_header_full h) sound.HeaderFull ∷ []) stop (subst N len none)
-        (names_head (uncounted_stop uses counts n) (refused_where (is_header_full h) sound.HeaderFull ∷ []) stop (subst P len is))
+    (names_head (uncounted_stop uses counts n) (refused_where (is_header_full h) sound.HeaderFull ∷ []) stop (subst P len is))
 
 -- a stop that names no failed call has no cause to show
 pub no_fault_cause : (before now : ℕ) (stop : ImageStop) → IsNoFault stop → HasCause before now stop

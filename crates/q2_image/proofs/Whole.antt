@@ -1,8 +1,8 @@
 -- An image that was opened is the file's.
-use Rattle.std.proofs.Common.{◌≡◌, ℕ, ◌<◌, ◌≤◌, min, max, List, length, take, get_or, Option, Some, None, Result, Ok, Err, IfOk, IfErr, refl, sym, ap, subst, ◌∙◌, arith}
+use Rattle.std.proofs.Common.{◌≡◌, ℕ, ◌≤◌, min, max, List, length, take, Option, None, Result, Ok, Err, IfOk, IfErr, sym, subst, ◌∙◌, arith}
 use Rattle.std.proofs.lemmas.List.{get_or-take, length-take}
 use Rattle.q2_format.specs.Sizes.{cluster_size}
-use Rattle.q2_format.specs.Header.{header_of, IsWithinLimits}
+use Rattle.q2_format.specs.Header.{header_of}
 use Rattle.q2_format.specs.Tables.{active_tree, refcount_table}
 use Rattle.q2_format.specs.References.{cluster_bound, reach_of}
 use Rattle.q2_format.specs.Sound.{Refusal, image_refusal}

@@ -1,7 +1,7 @@
 -- Loading refcounts and tables: which refusal comes first, and what is loaded.
-use Rattle.std.specs.Prelude.{◌≡◌, ℕ, ◌+◌, ◌*◌, ◌<◌, ◌≤◌, max, Option, Some, None, IfSome, List, [], ◌∷◌, length}
+use Rattle.std.specs.Prelude.{◌≡◌, ℕ, max, Option, Some, None, List, [], ◌∷◌, length}
 use Rattle.std.specs.Option.{option_map}
-use Rattle.q2_format.specs.Sizes.{cluster_size, block_entries, entries_in_cluster}
+use Rattle.q2_format.specs.Sizes.{cluster_size}
 use Rattle.q2_format.specs.Header.{first}
 use Rattle.q2_format.specs.Tables.{Tree, refcount_table}
 use Rattle.q2_format.specs.References.{cluster_bound, reach_of}

@@ -1,9 +1,9 @@
 -- Opening an image: what is refused, and why each answer comes.
-use Rattle.std.specs.Prelude.{◌≡◌, ℕ, ◌+◌, ◌*◌, ◌<◌, false, not, ◌==◌, ◌&&◌, nat_lt, length, slice_index, Option, Some, None, Result, Ok, Err, IfSome, List, [], ◌∷◌}
+use Rattle.std.specs.Prelude.{◌≡◌, ℕ, ◌+◌, ◌<◌, false, not, ◌==◌, ◌&&◌, nat_lt, length, slice_index, Option, Some, None, Result, Ok, Err, IfSome, List, [], ◌∷◌}
 use Rattle.std.specs.Option.{option_map}
 use Rattle.blk_base.specs.Counts.{Rose}
-use Rattle.q2_format.specs.Sizes.{cluster_size, clusters_for}
-use Rattle.q2_format.specs.Header.{first, refused_where, header_of, header_refusal}
+use Rattle.q2_format.specs.Sizes.{cluster_size}
+use Rattle.q2_format.specs.Header.{first, refused_where, header_refusal}
 use Rattle.q2_format.specs.Entry.{host_offset, block_offset}
 use Rattle.q2_format.specs.References.{structure_uses, own_offset}
 use Rattle.q2_format.specs.Sound.{Refusal, InHeader, bad_refcount_table, bad_l1_table, is_misplaced, lowest, is_header_full}

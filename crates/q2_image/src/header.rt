@@ -93,7 +93,10 @@ pub(crate) fn check_places(header: &Header, len: u64) -> Result<(), ImageStop>
     if header.ref_clusters == 0 || is_misplaced(cluster_size, len, header.ref_offset) {
         return Err(ImageStop::Offset(header.ref_offset));
     }
-    let entries = header.size.div_ceil(cluster_size).div_ceil(cluster_size / 8);
+    let entries = header
+        .size
+        .div_ceil(cluster_size)
+        .div_ceil(cluster_size / 8);
     if u64::from(header.l1_size) < entries || is_misplaced(cluster_size, len, header.l1_offset) {
         return Err(ImageStop::Offset(header.l1_offset));
     }

@@ -1,11 +1,11 @@
 -- The disk that a device's bytes are.
-use Rattle.std.proofs.Common.{◌≡◌, ℕ, List, [], Option, Some, None, refl, sym, ap, subst, ◌∙◌}
+use Rattle.std.proofs.Common.{◌≡◌, ℕ, List, [], Option, Some, None, refl, subst}
 use Rattle.std.specs.Prelude.{option_map}
 use Rattle.q2_format.specs.Contents.{image_disk}
 use Rattle.qblk.specs.Format.{disk_of}
 use Rattle.qblk.specs.Medium.{Medium, disk_in}
 use Rattle.qblk.specs.declared.words.Format.{Format}
-use Rattle.qblk.specs.declared.words.Format.TheVariants.{Raw, Qcow2}
+use Rattle.qblk.specs.declared.words.Format.TheVariants.{Qcow2}
 
 -- bytes whose disk is told
 pub told_bytes : (format : Format) (content : Option (List ℕ)) (disk : List ℕ) → option_map (disk_of format) content ≡ Some disk

@@ -1,8 +1,7 @@
 -- Four words.
-use Rattle.std.proofs.Common.{◌≡◌, ℕ, ◌<◌, ◌≤◌, List, [], ◌∷◌, length, map, get_or, refl, ap, sym, ◌∙◌, arith, Bool, true, false, cond, Option, Some, None}
+use Rattle.std.proofs.Common.{◌≡◌, ℕ, List, [], ◌∷◌, length, get_or, refl, ap, ◌∙◌, arith, Bool, true, false, cond, Some, None}
 use Rattle.std.specs.Prelude.{codes, bytes_eq}
 use Rattle.std.proofs.lemmas.Slice.Eq.{bytes_eq-Decides}
-use Rattle.std.proofs.lemmas.List.{same_lists}
 use Rattle.blk_base.specs.Written.{Written}
 use Rattle.qblk.specs.Words.{is_file_name, format_of, format_word, IsIo, texts_of}
 use Rattle.qblk.specs.declared.words.Format.{Format}

@@ -1,6 +1,6 @@
 -- A device whose count has not risen is named by no entry.
-use Rattle.std.proofs.Common.{◌≡◌, ℕ, ◌+◌, ◌<◌, ◌≤◌, List, [], ◌∷◌, refl, ap, subst, sym, arith, Option, Some, None}
-use Rattle.std.specs.Prelude.{min, set, get_or}
+use Rattle.std.proofs.Common.{◌≡◌, ℕ, ◌<◌, ◌≤◌, List, [], ◌∷◌, refl, ap, subst, arith, Option, Some, None}
+use Rattle.std.specs.Prelude.{min, get_or}
 use Rattle.blk_base.specs.Counts.{Rose}
 use Rattle.blk_history.specs.Licence.{Named, named_in, last_named, RoseSince, counted, HaveRisen, NameNone}
 use Rattle.blk_history.specs.declared.event.Event.{Event}

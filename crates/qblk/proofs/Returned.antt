@@ -1,8 +1,7 @@
 -- Devices that are out, and one that comes back.
-use Rattle.std.proofs.Common.{◌≡◌, ℕ, zero, suc, ◌+◌, ◌<◌, Bool, true, false, cond, List, [], ◌∷◌, length, map, get_or, set, refl, ap, sym, ◌∙◌, arith, Option, Some}
+use Rattle.std.proofs.Common.{◌≡◌, ℕ, zero, suc, ◌<◌, Bool, true, false, List, [], ◌∷◌, length, map, get_or, set, refl, ap, ◌∙◌, arith, Some}
 use Rattle.std.specs.Prelude.{◌||◌}
 use Rattle.blk_base.specs.Files.{is_out_as, is_out, given_back}
-use Rattle.blk_base.specs.declared.file.Opened.{Opened}
 use Rattle.qblk.specs.Openings.{opened_of, IsFirstOut}
 use Rattle.qblk.specs.declared.store.Opening.{Opening}
 

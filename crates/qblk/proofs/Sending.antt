@@ -1,5 +1,5 @@
 -- Parts of a transcript, one after another.
-use Rattle.std.proofs.Common.{◌≡◌, ℕ, ◌+◌, ◌<◌, ◌≤◌, min, List, [], ◌∷◌, ◌++◌, length, take, drop, refl, sym, ◌∙◌, ap, arith, append_assoc, zero, suc, subst, lit<, Option, Some, None, Result, Ok, Err, OnOk, OnErr, inl, inr}
+use Rattle.std.proofs.Common.{◌≡◌, ℕ, ◌+◌, ◌<◌, ◌≤◌, List, [], ◌∷◌, ◌++◌, length, take, drop, refl, sym, ◌∙◌, ap, arith, append_assoc, zero, suc, subst, lit<, Option, Some, None, Result, Ok, Err, OnOk, OnErr, inl, inr}
 use Rattle.std.specs.Prelude.{option_map, slice_get, flat_map}
 use Rattle.std.proofs.lemmas.List.{append-nil, take-append-drop, take_all}
 use Rattle.blk_base.specs.Counts.{Rose}

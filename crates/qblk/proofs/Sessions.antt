@@ -1,5 +1,5 @@
 -- The parts of a run put together.
-use Rattle.std.proofs.Common.{◌≡◌, ℕ, ◌<◌, ◌≤◌, Bool, true, List, [], ◌∷◌, ◌++◌, length, refl, sym, ◌∙◌, ap, subst, arith, Option, Some, None, Ok}
+use Rattle.std.proofs.Common.{◌≡◌, ℕ, ◌≤◌, true, List, [], ◌++◌, sym, ◌∙◌, ap, subst, Option, Some, None, Ok}
 use Rattle.std.specs.Prelude.{IsUtf8, is_some, option_map, MatchOption}
 use Rattle.blk_base.specs.Counts.{Rose}
 use Rattle.blk_base.specs.declared.fault.FaultFrom.TheVariants.{Dev}
@@ -11,7 +11,6 @@ use Rattle.blk_history.specs.Recorded.{Recorded}
 use Rattle.qblk.specs.Format.{disk_of}
 use Rattle.qblk.specs.declared.words.Format.{Format}
 use Rattle.qblk.specs.Face.{Face, new_guest}
-use Rattle.qblk.specs.Comes.{Opening, Comes}
 use Rattle.qblk.specs.Requests.{RequestsDone}
 use Rattle.qblk.specs.Session.{Seen, opening_of, IsGood, IsFlushed, IsMade}
 use Rattle.qblk.proofs.Kept.{comes-start}

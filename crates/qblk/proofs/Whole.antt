@@ -1,43 +1,38 @@
 -- A run seen from outside, from its parts.
-use Rattle.std.proofs.Common.{◌≡◌, ◌≢◌, ◌⊎◌, ℕ, zero, suc, ◌+◌, ◌<◌, ◌≤◌, Bool, true, false, List, [], ◌∷◌, ◌++◌, length, take, refl, sym, ◌∙◌, ap, subst, arith, inl, inr, Option, Some, None, Ok, IsTrue}
+use Rattle.std.proofs.Common.{◌≡◌, ◌≢◌, ◌⊎◌, ℕ, zero, suc, ◌<◌, ◌≤◌, Bool, true, false, List, [], ◌∷◌, ◌++◌, length, take, refl, sym, ◌∙◌, ap, subst, arith, inl, inr, Option, Some, None, Ok}
 use Rattle.std.specs.Prelude.{IsUtf8, is_some, is_none, option_map, slice_index_or, IsSome}
 use Rattle.std.proofs.lemmas.Bool.{false≢true}
 use Rattle.std.proofs.lemmas.List.{take_at, take_all, append-nil}
 use Rattle.blk_base.specs.Counts.{Rose}
 use Rattle.blk_base.specs.Files.{file_at, put_file, IfTold, given_back, is_out}
 use Rattle.blk_base.specs.Stored.{IsDeviceOf, files_with_returned}
-use Rattle.blk_base.specs.Answers.{HasFile, LacksFile}
+use Rattle.blk_base.specs.Answers.{LacksFile}
 use Rattle.blk_base.specs.declared.file.File.{File}
-use Rattle.blk_base.specs.declared.file.Opened.{Opened}
 use Rattle.blk_base.specs.declared.fault.FaultAt.{FaultAt}
 use Rattle.blk_base.specs.declared.fault.FaultFrom.{FaultFrom}
 use Rattle.blk_base.specs.declared.fault.FaultFrom.TheVariants.{Store, Dev, Sink}
 use Rattle.blk_base.proofs.Openings.{back-opened, put-same}
 use Rattle.trace_codec.specs.Trace.{ops_of}
-use Rattle.trace_codec.specs.declared.op.Op.{Op}
 use Rattle.blk_history.specs.Fold.{Each}
-use Rattle.blk_history.specs.Machine.{State, Guest, disk_in, after, replay}
+use Rattle.blk_history.specs.Machine.{State, Guest, after, replay}
 use Rattle.blk_history.specs.Legal.{Legal}
-use Rattle.blk_history.specs.Owned.{asked_by, IsIdle}
+use Rattle.blk_history.specs.Owned.{asked_by}
 use Rattle.blk_history.specs.Licence.{RoseSince}
 use Rattle.blk_history.specs.Transcript.{transcript}
-use Rattle.blk_history.specs.declared.event.Event.{Event}
 use Rattle.qblk.proofs.Disks.{told_bytes}
 use Rattle.qblk.proofs.Quiet.{quiet}
 use Rattle.qblk.specs.Format.{disk_of, IsGoodImage}
 use Rattle.qblk.specs.declared.words.Format.{Format}
-use Rattle.qblk.specs.declared.words.Format.TheVariants.{Raw, Qcow2}
-use Rattle.qblk.specs.Face.{Face, state_with, new_guest, state_of}
-use Rattle.qblk.specs.Comes.{Opening, opening_state, HadNoSpace, Comes}
-use Rattle.qblk.specs.Output.{SendsFront}
-use Rattle.qblk.specs.Run.{Outside, machine_of, guest_names, TellsDisk, IsRun, HasImage, HasTrace, IsBadTrace, IsBadBytes, IsBadImage, IsRefusedTrace, IsRefusedInput, NothingWritten, WasRun, IsDone, FailsToOpen, FailsToFlush, IsFaulty, Answers}
-use Rattle.qblk.specs.Session.{NoneOut, IsReadOf, IsStoreStop, IsOpenStop, Seen, opening_of, IsGood, IsFlushed, IsMade, IsRefusedRead, IsRefusedImage, IsRunStop, IsUntouched, EndsAs}
+use Rattle.qblk.specs.Face.{Face, state_of}
+use Rattle.qblk.specs.Comes.{opening_state, HadNoSpace}
+use Rattle.qblk.specs.Run.{Outside, machine_of, guest_names, TellsDisk, HasImage, HasTrace, IsBadTrace, IsBadBytes, IsBadImage, IsRefusedTrace, IsRefusedInput, WasRun, FailsToOpen, FailsToFlush, IsFaulty, Answers}
+use Rattle.qblk.specs.Session.{IsReadOf, IsStoreStop, IsOpenStop, Seen, opening_of, IsGood, IsFlushed, IsMade, IsRefusedRead, IsRefusedImage, IsRunStop, IsUntouched, EndsAs}
 use Rattle.qblk.specs.declared.input.TraceRead.{TraceRead}
 use Rattle.qblk.specs.declared.input.TraceRead.TheVariants as reads
 use Rattle.qblk.specs.declared.status.InputWhy.{InputWhy}
 use Rattle.qblk.specs.declared.status.InputWhy.TheVariants as why
 use Rattle.qblk.specs.declared.status.Status.{Status}
-use Rattle.qblk.specs.declared.status.Status.TheVariants.{Done, Usage, Input, Fault, NoMemory}
+use Rattle.qblk.specs.declared.status.Status.TheVariants.{Done, Input, Fault, NoMemory}
 
 -- the device of a file that is told
 pub record IsToldAs (image : List ℕ) (d : Seen) (files : List File) (f : File) : Type 0 where
@@ -267,7 +262,7 @@ bad-image format image (why.Image stop) files f there is bad = (f, is, bad)
 refused-by : (format : Format) (image trace : List ℕ) (read : TraceRead) (d : Seen) (files : List File) (name : List ℕ) (line : ℕ) (cause : InputWhy)
     → ((f : File) × IsToldAs image d files f) → IsReadOf trace read files
     → ((name ≡ image) × (line ≡ 0) × IsRefusedImage format cause d.content)
-      ⊎ (((bytes : List ℕ) → d.content ≡ Some bytes → IsGoodImage format bytes) × (name ≡ trace) × IsRefusedRead read cause line)
+    ⊎ (((bytes : List ℕ) → d.content ≡ Some bytes → IsGoodImage format bytes) × (name ≡ trace) × IsRefusedRead read cause line)
     → IsRefusedInput format image trace name line cause files
 refused-by format image trace read d files name line cause told is (inl bad) =
     let refused = bad.2 in

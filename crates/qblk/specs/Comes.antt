@@ -1,5 +1,5 @@
 -- What a run of a trace keeps, from its opening on.
-use Rattle.std.specs.Prelude.{◌≡◌, ℕ, ◌<◌, ◌≤◌, false, length, List, [], ◌∷◌, Option, Some, IsSome}
+use Rattle.std.specs.Prelude.{◌≡◌, ℕ, ◌<◌, ◌≤◌, length, List, [], ◌∷◌, Option, Some, IsSome}
 use Rattle.blk_base.specs.Pieces.{end_of}
 use Rattle.blk_base.specs.declared.fault.Outcome.TheVariants.{Good, Torn, Io, NoSpace}
 use Rattle.blk_history.specs.Line.{guest_of, shown_by}

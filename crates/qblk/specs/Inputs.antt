@@ -1,5 +1,5 @@
 -- Refusals of inputs.
-use Rattle.std.specs.Prelude.{◌≡◌, ℕ, List, Option, Some, None}
+use Rattle.std.specs.Prelude.{◌≡◌, ℕ, List}
 use Rattle.qblk.specs.declared.status.InputWhy.{InputWhy}
 use Rattle.qblk.specs.declared.status.Status.{Status}
 use Rattle.qblk.specs.declared.status.Status.TheVariants.{Done, Usage, Input, Fault, NoMemory}

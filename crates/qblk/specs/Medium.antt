@@ -1,7 +1,6 @@
 -- A device whose bytes are read as a disk.
-use Rattle.std.specs.Prelude.{◌≡◌, ℕ, ◌≤◌, Bool, List, [], length, Option, Some, option_map}
-use Rattle.q2_format.specs.declared.header.TheConstants.{MAX_DISK_SIZE}
-use Rattle.q2_image.specs.Image.{Known, IsImageOf}
+use Rattle.std.specs.Prelude.{◌≡◌, ℕ, Bool, List, length, Option, Some, option_map}
+use Rattle.q2_image.specs.Image.{IsImageOf}
 use Rattle.qblk.specs.Format.{disk_of}
 use Rattle.qblk.specs.declared.words.Format.{Format}
 use Rattle.qblk.specs.declared.words.Format.TheVariants as formats

@@ -1,5 +1,5 @@
 -- How far a run of requests is.
-use Rattle.std.specs.Prelude.{◌≡◌, ℕ, ◌+◌, ◌-◌, ◌*◌, ◌/◌, ◌^◌, ◌<◌, ◌≤◌, min, max, false, [], ◌∷◌, ◌++◌, Some, None, List, length, Option}
+use Rattle.std.specs.Prelude.{◌≡◌, ℕ, ◌+◌, ◌-◌, ◌*◌, ◌/◌, ◌^◌, ◌<◌, ◌≤◌, min, max, false, [], ◌∷◌, ◌++◌, Some, None, List, length}
 use Rattle.blk_base.specs.Pieces.{end_of}
 use Rattle.blk_base.specs.declared.memory.Room.{Room}
 use Rattle.trace_codec.specs.declared.op.Op.{Op}

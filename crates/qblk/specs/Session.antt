@@ -1,28 +1,25 @@
 -- The parts of a run on an image, from its inputs to the transcript.
-use Rattle.std.specs.Prelude.{◌≡◌, ◌≢◌, ◌⊎◌, ℕ, ◌+◌, ◌*◌, ◌^◌, ◌<◌, ◌≤◌, Bool, true, List, [], length, IsUtf8, IsSome, Option, Some, None, MatchOption, is_some, Ok, Err, Result, ◌++◌, option_map}
+use Rattle.std.specs.Prelude.{◌≡◌, ◌≢◌, ◌⊎◌, ℕ, ◌<◌, ◌≤◌, Bool, true, List, [], length, IsUtf8, Option, Some, None, is_some, Ok, ◌++◌, option_map}
 use Rattle.blk_base.specs.Counts.{Rose}
-use Rattle.blk_base.specs.Files.{file_at, IfTold, is_out}
+use Rattle.blk_base.specs.Files.{IfTold, is_out}
 use Rattle.blk_base.specs.Answers.{HasFile, LacksFile}
 use Rattle.blk_base.specs.declared.file.File.{File}
 use Rattle.blk_base.specs.declared.file.Opened.{Opened}
-use Rattle.blk_base.specs.declared.fault.DevNo.{DevNo}
 use Rattle.blk_base.specs.declared.fault.FaultAt.{FaultAt}
-use Rattle.blk_base.specs.declared.fault.FaultFrom.{FaultFrom}
 use Rattle.blk_base.specs.declared.fault.FaultFrom.TheVariants.{Store, Dev, Sink}
 use Rattle.trace_codec.specs.Trace.{ops_of}
-use Rattle.trace_codec.specs.declared.op.Op.{Op}
 use Rattle.blk_history.specs.Owned.{asked_by}
 use Rattle.qblk.specs.Face.{Face}
-use Rattle.qblk.specs.Comes.{Opening, Comes, HaveLines}
+use Rattle.qblk.specs.Comes.{Opening, Comes}
 use Rattle.qblk.specs.Format.{disk_of, IsGoodImage}
 use Rattle.qblk.specs.declared.words.Format.{Format}
 use Rattle.qblk.specs.declared.words.Format.TheVariants.{Qcow2}
-use Rattle.qblk.specs.Run.{guest_names, IsBadTrace, IsBadBytes, IsRefusedTrace}
+use Rattle.qblk.specs.Run.{IsBadTrace, IsBadBytes}
 use Rattle.qblk.specs.Output.{SendsFront}
 use Rattle.qblk.specs.declared.input.TraceRead.{TraceRead}
 use Rattle.qblk.specs.declared.input.TraceRead.TheVariants as reads
 use Rattle.qblk.specs.declared.status.InputWhy.{InputWhy}
-use Rattle.qblk.specs.declared.status.InputWhy.TheVariants.{Absent, TooLong, TooLarge}
+use Rattle.qblk.specs.declared.status.InputWhy.TheVariants.{Absent, TooLong}
 use Rattle.qblk.specs.declared.status.Status.{Status}
 use Rattle.qblk.specs.declared.status.Status.TheVariants.{Done, Usage, Input, Fault, NoMemory}
 

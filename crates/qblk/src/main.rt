@@ -22,12 +22,12 @@ mod words;
 use blk_base::{NoMemory, Text};
 pub use run::{qblk, run_io};
 pub use status::{InputWhy, Status};
-pub use words::Format;
 use std::alloc::Global;
 use std::process::ExitCode;
 use std::rt::Env;
 use std::{env, io};
 use store::{FileStore, OutSink};
+pub use words::Format;
 
 /// The words behind the program's name.
 fn words_of<R: Env + AllocGlobal>(rt: &R, alloc: Global) -> Result<Vec<Text>, NoMemory> {

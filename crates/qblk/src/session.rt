@@ -11,13 +11,13 @@ ghost use Rattle.qblk.specs.Face.{Face};
 ghost use Rattle.qblk.specs.Run.{guest_names, Answers};
 
 use crate::engine::Engine;
-use crate::opening::{MediumStop, open_medium};
-use crate::transfer::DEVICE;
-use crate::words::Format;
 use crate::input::{MAX_TRACE, Prepared, TraceRead, judge, refused};
+use crate::opening::{MediumStop, open_medium};
 use crate::output::send_transcript;
 use crate::requests::run_requests;
 use crate::status::{InputWhy, Status};
+use crate::transfer::DEVICE;
+use crate::words::Format;
 use blk_base::{Device, FaultAt, FaultFrom, Sink, Store, StoreStop, Text};
 use blk_history::{History, Rows};
 use std::alloc::Global;

@@ -375,16 +375,43 @@ fn a_qcow2_image_that_is_not_opened(rt: HostRuntime) -> Result<(), Fail> {
     let names: Edits = &[(14, &[0x80, 0, 0, 0, 0, 1]), (0x8000, b"a")];
     let table: [(Edits, &[FailAt], &str, u8); 7] = [
         (&[(3, &[0])], &[], "input disk.img line 0: Image(Magic)", 2),
-        (&[(7, &[2])], &[], "input disk.img line 0: Image(Version)", 2),
-        (&[(23, &[15])], &[], "input disk.img line 0: Image(ClusterBits)", 2),
-        (&[(0x4000d, &[6])], &[], "input disk.img line 0: Image(Offset(393216))", 2),
-        (&[(0x4000d, &[4])], &[], "input disk.img line 0: Image(Overlap(4))", 2),
+        (
+            &[(7, &[2])],
+            &[],
+            "input disk.img line 0: Image(Version)",
+            2,
+        ),
+        (
+            &[(23, &[15])],
+            &[],
+            "input disk.img line 0: Image(ClusterBits)",
+            2,
+        ),
+        (
+            &[(0x4000d, &[6])],
+            &[],
+            "input disk.img line 0: Image(Offset(393216))",
+            2,
+        ),
+        (
+            &[(0x4000d, &[4])],
+            &[],
+            "input disk.img line 0: Image(Overlap(4))",
+            2,
+        ),
         (names, &[], "input disk.img line 0: NeedsBacking", 2),
         (&[], &[FailAt { call: 0, done: 0 }], "fault dev0 1", 3),
     ];
     for (edits, fails, status, exit) in table {
         let disk = qcow2(&rt, edits, fails)?;
-        let ran = run(&rt, "io qcow2 disk.img t", &[], disk, b"read 0 1", sink(&rt, &[])?)?;
+        let ran = run(
+            &rt,
+            "io qcow2 disk.img t",
+            &[],
+            disk,
+            b"read 0 1",
+            sink(&rt, &[])?,
+        )?;
         assert!(rt; is_so(&rt, &ran, status, "")?, "{status}");
         assert_eq!(rt; ran.status.exit(), exit, "{status}");
     }

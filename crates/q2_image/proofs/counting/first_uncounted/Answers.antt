@@ -1,4 +1,4 @@
-use Rattle.std.proofs.Common.{◌≡◌, ◌&&◌, ◌<◌, ℕ, Bool, true, length, eqb, get_or, slice_index_or, false, sym, ◌∙◌, arith, eq-eqb, ap, refl}
+use Rattle.std.proofs.Common.{◌≡◌, ◌<◌, true, length, get_or, slice_index_or, false, sym, arith, eq-eqb, refl}
 use Rattle.q2_format.proofs.Firsts.{lowest_at}
 use Rattle.q2_image.specs.Seen.{is_uncounted}
 use Rattle.q2_image.proofs.counting.first_uncounted.Goals as goal

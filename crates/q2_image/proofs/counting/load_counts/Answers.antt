@@ -1,6 +1,4 @@
-use Rattle.std.proofs.Common.{◌≡◌, ◌≤◌, ℕ, Some, None, ap, sym, ◌∙◌, arith}
-use Rattle.q2_format.specs.Tables.{refcount_table}
-use Rattle.q2_refs.specs.Loading.{refcounts_refusal, table_reach}
+use Rattle.std.proofs.Common.{◌≡◌}
 use Rattle.q2_image.specs.Loading.{counts_loaded}
 use Rattle.q2_image.proofs.Counted.{accepted_tells, reserved_tells, offset_tells, loaded_fits}
 use Rattle.q2_image.proofs.counting.load_counts.Goals as goal

@@ -1,13 +1,11 @@
-use Rattle.std.proofs.Common.{◌≡◌, ℕ, List, Option, Some, None, sym, ap, subst, ◌∙◌}
+use Rattle.std.proofs.Common.{ℕ, Option, None, sym, subst}
 use Rattle.q2_format.specs.Tables.{active_tree, refcount_table}
-use Rattle.q2_format.specs.Sound.{Reserved}
 use Rattle.q2_image.specs.Loading.{table_stops, reserved_entry, TableTells, AreCountsOf}
 use Rattle.q2_image.specs.Opening.{Names}
 use Rattle.q2_image.specs.Merge.{merged_stop}
 use Rattle.q2_image.specs.declared.counting.Counts.{Counts}
 use Rattle.q2_image.specs.declared.stop.ImageStop.{ImageStop}
-use Rattle.q2_image.specs.declared.stop.ImageStop.TheVariants as stops
-use Rattle.q2_image.proofs.Merged.{judged_ok, judged_reserved, judged_stop, judges_by}
+use Rattle.q2_image.proofs.Merged.{judged_ok, judged_reserved, judged_stop}
 use Rattle.q2_image.proofs.load.load_behind.Goals as goal
 
 pub returns-in-Ok-counts_of-clause-judged : goal.returns-in-Ok-counts_of-clause-judged
@@ -33,7 +31,7 @@ returns-in-Err-counts_of-clause-judged g c = λ file told.
     let P : Counts → Type 0 = λ counts. TableTells file h len None (reserved_entry counts) in
     let J : ImageStop → Type 0 = λ stop. Names (table_stops h len (refcount_table file h) (active_tree file h)) stop in
     subst J (sym found.2)
-        (judged_reserved file h len found.0 (active_tree file h) c.requires.placed (subst P found.1 (c.requires.told file told).0) (c.in-Ok.ensures.told file told).0)
+    (judged_reserved file h len found.0 (active_tree file h) c.requires.placed (subst P found.1 (c.requires.told file told).0) (c.in-Ok.ensures.told file told).0)
 
 pub returns-in-Err-clause-judged : goal.returns-in-Err-clause-judged
 returns-in-Err-clause-judged g c = λ file told.
@@ -42,4 +40,4 @@ returns-in-Err-clause-judged g c = λ file told.
     let J : ImageStop → Type 0 = λ stop. Names (table_stops h len (refcount_table file h) (active_tree file h)) stop in
     let M : Option ℕ → Type 0 = λ reserved. J (merged_stop h reserved c.in-Err.stop) in
     subst J (sym c.merge.ensures) (subst M (sym c.reserved_in.ensures)
-        (judged_stop file h len (reserved_entry c.args.counts) (active_tree file h) c.in-Err.stop c.requires.placed (c.requires.told file told).0 (c.in-Err.ensures.told file told)))
+    (judged_stop file h len (reserved_entry c.args.counts) (active_tree file h) c.in-Err.stop c.requires.placed (c.requires.told file told).0 (c.in-Err.ensures.told file told)))

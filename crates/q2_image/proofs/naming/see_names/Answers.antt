@@ -1,4 +1,4 @@
-use Rattle.std.proofs.Common.{◌≡◌, refl, arith, rules}
+use Rattle.std.proofs.Common.{◌≡◌, rules}
 use Rattle.q2_image.proofs.Named.{named_by_numbers}
 use Rattle.q2_image.proofs.naming.see_names.Goals as goal
 

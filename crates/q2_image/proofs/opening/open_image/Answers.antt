@@ -1,7 +1,6 @@
-use Rattle.std.proofs.Common.{◌≡◌, ◌≤◌, ℕ, List, length, max, Option, Some, None, IfOk, sym, ap, subst, ◌∙◌, arith}
+use Rattle.std.proofs.Common.{◌≡◌, ℕ, length, None, IfOk, sym, subst, ◌∙◌}
 use Rattle.std.proofs.lemmas.Result.{err_from_is_err_and}
-use Rattle.q2_format.specs.Header.{header_of}
-use Rattle.q2_format.specs.References.{cluster_bound, reach_of}
+use Rattle.q2_format.specs.References.{reach_of}
 use Rattle.q2_image.specs.Loading.{counts_loaded}
 use Rattle.q2_image.specs.Opening.{Names, header_stops, place_stops}
 use Rattle.q2_image.proofs.Order.{no_fault_cause}
@@ -19,8 +18,8 @@ returns-in_err-check_places-clause-judged g c =
     let len : c.length-len.result ≡ g.D.Device.size c.args.dev.now = c.length-len.ensures ∙ c.in_ok-header.ensures.size in
     let P : ℕ → Type 0 = λ n. Names (place_stops c.in_ok-header.header n) c.in_err-check_places.field-0.0 in
     rw (p.1, p.2) (λ file told. place_named file c.in_ok-header.header (g.D.Device.size c.args.dev.now) c.in_err-check_places.field-0.0
-        (g.met.D.Device.told_size c.args.dev.now file told) (c.in_ok-header.ensures.header file told) (c.in_ok-header.ensures.judged file told)
-        (subst P len c.in_err-check_places.ensures.judged))
+    (g.met.D.Device.told_size c.args.dev.now file told) (c.in_ok-header.ensures.header file told) (c.in_ok-header.ensures.judged file told)
+    (subst P len c.in_err-check_places.ensures.judged))
 
 pub returns-in_err-check_places-clause-cause : goal.returns-in_err-check_places-clause-cause
 returns-in_err-check_places-clause-cause g c =
@@ -30,17 +29,17 @@ returns-in_err-check_places-clause-cause g c =
 pub returns-in-Ok-clause-judged : goal.returns-in-Ok-clause-judged
 returns-in-Ok-clause-judged g c = λ file told. last_judged file c.in_ok-header.header c.length-len.result c.in-Ok.refs c.in-Ok.tables c.finish.result
     (loaded_from file c.in_ok-header.header c.length-len.result (g.D.Device.size c.args.dev.now) (g.D.Device.size c.open_header.new.dev) c.in-Ok.refs c.in-Ok.tables
-        c.length-len.ensures c.in_ok-header.ensures.size (g.met.D.Device.told_size c.args.dev.now file told) (c.in_ok-header.ensures.header file told)
-        (c.in_ok-header.ensures.judged file told) c.in_ok-check_places.ensures.judged (c.in-Ok.ensures.judged file (c.in_ok-header.ensures.content ∙ told))
-        (c.in-Ok.ensures.counts file (c.in_ok-header.ensures.content ∙ told)) (c.in-Ok.ensures.tree file (c.in_ok-header.ensures.content ∙ told)) c.in-Ok.ensures.has_counts.reach)
+    c.length-len.ensures c.in_ok-header.ensures.size (g.met.D.Device.told_size c.args.dev.now file told) (c.in_ok-header.ensures.header file told)
+    (c.in_ok-header.ensures.judged file told) c.in_ok-check_places.ensures.judged (c.in-Ok.ensures.judged file (c.in_ok-header.ensures.content ∙ told))
+    (c.in-Ok.ensures.counts file (c.in_ok-header.ensures.content ∙ told)) (c.in-Ok.ensures.tree file (c.in_ok-header.ensures.content ∙ told)) c.in-Ok.ensures.has_counts.reach)
     c.finish.ensures.judged
 
 pub returns-in-Ok-clause-image : goal.returns-in-Ok-clause-image
 returns-in-Ok-clause-image g c = ok_image c.in_ok-header.header c.length-len.result c.in-Ok.refs c.in-Ok.tables c.finish.result
     (λ file told. loaded_from file c.in_ok-header.header c.length-len.result (g.D.Device.size c.args.dev.now) (g.D.Device.size c.open_header.new.dev) c.in-Ok.refs c.in-Ok.tables
-        c.length-len.ensures c.in_ok-header.ensures.size (g.met.D.Device.told_size c.args.dev.now file told) (c.in_ok-header.ensures.header file told)
-        (c.in_ok-header.ensures.judged file told) c.in_ok-check_places.ensures.judged (c.in-Ok.ensures.judged file (c.in_ok-header.ensures.content ∙ told))
-        (c.in-Ok.ensures.counts file (c.in_ok-header.ensures.content ∙ told)) (c.in-Ok.ensures.tree file (c.in_ok-header.ensures.content ∙ told)) c.in-Ok.ensures.has_counts.reach)
+    c.length-len.ensures c.in_ok-header.ensures.size (g.met.D.Device.told_size c.args.dev.now file told) (c.in_ok-header.ensures.header file told)
+    (c.in_ok-header.ensures.judged file told) c.in_ok-check_places.ensures.judged (c.in-Ok.ensures.judged file (c.in_ok-header.ensures.content ∙ told))
+    (c.in-Ok.ensures.counts file (c.in_ok-header.ensures.content ∙ told)) (c.in-Ok.ensures.tree file (c.in_ok-header.ensures.content ∙ told)) c.in-Ok.ensures.has_counts.reach)
     c.finish.ensures.judged c.finish.ensures.known
 
 pub returns-in-Ok-clause-reach : goal.returns-in-Ok-clause-reach
@@ -61,5 +60,5 @@ returns-in-Err-clause-judged g c = λ file told.
     let H : ℕ → Type 0 = λ n. header_stops file n ≡ None in
     let P : ℕ → Type 0 = λ n. place_stops c.in_ok-header.header n ≡ None in
     word_named file c.in_ok-header.header (g.D.Device.size c.open_header.new.dev) c.in-Err.stop size (c.in_ok-header.ensures.header file told)
-        (subst H (sym same) (c.in_ok-header.ensures.judged file told)) (subst P c.length-len.ensures c.in_ok-check_places.ensures.judged)
-        (c.in-Err.ensures.judged file (c.in_ok-header.ensures.content ∙ told))
+    (subst H (sym same) (c.in_ok-header.ensures.judged file told)) (subst P c.length-len.ensures c.in_ok-check_places.ensures.judged)
+    (c.in-Err.ensures.judged file (c.in_ok-header.ensures.content ∙ told))

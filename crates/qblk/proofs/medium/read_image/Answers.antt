@@ -1,4 +1,4 @@
-use Rattle.std.proofs.Common.{◌≡◌, ◌+◌, ◌%◌, ◌/◌, ◌≤◌, ◌<◌, ℕ, List, [], length, replicate, sym, ap, subst, ◌∙◌, refl, arith}
+use Rattle.std.proofs.Common.{◌≡◌, ℕ, [], sym, ap, arith}
 use Rattle.blk_base.specs.Pieces.{Extent}
 use Rattle.q2_image.proofs.Mapped.{disk_read, disk_zero, disk_unmapped}
 use Rattle.qblk.proofs.medium.read_image.Goals as goal

@@ -1,6 +1,5 @@
 use Rattle.std.proofs.Common.{◌≡◌, ◌∙◌, ap}
 use Rattle.std.specs.Prelude.{ℕ, List, ◌++◌, take, option_map}
-use Rattle.qblk.specs.Output.{SendsFront}
 use Rattle.qblk.proofs.Sending.{front-sent}
 use Rattle.qblk.proofs.output.send.Goals as goal
 

@@ -1,10 +1,7 @@
-use Rattle.std.proofs.Common.{◌≡◌, ◌≤◌, ◌++◌, [], arith, OnOk, OnErr, IsOk, ap}
-use Rattle.std.specs.Prelude.{option_map}
-use Rattle.blk_base.specs.Written.{memory_of}
-use Rattle.blk_history.specs.Line.{line_room, Appends}
+use Rattle.std.proofs.Common.{arith}
+use Rattle.blk_history.specs.Line.{line_room}
 use Rattle.blk_history.specs.Transcript.{line_of}
 use Rattle.qblk.specs.Run.{guest_names}
-use Rattle.qblk.specs.Output.{SendsPart, SendsFront}
 use Rattle.qblk.proofs.Sending.{on-ok, on-err, at-ok, appended, have-line, get-below, room-of, named-by, line-kept, line-sent, line-front}
 use Rattle.qblk.proofs.output.send_line.Goals as goal
 

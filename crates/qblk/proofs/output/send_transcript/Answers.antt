@@ -1,4 +1,4 @@
-use Rattle.std.proofs.Common.{◌≡◌, ◌+◌, ◌++◌, List, ℕ, take, subst, sym, arith}
+use Rattle.std.proofs.Common.{List, ℕ, take, subst, sym, arith}
 use Rattle.std.specs.Prelude.{flat_map}
 use Rattle.blk_history.specs.Transcript.{line_of}
 use Rattle.qblk.specs.Run.{guest_names}

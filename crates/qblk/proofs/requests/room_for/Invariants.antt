@@ -1,4 +1,4 @@
-use Rattle.std.proofs.Common.{◌≡◌, ◌+◌, drop, take}
+use Rattle.std.proofs.Common.{◌≡◌, ◌+◌, drop}
 use Rattle.qblk.specs.Requests.{entries_for, bytes_for, HaveNumbers}
 use Rattle.qblk.proofs.requests.room_for.Given as goal
 

@@ -1,14 +1,14 @@
-use Rattle.std.proofs.Common.{◌≡◌, ◌∙◌, ◌++◌, ◌∷◌, [], ap, sym, subst, arith, List, ℕ, length, true, Option, Some, None, refl}
+use Rattle.std.proofs.Common.{◌≡◌, ◌∙◌, ◌++◌, ◌∷◌, [], ap, subst, List, ℕ, length, true, Option, Some, None, refl}
 use Rattle.blk_base.proofs.Openings.{out-opened}
 use Rattle.blk_base.specs.Stored.{files_with_returned, IsDeviceOf}
-use Rattle.blk_base.specs.Files.{IfTold, is_out, given_back}
+use Rattle.blk_base.specs.Files.{is_out, given_back}
 use Rattle.blk_base.specs.declared.file.File.{File}
 use Rattle.blk_base.specs.declared.file.Opened.{Opened}
 use Rattle.blk_history.specs.Recorded.{Recorded}
 use Rattle.blk_history.specs.Transcript.{transcript}
 use Rattle.blk_history.specs.declared.event.Event.{Event}
 use Rattle.qblk.specs.Run.{Outside, guest_names}
-use Rattle.qblk.specs.Session.{Seen, IsReadOf, EndsAs}
+use Rattle.qblk.specs.Session.{Seen, EndsAs}
 use Rattle.qblk.proofs.Whole.{ends, stops}
 use Rattle.qblk.proofs.session.run_on.Goals as goal
 

@@ -1,4 +1,3 @@
-use Rattle.std.proofs.Common.{◌≡◌}
 use Rattle.qblk.proofs.Sending.{ends-well, ends-badly}
 use Rattle.qblk.proofs.session.write_out.Goals as goal
 

@@ -1,8 +1,8 @@
-use Rattle.std.proofs.Common.{◌≡◌, ◌+◌, ◌%◌, ◌/◌, ◌*◌, ◌≤◌, ◌<◌, ℕ, List, length, sym, ap, subst, ◌∙◌, refl, arith}
+use Rattle.std.proofs.Common.{◌≡◌, ◌+◌, ◌%◌, ◌/◌, ◌≤◌, ◌<◌, ℕ, length, sym, ap, subst, refl, arith}
 use Rattle.blk_base.specs.Content.{bytes_at}
 use Rattle.blk_base.specs.Pieces.{Extent}
 use Rattle.q2_format.specs.declared.entries.L2Entry.TheVariants.{Host}
-use Rattle.q2_image.specs.Image.{Known, IsOpen, cluster_size_in, clusters_in, entry_in}
+use Rattle.q2_image.specs.Image.{Known, IsOpen, cluster_size_in, entry_in}
 use Rattle.q2_image.proofs.Mapped.{host_below, read_of_image, below_words}
 use Rattle.q2_image.proofs.image.Image.read_own.Goals as goal
 

@@ -1,6 +1,6 @@
-use Rattle.std.proofs.Common.{◌≡◌, ℕ, ◌+◌, ◌-◌, ◌≤◌, ap, sym, ◌∙◌, arith}
+use Rattle.std.proofs.Common.{◌≡◌, ℕ, ◌+◌, ◌-◌, ◌≤◌, ap, arith}
 use Rattle.q2_image.specs.Seen.{named_at, named_in_run}
-use Rattle.q2_image.proofs.Sightings.{seen_alike, run-more, run-none}
+use Rattle.q2_image.proofs.Sightings.{seen_alike, run-more}
 use Rattle.q2_image.proofs.seen.Seen.mark_run.Goals as goal
 
 one_more : (uses : ℕ → ℕ) (first cluster k : ℕ) → first ≤ cluster

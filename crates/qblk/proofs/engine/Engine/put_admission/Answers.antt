@@ -1,5 +1,5 @@
-use Rattle.std.proofs.Common.{◌≡◌, ◌+◌, ◌≤◌, ◌∙◌, refl, sym, ap, arith}
-use Rattle.blk_base.specs.Pieces.{Extent, end_of}
+use Rattle.std.proofs.Common.{◌≡◌, ◌+◌, ◌∙◌, refl, sym, ap, arith}
+use Rattle.blk_base.specs.Pieces.{end_of}
 use Rattle.blk_history.specs.Disk.{span_of}
 use Rattle.qblk.proofs.Flights.{request-push}
 use Rattle.qblk.proofs.engine.Engine.put_admission.Goals as goal
@@ -10,10 +10,14 @@ invariant_of-self-2 g c =
     let span = c.request_span-span.ensures in
     let is = c.span.view_is in
     record {
-      admitted = (c.args.op, rw c.note_admission-place.ensures.noted placed, record {
-        allowed = sym c.forbids.ensures ∙ c.if-forbids.false;
-        inside = (let end : c.span.inside.start + c.span.inside.len ≡ end_of (span_of c.args.op) = ap end_of (is ∙ span) in omega arith);
-      });
+      admitted = (
+        c.args.op,
+        rw c.note_admission-place.ensures.noted placed,
+        record {
+          allowed = sym c.forbids.ensures ∙ c.if-forbids.false;
+          inside = (let end : c.span.inside.start + c.span.inside.len ≡ end_of (span_of c.args.op) = ap end_of (is ∙ span) in omega arith);
+        },
+      );
       whole = c.self.invariant.whole;
       block = c.self.invariant.block;
     }

@@ -1,9 +1,7 @@
-use Rattle.std.proofs.Common.{◌≡◌, ℕ, List, [], Option, Some, sym, ap, subst, ◌∙◌}
-use Rattle.q2_format.specs.Contents.{image_disk}
+use Rattle.std.proofs.Common.{◌≡◌, ℕ, List, Some, sym, ap, subst, ◌∙◌}
 use Rattle.qblk.specs.Steps.{IsRead}
 use Rattle.qblk.specs.Medium.{Medium, IsReadBy, format_by}
 use Rattle.qblk.specs.declared.medium.Driver.{Driver}
-use Rattle.qblk.specs.declared.words.Format.{Format}
 use Rattle.qblk.specs.declared.words.Format.TheVariants.{Qcow2}
 use Rattle.qblk.proofs.Disks.{told_image}
 use Rattle.qblk.proofs.medium.Medium.read.Goals as goal
