@@ -44,7 +44,7 @@ fn words(rt: &HostRuntime, text: &str) -> Result<Vec<Text>, Fail> {
     Ok(words)
 }
 
-/// The header of a qcow2 image of 1 MiB.
+/// A created image of 1 MiB: its header, its refcount table, and the refcounts of its four clusters.
 const HEADER: [u8; 112] = [
     0x51, 0x46, 0x49, 0xfb, 0, 0, 0, 3, 0, 0, 0, 0, 0, 0, 0, 0, //
     0, 0, 0, 0, 0, 0, 0, 0x10, 0, 0, 0, 0, 0, 0x10, 0, 0, //
@@ -55,19 +55,23 @@ const HEADER: [u8; 112] = [
     0, 0, 0, 4, 0, 0, 0, 0x70, 0, 0, 0, 0, 0, 0, 0, 0,
 ];
 
+const REFCOUNTS: [(usize, &[u8]); 2] = [
+    (0x10000, &[0, 0, 0, 0, 0, 2, 0, 0]),
+    (0x20000, &[0, 1, 0, 1, 0, 1, 0, 1]),
+];
+
+const CREATED: usize = 262_144;
+
+/// What a write of four bytes 9 at 0 makes of it.
+const WRITTEN: [(usize, &[u8]); 4] = [
+    (0x20008, &[0, 1, 0, 1]),
+    (0x30000, &[0x80, 0, 0, 0, 0, 4, 0, 0]),
+    (0x40000, &[0x80, 0, 0, 0, 0, 5, 0, 0]),
+    (0x50000, &[9, 9, 9, 9]),
+];
+
 /// Bytes that are put at places of a file.
 type Edits<'a> = &'a [(usize, &'a [u8])];
-
-/// The tables of an image whose guest cluster 1 lies in the last of its six clusters, and is 1, 2, 3 at its end. Guest
-/// cluster 2 has no bytes in the file and reads as zeros.
-const TABLES: [(usize, &[u8]); 6] = [
-    (0x10000, &[0, 0, 0, 0, 0, 2, 0, 0]),
-    (0x20000, &[0, 1, 0, 1, 0, 1, 0, 1, 0, 1, 0, 1]),
-    (0x30000, &[0x80, 0, 0, 0, 0, 4, 0, 0]),
-    (0x40008, &[0x80, 0, 0, 0, 0, 5, 0, 0]),
-    (0x40010, &[0, 0, 0, 0, 0, 0, 0, 1]),
-    (0x5fffd, &[1, 2, 3]),
-];
 
 fn put(bytes: &mut [u8], edits: Edits) {
     for (at, edit) in edits {
@@ -77,11 +81,11 @@ fn put(bytes: &mut [u8], edits: Edits) {
     }
 }
 
-// A device of that image with these edits, whose calls of these numbers fail.
-fn qcow2(rt: &HostRuntime, edits: Edits, fails: &[FailAt]) -> Result<MemDevice, Fail> {
-    let mut bytes = vec![in rt.alloc(); 0; 393_216]?;
+// A device of a created image with these edits, in a file of so many bytes, whose calls of these numbers fail.
+fn qcow2(rt: &HostRuntime, len: usize, edits: Edits, fails: &[FailAt]) -> Result<MemDevice, Fail> {
+    let mut bytes = vec![in rt.alloc(); 0; len]?;
     put(&mut bytes, &[(0, &HEADER)]);
-    put(&mut bytes, &TABLES);
+    put(&mut bytes, &REFCOUNTS);
     put(&mut bytes, edits);
     let dev = MemDevice::new(rt.alloc(), &bytes, bytes.len() as u64, fails, 0, 0)?;
     Ok(dev)
@@ -351,69 +355,128 @@ fn a_store_or_sink_fails(rt: HostRuntime) -> Result<(), Fail> {
 
 #[test]
 fn a_qcow2_image_is_read(rt: HostRuntime) -> Result<(), Fail> {
-    let trace = b"read 65534 4\nwrite -P 1 0 1\nread 131069 5\nread 1048575 2\n";
-    let transcript = "admit disk 0 read 65534 4\n\
-        piece disk 0 0 ok 00*2\n\
-        piece disk 0 1 ok 00*2\n\
-        retire disk 0\n\
-        refuse disk 1 write 0 1 readonly\n\
-        admit disk 2 read 131069 5\n\
-        piece disk 2 0 ok 01*1 02*1 03*1\n\
-        piece disk 2 1 ok 00*2\n\
-        retire disk 2\n\
-        refuse disk 3 read 1048575 2 range\n";
-    let words = "io qcow2 disk.img t";
-    let disk = qcow2(&rt, &[], &[])?;
-    let ran = run(&rt, words, &[], disk, trace, sink(&rt, &[])?)?;
-    assert!(rt; is_so(&rt, &ran, "", transcript)?);
-    assert_eq!(rt; ran.status.exit(), 0);
-    Ok(())
-}
-
-#[test]
-fn a_qcow2_image_that_is_not_opened(rt: HostRuntime) -> Result<(), Fail> {
-    let names: Edits = &[(14, &[0x80, 0, 0, 0, 0, 1]), (0x8000, b"a")];
-    let table: [(Edits, &[FailAt], &str, u8); 7] = [
-        (&[(3, &[0])], &[], "input disk.img line 0: Image(Magic)", 2),
-        (
-            &[(7, &[2])],
-            &[],
-            "input disk.img line 0: Image(Version)",
-            2,
-        ),
-        (
-            &[(23, &[15])],
-            &[],
-            "input disk.img line 0: Image(ClusterBits)",
-            2,
-        ),
-        (
-            &[(0x4000d, &[6])],
-            &[],
-            "input disk.img line 0: Image(Offset(393216))",
-            2,
-        ),
-        (
-            &[(0x4000d, &[4])],
-            &[],
-            "input disk.img line 0: Image(Overlap(4))",
-            2,
-        ),
-        (names, &[], "input disk.img line 0: NeedsBacking", 2),
-        (&[], &[FailAt { call: 0, done: 0 }], "fault dev0 1", 3),
+    // The feature name table of `qemu-img create`, whose file ends behind the L1 table's one entry.
+    let names: Edits = &[(112, b"\x68\x03\xf8\x57\x00\x00\x01\x80\x00\x00dirty bit")];
+    let [counts, table, entry, data] = WRITTEN;
+    let edits: Edits = &[
+        counts,
+        table,
+        entry,
+        data,
+        (0x40016, &[0, 1]),
+        (0x5fffd, &[1, 2, 3]),
     ];
-    for (edits, fails, status, exit) in table {
-        let disk = qcow2(&rt, edits, fails)?;
+    let rows: [(usize, Edits, &[u8], &str); 3] = [
+        (
+            CREATED,
+            &[],
+            b"read 0 4\n",
+            "admit disk 0 read 0 4\npiece disk 0 0 ok 00*4\nretire disk 0\n",
+        ),
+        (
+            196_616,
+            names,
+            b"read 0 4\n",
+            "admit disk 0 read 0 4\npiece disk 0 0 ok 00*4\nretire disk 0\n",
+        ),
+        (
+            393_216,
+            edits,
+            b"read 2 4\nwrite -P 1 0 1\nread 65533 5\nread 1048575 2\n",
+            "admit disk 0 read 2 4\n\
+            piece disk 0 0 ok 09*2 00*2\n\
+            retire disk 0\n\
+            refuse disk 1 write 0 1 readonly\n\
+            admit disk 2 read 65533 5\n\
+            piece disk 2 0 ok 01*1 02*1 03*1\n\
+            piece disk 2 1 ok 00*2\n\
+            retire disk 2\n\
+            refuse disk 3 read 1048575 2 range\n",
+        ),
+    ];
+    for (len, edits, trace, transcript) in rows {
+        let disk = qcow2(&rt, len, edits, &[])?;
         let ran = run(
             &rt,
             "io qcow2 disk.img t",
             &[],
             disk,
-            b"read 0 1",
+            trace,
             sink(&rt, &[])?,
         )?;
-        assert!(rt; is_so(&rt, &ran, status, "")?, "{status}");
-        assert_eq!(rt; ran.status.exit(), exit, "{status}");
+        assert!(rt; is_so(&rt, &ran, "", transcript)?, "{transcript}");
+        assert_eq!(rt; ran.status.exit(), 0);
     }
+    Ok(())
+}
+
+// Whether the status is that of an image which is refused for this.
+fn is_refused(rt: &HostRuntime, len: usize, edits: Edits, why: &str) -> Result<bool, Fail> {
+    let disk = qcow2(rt, len, edits, &[])?;
+    let ran = run(
+        rt,
+        "io qcow2 disk.img t",
+        &[],
+        disk,
+        b"read 0 1",
+        sink(rt, &[])?,
+    )?;
+    let status = format!(in rt.alloc(); "input disk.img line 0: {why}")?;
+    Ok(is_so(rt, &ran, status.as_str(), "")? && ran.status.exit() == 2)
+}
+
+#[test]
+fn a_qcow2_image_that_is_refused(rt: HostRuntime) -> Result<(), Fail> {
+    let name: Edits = &[(14, &[0xff, 0xfe, 0, 0, 0, 3])];
+    let features: Edits = &[(112, &[0x68, 3, 0xf8, 0x57, 0, 1, 0, 0])];
+    let unknown: Edits = &[(112, &[0x11, 0x11, 0x11, 0x11, 0, 0, 0x80, 0])];
+    let backing: Edits = &[(14, &[1, 0, 0, 0, 0, 4]), (256, b"base")];
+    let size: Edits = &[(24, &[0, 0, 0, 0x40, 0, 0, 2, 0])];
+    let rows: [(usize, Edits, &str); 15] = [
+        (103, &[], "Image(Short)"),
+        (CREATED, &[(0, &[0x52])], "Image(Magic)"),
+        (CREATED, &[(7, &[2])], "Image(Version)"),
+        (CREATED, &[(23, &[15])], "Image(ClusterBits)"),
+        (CREATED, &[(99, &[3])], "Image(RefcountOrder)"),
+        (CREATED, &[(79, &[1])], "Image(Feature(0))"),
+        (CREATED, &[(35, &[1])], "Image(Crypt)"),
+        (CREATED, &[(63, &[1])], "Image(Snapshots)"),
+        (CREATED, name, "Image(BackingName)"),
+        (CREATED, features, "Image(Extension)"),
+        (CREATED, size, "Image(TooLarge)"),
+        (CREATED, &[(46, &[2])], "Image(Offset(197120))"),
+        (CREATED, &[(0x30007, &[1])], "Image(Reserved(196608, 0))"),
+        (CREATED, unknown, "Image(HeaderFull)"),
+        (CREATED, backing, "NeedsBacking"),
+    ];
+    for (len, edits, why) in rows {
+        assert!(rt; is_refused(&rt, len, edits, why)?, "{why}");
+    }
+    let [counts, table, entry, data] = WRITTEN;
+    let rows: [((usize, &[u8]), &str); 3] = [
+        ((0x40000, &[0x40]), "Image(Compressed(0))"),
+        ((0x40008, &[0x80, 0, 0, 0, 0, 5, 0, 0]), "Image(Overlap(5))"),
+        ((0x2000a, &[0, 0]), "Image(Refcount(5))"),
+    ];
+    for (edit, why) in rows {
+        let edits = [counts, table, entry, data, edit];
+        assert!(rt; is_refused(&rt, 393_216, &edits, why)?, "{why}");
+    }
+    Ok(())
+}
+
+#[test]
+fn a_device_fails_while_an_image_is_opened(rt: HostRuntime) -> Result<(), Fail> {
+    let disk = qcow2(&rt, CREATED, &[], &failing(0, 0))?;
+    let ran = run(
+        &rt,
+        "io qcow2 disk.img t",
+        &[],
+        disk,
+        b"read 0 1",
+        sink(&rt, &[])?,
+    )?;
+    assert!(rt; is_so(&rt, &ran, "fault dev0 1", "")?);
+    assert_eq!(rt; ran.status.exit(), 3);
     Ok(())
 }
