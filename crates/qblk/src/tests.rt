@@ -311,20 +311,20 @@ fn a_device_call_fails_at_each_place(rt: HostRuntime) -> Result<(), Fail> {
 fn a_torn_write_leaves_its_beginning(rt: HostRuntime) -> Result<(), Fail> {
     let ran = io(
         &rt,
-        4_096,
-        &failing(0, 700),
-        b"write -P 1 500 1024\nread 1020 8\n",
+        1_048_576,
+        &failing(0, 1_024),
+        b"write -P 0x33 0 4096\nread 0 4096\n",
     )?;
     assert!(rt;
         is_so(
             &rt,
             &ran,
             "",
-            "admit disk 0 write 500 1024\n\
-        piece disk 0 0 torn 524 dev0 1\n\
+            "admit disk 0 write 0 4096\n\
+        piece disk 0 0 torn 1024 dev0 1\n\
         retire disk 0\n\
-        admit disk 1 read 1020 8\n\
-        piece disk 1 0 ok 01*4 00*4\n\
+        admit disk 1 read 0 4096\n\
+        piece disk 1 0 ok 33*1024 00*3072\n\
         retire disk 1\n"
         )?
     );
@@ -432,7 +432,7 @@ fn a_qcow2_image_that_is_refused(rt: HostRuntime) -> Result<(), Fail> {
     let unknown: Edits = &[(112, &[0x11, 0x11, 0x11, 0x11, 0, 0, 0x80, 0])];
     let backing: Edits = &[(14, &[1, 0, 0, 0, 0, 4]), (256, b"base")];
     let size: Edits = &[(24, &[0, 0, 0, 0x40, 0, 0, 2, 0])];
-    let rows: [(usize, Edits, &str); 15] = [
+    let rows: [(usize, Edits, &str); 22] = [
         (103, &[], "Image(Short)"),
         (CREATED, &[(0, &[0x52])], "Image(Magic)"),
         (CREATED, &[(7, &[2])], "Image(Version)"),
@@ -448,6 +448,30 @@ fn a_qcow2_image_that_is_refused(rt: HostRuntime) -> Result<(), Fail> {
         (CREATED, &[(0x30007, &[1])], "Image(Reserved(196608, 0))"),
         (CREATED, unknown, "Image(HeaderFull)"),
         (CREATED, backing, "NeedsBacking"),
+        // Numbers at the edges of what 63 and 64 bits hold.
+        (CREATED, &[(24, &[0xff; 8])], "Image(TooLarge)"),
+        (CREATED, &[(36, &[0xff; 4])], "Image(TooLarge)"),
+        (CREATED, &[(8, &[0xff; 12])], "Image(BackingName)"),
+        (
+            CREATED,
+            &[(40, &[0x7f, 0xff, 0xff, 0xff, 0xff, 0xff])],
+            "Image(Offset(9223372036854710272))",
+        ),
+        (
+            CREATED,
+            &[(48, &[0xff, 0xff, 0xff, 0xff, 0xff, 0xff, 0, 0])],
+            "Image(Offset(18446744073709486080))",
+        ),
+        (
+            CREATED,
+            &[(0x10000, &[0xff, 0xff, 0xff, 0xff, 0xff, 0xff, 0, 0])],
+            "Image(Offset(18446744073709486080))",
+        ),
+        (
+            CREATED,
+            &[(0x30001, &[0xff, 0xff, 0xff, 0xff, 0xff])],
+            "Image(Offset(72057594037862400))",
+        ),
     ];
     for (len, edits, why) in rows {
         assert!(rt; is_refused(&rt, len, edits, why)?, "{why}");
