@@ -8,16 +8,16 @@ use Rattle.blk_bitmaps.specs.Rows.{added, turned, emptied, filled, written, join
 use Rattle.blk_bitmaps.specs.Refusals.{source_of}
 
 pub data Call : Type 0 where
-  pub Add : ℕ → Written → ℕ → ℕ → Bool → Call
-  pub Remove : ℕ → List ℕ → Call
-  pub Enable : ℕ → List ℕ → Call
-  pub Disable : ℕ → List ℕ → Call
-  pub Clear : ℕ → List ℕ → Call
-  pub Merge : ℕ → List ℕ → List Source → Call
-  pub NoteWrite : ℕ → Extent → Call
-  pub NoteAll : ℕ → Call
-  pub Freeze : ℕ → List ℕ → ℕ → Call
-  pub Release : ℕ → Bool → Call
+  Add : ℕ → Written → ℕ → ℕ → Bool → Call
+  Remove : ℕ → List ℕ → Call
+  Enable : ℕ → List ℕ → Call
+  Disable : ℕ → List ℕ → Call
+  Clear : ℕ → List ℕ → Call
+  Merge : ℕ → List ℕ → List Source → Call
+  NoteWrite : ℕ → Extent → Call
+  NoteAll : ℕ → Call
+  Freeze : ℕ → List ℕ → ℕ → Call
+  Release : ℕ → Bool → Call
 
 -- the first row that passes a test is changed
 abbrev pub with_first : (Bitmap → Bool) → (Bitmap → Bitmap) → List Bitmap → List Bitmap

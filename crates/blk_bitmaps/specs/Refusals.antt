@@ -1,5 +1,6 @@
 -- Which refusal a call of the table of bitmaps answers. Where several hold, it is the first of the list of refusals.
-use Rattle.std.specs.Prelude.{ℕ, ◌==◌, nat_le, Bool, true, false, not, ◌||◌, if◌then◌else◌, List, [], ◌∷◌, length, Option, Some, None, is_some, is_none}
+use Rattle.std.specs.Prelude.{ℕ, ◌==◌, nat_le, Bool, true, not, if◌then◌else◌, List, [], ◌∷◌, length, Option, Some, None, is_some, is_none}
+use Rattle.std.specs.List.{list_any}
 use Rattle.blk_bitmaps.specs.declared.row.Bitmap.{Bitmap}
 use Rattle.blk_bitmaps.specs.declared.sources.Source.{Source}
 use Rattle.blk_bitmaps.specs.declared.stop.BitmapStop.{BitmapStop}
@@ -33,9 +34,9 @@ use_refusal (Some row) = busy_refusal row.busy
 abbrev pub source_of : List Bitmap → Source → Option Bitmap
 source_of rows source = find rows source.node source.name.bytes
 
+-- a source is not there
 abbrev pub is_absent : List Bitmap → List Source → Bool
-is_absent rows [] = false
-is_absent rows (source ∷ sources) = is_none (source_of rows source) || is_absent rows sources
+is_absent rows sources = list_any (λ source. is_none (source_of rows source)) sources
 
 abbrev pub job_of : Option Bitmap → Option ℕ
 job_of None = None
@@ -50,9 +51,9 @@ abbrev pub has_size : ℕ → Option Bitmap → Bool
 has_size size None = true
 has_size size (Some row) = row.size == size
 
+-- a source is of a disk of another size
 abbrev pub differs : List Bitmap → ℕ → List Source → Bool
-differs rows size [] = false
-differs rows size (source ∷ sources) = not (has_size size (source_of rows source)) || differs rows size sources
+differs rows size sources = list_any (λ source. not (has_size size (source_of rows source))) sources
 
 -- a merge of these sources into the row
 abbrev pub sources_refusal : List Bitmap → Bitmap → List Source → Option BitmapStop

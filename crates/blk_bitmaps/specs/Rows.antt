@@ -1,10 +1,9 @@
 -- Rows of the table of bitmaps, and what the calls make of one row.
-use Rattle.std.specs.Prelude.{ℕ, zero, suc, ◌+◌, ◌-◌, ◌*◌, ◌/◌, ◌==◌, nat_lt, nat_le, Bool, true, false, ◌&&◌, ◌||◌, if◌then◌else◌, List, [], ◌∷◌, ◌++◌, length, replicate, bytes_eq, Option, Some, None}
+use Rattle.std.specs.Prelude.{ℕ, zero, suc, ◌+◌, ◌-◌, ◌*◌, ◌/◌, ◌==◌, nat_lt, nat_le, Bool, true, false, ◌&&◌, ◌||◌, if◌then◌else◌, List, length, replicate, bytes_eq, Option, Some, None}
 use Rattle.std.specs.Int.{is_power_of_two}
 use Rattle.blk_base.specs.Pieces.{Extent}
 use Rattle.blk_base.specs.Written.{Written}
 use Rattle.blk_bits.specs.Granules.{contains, those_below, merged}
-use Rattle.blk_bits.specs.declared.ratio.Ratio.{Ratio}
 use Rattle.blk_bitmaps.specs.declared.row.Bitmap.{Bitmap}
 
 -- a power of two from 512 to 2,097,152
@@ -22,12 +21,12 @@ is_named node name row = (row.node == node) && bytes_eq row.name.bytes name
 abbrev pub records : ℕ → Bitmap → Bool
 records node row = (row.node == node) && row.enabled
 
+abbrev pub is_job : ℕ → Option ℕ → Bool
+is_job job None = false
+is_job job (Some other) = other == job
+
 abbrev pub is_used_by : ℕ → Bitmap → Bool
-is_used_by job row = holds row.busy
-  where
-    abbrev holds : Option ℕ → Bool
-    holds None = false
-    holds (Some other) = other == job
+is_used_by job row = is_job job row.busy
 
 -- a new row: nothing is dirty, and no job uses it
 abbrev pub added : ℕ → Written → ℕ → ℕ → Bool → Bitmap
@@ -76,13 +75,13 @@ with_frozen set (Some old) = merged (record { mine = 1; theirs = 1 }) set old
 abbrev pub given_back : Bool → Bitmap → Bitmap
 given_back success row = record row { busy = None; dirty = if success then row.dirty else with_frozen row.dirty row.frozen; frozen = None }
 
+abbrev pub is_aside : Option (List Bool) → ℕ → Bool
+is_aside None k = false
+is_aside (Some old) k = contains old k
+
 -- a granule of the row is dirty, be it put aside
 abbrev pub is_dirty : Bitmap → ℕ → Bool
-is_dirty row k = contains row.dirty k || aside row.frozen
-  where
-    abbrev aside : Option (List Bool) → Bool
-    aside None = false
-    aside (Some old) = contains old k
+is_dirty row k = contains row.dirty k || is_aside row.frozen k
 
 -- how many granules below a number are dirty
 abbrev pub dirty_below : Bitmap → ℕ → ℕ

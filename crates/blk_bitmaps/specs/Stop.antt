@@ -1,5 +1,5 @@
 -- What a refusal of the table of bitmaps prints.
-use Rattle.std.specs.Prelude.{ℕ, List, ◌++◌, codes, decimal}
+use Rattle.std.specs.Prelude.{ℕ, List, codes}
 use Rattle.blk_bitmaps.specs.declared.stop.BitmapStop.{BitmapStop}
 use Rattle.blk_bitmaps.specs.declared.stop.BitmapStop.TheVariants.{NameTaken, NotFound, Busy, Granularity, SizeDiffers, NoMemory, TooMany}
 

@@ -2,16 +2,14 @@
 ghost use Rattle.std.specs.Prelude.{◌≡◌, [], ◌∷◌, ◌++◌, IfOk, IsOk, IfErr, OnOk, OnErr, Err, MatchOption, option_copied, length, nat_le, not, Some, None, if◌then◌else◌, is_some};
 ghost use Rattle.blk_bitmaps.specs.Rows.{added, is_named, is_granularity, granule_count};
 ghost use Rattle.blk_bitmaps.specs.Refusals.{find, add_refusal, use_refusal, merge_refusal};
-ghost use Rattle.blk_bitmaps.specs.Calls.{after};
-ghost use Rattle.blk_bitmaps.specs.Calls.Call.{Add, Remove, Enable, Disable, Clear, Merge, NoteWrite, NoteAll, Freeze, Release};
+ghost use Rattle.blk_bitmaps.specs.Calls.{after, Add, Remove, Enable, Disable, Clear, Merge, NoteWrite, NoteAll, Freeze, Release};
 
-use crate::change;
 use crate::find::{find, free_place};
 use crate::granularity::Granularity;
-use crate::merge;
 use crate::row::Bitmap;
 use crate::sources::Sources;
 use crate::stop::BitmapStop;
+use crate::{change, merge};
 use blk_base::{NoMemory, Span, Text};
 use blk_bits::DirtySet;
 use blk_graph::NodeId;
@@ -62,7 +60,14 @@ impl Bitmaps {
     }
 
     /// Adds a bitmap with nothing dirty, for a disk of `size` bytes. `granularity` is in bytes.
-    pub fn add(&mut self, node: NodeId, name: Text, size: u64, granularity: u64, enabled: bool) -> Result<(), BitmapStop>
+    pub fn add(
+        &mut self,
+        node: NodeId,
+        name: Text,
+        size: u64,
+        granularity: u64,
+        enabled: bool,
+    ) -> Result<(), BitmapStop>
         ensures answer { MatchOption (add_refusal self.old node name.bytes granularity) (IfErr result (λ stop. stop ≡ BitmapStop.NoMemory)) (λ stop. result ≡ Err stop) }
         ensures done { OnOk result (self.new ≡ after self.old (Add node name size granularity enabled)) }
         ensures refused { OnErr result (self.new ≡ self.old) }
@@ -159,7 +164,12 @@ impl Bitmaps {
 }
 
 /// The granularity of a new bitmap, where it may be added.
-fn judge_new(rows: &[Bitmap], node: NodeId, name: &str, granularity: u64) -> Result<Granularity, BitmapStop>
+fn judge_new(
+    rows: &[Bitmap],
+    node: NodeId,
+    name: &str,
+    granularity: u64,
+) -> Result<Granularity, BitmapStop>
     ensures answer { MatchOption (add_refusal rows.now node name.now granularity) (result ≡ Ok granularity) (λ stop. result ≡ Err stop) }
 {
     if find(rows, node, name).is_some() {
@@ -174,7 +184,14 @@ fn judge_new(rows: &[Bitmap], node: NodeId, name: &str, granularity: u64) -> Res
     Ok(granularity)
 }
 
-fn new_row(alloc: Global, node: NodeId, name: Text, size: u64, granularity: Granularity, enabled: bool) -> Result<Bitmap, NoMemory>
+fn new_row(
+    alloc: Global,
+    node: NodeId,
+    name: Text,
+    size: u64,
+    granularity: Granularity,
+    enabled: bool,
+) -> Result<Bitmap, NoMemory>
     ensures { IfOk result (λ row. row ≡ added node name size granularity enabled) }
 {
     let dirty = DirtySet::new(alloc, granules_of(size, granularity))?;

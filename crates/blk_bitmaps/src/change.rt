@@ -11,7 +11,12 @@ use blk_base::Span;
 use blk_graph::NodeId;
 use std::alloc::Global;
 
-pub(crate) fn turn(rows: &mut [Bitmap], node: NodeId, name: &str, on: bool) -> Result<(), BitmapStop>
+pub(crate) fn turn(
+    rows: &mut [Bitmap],
+    node: NodeId,
+    name: &str,
+    on: bool,
+) -> Result<(), BitmapStop>
     ensures answer { MatchOption (use_refusal (find rows.old node name.now)) (IsOk result) (λ stop. result ≡ Err stop) }
     ensures done { OnOk result (rows.new ≡ with_first (is_named node name.now) (turned on) rows.old) }
     ensures refused { OnErr result (rows.new ≡ rows.old) }
@@ -31,7 +36,13 @@ pub(crate) fn empty(rows: &mut [Bitmap], node: NodeId, name: &str) -> Result<(),
     Ok(())
 }
 
-pub(crate) fn freeze(rows: &mut [Bitmap], alloc: Global, node: NodeId, name: &str, job: u32) -> Result<(), BitmapStop>
+pub(crate) fn freeze(
+    rows: &mut [Bitmap],
+    alloc: Global,
+    node: NodeId,
+    name: &str,
+    job: u32,
+) -> Result<(), BitmapStop>
     ensures answer { MatchOption (use_refusal (find rows.old node name.now)) (IfErr result (λ stop. stop ≡ BitmapStop.NoMemory)) (λ stop. result ≡ Err stop) }
     ensures done { OnOk result (rows.new ≡ with_first (is_named node name.now) (used job) rows.old) }
     ensures refused { OnErr result (rows.new ≡ rows.old) }

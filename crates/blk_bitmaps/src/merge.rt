@@ -12,7 +12,12 @@ use crate::stop::BitmapStop;
 use blk_graph::NodeId;
 
 /// Looks whether the sources may be merged into the bitmap of a name.
-pub(crate) fn judge(rows: &[Bitmap], node: NodeId, target: &str, sources: &[Source]) -> Result<(), BitmapStop>
+pub(crate) fn judge(
+    rows: &[Bitmap],
+    node: NodeId,
+    target: &str,
+    sources: &[Source],
+) -> Result<(), BitmapStop>
     ensures { MatchOption (merge_refusal rows.now (find rows.now node target.now) sources.now) (IsOk result) (λ stop. result ≡ Err stop) }
 {
     match find(rows, node, target) {
@@ -43,12 +48,9 @@ fn judge_sources(rows: &[Bitmap], row: &Bitmap, sources: &[Source]) -> Result<()
 fn is_absent(rows: &[Bitmap], sources: &[Source]) -> bool
     ensures { result ≡ is_absent rows.now sources.now }
 {
-    for source in sources {
-        if source_of(rows, source).is_none() {
-            return true;
-        }
-    }
-    false
+    sources
+        .iter()
+        .any(|source| source_of(rows, source).is_none())
 }
 
 /// The job of the first source that is busy.
@@ -68,12 +70,7 @@ fn first_job(rows: &[Bitmap], sources: &[Source]) -> Option<u32>
 fn differs(rows: &[Bitmap], size: u64, sources: &[Source]) -> bool
     ensures { result ≡ differs rows.now size sources.now }
 {
-    for source in sources {
-        if !has_size(rows, size, source) {
-            return true;
-        }
-    }
-    false
+    sources.iter().any(|source| !has_size(rows, size, source))
 }
 
 fn source_of<'a>(rows: &'a [Bitmap], source: &Source) -> Option<&'a Bitmap>
@@ -109,11 +106,13 @@ pub(crate) fn merge(rows: &mut [Bitmap], node: NodeId, target: &str, sources: &[
 fn merge_source(rows: &mut [Bitmap], node: NodeId, target: &str, source: &Source)
     ensures { rows.new ≡ with_source rows.old node target.now (source_of rows.old source.now) }
 {
-    let from = place_of(rows, source.node, source.name.as_str());
-    let to = place_of(rows, node, target);
-    if let (Some(from), Some(to)) = (from, to) {
-        join(rows, from, to);
-    }
+    let Some(from) = place_of(rows, source.node, source.name.as_str()) else {
+        return;
+    };
+    let Some(to) = place_of(rows, node, target) else {
+        return;
+    };
+    join(rows, from, to);
 }
 
 /// Merges one row into another, which may be the same.
