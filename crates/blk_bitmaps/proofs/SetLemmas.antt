@@ -1,5 +1,6 @@
 -- Sets of granules as the rows use them.
 use Rattle.std.proofs.Common.{◌≡◌, ◌↔◌, ℕ, zero, suc, ◌+◌, ◌-◌, ◌*◌, ◌/◌, ◌<◌, ◌≤◌, min, Bool, true, false, not, ◌&&◌, ◌||◌, List, length, replicate, refl, sym, ◌∙◌, ap, arith, nat_lt, inl, inr}
+use Rattle.std.proofs.Math.ListN.{get_or-eq_default}
 use Rattle.std.proofs.Math.Nat.{div-lt_iff_lt-mul, mul-le-mul_left}
 use Rattle.std.proofs.lemmas.Bool.{cases_lt}
 use Rattle.std.proofs.lemmas.Bool.Decides.{nat_tests}
@@ -88,3 +89,55 @@ merged_self granularity set =
     member : (k : ℕ) (b : Bool) → contains set k ≡ b → contains set k ≡ (contains set k || overlaps_member (record { mine = granularity; theirs = granularity }) set k (length set))
     member k true is = rw is refl
     member k false is = rw (is, no_other granularity set k (length set) is) refl
+
+-- of granules of one unit the only one that overlaps granule k is k
+same_only : (old : List Bool) (k n : ℕ) → overlaps_member (record { mine = 1; theirs = 1 }) old k n ≡ (nat_lt k n && contains old k)
+same_only old k zero = let past : nat_lt k 0 ≡ false = grind (arith, nat_tests) in rw past refl
+same_only old k (suc n) = elim (cases_lt k n) [
+  | inl below ↦
+      let here : nat_lt k (suc n) ≡ true = grind (arith, nat_tests) in
+      let before : nat_lt k n ≡ true = grind (arith, nat_tests) in
+      rw (apart 1 k n below, same_only old k n, here, before) (drop_right (contains old n) (nat_lt (1 * k) (1 * (n + 1))) (contains old k))
+  | inr past ↦ elim (cases_lt n k) [
+    | inl above ↦
+        let here : nat_lt k (suc n) ≡ false = grind (arith, nat_tests) in
+        let before : nat_lt k n ≡ false = grind (arith, nat_tests) in
+        rw (apart 1 n k above, same_only old k n, here, before) (drop_left (contains old n) (nat_lt (1 * n) (1 * (k + 1))))
+    | inr also ↦
+        let is : n ≡ k = omega arith in
+        let here : nat_lt k (suc n) ≡ true = grind (arith, nat_tests) in
+        let before : nat_lt k n ≡ false = grind (arith, nat_tests) in
+        let meets : nat_lt (1 * k) (1 * (k + 1)) ≡ true = grind (arith, nat_tests) in
+        rw (same_only old k n, here, before) (rw (is, meets) (both (contains old k)))
+  ]
+]
+  where
+    drop_right : (a b c : Bool) → ((a && (b && false)) || c) ≡ c
+    drop_right true true c = refl
+    drop_right true false c = refl
+    drop_right false b c = refl
+
+    drop_left : (a b : Bool) → ((a && (false && b)) || false) ≡ false
+    drop_left true b = refl
+    drop_left false b = refl
+
+    both : (a : Bool) → ((a && true) || false) ≡ a
+    both true = refl
+    both false = refl
+
+member_only : (old : List Bool) (k : ℕ) → overlaps_member (record { mine = 1; theirs = 1 }) old k (length old) ≡ contains old k
+member_only old k = elim (cases_lt k (length old)) [
+  | inl below ↦ (let here : nat_lt k (length old) ≡ true = grind (arith, nat_tests) in rw (same_only old k (length old), here) refl)
+  | inr past ↦
+      let here : nat_lt k (length old) ≡ false = grind (arith, nat_tests) in
+      rw (same_only old k (length old), here) (sym (get_or-eq_default old false (omega arith)))
+]
+
+-- a merge of granules of one size is the union
+pub united : (set old : List Bool) → merged (record { mine = 1; theirs = 1 }) set old ≡ those_below (length set) (λ k. contains set k || contains old k)
+united set old =
+    fill_by_all (λ k. contains set k || contains old k) (merged (record { mine = 1; theirs = 1 }) set old) (length set) false
+    (length-map-range_with_len (λ k. contains set k || overlaps_member (record { mine = 1; theirs = 1 }) old k (length old)) 0 (length set))
+    (λ k below.
+    get_or-map-range_with_len (λ i. contains set i || overlaps_member (record { mine = 1; theirs = 1 }) old i (length old)) 0 (length set) k k false below (omega arith)
+    ∙ ap (λ b. contains set k || b) (member_only old k))

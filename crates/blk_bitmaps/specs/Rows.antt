@@ -69,7 +69,7 @@ used job row = record row { busy = Some job; dirty = replicate (length row.dirty
 -- a set with what was put aside
 abbrev pub with_frozen : List Bool → Option (List Bool) → List Bool
 with_frozen set None = set
-with_frozen set (Some old) = merged (record { mine = 1; theirs = 1 }) set old
+with_frozen set (Some old) = those_below (length set) (λ k. contains set k || contains old k)
 
 -- the use ends: after a success what was put aside is dropped, else it is dirty again
 abbrev pub given_back : Bool → Bitmap → Bitmap

@@ -124,7 +124,7 @@ impl Bitmap {
             self.busy = None;
             if let Some(frozen) = self.frozen.take() {
                 if !success {
-                    self.dirty.merge_from(&frozen, Ratio { mine: 1, theirs: 1 });
+                    unite(&mut self.dirty, &frozen);
                 }
             }
         }
@@ -148,6 +148,13 @@ fn fill(set: &mut DirtySet)
     ensures { set.new ≡ replicate (length set.old) true }
 {
     set.set_span(0, set.granules());
+}
+
+/// Adds the members of a set of granules of the same size.
+fn unite(set: &mut DirtySet, other: &DirtySet)
+    ensures { set.new ≡ those_below (length set.old) (λ k. contains set.old k || contains other.now k) }
+{
+    set.merge_from(other, Ratio { mine: 1, theirs: 1 });
 }
 
 /// Adds the granules that have a byte of a span.
