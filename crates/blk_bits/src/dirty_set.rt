@@ -48,6 +48,13 @@ impl DirtySet {
         write_span(self.bits.as_mut_slice(), from as usize, to as usize, false);
     }
 
+    /// How many granules the set speaks of: its numbers are below it.
+    pub fn granules(&self) -> u64
+        ensures { result ≡ length self.now }
+    {
+        self.bits.len() as u64
+    }
+
     /// Whether a granule is a member.
     pub fn test(&self, granule: u64) -> bool
         requires { granule < length self.now }

@@ -1,0 +1,89 @@
+-- Rows of the table of bitmaps, and what the calls make of one row.
+use Rattle.std.specs.Prelude.{ℕ, zero, suc, ◌+◌, ◌-◌, ◌*◌, ◌/◌, ◌==◌, nat_lt, nat_le, Bool, true, false, ◌&&◌, ◌||◌, if◌then◌else◌, List, length, replicate, bytes_eq, Option, Some, None}
+use Rattle.std.specs.Int.{is_power_of_two}
+use Rattle.blk_base.specs.Pieces.{Extent}
+use Rattle.blk_base.specs.Written.{Written}
+use Rattle.blk_bits.specs.Granules.{contains, those_below, merged}
+use Rattle.blk_bitmaps.specs.declared.row.Bitmap.{Bitmap}
+
+-- a power of two from 512 to 2,097,152
+abbrev pub is_granularity : ℕ → Bool
+is_granularity bytes = nat_le 512 bytes && (nat_le bytes 2097152 && is_power_of_two bytes)
+
+-- how many granules a disk has; the last one may reach past its end
+abbrev pub granule_count : ℕ → ℕ → ℕ
+granule_count size granularity = (size + granularity - 1) / granularity
+
+abbrev pub is_named : ℕ → List ℕ → Bitmap → Bool
+is_named node name row = (row.node == node) && bytes_eq row.name.bytes name
+
+-- a row that records the writes of a node
+abbrev pub records : ℕ → Bitmap → Bool
+records node row = (row.node == node) && row.enabled
+
+abbrev pub is_job : ℕ → Option ℕ → Bool
+is_job job None = false
+is_job job (Some other) = other == job
+
+abbrev pub is_used_by : ℕ → Bitmap → Bool
+is_used_by job row = is_job job row.busy
+
+-- a new row: nothing is dirty, and no job uses it
+abbrev pub added : ℕ → Written → ℕ → ℕ → Bool → Bitmap
+added node name size granularity on = record {
+  node = node;
+  name = name;
+  size = size;
+  granularity = granularity;
+  enabled = on;
+  busy = None;
+  dirty = replicate (granule_count size granularity) false;
+  frozen = None;
+}
+
+abbrev pub turned : Bool → Bitmap → Bitmap
+turned on row = record row { enabled = on }
+
+abbrev pub emptied : Bitmap → Bitmap
+emptied row = record row { dirty = replicate (length row.dirty) false }
+
+abbrev pub filled : Bitmap → Bitmap
+filled row = record row { dirty = replicate (length row.dirty) true }
+
+-- granule k has a byte of the span
+abbrev pub touches : ℕ → Extent → ℕ → Bool
+touches granularity span k = nat_lt 0 span.len && (nat_lt (granularity * k) (span.start + span.len) && nat_lt span.start (granularity * (k + 1)))
+
+-- each granule with a byte of the span is dirty
+abbrev pub written : Extent → Bitmap → Bitmap
+written span row = record row { dirty = those_below (length row.dirty) (λ k. contains row.dirty k || touches row.granularity span k) }
+
+-- each granule that overlaps a dirty one of the source is dirty
+abbrev pub joined : Bitmap → Bitmap → Bitmap
+joined source row = record row { dirty = merged (record { mine = row.granularity; theirs = source.granularity }) row.dirty source.dirty }
+
+-- a job uses the row: what was dirty is put aside, and what is written from now on is dirty
+abbrev pub used : ℕ → Bitmap → Bitmap
+used job row = record row { busy = Some job; dirty = replicate (length row.dirty) false; frozen = Some row.dirty }
+
+-- a set with what was put aside
+abbrev pub with_frozen : List Bool → Option (List Bool) → List Bool
+with_frozen set None = set
+with_frozen set (Some old) = those_below (length set) (λ k. contains set k || contains old k)
+
+-- the use ends: after a success what was put aside is dropped, else it is dirty again
+abbrev pub given_back : Bool → Bitmap → Bitmap
+given_back success row = record row { busy = None; dirty = if success then row.dirty else with_frozen row.dirty row.frozen; frozen = None }
+
+abbrev pub is_aside : Option (List Bool) → ℕ → Bool
+is_aside None k = false
+is_aside (Some old) k = contains old k
+
+-- a granule of the row is dirty, be it put aside
+abbrev pub is_dirty : Bitmap → ℕ → Bool
+is_dirty row k = contains row.dirty k || is_aside row.frozen k
+
+-- how many granules below a number are dirty
+abbrev pub dirty_below : Bitmap → ℕ → ℕ
+dirty_below row zero = 0
+dirty_below row (suc k) = dirty_below row k + (if is_dirty row k then 1 else 0)

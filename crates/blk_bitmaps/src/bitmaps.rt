@@ -1,0 +1,216 @@
+//! The table and its calls.
+ghost use Rattle.std.specs.Prelude.{◌≡◌, [], ◌∷◌, ◌++◌, IfOk, IsOk, IfErr, OnOk, OnErr, Err, MatchOption, option_copied, length, nat_le, not, Some, None, if◌then◌else◌, is_some};
+ghost use Rattle.blk_bitmaps.specs.Rows.{added, is_named, is_granularity, granule_count};
+ghost use Rattle.blk_bitmaps.specs.Refusals.{find, add_refusal, use_refusal, merge_refusal};
+ghost use Rattle.blk_bitmaps.specs.Calls.{after, Add, Remove, Enable, Disable, Clear, Merge, NoteWrite, NoteAll, Freeze, Release};
+
+use crate::find::{find, free_place};
+use crate::granularity::Granularity;
+use crate::row::Bitmap;
+use crate::sources::Sources;
+use crate::stop::BitmapStop;
+use crate::{change, merge};
+use blk_base::{NoMemory, Span, Text};
+use blk_bits::DirtySet;
+use blk_graph::NodeId;
+use std::alloc::Global;
+use std::marker::Model;
+
+/// The most bitmaps at a time.
+pub const MOST_BITMAPS: usize = 64;
+
+/// The bitmaps of all nodes, in the order in which they were added. Each call that changes it has in its contract what
+/// it makes of the rows, and when it refuses; a refusal leaves all as it was.
+#[derive(Debug, Drop)]
+pub struct Bitmaps {
+    rows: Vec<Bitmap>,
+    alloc: Global,
+}
+
+impl Model for Bitmaps {
+    ghost use Rattle.std.specs.Prelude.{List};
+    ghost use Rattle.blk_bitmaps.specs.declared.row.Bitmap.{Bitmap};
+
+    ghost Value = { List Bitmap };
+
+    ghost view = { λ bitmaps. bitmaps.rows.items };
+}
+
+impl Bitmaps {
+    /// No bitmap.
+    pub fn new(alloc: Global) -> Result<Self, NoMemory>
+        ensures { IfOk result (λ bitmaps. bitmaps ≡ []) }
+    {
+        let rows = Vec::with_capacity(alloc, MOST_BITMAPS)?;
+        Ok(Bitmaps { rows, alloc })
+    }
+
+    /// The bitmaps in the order in which they were added.
+    pub fn rows(&self) -> &[Bitmap]
+        ensures { result.now ≡ self.now }
+    {
+        self.rows.as_slice()
+    }
+
+    /// The bitmap of a node by its name.
+    pub fn find(&self, node: NodeId, name: &str) -> Option<&Bitmap>
+        ensures { option_copied result ≡ find self.now node name.now }
+    {
+        find(self.rows.as_slice(), node, name)
+    }
+
+    /// Adds a bitmap with nothing dirty, for a disk of `size` bytes. `granularity` is in bytes.
+    pub fn add(
+        &mut self,
+        node: NodeId,
+        name: Text,
+        size: u64,
+        granularity: u64,
+        enabled: bool,
+    ) -> Result<(), BitmapStop>
+        ensures answer { MatchOption (add_refusal self.old node name.bytes granularity) (IfErr result (λ stop. stop ≡ BitmapStop.NoMemory)) (λ stop. result ≡ Err stop) }
+        ensures done { OnOk result (self.new ≡ after self.old (Add node name size granularity enabled)) }
+        ensures refused { OnErr result (self.new ≡ self.old) }
+    {
+        let granularity = judge_new(self.rows.as_slice(), node, name.as_str(), granularity)?;
+        let row = new_row(self.alloc, node, name, size, granularity, enabled)?;
+        match self.rows.push(row) {
+            Ok(()) => Ok(()),
+            Err(_) => Err(BitmapStop::NoMemory),
+        }
+    }
+
+    /// Removes a bitmap that no job uses.
+    pub fn remove(&mut self, node: NodeId, name: &str) -> Result<(), BitmapStop>
+        ensures answer { MatchOption (use_refusal (find self.old node name.now)) (IsOk result) (λ stop. result ≡ Err stop) }
+        ensures done { OnOk result (self.new ≡ after self.old (Remove node name.now)) }
+        ensures refused { OnErr result (self.new ≡ self.old) }
+    {
+        let place = free_place(self.rows.as_slice(), node, name)?;
+        self.rows.remove(place);
+        Ok(())
+    }
+
+    /// From now on the bitmap records writes.
+    pub fn enable(&mut self, node: NodeId, name: &str) -> Result<(), BitmapStop>
+        ensures answer { MatchOption (use_refusal (find self.old node name.now)) (IsOk result) (λ stop. result ≡ Err stop) }
+        ensures done { OnOk result (self.new ≡ after self.old (Enable node name.now)) }
+        ensures refused { OnErr result (self.new ≡ self.old) }
+    {
+        change::turn(self.rows.as_mut_slice(), node, name, true)
+    }
+
+    /// From now on the bitmap records no writes; what is dirty stays so.
+    pub fn disable(&mut self, node: NodeId, name: &str) -> Result<(), BitmapStop>
+        ensures answer { MatchOption (use_refusal (find self.old node name.now)) (IsOk result) (λ stop. result ≡ Err stop) }
+        ensures done { OnOk result (self.new ≡ after self.old (Disable node name.now)) }
+        ensures refused { OnErr result (self.new ≡ self.old) }
+    {
+        change::turn(self.rows.as_mut_slice(), node, name, false)
+    }
+
+    /// Nothing of the bitmap is dirty any more.
+    pub fn clear(&mut self, node: NodeId, name: &str) -> Result<(), BitmapStop>
+        ensures answer { MatchOption (use_refusal (find self.old node name.now)) (IsOk result) (λ stop. result ≡ Err stop) }
+        ensures done { OnOk result (self.new ≡ after self.old (Clear node name.now)) }
+        ensures refused { OnErr result (self.new ≡ self.old) }
+    {
+        change::empty(self.rows.as_mut_slice(), node, name)
+    }
+
+    /// Makes each granule of the target dirty that overlaps a dirty granule of a source. The sources may be of other
+    /// nodes and of other granularities, with disks of the same size; the target may be among them. All are looked at
+    /// before the first is merged.
+    pub fn merge(&mut self, node: NodeId, target: &str, sources: &Sources) -> Result<(), BitmapStop>
+        ensures answer { MatchOption (merge_refusal self.old (find self.old node target.now) sources.now) (IsOk result) (λ stop. result ≡ Err stop) }
+        ensures done { OnOk result (self.new ≡ after self.old (Merge node target.now sources.now)) }
+        ensures refused { OnErr result (self.new ≡ self.old) }
+    {
+        merge::judge(self.rows.as_slice(), node, target, sources.as_slice())?;
+        merge::merge(self.rows.as_mut_slice(), node, target, sources.as_slice());
+        Ok(())
+    }
+
+    /// A write to the node was made: each enabled bitmap of it has the span's granules dirty.
+    pub fn note_write(&mut self, node: NodeId, span: Span)
+        ensures { self.new ≡ after self.old (NoteWrite node span) }
+    {
+        change::note_write(self.rows.as_mut_slice(), node, span);
+    }
+
+    /// Each enabled bitmap of the node has all its granules dirty.
+    pub fn note_all(&mut self, node: NodeId)
+        ensures { self.new ≡ after self.old (NoteAll node) }
+    {
+        change::note_all(self.rows.as_mut_slice(), node);
+    }
+
+    /// A job begins to use the bitmap: what is dirty is put aside for it, and what is written from now on is kept apart.
+    pub fn freeze(&mut self, node: NodeId, name: &str, job: u32) -> Result<(), BitmapStop>
+        ensures answer { MatchOption (use_refusal (find self.old node name.now)) (IfErr result (λ stop. stop ≡ BitmapStop.NoMemory)) (λ stop. result ≡ Err stop) }
+        ensures done { OnOk result (self.new ≡ after self.old (Freeze node name.now job)) }
+        ensures refused { OnErr result (self.new ≡ self.old) }
+    {
+        change::freeze(self.rows.as_mut_slice(), self.alloc, node, name, job)
+    }
+
+    /// A job ends its use of bitmaps: after a success they keep what was written since then alone, else what was put
+    /// aside as well.
+    pub fn release(&mut self, job: u32, success: bool)
+        ensures { self.new ≡ after self.old (Release job success) }
+    {
+        change::release(self.rows.as_mut_slice(), job, success);
+    }
+}
+
+/// The granularity of a new bitmap, where it may be added.
+fn judge_new(
+    rows: &[Bitmap],
+    node: NodeId,
+    name: &str,
+    granularity: u64,
+) -> Result<Granularity, BitmapStop>
+    ensures answer { MatchOption (add_refusal rows.now node name.now granularity) (result ≡ Ok granularity) (λ stop. result ≡ Err stop) }
+{
+    if find(rows, node, name).is_some() {
+        return Err(BitmapStop::NameTaken);
+    }
+    let Some(granularity) = Granularity::new(granularity) else {
+        return Err(BitmapStop::Granularity);
+    };
+    if rows.len() >= MOST_BITMAPS {
+        return Err(BitmapStop::TooMany);
+    }
+    Ok(granularity)
+}
+
+fn new_row(
+    alloc: Global,
+    node: NodeId,
+    name: Text,
+    size: u64,
+    granularity: Granularity,
+    enabled: bool,
+) -> Result<Bitmap, NoMemory>
+    ensures { IfOk result (λ row. row ≡ added node name size granularity enabled) }
+{
+    let dirty = DirtySet::new(alloc, granules_of(size, granularity))?;
+    Ok(Bitmap {
+        node,
+        name,
+        size,
+        granularity,
+        enabled,
+        busy: None,
+        dirty,
+        frozen: None,
+    })
+}
+
+/// How many granules a disk of so many bytes has.
+fn granules_of(size: u64, granularity: Granularity) -> u64
+    ensures { result ≡ granule_count size granularity }
+{
+    let bytes = granularity.bytes();
+    if size == 0 { 0 } else { (size - 1) / bytes + 1 }
+}

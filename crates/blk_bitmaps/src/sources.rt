@@ -1,0 +1,43 @@
+//! What a merge reads.
+ghost use Rattle.std.specs.Prelude.{◌≡◌};
+
+use blk_base::Text;
+use blk_graph::NodeId;
+use std::marker::Model;
+
+/// A bitmap by its node and its name.
+#[derive(Debug, Drop)]
+pub struct Source {
+    pub node: NodeId,
+    pub name: Text,
+}
+
+/// The bitmaps that are merged into another, in order.
+#[derive(Debug, Drop)]
+pub struct Sources {
+    sources: Vec<Source>,
+}
+
+impl Model for Sources {
+    ghost use Rattle.std.specs.Prelude.{List};
+    ghost use Rattle.blk_bitmaps.specs.declared.sources.Source.{Source};
+
+    ghost Value = { List Source };
+
+    ghost view = { λ s. s.sources.items };
+}
+
+impl Sources {
+    /// The sources of a vector, which is taken over with its memory.
+    pub fn from_vec(sources: Vec<Source>) -> Self
+        ensures { result ≡ sources.items }
+    {
+        Sources { sources }
+    }
+
+    pub fn as_slice(&self) -> &[Source]
+        ensures { result.now ≡ self.now }
+    {
+        self.sources.as_slice()
+    }
+}
