@@ -14,7 +14,7 @@ use std::mem;
 #[derive(Debug, Drop)]
 pub struct Bitmap {
     pub node: NodeId,
-    /// No other bitmap of the node has it.
+    /// What calls find it by, with the node; `add` refuses a name that the node has already.
     pub name: Text,
     /// How many bytes the node's disk has.
     pub size: u64,

@@ -33,7 +33,7 @@ impl fmt::Display for BitmapStop {
         match self {
             BitmapStop::NameTaken => f.write_str("NameTaken"),
             BitmapStop::NotFound => f.write_str("NotFound"),
-            BitmapStop::Busy(_) => f.write_str("Busy"),
+            BitmapStop::Busy(job) => write!(f, "Busy({job})"),
             BitmapStop::Granularity => f.write_str("Granularity"),
             BitmapStop::SizeDiffers => f.write_str("SizeDiffers"),
             BitmapStop::NoMemory => f.write_str("NoMemory"),
