@@ -1,15 +1,10 @@
 -- The tables of the tests of `link`.
-use Rattle.std.proofs.Common.{◌≡◌, ◌<◌, ℕ, inr, replicate, get_or, refl, sym, ap, subst, arith}
-use Rattle.std.proofs.lemmas.List.{get_or-replicate}
-use Rattle.q2_format.specs.Entry.{host_offset}
+use Rattle.std.proofs.Common.{◌≡◌, replicate, refl, sym, subst, arith}
 use Rattle.q2_tables.specs.Kept.{Kept}
 use Rattle.q2_tables.specs.Linking.{CanLink}
 
 abbrev pub small_tables : Kept
 small_tables = record { c = 64; l1_offset = 64; l1 = replicate 2 0; words = replicate 16 0 }
-
-no_table : (i : ℕ) → i < 2 → host_offset (get_or (replicate 2 0) i 0) ≡ 0
-no_table i below = ap host_offset (get_or-replicate 2 i 0 0 below)
 
 can_link_small : CanLink small_tables 9 1024
 can_link_small = record {
@@ -18,11 +13,6 @@ can_link_small = record {
   new = λ some. refl;
   aligned = refl;
   small = omega arith;
-  free = record {
-    l1_table = inr (omega arith);
-    l2_tables = λ i below other some. absurd (some (no_table i below));
-  };
-  beside = record { each = λ i below some. absurd (some (no_table i below)) };
 }
 
 -- a new table at 1024 for cluster 9

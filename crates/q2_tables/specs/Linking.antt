@@ -40,7 +40,9 @@ pub record CanLink (kept : Kept) (cluster table : ℕ) : Type 0 where
   pub new : table ≢ 0 → table_of kept cluster ≡ 0
   pub aligned : table % 512 ≡ 0
   pub small : table < 2 ^ 56
-  -- the table that is written lies apart from every other
+
+-- the table that is written lies apart from every other, and each from the L1 table
+pub record LiesApart (kept : Kept) (cluster table : ℕ) : Type 0 where
   pub free : IsFreeBut kept (if table == 0 then table_of kept cluster else table) (l1_index kept cluster)
   pub beside : LieBesideL1 kept
 

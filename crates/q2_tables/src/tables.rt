@@ -4,7 +4,7 @@ ghost use Rattle.q2_format.specs.Entry.{l2_entry, l2_spelling, IsWritable, CanBe
 ghost use Rattle.q2_format.specs.Tables.{tree_at};
 ghost use Rattle.q2_tables.specs.Entries.{entry_of};
 ghost use Rattle.q2_tables.specs.Kept.{IsTreeOf, is_plain};
-ghost use Rattle.q2_tables.specs.Linking.{CanLink, FileAfter, IsFreeBut, IsLinkStop, LieBesideL1, entry_at, l1_index, link_end, table_len, table_of, with_entry};
+ghost use Rattle.q2_tables.specs.Linking.{CanLink, FileAfter, IsFreeBut, IsLinkStop, LieBesideL1, LiesApart, entry_at, l1_index, link_end, table_len, table_of, with_entry};
 
 use crate::link::{write_entry, write_table};
 use crate::mapping::Mapping;
@@ -86,6 +86,7 @@ impl Tables {
         requires can { CanLink self.old cluster 0 }
         requires plain { is_plain word ≡ true }
         ensures told { (file : List ℕ) → D.content dev.old ≡ Some file → IsTreeOf self.old.c self.old (tree_at file self.old.c self.old.l1_offset (length self.old.l1))
+            → LiesApart self.old cluster 0
             → FileAfter self.new file (D.content dev.new) (entry_at self.old cluster 0) (if is_ok result then 8 else 0) 0 (table_len self.old 0) }
         ensures linked { OnOk result (self.new ≡ with_entry self.old cluster word 0) }
         ensures kept { OnErr result (self.new ≡ self.old) }
@@ -116,6 +117,7 @@ impl Tables {
         requires some { 0 < table }
         requires plain { is_plain word ≡ true }
         ensures told { (file : List ℕ) → D.content dev.old ≡ Some file → IsTreeOf self.old.c self.old (tree_at file self.old.c self.old.l1_offset (length self.old.l1))
+            → LiesApart self.old cluster table
             → FileAfter self.new file (D.content dev.new) (entry_at self.old cluster table) (if is_ok result then 8 else 0) table (table_len self.old table) }
         ensures linked { OnOk result (self.new ≡ with_entry self.old cluster word table) }
         ensures kept { OnErr result (self.new ≡ self.old) }
@@ -155,6 +157,7 @@ impl Tables {
         requires entry { IsWritable (entry_of to) }
         requires single { CanBeSingle (entry_of to) single }
         ensures told { (file : List ℕ) → D.content dev.old ≡ Some file → IsTreeOf self.old.c self.old (tree_at file self.old.c self.old.l1_offset (length self.old.l1))
+            → LiesApart self.old cluster table
             → FileAfter self.new file (D.content dev.new) (entry_at self.old cluster table) (if is_ok result then 8 else 0) table (table_len self.old table) }
         ensures linked { OnOk result (self.new ≡ with_entry self.old cluster (l2_spelling (entry_of to) single) table) }
         ensures kept { OnErr result (self.new ≡ self.old) }

@@ -5,10 +5,10 @@ use Rattle.q2_tables.proofs.Links.{entry_seen, entry_place}
 use Rattle.q2_tables.proofs.tables.Tables.link_entry.Goals as goal
 
 pub returns-clause-told : goal.returns-clause-told
-returns-clause-told g c = λ file told tree.
+returns-clause-told g c = λ file told tree apart.
     let seen : Kept = record { c = c.self.inside.cluster_size; l1_offset = c.self.inside.l1_offset; l1 = c.self.inside.l1.items; words = c.self.inside.words.items } in
     let at : ℕ = c.offset_in-table.result + 8 * (c.args.cluster % (c.self.inside.cluster_size / 8)) in
     let place : at ≡ entry_at seen c.args.cluster 0 =
     entry_place seen c.args.self.now c.args.cluster c.index.result.now c.offset_in-table.result c.self.view_is c.requires.can.below c.self.invariant.entries c.index.ensures c.offset_in-table.ensures.offset in
     entry_seen seen c.args.self.now c.args.cluster c.args.word at file (g.D.Device.content c.args.dev.now) (g.D.Device.content c.write_entry.new.dev)
-    c.self.view_is c.requires.can (omega arith) told tree place c.in_ok-write_entry.ensures.written
+    c.self.view_is c.requires.can apart (omega arith) told tree place c.in_ok-write_entry.ensures.written

@@ -8,18 +8,18 @@ use Rattle.q2_tables.proofs.Links.{stopped_seen, table_seen, plain_set, below_se
 use Rattle.q2_tables.proofs.tables.Tables.link_table.Goals as goal
 
 pub returns-in_err-write_table-clause-told : goal.returns-in_err-write_table-clause-told
-returns-in_err-write_table-clause-told g c = λ file told tree.
+returns-in_err-write_table-clause-told g c = λ file told tree apart.
     let p = err_from_is_err_and c.from_residual.result c.from_residual.ensures.1 in
     let seen : Kept = record { c = c.self.inside.cluster_size; l1_offset = c.self.inside.l1_offset; l1 = c.self.inside.l1.items; words = c.self.inside.words.items } in
     rw p.1 (stopped_seen seen c.args.self.now c.args.cluster c.args.table (length c.as_mut_slice.result.now) file (g.D.Device.content c.write_table.new.dev) (g.D.Device.content c.write_table.new.dev)
-    c.self.view_is c.requires.can c.requires.some tree (c.in_err-write_table.ensures.told file told) (ap length c.as_mut_slice.ensures.value ∙ c.self.invariant.room) refl)
+    c.self.view_is c.requires.can apart c.requires.some tree (c.in_err-write_table.ensures.told file told) (ap length c.as_mut_slice.ensures.value ∙ c.self.invariant.room) refl)
 
 pub returns-in_err-write_entry-clause-told : goal.returns-in_err-write_entry-clause-told
-returns-in_err-write_entry-clause-told g c = λ file told tree.
+returns-in_err-write_entry-clause-told g c = λ file told tree apart.
     let p = err_from_is_err_and c.from_residual-in_err-write_entry.result c.from_residual-in_err-write_entry.ensures.1 in
     let seen : Kept = record { c = c.self.inside.cluster_size; l1_offset = c.self.inside.l1_offset; l1 = c.self.inside.l1.items; words = c.self.inside.words.items } in
     rw p.1 (stopped_seen seen c.args.self.now c.args.cluster c.args.table (length c.as_mut_slice.result.now) file (g.D.Device.content c.write_table.new.dev) (g.D.Device.content c.write_entry.new.dev)
-    c.self.view_is c.requires.can c.requires.some tree (c.in_ok-write_table.ensures.told file told) (ap length c.as_mut_slice.ensures.value ∙ c.self.invariant.room) c.in_err-write_entry.ensures.kept)
+    c.self.view_is c.requires.can apart c.requires.some tree (c.in_ok-write_table.ensures.told file told) (ap length c.as_mut_slice.ensures.value ∙ c.self.invariant.room) c.in_err-write_entry.ensures.kept)
 
 pub invariant_of-self-2 : goal.invariant_of-self-2
 invariant_of-self-2 g c =
@@ -39,9 +39,9 @@ invariant_of-self-2 g c =
     }
 
 pub returns-clause-told : goal.returns-clause-told
-returns-clause-told g c = λ file told tree.
+returns-clause-told g c = λ file told tree apart.
     let seen : Kept = record { c = c.self.inside.cluster_size; l1_offset = c.self.inside.l1_offset; l1 = c.self.inside.l1.items; words = c.self.inside.words.items } in
     let after = c.in_ok-write_table.ensures.told file told in
     table_seen seen c.args.self.now c.args.cluster c.args.word c.args.table (length c.as_mut_slice.result.now) file (g.D.Device.content c.write_table.new.dev) (g.D.Device.content c.write_entry.new.dev)
-    c.self.view_is c.requires.can c.requires.some tree after (ap length c.as_mut_slice.ensures.value ∙ c.self.invariant.room)
+    c.self.view_is c.requires.can apart c.requires.some tree after (ap length c.as_mut_slice.ensures.value ∙ c.self.invariant.room)
     (c.in_ok-write_table.ensures.entry after.file after.is) c.in_ok-write_entry.ensures.written
