@@ -8,6 +8,7 @@ pub mod SoundAfter
 pub mod Steps
 pub mod CountStep
 pub mod BlockStep
+pub mod Ends
 pub mod Made
 pub mod Placing
 pub mod Told

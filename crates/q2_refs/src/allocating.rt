@@ -1,5 +1,5 @@
 //! Taking clusters that nothing uses.
-ghost use Rattle.std.specs.Prelude.{◌≡◌, ◌≢◌, ◌↔◌, ◌⊎◌, ◌+◌, ◌*◌, ◌/◌, ◌%◌, ◌<◌, ◌≤◌, ℕ, true, List, [], ◌∷◌, length, slice_index, Some, is_some, Err, IfOk, IfErr, OnOk, OnErr};
+ghost use Rattle.std.specs.Prelude.{◌≡◌, ◌≢◌, ◌↔◌, ◌⊎◌, ◌+◌, ◌*◌, ◌/◌, ◌%◌, ◌<◌, ◌≤◌, ℕ, true, List, [], ◌∷◌, length, slice_index, Some, is_some, IsTrue, Err, IfOk, IfErr, OnOk, OnErr};
 ghost use Rattle.q2_format.specs.Entry.{block_offset};
 ghost use Rattle.q2_format.specs.Header.{header_of};
 ghost use Rattle.q2_format.specs.References.{uses};
@@ -31,6 +31,16 @@ impl From<DevStop> for RefStop {
 
     fn from(stop: DevStop) -> Self {
         RefStop::Dev(stop)
+    }
+}
+
+/// Whether `n` bytes from a place on end within a capacity.
+fn ends_within(at: u64, n: u64, capacity: u64) -> bool
+    ensures { IsTrue result ↔ (at + n ≤ capacity) }
+{
+    match at.checked_add(n) {
+        Some(end) => end <= capacity,
+        None => false,
     }
 }
 
@@ -131,6 +141,25 @@ impl Refs {
         Ok(())
     }
 
+    /// Whether all that `allocate` writes ends within a capacity, where it gives this cluster.
+    #[tactic(auto, using(crate::proofs::Ends::end_of_kept))]
+    pub fn allocation_fits(&self, cluster: u64, capacity: u64) -> bool
+        requires cluster { cluster < length self.now.counts }
+        requires few { length self.now.counts ≤ MAX_FILE_CLUSTERS }
+        ensures { IsTrue result ↔ (end_of_allocation self.now cluster ≤ capacity) }
+    {
+        let cluster_size = 1 << self.cluster_bits;
+        let cluster = cluster as usize;
+        let i = cluster / self.per_block();
+        if block_offset(self.table[i]) == 0 {
+            // The refcount is in the block.
+            let block_end = self.block_place(i) + cluster_size;
+            block_end.max(self.entry_place(i) + 8) <= capacity
+        } else {
+            ends_within(self.count_place(cluster), 2, capacity)
+        }
+    }
+
     /// Moves the cursor up to the first cluster whose refcount is 0.
     fn skip_taken(&mut self)
         ensures { self.new ≡ self.old }
@@ -210,6 +239,7 @@ impl Refs {
             × (D.content dev.new ≡ D.content dev.old) × (D.log dev.new ≡ D.log dev.old) × (D.is_flushed dev.new ≡ D.is_flushed dev.old)
             × (D.size dev.new ≡ D.size dev.old) × (D.faults dev.new ≡ D.faults dev.old) }
         ensures again { OnErr result (free_clusters self.new ≡ free_clusters self.old) }
+        ensures partly { OnErr result ((self.new ≡ self.old) ⊎ (self.new ≡ with_block_for self.old (free_cluster self.old 0))) }
         ensures cause { IfErr result (HasRefCause (D.faults dev.old) (D.faults dev.new) (D.capacity dev.old) (end_of_allocation self.old (free_cluster self.old 0))) }
         ensures fits { IfOk result (λ cluster. end_of_allocation self.old cluster ≤ D.capacity dev.old) }
 
