@@ -1,0 +1,108 @@
+-- Writing an image: what changes of its disk, and when there is room for it.
+use Rattle.std.specs.Prelude.{◌≡◌, ◌≢◌, ◌⊎◌, ℕ, ◌+◌, ◌*◌, ◌<◌, ◌≤◌, ◌==◌, Bool, true, if◌then◌else◌, ⊤, ⊥, List, [], length, slice_index, Option, Some}
+use Rattle.blk_base.specs.Counts.{Rose}
+use Rattle.blk_base.specs.declared.fault.DevStop.{DevStop}
+use Rattle.blk_base.specs.declared.fault.DevStop.TheVariants.{Io, NoSpace}
+use Rattle.q2_format.specs.Entry.{host_of}
+use Rattle.q2_format.specs.Header.{header_of}
+use Rattle.q2_format.specs.Contents.{guest_byte}
+use Rattle.q2_format.specs.References.{uses}
+use Rattle.q2_format.specs.Tables.{refcount_of}
+use Rattle.q2_format.specs.declared.entries.L2Entry.{L2Entry}
+use Rattle.q2_format.specs.declared.entries.L2Entry.TheVariants.{Unallocated, Zero, Host, Compressed, Reserved}
+use Rattle.q2_refs.specs.Allocating.{end_of_allocation}
+use Rattle.q2_refs.specs.Free.{free_cluster}
+use Rattle.q2_tables.specs.Linking.{table_of, link_end}
+use Rattle.q2_image.specs.Image.{Known, cluster_size_in, entry_in}
+
+-- What changes of a disk.
+
+-- The disks of two files have one size, and over any backing disk they read alike, but that the new one has
+-- these bytes from a place on.
+pub record IsDiskWith (old new : List ℕ) (at : ℕ) (bytes : List ℕ) : Type 0 where
+  pub size : (header_of new).size ≡ (header_of old).size
+  pub inside : (backing : List ℕ) (i : ℕ) → i < length bytes → at + i < (header_of old).size
+      → guest_byte new backing (at + i) ≡ slice_index bytes i
+  pub outside : (backing : List ℕ) (place : ℕ) → place < (header_of old).size → (place < at) ⊎ (at + length bytes ≤ place)
+      → guest_byte new backing place ≡ guest_byte old backing place
+
+-- no byte changed
+abbrev pub IsSameDisk : List ℕ → List ℕ → Type 0
+IsSameDisk old new = IsDiskWith old new 0 []
+
+-- the same image with its autoclear field 0, which is written before anything else is
+abbrev pub autocleared : Known → Known
+autocleared image = record image { header = record image.header { autoclear = 0 } }
+
+-- all guest clusters but one have the entries that they had
+abbrev pub HasEntriesBut : Known → Known → ℕ → Type 0
+HasEntriesBut old new but = (cluster : ℕ) → cluster ≢ but → entry_in new cluster ≡ entry_in old cluster
+
+-- a cluster that counts, and that nothing names
+pub record IsSpare (file : List ℕ) (cluster : ℕ) : Type 0 where
+  pub unnamed : uses file (header_of file) cluster ≡ 0
+  pub counted : refcount_of file (header_of file) cluster ≢ 0
+
+-- Which clusters are taken, and when there is room.
+
+-- a guest cluster has no L2 table, so that one is taken for it
+abbrev pub needs_table : Known → ℕ → Bool
+needs_table image cluster = table_of image.tables cluster == 0
+
+-- The host cluster that a put writes into where there is one: that of an entry which reads as zeros. No guest
+-- byte lies there.
+abbrev pub idle_host : L2Entry → ℕ
+idle_host Unallocated = 0
+idle_host (Zero host) = host
+idle_host (Host host) = 0
+idle_host Compressed = 0
+idle_host Reserved = 0
+
+-- a put takes a cluster for the data
+abbrev pub needs_host : Known → ℕ → Bool
+needs_host image cluster = idle_host (entry_in image cluster) == 0
+
+-- where the k-th cluster from now will be taken
+abbrev pub taken_at : Known → ℕ → ℕ
+taken_at image k = free_cluster image.refs k * cluster_size_in image
+
+-- the offset for the new L2 table, 0 where none is needed
+abbrev pub table_for : Known → ℕ → ℕ
+table_for image cluster = if needs_table image cluster then taken_at image 0 else 0
+
+-- the offset that a put writes the data to
+abbrev pub host_for : Known → ℕ → ℕ
+host_for image cluster =
+    if needs_host image cluster then taken_at image (if needs_table image cluster then 1 else 0)
+    else idle_host (entry_in image cluster)
+
+-- the k-th cluster from now is below the reach, and what is written to take it ends within a capacity
+pub record CanTake (image : Known) (k capacity : ℕ) : Type 0 where
+  pub below : free_cluster image.refs k < length image.refs.counts
+  pub fits : end_of_allocation image.refs (free_cluster image.refs k) ≤ capacity
+
+-- the end of the autoclear field, where that is written
+abbrev pub autoclear_end : Known → ℕ
+autoclear_end image = if image.header.autoclear == 0 then 0 else 96
+
+-- a zero write of a whole cluster has room: what it takes can be taken, and each of its writes ends within the capacity
+pub record ZeroFits (image : Known) (cluster capacity : ℕ) : Type 0 where
+  pub header : autoclear_end image ≤ capacity
+  pub table : needs_table image cluster ≡ true → CanTake image 0 capacity
+  pub entry : link_end image.tables cluster (table_for image cluster) ≤ capacity
+
+-- a put of a cluster has room
+pub record PutFits (image : Known) (cluster capacity : ℕ) : Type 0 where
+  pub entry : ZeroFits image cluster capacity
+  pub host : needs_host image cluster ≡ true → CanTake image (if needs_table image cluster then 1 else 0) capacity
+  pub data : host_for image cluster + cluster_size_in image ≤ capacity
+
+-- a call of the device failed, whose count rose and is named
+abbrev pub IsFault : ℕ → ℕ → DevStop → Type 0
+IsFault before now (Io count) = Rose before count × (count ≡ now)
+IsFault before now NoSpace = ⊥
+
+-- the same where there may be no room, which has a cause of its own
+abbrev pub HasWriteCause : ℕ → ℕ → DevStop → Type 0
+HasWriteCause before now (Io count) = Rose before count × (count ≡ now)
+HasWriteCause before now NoSpace = ⊤
