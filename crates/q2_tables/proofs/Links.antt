@@ -149,13 +149,10 @@ plain_set words cluster word here below all k in_words = elim (cases_eq k cluste
 pub below_seen : (seen kept : Kept) (cluster : ℕ) → seen ≡ kept → cluster < length kept.words → cluster < length seen.words
 below_seen seen kept cluster same below = let P : Kept → Type 0 = λ k. cluster < length k.words in subst P (sym same) below
 
--- where the L2 entry of a cluster stands, by the L1 entry that was read
-pub entry_place : (seen kept : Kept) (cluster word offset : ℕ) → seen ≡ kept → cluster < length kept.words → length seen.words ≡ length seen.l1 * entries_in_cluster seen.c
-    → word ≡ get_or seen.l1 (cluster / entries_in_cluster seen.c) word → offset ≡ host_offset word
-    → offset + 8 * (cluster % entries_in_cluster seen.c) ≡ entry_at seen cluster 0
-entry_place seen kept cluster word offset same below count is named =
+-- the L1 entry of a cluster that was read
+pub table_read : (seen : Kept) (cluster word : ℕ) → cluster < length seen.words → length seen.words ≡ length seen.l1 * entries_in_cluster seen.c
+    → word ≡ get_or seen.l1 (cluster / entries_in_cluster seen.c) word → host_offset word ≡ table_of seen cluster
+table_read seen cluster word below count is =
     let e : ℕ = entries_in_cluster seen.c in
-    let row : cluster / e < length seen.l1 =
-    row_of cluster e (length seen.l1) (length seen.l1) (subst (λ (m : ℕ). cluster < m) count (below_seen seen kept cluster same below)) refl in
-    let read : word ≡ get_or seen.l1 (cluster / e) 0 = is ∙ get_or_default_zero seen.l1 (cluster / e) word row in
-    ap (λ (o : ℕ). o + 8 * (cluster % e)) (named ∙ ap host_offset read)
+    let row : cluster / e < length seen.l1 = row_of cluster e (length seen.l1) (length seen.l1) (subst (λ (m : ℕ). cluster < m) count below) refl in
+    ap host_offset (is ∙ get_or_default_zero seen.l1 (cluster / e) word row)

@@ -1,5 +1,5 @@
 //! The tables in memory.
-ghost use Rattle.std.specs.Prelude.{◌≡◌, ◌≢◌, ◌%◌, ◌^◌, ◌<◌, ◌≤◌, max, ℕ, List, length, slice_index, true, false, Some, OnOk, OnErr, IfErr, is_ok, option_map, if◌then◌else◌};
+ghost use Rattle.std.specs.Prelude.{◌≡◌, ◌≢◌, ◌↔◌, ◌%◌, ◌^◌, ◌<◌, ◌≤◌, max, ℕ, List, length, slice_index, true, false, Some, OnOk, OnErr, IfErr, IsTrue, is_ok, option_map, if◌then◌else◌};
 ghost use Rattle.q2_format.specs.Entry.{l2_entry, l2_spelling, IsWritable, CanBeSingle};
 ghost use Rattle.q2_format.specs.Tables.{tree_at};
 ghost use Rattle.q2_tables.specs.Entries.{entry_of};
@@ -81,6 +81,31 @@ impl Tables {
         self.words.as_slice()
     }
 
+    /// The offset of a guest cluster's L2 table, 0 where it has none.
+    #[tactic(auto, using(crate::proofs::Links::table_read))]
+    pub fn table_of(&self, cluster: u64) -> u64
+        requires { cluster < length self.now.words }
+        ensures table { result ≡ table_of self.now cluster }
+        ensures small { result < 2 ^ 56 }
+    {
+        let entries = self.cluster_size / 8;
+        offset_in(self.l1[(cluster / entries) as usize])
+    }
+
+    /// Whether all that `link` writes for a guest cluster ends within a capacity.
+    pub fn link_fits(&self, cluster: u64, table: u64, capacity: u64) -> bool
+        requires { CanLink self.now cluster table }
+        ensures { IsTrue result ↔ (link_end self.now cluster table ≤ capacity) }
+    {
+        let entries = self.cluster_size / 8;
+        if table == 0 {
+            self.table_of(cluster) + 8 * (cluster % entries) + 8 <= capacity
+        } else {
+            let entry = self.l1_offset + 8 * (cluster / entries);
+            table + self.cluster_size <= capacity && entry + 8 <= capacity
+        }
+    }
+
     /// Writes the L2 entry of a guest cluster that has an L2 table.
     fn link_entry<D: Device>(&mut self, dev: &mut D, cluster: u64, word: u64) -> Result<(), DevStop>
         requires can { CanLink self.old cluster 0 }
@@ -99,7 +124,7 @@ impl Tables {
         ensures bound { D.size dev.new ≤ max (D.size dev.old) (link_end self.old cluster 0) }
     {
         let entries = self.cluster_size / 8;
-        let table = offset_in(self.l1[(cluster / entries) as usize]);
+        let table = self.table_of(cluster);
         write_entry(dev, table + 8 * (cluster % entries), word)?;
         self.words[cluster as usize] = word;
         Ok(())
