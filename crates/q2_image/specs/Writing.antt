@@ -95,7 +95,7 @@ pub record ZeroFits (image : Known) (cluster capacity : ℕ) : Type 0 where
 pub record PutFits (image : Known) (cluster capacity : ℕ) : Type 0 where
   pub entry : ZeroFits image cluster capacity
   pub host : needs_host image cluster ≡ true → CanTake image (if needs_table image cluster then 1 else 0) capacity
-  pub data : host_for image cluster + cluster_size_in image ≤ capacity
+  pub payload : host_for image cluster + cluster_size_in image ≤ capacity
 
 -- a call of the device failed, whose count rose and is named
 abbrev pub IsFault : ℕ → ℕ → DevStop → Type 0
