@@ -1,5 +1,5 @@
 -- Writing an image: what changes of its disk, and when there is room for it.
-use Rattle.std.specs.Prelude.{◌≡◌, ◌≢◌, ◌⊎◌, ℕ, ◌+◌, ◌*◌, ◌<◌, ◌≤◌, ◌==◌, Bool, true, if◌then◌else◌, ⊤, ⊥, List, [], length, slice_index, Option, Some}
+use Rattle.std.specs.Prelude.{◌≡◌, ◌≢◌, ◌⊎◌, ℕ, ◌+◌, ◌*◌, ◌<◌, ◌≤◌, ◌==◌, Bool, true, if◌then◌else◌, ⊤, List, [], length, slice_index, Option, Some}
 use Rattle.blk_base.specs.Counts.{Rose}
 use Rattle.blk_base.specs.declared.fault.DevStop.{DevStop}
 use Rattle.blk_base.specs.declared.fault.DevStop.TheVariants.{Io, NoSpace}
