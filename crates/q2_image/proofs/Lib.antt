@@ -9,3 +9,5 @@ pub mod Opened
 pub mod Whole
 pub mod Mapped
 pub mod DataWrites
+pub mod HostUses
+pub mod DiskKept

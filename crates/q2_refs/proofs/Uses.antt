@@ -11,7 +11,7 @@ use Rattle.q2_format.specs.declared.header.Header.{Header}
 
 -- Counts of words that pass a test.
 
-count_some : (p : ℕ → Bool) (words : List ℕ) (i : ℕ) → i < length words → p (get_or words i 0) ≡ true → 1 ≤ count_by p words
+pub count_some : (p : ℕ → Bool) (words : List ℕ) (i : ℕ) → i < length words → p (get_or words i 0) ≡ true → 1 ≤ count_by p words
 count_some p [] i below passes = absurd (omega arith)
 count_some p (word ∷ words) zero below passes =
     let split = sum_by-cons (λ w. cond (p w) 1 0) word words in

@@ -15,14 +15,14 @@ use Rattle.q2_tables.specs.Kept.{Kept}
 use Rattle.q2_tables.specs.Linking.{Apart, IsFreeBut, LieBesideL1}
 
 -- an offset names its cluster
-names_own : (c offset : ℕ) → offset ≢ 0 → names_cluster c (offset / c) offset ≡ true
+pub names_own : (c offset : ℕ) → offset ≢ 0 → names_cluster c (offset / c) offset ≡ true
 names_own c offset some =
     let named = ne_eqb offset 0 some in
     let same = eq-eqb (offset / c) (offset / c) refl in
     rw (named, same) refl
 
 -- two places of a list that pass count twice
-count_two : (p : ℕ → Bool) (xs : List ℕ) (i j : ℕ) → p 0 ≡ false → i < length xs → j < length xs → i ≢ j → p (get_or xs i 0) ≡ true → p (get_or xs j 0) ≡ true → 2 ≤ count_by p xs
+pub count_two : (p : ℕ → Bool) (xs : List ℕ) (i j : ℕ) → p 0 ≡ false → i < length xs → j < length xs → i ≢ j → p (get_or xs i 0) ≡ true → p (get_or xs j 0) ≡ true → 2 ≤ count_by p xs
 count_two p xs i j none below_i below_j apart at_i at_j =
     let f : ℕ → ℕ = λ w. cond (p w) 1 0 in
     let cleared = sum_by-set (λ w. cond (p w) 1 0) xs i 0 0 below_i in
