@@ -65,7 +65,7 @@ offset_tells file h len offset placed some = (
 )
 
 -- a refcount table in its place has a cluster
-some_cluster : (h : Header) (len : ℕ) → bad_refcount_table h len ≡ None → 1 ≤ h.ref_clusters
+pub some_cluster : (h : Header) (len : ℕ) → bad_refcount_table h len ≡ None → 1 ≤ h.ref_clusters
 unfolding bad_refcount_table
 some_cluster h len none =
     let test = refused_where-none (eqb h.ref_clusters 0 || is_misplaced (cluster_size h.cluster_bits) len h.ref_offset) h.ref_offset none in

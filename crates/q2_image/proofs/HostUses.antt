@@ -16,7 +16,7 @@ use Rattle.q2_refs.proofs.Uses.{IsApart, header_uses, table_run, block_uses, l1_
 use Rattle.q2_refs.proofs.Writes.{whole_of}
 use Rattle.q2_tables.proofs.Apart.{count_two}
 use Rattle.q2_tables.proofs.Uses.{tree_uses_of}
-use Rattle.q2_image.specs.Image.{Known, IsImageOf, cluster_size_in, entry_in}
+use Rattle.q2_image.specs.Image.{Known, IsImageOf, IsOpen, cluster_size_in, entry_in}
 use Rattle.q2_image.proofs.DataWrites.{HoldsNoTable}
 
 -- An entry's own offset.
@@ -148,3 +148,25 @@ module _ (file : List ℕ) (image : Known) (is : IsImageOf file image) where
       let placed = host_placed c (length file) (active_tree file h) nothing.hosts q inside in
       let here = rw (← word) at placed in
       whole_of c (length file) (own q) here
+
+-- The same of an entry that maps its guest cluster, in numbers.
+pub record IsHeld (file : List ℕ) (image : Known) (q host : ℕ) : Type 0 where
+  pub own : own_offset (get_or image.tables.words q 0) ≡ host
+  pub some : host ≢ 0
+  pub whole : host % 65536 ≡ 0
+  pub holds : HoldsBytes file image.header (host / 65536)
+
+size_in : (image : Known) → IsOpen image → cluster_size_in image ≡ 65536
+size_in image ready = let bits = ready.cluster_bits in rw bits refl
+
+pub held_by : (file : List ℕ) (image : Known) → IsImageOf file image → IsOpen image → (q host : ℕ) → q < length image.tables.words
+    → own_offset (get_or image.tables.words q 0) ≡ host → host ≢ 0 → IsHeld file image q host
+held_by file image is ready q host below own some =
+    let size = size_in image ready in
+    let aligned = own_aligned file image is q below in
+    record {
+      own = own;
+      some = some;
+      whole = rw (own, size) at aligned;
+      holds = holds_bytes file image is q (host / 65536) below (λ none. some (sym own ∙ none)) (ap (λ (n : ℕ). n / cluster_size_in image) own ∙ ap (λ (n : ℕ). host / n) size);
+    }

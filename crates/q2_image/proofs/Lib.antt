@@ -11,3 +11,4 @@ pub mod Mapped
 pub mod DataWrites
 pub mod HostUses
 pub mod DiskKept
+pub mod Taken

@@ -1,27 +1,30 @@
 -- The first refusal of an image, by its stages.
-use Rattle.std.proofs.Common.{◌≡◌, ℕ, ◌%◌, ◌<◌, ◌≤◌, Bool, true, false, not, ◌&&◌, ◌||◌, eqb, ltb, List, [], ◌∷◌, ◌++◌, length, get_or, Option, Some, None, IfSome, refl, sym, ap, subst, ◌∙◌, arith, eq-eqb, lt-ltb}
+use Rattle.std.proofs.Common.{◌≡◌, ℕ, ◌%◌, ◌*◌, ◌<◌, ◌≤◌, ◌≢◌, Bool, true, false, not, ◌&&◌, ◌||◌, eqb, ltb, List, [], ◌∷◌, ◌++◌, length, take, get_or, max, Option, Some, None, IfSome, refl, sym, ap, subst, ◌∙◌, arith, eq-eqb, lt-ltb}
 use Rattle.std.specs.Option.{option_map}
 use Rattle.std.proofs.lemmas.Bool.Decides.{nat_tests}
-use Rattle.q2_format.specs.Sizes.{cluster_size, l1_entries_for}
+use Rattle.std.proofs.lemmas.Grind.{div_ceil_times}
+use Rattle.std.proofs.lemmas.List.{get_or-take, length-take}
+use Rattle.q2_format.specs.Sizes.{cluster_size, l1_entries_for, block_entries}
 use Rattle.q2_format.specs.Entry.{host_offset, block_offset}
 use Rattle.q2_format.specs.Header.{first, refused_where, header_of, IsWithinLimits}
 use Rattle.q2_format.specs.Tables.{active_tree, refcount_table, refcount_of}
-use Rattle.q2_format.specs.References.{uses, structure_uses, cluster_bound, own_offset}
+use Rattle.q2_format.specs.References.{uses, structure_uses, cluster_bound, reach_of, own_offset}
 use Rattle.q2_format.specs.Sound.{Refusal, IsSound, image_refusal, table_refusals, overlap, uncounted, lowest, is_header_full, is_misplaced, bad_refcount_table, bad_l1_table, bad_block, bad_l2_table, bad_host, reserved_in_l1, reserved_in_l2, reserved_in_refcount_table, compressed_cluster}
 use Rattle.q2_format.specs.Sound as sound
 use Rattle.q2_format.specs.declared.header.Header.{Header}
-use Rattle.q2_format.proofs.Firsts.{lowest_alike, refused_where-none}
+use Rattle.q2_format.proofs.Firsts.{lowest_alike, lowest-none, first-none, option_map-none, refused_where-none}
 use Rattle.q2_refs.specs.Kept.{IsCountsOf, AreWholeClusters, BeginBelow}
 use Rattle.q2_refs.specs.Kept as refs
+use Rattle.q2_refs.specs.Loading.{table_entries}
 use Rattle.q2_tables.specs.Kept.{IsTreeOf}
 use Rattle.q2_tables.specs.Kept as tables
 use Rattle.q2_tables.specs.Loading.{IsLoaded}
 use Rattle.q2_tables.proofs.Uses.{tree_uses_of}
 use Rattle.q2_image.specs.declared.stop.ImageStop.{ImageStop}
-use Rattle.q2_image.specs.Opening.{Names, refusal_of, header_stops, place_stops, names_stops, uses_in, ArePlaced}
-use Rattle.q2_image.specs.Loading.{table_stops, HasCounts}
+use Rattle.q2_image.specs.Opening.{Names, refusal_of, header_stops, place_stops, names_stops, overlap_stop, uncounted_stop, uses_in, ArePlaced}
+use Rattle.q2_image.specs.Loading.{table_stops, HasCounts, counts_loaded}
 use Rattle.q2_image.specs.Image.{IsOpen}
-use Rattle.q2_image.proofs.Counted.{both_placed}
+use Rattle.q2_image.proofs.Counted.{both_placed, some_cluster}
 
 -- one refusal, or the next
 abbrev pub or_else : Option Refusal → Option Refusal → Option Refusal
@@ -184,13 +187,71 @@ are_placed h len n r t places counts loaded =
 enough : (n m : ℕ) → ltb n m ≡ false → m ≤ n
 enough n m h = grind (arith, nat_tests)
 
+-- the header's cluster is named, so it counts
+first_named : (uses count : ℕ) → 1 ≤ uses → (not (eqb uses 0) && eqb count 0) ≡ false → count ≢ 0
+first_named uses count some test = grind (arith, nat_tests)
+
+header_use : (h : Header) (table l1 words : List ℕ) → 1 ≤ uses_in h table l1 words 0
+unfolding structure_uses
+header_use h table l1 words = omega arith
+
+first_counts : (h : Header) (len : ℕ) (r : refs.Kept) (t : tables.Kept) → IsWithinLimits h len
+    → names_stops h (uses_in h r.table t.l1 t.words) r.counts (cluster_bound h len) ≡ None → get_or r.counts 0 0 ≢ 0
+first_counts h len r t limits none =
+    let u : ℕ → ℕ = uses_in h r.table t.l1 t.words in
+    let n : ℕ = cluster_bound h len in
+    let each = first-none (overlap_stop u n ∷ uncounted_stop u r.counts n ∷ refused_where (is_header_full h) sound.HeaderFull ∷ []) none in
+    let nowhere = option_map-none sound.Refcount (lowest (λ k. not (eqb (u k) 0) && eqb (get_or r.counts k 0) 0) n) each.1.0 in
+    let bits = limits.cluster_bits in
+    let whole = limits.header_whole in
+    let in_file = limits.header_in_file in
+    let some : 0 < n = rw bits (omega arith) in
+    first_named (u 0) (get_or r.counts 0 0) (header_use h r.table t.l1 t.words) (lowest-none (λ k. not (eqb (u k) 0) && eqb (get_or r.counts k 0) 0) n nowhere 0 some)
+
+-- the file's clusters lie below the reach
+file_below : (h : Header) (len : ℕ) → IsWithinLimits h len → 1 ≤ h.ref_clusters → len ≤ reach_of h len * 65536
+file_below h len limits some =
+    let bits = limits.cluster_bits in
+    let order = limits.refcount_order in
+    let files = rw bits at limits.file_clusters in
+    let enough = div_ceil_times len 65536 (omega arith) in
+    rw (bits, order) (omega (arith, enough.0, files))
+
+below_of : (c len offset : ℕ) → is_misplaced c len offset ≡ false → offset < len
+below_of c len offset placed = let second = second_false (not (eqb (offset % c) 0)) (not (ltb offset len)) placed in grind (arith, nat_tests)
+
+below_reach : (own len n m bits : ℕ) → own < len → len ≤ n * 65536 → m ≡ n → bits ≡ 16 → own < m * cluster_size bits
+below_reach own len n m bits below within same is = rw (same, is) (omega arith)
+
+table_is : (h : Header) → {len : ℕ} → IsWithinLimits h len → table_entries h ≡ h.ref_clusters * 8192
+table_is h limits = let bits = limits.cluster_bits in rw bits refl
+
+reach_covered : (h : Header) (len : ℕ) → IsWithinLimits h len → reach_of h len ≤ h.ref_clusters * 8192 * 32768
+reach_covered h len limits =
+    let bits = limits.cluster_bits in
+    let order = limits.refcount_order in
+    rw (bits, order) (omega arith)
+
+covered_by : (n m clusters table bits order : ℕ) → m ≡ n → table ≡ clusters * 8192 → bits ≡ 16 → order ≡ 4 → n ≤ clusters * 8192 * 32768 → m ≤ table * block_entries (cluster_size bits) order
+covered_by n m clusters table bits order same is b o h = rw (same, is, b, o) h
+
 pub is_open : (h : Header) (len : ℕ) (r : refs.Kept) (t : tables.Kept) → IsWithinLimits h len → place_stops h len ≡ None → IsLoaded h len t
-    → IsOpen (record { header = h; tables = t; refs = r })
-is_open h len r t limits places loaded =
+    → HasCounts h len (counts_loaded h len) r → names_stops h (uses_in h r.table t.l1 t.words) r.counts (cluster_bound h len) ≡ None
+    → IsOpen (record { header = h; tables = t; refs = record r { counts = take (reach_of h len) r.counts } })
+is_open h len r t limits places loaded counts names =
     let l1 = enough h.l1_size (l1_entries_for (cluster_size h.cluster_bits) h.size) (l1_placed h len (both_placed h len places).1).0 in
     let size = loaded.l1_size in
     let entries = loaded.entries in
     let c = loaded.c in
+    let n : ℕ = reach_of h len in
+    let all : length r.counts ≡ max (cluster_bound h len) n = counts.reach in
+    let cut = length-take n r.counts in
+    let kept : length (take n r.counts) ≡ n = omega (arith, cut, all) in
+    let bits = limits.cluster_bits in
+    let order = limits.refcount_order in
+    let small : n ≤ 8388608 = omega arith in
+    let some : 0 < n = let one = some_cluster h len (both_placed h len places).0 in rw (bits, order) (omega (arith, one)) in
+    let file = file_below h len limits (some_cluster h len (both_placed h len places).0) in
     record {
       cluster_bits = limits.cluster_bits;
       tables_size = c;
@@ -198,4 +259,15 @@ is_open h len r t limits places loaded =
       l1 = omega arith;
       words = rw c at entries;
       plain = loaded.plain;
+      l1_place = loaded.l1_offset;
+      l1_size = loaded.l1_size;
+      hosts = λ k below. below_reach (own_offset (get_or t.words k 0)) len n (length (take n r.counts)) h.cluster_bits (below_of t.c len (own_offset (get_or t.words k 0)) (loaded.hosts k below)) file kept bits;
+      reach = omega (arith, kept, small);
+      refcounts = record {
+        cluster_bits = counts.shape.cluster_bits ∙ bits;
+        refcount_order = counts.shape.refcount_order ∙ order;
+        covered = covered_by n (length (take n r.counts)) h.ref_clusters (length r.table) r.cluster_bits r.refcount_order kept (counts.table ∙ table_is h limits)
+            (counts.shape.cluster_bits ∙ bits) (counts.shape.refcount_order ∙ order) (reach_covered h len limits);
+      };
+      first = λ none. first_counts h len r t limits names (sym (get_or-take n r.counts 0 0 some) ∙ none);
     }

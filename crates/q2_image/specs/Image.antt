@@ -1,16 +1,17 @@
 -- An image that is open, and the file that it is the image of.
-use Rattle.std.specs.Prelude.{◌≡◌, ℕ, ◌*◌, ◌<◌, ◌≤◌, true, List, length, slice_index}
+use Rattle.std.specs.Prelude.{◌≡◌, ◌≢◌, ℕ, ◌*◌, ◌<◌, ◌≤◌, true, List, length, slice_index}
 use Rattle.q2_format.specs.Sizes.{cluster_size, clusters_for, entries_in_cluster, l1_entries_for}
 use Rattle.q2_format.specs.Entry.{l2_entry}
+use Rattle.q2_format.specs.References.{own_offset}
 use Rattle.q2_format.specs.Header.{header_of}
 use Rattle.q2_format.specs.Tables.{active_tree}
 use Rattle.q2_format.specs.Sound.{IsSound}
 use Rattle.q2_format.specs.declared.header.Header.{Header}
-use Rattle.q2_format.specs.declared.header.TheConstants.{MAX_DISK_SIZE}
+use Rattle.q2_format.specs.declared.header.TheConstants.{MAX_DISK_SIZE, MAX_FILE_CLUSTERS}
 use Rattle.q2_format.specs.declared.entries.L2Entry.{L2Entry}
 use Rattle.q2_tables.specs.Kept.{IsTreeOf, is_plain}
 use Rattle.q2_tables.specs.Kept as tables
-use Rattle.q2_refs.specs.Kept.{IsCountsOf}
+use Rattle.q2_refs.specs.Kept.{IsCountsOf, per_block}
 use Rattle.q2_refs.specs.Kept as refs
 
 -- what is known of an image: its header, and its tables and refcounts as they are kept
@@ -37,7 +38,14 @@ pub record IsImageOf (file : List ℕ) (image : Known) : Type 0 where
 abbrev pub entry_in : Known → ℕ → L2Entry
 entry_in image cluster = l2_entry (slice_index image.tables.words cluster)
 
--- what holds of every image that is open, whether or not its device tells its bytes: each guest cluster has an entry
+-- refcounts in the shape that is supported: the table has an entry for each
+pub record HasRoom (kept : refs.Kept) : Type 0 where
+  pub cluster_bits : kept.cluster_bits ≡ 16
+  pub refcount_order : kept.refcount_order ≡ 4
+  pub covered : length kept.counts ≤ length kept.table * per_block kept
+
+-- What holds of every image that is open, whether or not its device tells its bytes: each guest cluster has an
+-- entry, and all sums of offsets fit.
 pub record IsOpen (image : Known) : Type 0 where
   pub cluster_bits : image.header.cluster_bits ≡ 16
   pub tables_size : image.tables.c ≡ cluster_size_in image
@@ -45,3 +53,12 @@ pub record IsOpen (image : Known) : Type 0 where
   pub l1 : l1_entries_for (cluster_size_in image) image.header.size ≤ length image.tables.l1
   pub words : length image.tables.words ≡ length image.tables.l1 * entries_in_cluster (cluster_size_in image)
   pub plain : (cluster : ℕ) → cluster < length image.tables.words → is_plain (slice_index image.tables.words cluster) ≡ true
+  pub l1_place : image.tables.l1_offset ≡ image.header.l1_offset
+  pub l1_size : length image.tables.l1 ≡ image.header.l1_size
+  -- each entry names a cluster below the reach
+  pub hosts : (cluster : ℕ) → cluster < length image.tables.words
+      → own_offset (slice_index image.tables.words cluster) < length image.refs.counts * cluster_size_in image
+  pub reach : length image.refs.counts ≤ MAX_FILE_CLUSTERS
+  pub refcounts : HasRoom image.refs
+  -- the header's cluster counts
+  pub first : slice_index image.refs.counts 0 ≢ 0

@@ -1,0 +1,158 @@
+-- An image after a cluster was taken.
+use Rattle.std.proofs.Common.{◌≡◌, ◌≢◌, ℕ, ◌+◌, ◌*◌, ◌/◌, ◌%◌, ◌<◌, ◌≤◌, ◌⊎◌, inl, inr, eqb, List, [], ◌∷◌, length, get_or, slice_index, slice_set, Option, Some, None, is_some, refl, sym, ap, subst, ◌∙◌, arith, eq-eqb}
+use Rattle.std.proofs.Math.ListN.{length-set}
+use Rattle.std.proofs.lemmas.Bool.{cases_eq, ne_eqb}
+use Rattle.std.proofs.lemmas.List.{get_or-set_same, get_or-set_other, get_or_past}
+use Rattle.std.proofs.lemmas.Bool.{cases_lt}
+use Rattle.q2_format.specs.Entry.{block_offset}
+use Rattle.q2_format.specs.Header.{header_of}
+use Rattle.q2_format.specs.References.{uses}
+use Rattle.q2_format.specs.Sizes.{cluster_size}
+use Rattle.q2_format.specs.Tables.{Tree, active_tree, refcount_of}
+use Rattle.q2_format.specs.declared.header.Header.{Header}
+use Rattle.q2_format.specs.declared.entries.L2Entry.TheVariants.{Host}
+use Rattle.q2_refs.specs.Allocating.{IsInStep, KeepsCounted, with_one, with_block, with_block_for, place_of_block, refcount_uses}
+use Rattle.q2_refs.specs.Free.{free_cluster, free_clusters}
+use Rattle.q2_refs.specs.Kept.{IsCountsOf, per_block}
+use Rattle.q2_refs.specs.Kept as refs
+use Rattle.q2_refs.proofs.Uses.{table_run, block_uses}
+use Rattle.q2_tables.specs.Kept.{IsTreeOf}
+use Rattle.q2_image.specs.Image.{Known, IsImageOf, IsOpen, HasRoom, cluster_size_in, entry_in}
+use Rattle.q2_image.specs.Writing.{IsSameDisk, IsSpare}
+use Rattle.q2_image.proofs.DataWrites.{HoldsNoTable}
+use Rattle.q2_image.proofs.HostUses.{host_entry, held_by}
+use Rattle.q2_image.proofs.DiskKept.{AreImages, HostStays, same_disk}
+
+-- the refcounts after the next cluster was taken
+abbrev pub after_take : refs.Kept → refs.Kept
+after_take r = with_one (with_block_for r (free_cluster r 0)) (free_cluster r 0)
+
+-- What is known stays so.
+
+first_set : (xs : List ℕ) (n : ℕ) → get_or xs 0 0 ≢ 0 → get_or (slice_set xs n 1) 0 0 ≢ 0
+first_set xs n some = elim (cases_eq n 0) [
+  | inl here ↦
+      let long : 0 < length xs = elim (cases_lt 0 (length xs)) [ inl h ↦ h | inr past ↦ absurd (some (get_or_past xs 0 0 past)) ] in
+      λ none. let one = ap (λ (m : ℕ). get_or (slice_set xs m 1) 0 0) here ∙ get_or-set_same xs 0 1 0 long in absurd (omega (arith, one, none))
+  | inr other ↦ λ none. some (sym (get_or-set_other xs n 0 1 0 (λ e. other (sym e))) ∙ none)
+]
+
+-- refcounts of the same shape, of which the first is above 0
+pub record StaysReady (old new : refs.Kept) : Type 0 where
+  pub cluster_bits : new.cluster_bits ≡ old.cluster_bits
+  pub refcount_order : new.refcount_order ≡ old.refcount_order
+  pub table : length new.table ≡ length old.table
+  pub reach : length new.counts ≡ length old.counts
+  pub first : get_or old.counts 0 0 ≢ 0 → get_or new.counts 0 0 ≢ 0
+
+ready_block : (r : refs.Kept) (i : ℕ) → StaysReady r (with_block r i)
+ready_block r i = record {
+  cluster_bits = refl;
+  refcount_order = refl;
+  table = length-set {A = ℕ} r.table i (place_of_block r i * cluster_size r.cluster_bits);
+  reach = length-set {A = ℕ} r.counts (place_of_block r i) 1;
+  first = first_set r.counts (place_of_block r i);
+}
+
+ready_same : (r : refs.Kept) → StaysReady r r
+ready_same r = record { cluster_bits = refl; refcount_order = refl; table = refl; reach = refl; first = λ some. some }
+
+pub ready_block_for : (r : refs.Kept) (n : ℕ) → StaysReady r (with_block_for r n)
+ready_block_for r n =
+    let i : ℕ = n / per_block r in
+    let P : refs.Kept → Type 0 = StaysReady r in
+    elim (cases_eq (block_offset (slice_index r.table i)) 0) [
+      | inl absent ↦
+          let test = eq-eqb (block_offset (slice_index r.table i)) 0 absent in
+          let put : with_block_for r n ≡ with_block r i = rw test refl in
+          subst P (sym put) (ready_block r i)
+      | inr there ↦
+          let test = ne_eqb (block_offset (slice_index r.table i)) 0 there in
+          let same : with_block_for r n ≡ r = rw test refl in
+          subst P (sym same) (ready_same r)
+    ]
+
+pub ready_taken : (r : refs.Kept) (n : ℕ) → StaysReady r (with_one (with_block_for r n) n)
+ready_taken r n =
+    let block = ready_block_for r n in
+    record {
+      cluster_bits = block.cluster_bits;
+      refcount_order = block.refcount_order;
+      table = block.table;
+      reach = length-set {A = ℕ} (with_block_for r n).counts n 1 ∙ block.reach;
+      first = λ some. first_set (with_block_for r n).counts n (block.first some);
+    }
+
+pub open_with_refs : (image : Known) (r : refs.Kept) → IsOpen image → StaysReady image.refs r → IsOpen (record image { refs = r })
+open_with_refs image r ready stays =
+    let same = stays.reach in
+    let bits = stays.cluster_bits in
+    let order = stays.refcount_order in
+    let table = stays.table in
+    record {
+      cluster_bits = ready.cluster_bits;
+      tables_size = ready.tables_size;
+      disk = ready.disk;
+      l1 = ready.l1;
+      words = ready.words;
+      plain = ready.plain;
+      l1_place = ready.l1_place;
+      l1_size = ready.l1_size;
+      hosts = λ q below. rw same (ready.hosts q below);
+      reach = rw same ready.reach;
+      refcounts = record {
+        cluster_bits = bits ∙ ready.refcounts.cluster_bits;
+        refcount_order = order ∙ ready.refcounts.refcount_order;
+        covered = rw (same, table, bits, order) ready.refcounts.covered;
+      };
+      first = stays.first ready.first;
+    }
+
+-- The file.
+
+pub told_too : (old new : Option (List ℕ)) (file : List ℕ) → is_some new ≡ is_some old → new ≡ Some file → (before : List ℕ) × (old ≡ Some before)
+told_too None new file same told = absurd (cc)
+told_too (Some before) new file same told = (before, refl)
+
+pub step_of : (file : List ℕ) (image : Known) → IsImageOf file image → IsInStep file image.refs
+step_of file image is =
+    let P : Header → Type 0 = λ h. IsCountsOf file h image.refs in
+    record { sound = is.sound; counts = subst P (sym is.header) is.refs }
+
+module _ (old new : List ℕ) (image : Known) (r : refs.Kept) (is : IsImageOf old image) (keeps : KeepsCounted old new (header_of old)) (step : IsInStep new r) where
+  pub image_taken : IsImageOf new (record image { refs = r })
+  image_taken =
+      let P : Header → Type 0 = λ h. IsCountsOf new h r in
+      let T : Tree → Type 0 = λ tree. IsTreeOf (cluster_size_in image) image.tables tree in
+      let same_tree : active_tree new image.header ≡ active_tree old image.header = ap (active_tree new) (sym is.header) ∙ keeps.tree ∙ ap (active_tree old) is.header in
+      record {
+        sound = step.sound;
+        header = keeps.header ∙ is.header;
+        tables = subst T (sym same_tree) is.tables;
+        refs = subst P (keeps.header ∙ is.header) step.counts;
+      }
+
+  pub spare_stays : (n : ℕ) → IsSpare old n → IsSpare new n
+  spare_stays n spare = record {
+    unnamed = ap (λ (h : Header). uses new h n) keeps.header ∙ keeps.uses_stay n spare.counted ∙ spare.unnamed;
+    counted = λ none. spare.counted (sym (keeps.refcounts_stay n spare.counted) ∙ ap (λ (h : Header). refcount_of new h n) (sym keeps.header) ∙ none);
+  }
+
+  -- what an entry names stays
+  hosts_stay : IsOpen image → (q : ℕ) → q < length image.tables.words → HostStays old new (entry_in image q)
+  hosts_stay ready q below = λ host i entry inside.
+      let own = host_entry (get_or image.tables.words q 0) host entry in
+      let held = held_by old image is ready q host below own.0 own.1 in
+      let h : Header = header_of old in
+      let size : cluster_size h.cluster_bits ≡ 65536 = let b = ap (λ (x : Header). x.cluster_bits) is.header ∙ ready.cluster_bits in rw b refl in
+      let whole = held.whole in
+      let place : (host + i) / 65536 ≡ host / 65536 = omega (arith, whole, inside) in
+      let k : (host + i) / cluster_size h.cluster_bits ≡ host / 65536 = ap (λ (n : ℕ). (host + i) / n) size ∙ place in
+      let counted : refcount_of old h (host / 65536) ≢ 0 = λ none. held.holds.counted (ap (λ (x : Header). refcount_of old x (host / 65536)) (sym is.header) ∙ none) in
+      let no_refs : refcount_uses old h (host / 65536) ≡ 0 = omega (arith, held.holds.free.table, held.holds.free.blocks) in
+      keeps.bytes (host + i) (λ none. counted (ap (refcount_of old h) (sym k) ∙ none)) (ap (refcount_uses old h) k ∙ no_refs)
+
+  pub disk_taken : IsOpen image → IsOpen (record image { refs = r }) → IsSameDisk old new
+  disk_taken ready after =
+      same_disk old new image (record image { refs = r }) (record { old_image = is; new_image = image_taken; old_open = ready; new_open = after; size = refl })
+      (λ q below. refl) (hosts_stay ready)
