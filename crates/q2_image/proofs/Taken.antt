@@ -23,10 +23,6 @@ use Rattle.q2_image.proofs.DataWrites.{HoldsNoTable}
 use Rattle.q2_image.proofs.HostUses.{host_entry, held_by}
 use Rattle.q2_image.proofs.DiskKept.{AreImages, HostStays, same_disk}
 
--- the refcounts after the next cluster was taken
-abbrev pub after_take : refs.Kept → refs.Kept
-after_take r = with_one (with_block_for r (free_cluster r 0)) (free_cluster r 0)
-
 -- What is known stays so.
 
 first_set : (xs : List ℕ) (n : ℕ) → get_or xs 0 0 ≢ 0 → get_or (slice_set xs n 1) 0 0 ≢ 0

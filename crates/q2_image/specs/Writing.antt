@@ -10,8 +10,9 @@ use Rattle.q2_format.specs.References.{uses}
 use Rattle.q2_format.specs.Tables.{refcount_of}
 use Rattle.q2_format.specs.declared.entries.L2Entry.{L2Entry}
 use Rattle.q2_format.specs.declared.entries.L2Entry.TheVariants.{Unallocated, Zero, Host, Compressed, Reserved}
-use Rattle.q2_refs.specs.Allocating.{end_of_allocation}
+use Rattle.q2_refs.specs.Allocating.{end_of_allocation, with_one, with_block_for}
 use Rattle.q2_refs.specs.Free.{free_cluster}
+use Rattle.q2_refs.specs.Kept as refs
 use Rattle.q2_tables.specs.Linking.{table_of, link_end}
 use Rattle.q2_image.specs.Image.{Known, cluster_size_in, entry_in}
 
@@ -75,6 +76,10 @@ abbrev pub host_for : Known → ℕ → ℕ
 host_for image cluster =
     if needs_host image cluster then taken_at image (if needs_table image cluster then 1 else 0)
     else idle_host (entry_in image cluster)
+
+-- the refcounts after the next cluster was taken
+abbrev pub after_take : refs.Kept → refs.Kept
+after_take r = with_one (with_block_for r (free_cluster r 0)) (free_cluster r 0)
 
 -- the k-th cluster from now is below the reach, and what is written to take it ends within a capacity
 pub record CanTake (image : Known) (k capacity : ℕ) : Type 0 where

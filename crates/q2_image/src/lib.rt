@@ -11,6 +11,7 @@ mod seen;
 mod stop;
 #[cfg(test)]
 mod tests;
+mod writing;
 
 pub use image::Image;
 pub use opening::open_image;

@@ -1,0 +1,52 @@
+//! Writing an image: taking clusters, writing what they hold, and mapping guest clusters to them.
+
+ghost use Rattle.std.specs.Prelude.{◌≡◌, ◌≢◌, ◌↔◌, ◌⊎◌, ◌+◌, ◌*◌, ◌/◌, ◌%◌, ◌<◌, ◌≤◌, ℕ, List, [], length, Some, is_some, IsTrue, true, IfOk, IfErr, OnOk, OnErr};
+ghost use Rattle.blk_base.specs.Counts.{taken};
+ghost use Rattle.q2_format.specs.Bytes.{bytes_at};
+ghost use Rattle.q2_refs.specs.Allocating.{with_block_for};
+ghost use Rattle.q2_refs.specs.Free.{free_cluster};
+ghost use Rattle.q2_image.specs.Image.{IsImageOf, clusters_in, cluster_size_in, entry_in};
+ghost use Rattle.q2_image.specs.Reading.{IsHost, IsWithinCluster};
+ghost use Rattle.q2_image.specs.Writing.{IsDiskWith, IsSameDisk, IsSpare, CanTake, IsFault, taken_at, after_take};
+
+use crate::header::cluster_size;
+use crate::image::Image;
+use blk_base::{DevStop, Device, Span, Stop, WriteStop};
+use q2_refs::RefStop;
+use q2_tables::Mapping;
+
+/// A device's stop, with its count of faults.
+fn stopped<D: Device>(dev: &D, stop: WriteStop) -> DevStop
+{
+    match stop.why {
+        Stop::Failed => DevStop::Io {
+            count: dev.faults(),
+        },
+        Stop::NoSpace => DevStop::NoSpace,
+    }
+}
+
+impl Image {
+    /// Takes the cluster that is next, and gives its offset. It then counts, and nothing names it.
+    fn take_cluster<D: Device>(&mut self, dev: &mut D) -> Result<u64, DevStop>
+        requires can { CanTake self.old 0 (D.capacity dev.old) }
+        requires image { (file : List ℕ) → D.content dev.old ≡ Some file → IsImageOf file self.old }
+        ensures offset { IfOk result (λ offset. offset ≡ taken_at self.old 0) }
+        ensures ok { OnOk result (self.new ≡ record self.old { refs = after_take self.old.refs }) }
+        ensures err { OnErr result ((self.new ≡ self.old) ⊎ (self.new ≡ record self.old { refs = with_block_for self.old.refs (free_cluster self.old.refs 0) })) }
+        ensures spare { IfOk result (λ offset. (file : List ℕ) → D.content dev.new ≡ Some file → IsSpare file (offset / 65536)) }
+        ensures spare_stay { (old new : List ℕ) (n : ℕ) → D.content dev.old ≡ Some old → D.content dev.new ≡ Some new → IsSpare old n → IsSpare new n }
+        ensures image { (file : List ℕ) → D.content dev.new ≡ Some file → IsImageOf file self.new }
+        ensures disk { (old new : List ℕ) → D.content dev.old ≡ Some old → D.content dev.new ≡ Some new → IsSameDisk old new }
+        ensures cause { IfErr result (IsFault (D.faults dev.old) (D.faults dev.new)) }
+        ensures told { is_some (D.content dev.new) ≡ is_some (D.content dev.old) }
+        ensures faults { D.faults dev.old ≤ D.faults dev.new }
+        ensures capacity { D.capacity dev.new ≡ D.capacity dev.old }
+    {
+        match self.refs.allocate(dev) {
+            Ok(cluster) => Ok(cluster * cluster_size(&self.header)),
+            Err(RefStop::Dev(stop)) => Err(stop),
+            Err(RefStop::HostLimit) => unreachable!(),
+        }
+    }
+}
