@@ -276,7 +276,7 @@ module _ (old new : List ℕ) (written : IsWritten old new 88 (replicate 8 0)) (
             rw (cleared_table, test, number) refl
       ]
 
-  cleared_uses : (cluster : ℕ) → uses new h cluster ≡ uses old h cluster
+  pub cleared_uses : (cluster : ℕ) → uses new h cluster ≡ uses old h cluster
   unfolding uses
   cleared_uses cluster = rw (cleared_table, cleared_tree) refl
 
