@@ -10,6 +10,7 @@ pub mod Trees
 pub mod ReadBack
 pub mod Frames
 pub mod HeaderFrames
+pub mod Autoclear
 pub mod CreatedSound
 pub mod TreeFrames
 pub mod Limits

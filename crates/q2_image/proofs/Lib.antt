@@ -3,6 +3,7 @@ pub mod FirstCluster
 pub mod Named
 pub mod Counted
 pub mod Guests
+pub mod Autocleared
 pub mod Merged
 pub mod Order
 pub mod Opened

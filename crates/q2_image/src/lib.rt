@@ -1,6 +1,7 @@
 //! One qcow2 image over its device: opened, read and written.
 #![tactic(auto)]
 
+mod autoclear;
 mod counting;
 mod header;
 mod image;
