@@ -1,5 +1,5 @@
 -- An image after a cluster was taken.
-use Rattle.std.proofs.Common.{◌≡◌, ◌≢◌, ℕ, ◌+◌, ◌*◌, ◌/◌, ◌%◌, ◌<◌, ◌≤◌, ◌⊎◌, inl, inr, eqb, List, [], ◌∷◌, length, get_or, slice_index, slice_set, Option, Some, None, is_some, refl, sym, ap, subst, ◌∙◌, arith, eq-eqb}
+use Rattle.std.proofs.Common.{◌≡◌, ◌≢◌, ℕ, ◌+◌, ◌*◌, ◌/◌, ◌%◌, ◌<◌, ◌≤◌, ◌⊎◌, inl, inr, eqb, List, [], ◌∷◌, length, get_or, slice_index, slice_set, Option, Some, None, is_some, Result, Ok, Err, IfOk, OnErr, refl, sym, ap, subst, ◌∙◌, arith, eq-eqb}
 use Rattle.std.proofs.Math.ListN.{length-set}
 use Rattle.std.proofs.lemmas.Bool.{cases_eq, ne_eqb}
 use Rattle.std.proofs.lemmas.List.{get_or-set_same, get_or-set_other, get_or_past}
@@ -15,6 +15,7 @@ use Rattle.q2_refs.specs.Allocating.{IsInStep, KeepsCounted, with_one, with_bloc
 use Rattle.q2_refs.specs.Free.{free_cluster, free_clusters}
 use Rattle.q2_refs.specs.Kept.{IsCountsOf, per_block}
 use Rattle.q2_refs.specs.Kept as refs
+use Rattle.q2_refs.specs.declared.allocating.RefStop.{RefStop}
 use Rattle.q2_refs.proofs.Uses.{table_run, block_uses}
 use Rattle.q2_tables.specs.Kept.{IsTreeOf}
 use Rattle.q2_image.specs.Image.{Known, IsImageOf, IsOpen, HasRoom, cluster_size_in, entry_in}
@@ -103,6 +104,13 @@ open_with_refs image r ready stays =
       };
       first = stays.first ready.first;
     }
+
+-- whatever the allocation answers
+pub ready_result : (r next : refs.Kept) (result : Result ℕ RefStop) → IfOk result (λ n. next ≡ with_one (with_block_for r n) n)
+    → OnErr result ((next ≡ r) ⊎ (next ≡ with_block_for r (free_cluster r 0))) → StaysReady r next
+ready_result r next (Ok n) ok err = let P : refs.Kept → Type 0 = StaysReady r in subst P (sym ok) (ready_taken r n)
+ready_result r next (Err stop) ok (inl same) = let P : refs.Kept → Type 0 = StaysReady r in subst P (sym same) (ready_same r)
+ready_result r next (Err stop) ok (inr block) = let P : refs.Kept → Type 0 = StaysReady r in subst P (sym block) (ready_block_for r (free_cluster r 0))
 
 -- The file.
 

@@ -1,21 +1,24 @@
-use Rattle.std.proofs.Common.{rules, ◌≡◌, ◌≢◌, ◌↔◌, ◌⊎◌, ◌+◌, ◌*◌, ◌/◌, ◌%◌, ◌<◌, ◌≤◌, ℕ, List, [], length, Some, is_some, IsTrue, true, IfOk, IfErr, OnOk, OnErr, ◌-◌, Bool, false, nat_eq, nat_lt, ◌∷◌, ◌++◌, slice_index_or, slice_set, bit_and, bit_or, Fits, w8, w32, w64, Bor, MutBor}
-use Rattle.blk_base.specs.Counts.{taken}
-use Rattle.q2_format.specs.Bytes.{bytes_at}
-use Rattle.q2_refs.specs.Allocating.{with_block_for}
-use Rattle.q2_refs.specs.Free.{free_cluster}
-use Rattle.q2_image.specs.Image.{IsImageOf, clusters_in, cluster_size_in, entry_in}
-use Rattle.q2_image.specs.Reading.{IsHost, IsWithinCluster}
-use Rattle.q2_image.specs.Writing.{IsDiskWith, IsSameDisk, IsSpare, CanTake, IsFault, taken_at, after_take}
+use Rattle.std.proofs.Common.{◌≡◌, ℕ, List, sym, subst}
+use Rattle.q2_image.specs.Image.{Known, IsImageOf}
+use Rattle.q2_image.proofs.Taken.{told_too, image_taken, spare_stays, disk_taken, open_with_refs, ready_result}
 use Rattle.q2_image.proofs.image.Image.take_cluster.Goals as goal
 
--- src/writing.rt:31:5
 pub returns-clause-spare_stay : goal.returns-clause-spare_stay
-returns-clause-spare_stay g c = ?
+returns-clause-spare_stay g c = λ old new n told_old told_new spare.
+    let seen : Known = record { header = c.self.inside.header; tables = c.self.inside.tables; refs = c.self.inside.refs } in
+    let P : Known → Type 0 = IsImageOf old in
+    spare_stays old new seen c.allocate.new.self (subst P (sym c.self.view_is) (c.requires.image old told_old)) (c.allocate.ensures.keeps old new told_old told_new) (c.allocate.ensures.step new told_new) n spare
 
--- src/writing.rt:31:5
 pub returns-clause-image : goal.returns-clause-image
-returns-clause-image g c = ?
+returns-clause-image g c = λ file told.
+    let seen : Known = record { header = c.self.inside.header; tables = c.self.inside.tables; refs = c.self.inside.refs } in
+    let before = told_too (g.D.Device.content c.args.dev.now) (g.D.Device.content c.allocate.new.dev) file c.allocate.ensures.told told in
+    let P : Known → Type 0 = IsImageOf before.0 in
+    image_taken before.0 file seen c.allocate.new.self (subst P (sym c.self.view_is) (c.requires.image before.0 before.1)) (c.allocate.ensures.keeps before.0 file before.1 told) (c.allocate.ensures.step file told)
 
--- src/writing.rt:31:5
 pub returns-clause-disk : goal.returns-clause-disk
-returns-clause-disk g c = ?
+returns-clause-disk g c = λ old new told_old told_new.
+    let seen : Known = record { header = c.self.inside.header; tables = c.self.inside.tables; refs = c.self.inside.refs } in
+    let P : Known → Type 0 = IsImageOf old in
+    disk_taken old new seen c.allocate.new.self (subst P (sym c.self.view_is) (c.requires.image old told_old)) (c.allocate.ensures.keeps old new told_old told_new) (c.allocate.ensures.step new told_new)
+    c.self.invariant (open_with_refs seen c.allocate.new.self c.self.invariant (ready_result c.self.inside.refs c.allocate.new.self c.allocate.result c.allocate.ensures.kept c.allocate.ensures.partly))
