@@ -156,7 +156,7 @@ pub record IsHeld (file : List ℕ) (image : Known) (q host : ℕ) : Type 0 wher
   pub whole : host % 65536 ≡ 0
   pub holds : HoldsBytes file image.header (host / 65536)
 
-size_in : (image : Known) → IsOpen image → cluster_size_in image ≡ 65536
+pub size_in : (image : Known) → IsOpen image → cluster_size_in image ≡ 65536
 size_in image ready = let bits = ready.cluster_bits in rw bits refl
 
 pub held_by : (file : List ℕ) (image : Known) → IsImageOf file image → IsOpen image → (q host : ℕ) → q < length image.tables.words

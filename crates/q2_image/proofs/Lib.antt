@@ -13,3 +13,4 @@ pub mod DataWrites
 pub mod HostUses
 pub mod DiskKept
 pub mod Taken
+pub mod Payload

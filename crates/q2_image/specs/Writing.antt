@@ -1,5 +1,5 @@
 -- Writing an image: what changes of its disk, and when there is room for it.
-use Rattle.std.specs.Prelude.{◌≡◌, ◌≢◌, ◌⊎◌, ℕ, ◌+◌, ◌*◌, ◌<◌, ◌≤◌, ◌==◌, Bool, true, if◌then◌else◌, ⊤, List, [], length, slice_index, Option, Some}
+use Rattle.std.specs.Prelude.{◌≡◌, ◌≢◌, ◌⊎◌, ℕ, ◌+◌, ◌*◌, ◌/◌, ◌<◌, ◌≤◌, ◌==◌, Bool, true, if◌then◌else◌, ⊤, List, [], length, slice_index, Option, Some}
 use Rattle.blk_base.specs.Counts.{Rose}
 use Rattle.blk_base.specs.declared.fault.DevStop.{DevStop}
 use Rattle.blk_base.specs.declared.fault.DevStop.TheVariants.{Io, NoSpace}
@@ -43,6 +43,12 @@ HasEntriesBut old new but = (cluster : ℕ) → cluster ≢ but → entry_in new
 pub record IsSpare (file : List ℕ) (cluster : ℕ) : Type 0 where
   pub unnamed : uses file (header_of file) cluster ≡ 0
   pub counted : refcount_of file (header_of file) cluster ≢ 0
+
+-- No guest byte lies in the host cluster at an offset: it is spare, or an entry that reads as zeros names it.
+abbrev pub IsIdle : List ℕ → Known → ℕ → Type 0
+IsIdle file image offset =
+    IsSpare file (offset / 65536)
+    ⊎ ((cluster : ℕ) × (cluster < length image.tables.words) × (entry_in image cluster ≡ Zero offset) × (0 < offset))
 
 -- Which clusters are taken, and when there is room.
 

@@ -88,7 +88,7 @@ keeps_all file = record {
 -- The facts of what is kept that a step needs, by the file's.
 
 -- an image's file ends within its limit
-short_file : (file : List ℕ) (kept : Kept) → IsInStep file kept → length file ≤ 549755813888
+pub short_file : (file : List ℕ) (kept : Kept) → IsInStep file kept → length file ≤ 549755813888
 short_file file kept step =
     let h : Header = header_of file in
     let c : ℕ = cluster_size h.cluster_bits in

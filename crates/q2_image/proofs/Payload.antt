@@ -1,0 +1,105 @@
+-- A write into a host cluster in which no guest byte lies.
+use Rattle.std.proofs.Common.{◌≡◌, ◌≢◌, ℕ, ◌+◌, ◌*◌, ◌/◌, ◌%◌, ◌<◌, ◌≤◌, ◌⊎◌, inl, inr, max, List, [], ◌∷◌, length, get_or, take, Option, Some, None, Result, Ok, Err, OnOk, is_some, option_map, refl, sym, ap, subst, ◌∙◌, arith}
+use Rattle.std.proofs.lemmas.Bool.{cases_eq}
+use Rattle.blk_base.specs.Content.{with_bytes, size_with}
+use Rattle.blk_base.proofs.Contents.{length-with_bytes}
+use Rattle.q2_format.specs.Bytes.{bytes_at, IsWritten}
+use Rattle.q2_format.specs.Header.{header_of}
+use Rattle.q2_format.specs.Sizes.{cluster_size}
+use Rattle.q2_format.specs.declared.header.Header.{Header}
+use Rattle.q2_format.specs.declared.entries.L2Entry.{L2Entry}
+use Rattle.q2_format.specs.declared.entries.L2Entry.TheVariants.{Zero, Host}
+use Rattle.q2_format.proofs.ByPlace.{bytes_at-written}
+use Rattle.q2_refs.proofs.Placing.{written_with, short_file}
+use Rattle.q2_refs.proofs.Steps.{byte_stays}
+use Rattle.q2_refs.proofs.Writes.{IsWithin}
+use Rattle.q2_image.specs.Image.{Known, IsImageOf, IsOpen, cluster_size_in, entry_in}
+use Rattle.q2_image.specs.Writing.{IsSameDisk, IsSpare, IsIdle}
+use Rattle.q2_image.proofs.DataWrites.{HoldsNoTable, KeepsTables, tables_kept, image_kept, spare_kept}
+use Rattle.q2_image.proofs.HostUses.{host_entry, zero_entry, spare_holds, spare_unnamed, owners_differ, held_by, size_in}
+use Rattle.q2_image.proofs.DiskKept.{HostStays, same_disk}
+use Rattle.q2_image.proofs.Taken.{step_of}
+
+not_both : (e : L2Entry) (a b : ℕ) → e ≡ Zero a → e ≡ Host b → ⊥
+not_both e a b zero host = absurd (cc)
+
+longer : (size at : ℕ) (bytes : List ℕ) → (size ≤ size_with size at bytes) × (size_with size at bytes ≤ max size (at + length bytes))
+longer size at [] = (omega arith, omega arith)
+longer size at (byte ∷ bytes) = (omega arith, omega arith)
+
+-- a write of some bytes into the cluster at an offset, which holds no table
+module _ (old : List ℕ) (image : Known) (at place : ℕ) (bytes : List ℕ) (is : IsImageOf old image) (ready : IsOpen image)
+    (free : HoldsNoTable old (at / 65536)) (low : at / 65536 * 65536 ≤ place) (high : place + length bytes ≤ at / 65536 * 65536 + 65536) (small : at < 549755813888) where
+  abbrev new : List ℕ
+  new = with_bytes old place bytes
+
+  size : cluster_size (header_of old).cluster_bits ≡ 65536
+  size = let b = ap (λ (h : Header). h.cluster_bits) is.header ∙ ready.cluster_bits in rw b refl
+
+  within : IsWithin (at / 65536) (cluster_size (header_of old).cluster_bits) place bytes
+  within = rw size (record { low = low; high = high })
+
+  grown : (length old ≤ length new) × (length new ≤ 549755813888)
+  grown =
+      let len = length-with_bytes old place bytes in
+      let short = short_file old image.refs (step_of old image is) in
+      let more = longer (length old) place bytes in
+      (omega (arith, len, more.0), omega (arith, len, more.1, short, low, high, small))
+
+  pub tables_stay : KeepsTables old new
+  tables_stay = tables_kept old new (at / 65536) place bytes is.sound free (written_with old place bytes) within grown.0 grown.1
+
+  pub byte_outside : (i : ℕ) → i / 65536 ≢ at / 65536 → get_or new i 0 ≡ get_or old i 0
+  byte_outside i other = byte_stays old new (at / 65536) 65536 place i bytes (omega arith) (written_with old place bytes) (record { low = low; high = high }) other
+
+-- What lies idle.
+
+idle_free : (old : List ℕ) (image : Known) (at : ℕ) → IsImageOf old image → IsOpen image → IsIdle old image at → HoldsNoTable old (at / 65536)
+idle_free old image at is ready (inl spare) = spare_holds old image is (at / 65536) spare.unnamed
+idle_free old image at is ready (inr (q , below , entry , some)) =
+    (held_by old image is ready q at below (zero_entry (get_or image.tables.words q 0) at entry) (λ none. omega arith)).holds.free
+
+idle_other : (old : List ℕ) (image : Known) (at : ℕ) → IsImageOf old image → IsOpen image → IsIdle old image at
+    → (q host : ℕ) → q < length image.tables.words → entry_in image q ≡ Host host → host / 65536 ≢ at / 65536
+idle_other old image at is ready (inl spare) q host below entry =
+    let own = host_entry (get_or image.tables.words q 0) host entry in
+    let size = size_in image ready in
+    λ same. spare_unnamed old image is q (at / 65536) below spare.unnamed (λ none. own.1 (sym own.0 ∙ none))
+    (ap (λ (n : ℕ). n / cluster_size_in image) own.0 ∙ ap (λ (n : ℕ). host / n) size ∙ same)
+idle_other old image at is ready (inr (p , below_p , entry_p , some)) q host below entry =
+    let own = host_entry (get_or image.tables.words q 0) host entry in
+    let other = zero_entry (get_or image.tables.words p 0) at entry_p in
+    let size = size_in image ready in
+    λ same. elim (cases_eq q p) [
+      | inl here ↦ not_both (entry_in image p) at host entry_p (ap (entry_in image) (sym here) ∙ entry)
+      | inr differ ↦ owners_differ old image is q p below below_p differ (λ none. own.1 (sym own.0 ∙ none)) (λ none. omega (arith, none, other, some))
+          (ap (λ (n : ℕ). n / cluster_size_in image) own.0 ∙ ap (λ (n : ℕ). host / n) size ∙ same ∙ ap (λ (n : ℕ). at / n) (sym size) ∙ ap (λ (n : ℕ). n / cluster_size_in image) (sym other))
+    ]
+
+-- So a write there changes no byte of the disk.
+module _ (old : List ℕ) (image : Known) (at : ℕ) (bytes : List ℕ) (is : IsImageOf old image) (ready : IsOpen image)
+    (idle : IsIdle old image at) (whole : at % 65536 ≡ 0) (short : length bytes ≤ 65536) (small : at < 549755813888) where
+  free : HoldsNoTable old (at / 65536)
+  free = idle_free old image at is ready idle
+
+  low : at / 65536 * 65536 ≤ at
+  low = omega arith
+
+  high : at + length bytes ≤ at / 65536 * 65536 + 65536
+  high = omega (arith, whole, short)
+
+  pub payload_tables : KeepsTables old (with_bytes old at bytes)
+  payload_tables = tables_stay old image at at bytes is ready free low high small
+
+  pub payload_image : IsImageOf (with_bytes old at bytes) image
+  payload_image = image_kept old (with_bytes old at bytes) payload_tables image is
+
+  pub payload_disk : IsSameDisk old (with_bytes old at bytes)
+  payload_disk =
+      same_disk old (with_bytes old at bytes) image image (record { old_image = is; new_image = payload_image; old_open = ready; new_open = ready; size = refl }) (λ q below. refl)
+      (λ q below. λ host i entry inside.
+      let own = host_entry (get_or image.tables.words q 0) host entry in
+      let held = held_by old image is ready q host below own.0 own.1 in
+      let aligned = held.whole in
+      let place : (host + i) / 65536 ≡ host / 65536 = omega (arith, aligned, inside) in
+      byte_outside old image at at bytes is ready free low high small (host + i) (λ same. idle_other old image at is ready idle q host below entry (sym place ∙ same)))
