@@ -27,6 +27,7 @@ pub record HoldsNoTable (file : List ℕ) (cluster : ℕ) : Type 0 where
 -- a file in which the header and all tables are as they were
 pub record KeepsTables (old new : List ℕ) : Type 0 where
   pub header : header_of new ≡ header_of old
+  pub first : ReadsAlike old new 0 65536
   pub sound : IsSound new
   pub tree : active_tree new (header_of old) ≡ active_tree old (header_of old)
   pub table : refcount_table new (header_of old) ≡ refcount_table old (header_of old)
@@ -78,6 +79,7 @@ module _ (old new : List ℕ) (k at : ℕ) (bytes : List ℕ) (sound : IsSound o
   pub tables_kept : KeepsTables old new
   tables_kept = record {
     header = stays.header;
+    first = same_first;
     sound = sound_after old new sound stays;
     tree = same_tree;
     table = same_table;

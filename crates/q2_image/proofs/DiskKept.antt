@@ -41,7 +41,7 @@ pub record AreImages (old new : List ℕ) (before after : Known) : Type 0 where
   pub size : after.header.size ≡ before.header.size
 
 -- a place of the disk has an entry
-in_words : (image : Known) (place : ℕ) → IsOpen image → place < image.header.size → place / 65536 < length image.tables.words
+pub in_words : (image : Known) (place : ℕ) → IsOpen image → place < image.header.size → place / 65536 < length image.tables.words
 in_words image place ready below =
     below_words image (place / 65536) ready (let bits = ready.cluster_bits in rw bits (omega arith))
 

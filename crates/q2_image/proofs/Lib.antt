@@ -14,3 +14,5 @@ pub mod HostUses
 pub mod DiskKept
 pub mod Taken
 pub mod Payload
+pub mod OwnWrites
+pub mod TreeChanged

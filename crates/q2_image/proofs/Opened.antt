@@ -72,7 +72,7 @@ image_by_stages file = two (header_stops file (length file)) (first (table_refus
     two (Some r) b = refl
 
 -- where the kept words and counts are a file's, what they name is what the file names
-same_uses : (file : List ℕ) (h : Header) (r : refs.Kept) (t : tables.Kept) (k : ℕ) → IsCountsOf file h r → IsTreeOf (cluster_size h.cluster_bits) t (active_tree file h)
+pub same_uses : (file : List ℕ) (h : Header) (r : refs.Kept) (t : tables.Kept) (k : ℕ) → IsCountsOf file h r → IsTreeOf (cluster_size h.cluster_bits) t (active_tree file h)
     → uses file h k ≡ uses_in h r.table t.l1 t.words k
 unfolding uses
 same_uses file h r t k counts tree =

@@ -1,6 +1,7 @@
 -- A write into a host cluster in which no guest byte lies.
 use Rattle.std.proofs.Common.{◌≡◌, ◌≢◌, ℕ, ◌+◌, ◌*◌, ◌/◌, ◌%◌, ◌<◌, ◌≤◌, ◌⊎◌, inl, inr, max, List, [], ◌∷◌, length, get_or, take, Option, Some, None, Result, Ok, Err, OnOk, is_some, option_map, refl, sym, ap, subst, ◌∙◌, arith}
 use Rattle.std.proofs.lemmas.Bool.{cases_eq}
+use Rattle.std.proofs.lemmas.List.{length-take}
 use Rattle.blk_base.specs.Content.{with_bytes, size_with}
 use Rattle.blk_base.proofs.Contents.{length-with_bytes}
 use Rattle.q2_format.specs.Bytes.{bytes_at, IsWritten}
@@ -10,7 +11,7 @@ use Rattle.q2_format.specs.declared.header.Header.{Header}
 use Rattle.q2_format.specs.declared.entries.L2Entry.{L2Entry}
 use Rattle.q2_format.specs.declared.entries.L2Entry.TheVariants.{Zero, Host}
 use Rattle.q2_format.proofs.ByPlace.{bytes_at-written}
-use Rattle.q2_refs.proofs.Placing.{written_with, short_file}
+use Rattle.q2_refs.proofs.Placing.{told_before, written_with, short_file}
 use Rattle.q2_refs.proofs.Steps.{byte_stays}
 use Rattle.q2_refs.proofs.Writes.{IsWithin}
 use Rattle.q2_image.specs.Image.{Known, IsImageOf, IsOpen, cluster_size_in, entry_in}
@@ -103,3 +104,40 @@ module _ (old : List ℕ) (image : Known) (at : ℕ) (bytes : List ℕ) (is : Is
       let aligned = held.whole in
       let place : (host + i) / 65536 ≡ host / 65536 = omega (arith, aligned, inside) in
       byte_outside old image at at bytes is ready free low high small (host + i) (λ same. idle_other old image at is ready idle q host below entry (sym place ∙ same)))
+
+-- The same of what a device tells.
+
+pub told_now : (f : List ℕ → List ℕ) (o n : Option (List ℕ)) (old new : List ℕ) → n ≡ option_map f o → o ≡ Some old → n ≡ Some new → f old ≡ new
+told_now f o n old new is was told = let e : option_map f (Some old) ≡ Some new = ap (option_map f) (sym was) ∙ sym is ∙ told in cc
+
+module _ (o n : Option (List ℕ)) (image : Known) (at : ℕ) (bytes : List ℕ) (is : n ≡ option_map (λ b. with_bytes b at bytes) o)
+    (of_image : (file : List ℕ) → o ≡ Some file → IsImageOf file image) (ready : IsOpen image) (idle : (file : List ℕ) → o ≡ Some file → IsIdle file image at)
+    (whole : at % 65536 ≡ 0) (short : length bytes ≤ 65536) (small : at < 549755813888) where
+  pub told_image : (file : List ℕ) → n ≡ Some file → IsImageOf file image
+  told_image file told =
+      let was = told_before (λ b. with_bytes b at bytes) o n file is told in
+      let P : List ℕ → Type 0 = λ f. IsImageOf f image in
+      subst P was.2 (payload_image was.0 image at bytes (of_image was.0 was.1) ready (idle was.0 was.1) whole short small)
+
+  pub told_disk : (old new : List ℕ) → o ≡ Some old → n ≡ Some new → IsSameDisk old new
+  told_disk old new was told =
+      let P : List ℕ → Type 0 = IsSameDisk old in
+      subst P (told_now (λ b. with_bytes b at bytes) o n old new is was told) (payload_disk old image at bytes (of_image old was) ready (idle old was) whole short small)
+
+  pub told_spare : (old new : List ℕ) (k : ℕ) → o ≡ Some old → n ≡ Some new → IsSpare old k → IsSpare new k
+  told_spare old new k was told spare =
+      let P : List ℕ → Type 0 = λ f. IsSpare f k in
+      subst P (told_now (λ b. with_bytes b at bytes) o n old new is was told)
+      (spare_kept old (with_bytes old at bytes) (payload_tables old image at bytes (of_image old was) ready (idle old was) whole short small) k spare)
+
+pub told_written : (o n : Option (List ℕ)) (at : ℕ) (bytes : List ℕ) → n ≡ option_map (λ b. with_bytes b at bytes) o → length bytes ≡ 65536
+    → (file : List ℕ) → n ≡ Some file → bytes_at file at 65536 ≡ bytes
+told_written o n at bytes is whole file told =
+    let was = told_before (λ b. with_bytes b at bytes) o n file is told in
+    let P : List ℕ → Type 0 = λ f. bytes_at f at 65536 ≡ bytes in
+    let here : bytes_at (with_bytes was.0 at bytes) at 65536 ≡ bytes =
+    ap (bytes_at (with_bytes was.0 at bytes) at) (sym whole) ∙ bytes_at-written was.0 (with_bytes was.0 at bytes) at bytes (written_with was.0 at bytes) in
+    subst P was.2 here
+
+pub part_short : (done : ℕ) (bytes : List ℕ) → length bytes ≤ 65536 → length (take done bytes) ≤ 65536
+part_short done bytes h = omega (arith, length-take done bytes, h)

@@ -5,23 +5,22 @@ ghost use Rattle.blk_base.specs.Counts.{taken};
 ghost use Rattle.q2_format.specs.Bytes.{bytes_at};
 ghost use Rattle.q2_refs.specs.Allocating.{with_block_for};
 ghost use Rattle.q2_refs.specs.Free.{free_cluster};
-ghost use Rattle.q2_image.specs.Image.{IsImageOf, clusters_in, cluster_size_in, entry_in};
+ghost use Rattle.q2_tables.specs.Linking.{stop_of};
+ghost use Rattle.q2_image.specs.Image.{IsImageOf, IsOpen, clusters_in, cluster_size_in, entry_in};
 ghost use Rattle.q2_image.specs.Reading.{IsHost, IsWithinCluster};
-ghost use Rattle.q2_image.specs.Writing.{IsDiskWith, IsSameDisk, IsSpare, CanTake, IsFault, taken_at, after_take};
+ghost use Rattle.q2_image.specs.Writing.{IsDiskWith, IsSameDisk, IsSpare, IsIdle, CanTake, IsFault, taken_at, after_take};
 
 use crate::header::cluster_size;
 use crate::image::Image;
-use blk_base::{DevStop, Device, Span, Stop, WriteStop};
+use blk_base::{DevStop, Device, Stop};
 use q2_refs::RefStop;
-use q2_tables::Mapping;
 
-/// A device's stop, with its count of faults.
-fn stopped<D: Device>(dev: &D, stop: WriteStop) -> DevStop
+/// The stop of a write, with the count of faults behind it.
+fn stopped(why: Stop, count: u64) -> DevStop
+    ensures { result ≡ stop_of why count }
 {
-    match stop.why {
-        Stop::Failed => DevStop::Io {
-            count: dev.faults(),
-        },
+    match why {
+        Stop::Failed => DevStop::Io { count },
         Stop::NoSpace => DevStop::NoSpace,
     }
 }
@@ -47,6 +46,31 @@ impl Image {
             Ok(cluster) => Ok(cluster * cluster_size(&self.header)),
             Err(RefStop::Dev(stop)) => Err(stop),
             Err(RefStop::HostLimit) => unreachable!(),
+        }
+    }
+
+    /// Writes the bytes of a cluster to a host offset where no guest byte lies, so that whatever is written there
+    /// changes nothing that a guest reads.
+    fn write_payload<D: Device>(&self, dev: &mut D, host: u64, bytes: &[u8]) -> Result<(), DevStop>
+        requires open { IsOpen self.now }
+        requires whole { length bytes.now ≡ 65536 }
+        requires aligned { host % 65536 ≡ 0 }
+        requires small { host < 549755813888 }
+        requires fits { host + 65536 ≤ D.capacity dev.old }
+        requires image { (file : List ℕ) → D.content dev.old ≡ Some file → IsImageOf file self.now }
+        requires idle { (file : List ℕ) → D.content dev.old ≡ Some file → IsIdle file self.now host }
+        ensures written { OnOk result ((file : List ℕ) → D.content dev.new ≡ Some file → bytes_at file host 65536 ≡ bytes.now) }
+        ensures spare_stay { (old new : List ℕ) (n : ℕ) → D.content dev.old ≡ Some old → D.content dev.new ≡ Some new → IsSpare old n → IsSpare new n }
+        ensures image { (file : List ℕ) → D.content dev.new ≡ Some file → IsImageOf file self.now }
+        ensures disk { (old new : List ℕ) → D.content dev.old ≡ Some old → D.content dev.new ≡ Some new → IsSameDisk old new }
+        ensures cause { IfErr result (IsFault (D.faults dev.old) (D.faults dev.new)) }
+        ensures told { is_some (D.content dev.new) ≡ is_some (D.content dev.old) }
+        ensures faults { D.faults dev.old ≤ D.faults dev.new }
+        ensures capacity { D.capacity dev.new ≡ D.capacity dev.old }
+    {
+        match dev.write_at(host, bytes) {
+            Ok(()) => Ok(()),
+            Err(stop) => Err(stopped(stop.why, dev.faults())),
         }
     }
 }

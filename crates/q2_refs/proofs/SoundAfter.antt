@@ -20,7 +20,7 @@ none_misplaced : (c len longer : ℕ) (f : ℕ → ℕ) (n : ℕ) → len ≤ lo
 none_misplaced c len longer f n grows none =
     none_lowest (λ i. is_misplaced c longer (f i)) n (λ k below. placed_longer c len longer (f k) grows (lowest-none (λ i. is_misplaced c len (f i)) n none k below))
 
-table_longer : (h : Header) (len longer : ℕ) → len ≤ longer → bad_refcount_table h len ≡ None → bad_refcount_table h longer ≡ None
+pub table_longer : (h : Header) (len longer : ℕ) → len ≤ longer → bad_refcount_table h len ≡ None → bad_refcount_table h longer ≡ None
 unfolding bad_refcount_table
 table_longer h len longer grows none =
     let c : ℕ = cluster_size h.cluster_bits in
@@ -28,7 +28,7 @@ table_longer h len longer grows none =
     let test = or_from (eqb h.ref_clusters 0) (is_misplaced c longer h.ref_offset) parts.0 (placed_longer c len longer h.ref_offset grows parts.1) in
     rw test refl
 
-l1_longer : (h : Header) (len longer : ℕ) → len ≤ longer → bad_l1_table h len ≡ None → bad_l1_table h longer ≡ None
+pub l1_longer : (h : Header) (len longer : ℕ) → len ≤ longer → bad_l1_table h len ≡ None → bad_l1_table h longer ≡ None
 unfolding bad_l1_table
 l1_longer h len longer grows none =
     let c : ℕ = cluster_size h.cluster_bits in
@@ -36,28 +36,28 @@ l1_longer h len longer grows none =
     let test = or_from (ltb h.l1_size (l1_entries_for c h.size)) (is_misplaced c longer h.l1_offset) parts.0 (placed_longer c len longer h.l1_offset grows parts.1) in
     rw test refl
 
-l2_longer : (c len longer : ℕ) (tree : Tree) → len ≤ longer → bad_l2_table c len tree ≡ None → bad_l2_table c longer tree ≡ None
+pub l2_longer : (c len longer : ℕ) (tree : Tree) → len ≤ longer → bad_l2_table c len tree ≡ None → bad_l2_table c longer tree ≡ None
 unfolding bad_l2_table
 l2_longer c len longer tree grows none =
     let nowhere = option_map-none (λ i. host_offset (get_or tree.l1 i 0)) (lowest (λ i. is_misplaced c len (host_offset (get_or tree.l1 i 0))) (length tree.l1)) none in
     let still = none_misplaced c len longer (λ i. host_offset (get_or tree.l1 i 0)) (length tree.l1) grows nowhere in
     rw still refl
 
-host_longer : (c len longer : ℕ) (tree : Tree) → len ≤ longer → bad_host c len tree ≡ None → bad_host c longer tree ≡ None
+pub host_longer : (c len longer : ℕ) (tree : Tree) → len ≤ longer → bad_host c len tree ≡ None → bad_host c longer tree ≡ None
 unfolding bad_host
 host_longer c len longer tree grows none =
     let nowhere = option_map-none (λ k. own_offset (l2_word_of tree c k)) (lowest (λ k. is_misplaced c len (own_offset (l2_word_of tree c k))) (guest_clusters c tree)) none in
     let still = none_misplaced c len longer (λ k. own_offset (l2_word_of tree c k)) (guest_clusters c tree) grows nowhere in
     rw still refl
 
-no_overlap : (file : List ℕ) (h : Header) (len : ℕ) → ((k : ℕ) → uses file h k ≤ 1) → overlap file h len ≡ None
+pub no_overlap : (file : List ℕ) (h : Header) (len : ℕ) → ((k : ℕ) → uses file h k ≤ 1) → overlap file h len ≡ None
 unfolding overlap
 no_overlap file h len once = none_lowest (λ k. ltb 1 (uses file h k)) (cluster_bound h len) (λ k below. le-ltb 1 (uses file h k) (once k))
 
 covered : (n count : ℕ) → n ≤ count → (not (eqb n 0) && eqb count 0) ≡ false
 covered n count h = grind (arith, nat_tests)
 
-no_uncounted : (file : List ℕ) (h : Header) (len : ℕ) → ((k : ℕ) → uses file h k ≤ refcount_of file h k) → uncounted file h len ≡ None
+pub no_uncounted : (file : List ℕ) (h : Header) (len : ℕ) → ((k : ℕ) → uses file h k ≤ refcount_of file h k) → uncounted file h len ≡ None
 unfolding uncounted
 no_uncounted file h len counted = none_lowest (λ k. not (eqb (uses file h k) 0) && eqb (refcount_of file h k) 0) (cluster_bound h len) (λ k below. covered (uses file h k) (refcount_of file h k) (counted k))
 

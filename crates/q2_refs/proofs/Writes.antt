@@ -88,7 +88,7 @@ cluster_apart old new k c at bytes written within offset n whole fits other =
 eight : (n c : ℕ) → 8 * (n * (c / 8)) ≤ n * c
 eight n c = let one : 8 * (c / 8) ≤ c = omega arith in omega (arith, mul-le-mul_left n one)
 
-l2_placed : (c len : ℕ) (tree : Tree) → bad_l2_table c len tree ≡ None → (i : ℕ) → i < length tree.l1 → is_misplaced c len (host_offset (get_or tree.l1 i 0)) ≡ false
+pub l2_placed : (c len : ℕ) (tree : Tree) → bad_l2_table c len tree ≡ None → (i : ℕ) → i < length tree.l1 → is_misplaced c len (host_offset (get_or tree.l1 i 0)) ≡ false
 unfolding bad_l2_table
 l2_placed c len tree none i h =
     let nowhere = option_map-none (λ k. host_offset (get_or tree.l1 k 0)) (lowest (λ k. is_misplaced c len (host_offset (get_or tree.l1 k 0))) (length tree.l1)) none in

@@ -79,6 +79,7 @@ pub(crate) fn write_table<D: Device>(
     ensures entry { OnOk result ((file : List ℕ) → D.content dev.new ≡ Some file → HasOneEntry file at (length buffer.old / 8) column word) }
     ensures stop { IfErr result (IsLinkStop (at + length buffer.old) (D.capacity dev.old) (D.faults dev.old) (D.faults dev.new)) }
     ensures fits { OnOk result (at + length buffer.old ≤ D.capacity dev.old) }
+    ensures reaches { OnOk result (at + length buffer.old ≤ D.size dev.new) }
     ensures flushed { D.is_flushed dev.new ≡ option_map (λ _. false) (D.is_flushed dev.old) }
     ensures faults { D.faults dev.old ≤ D.faults dev.new }
     ensures capacity { D.capacity dev.new ≡ D.capacity dev.old }
