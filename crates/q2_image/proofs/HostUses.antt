@@ -94,7 +94,7 @@ module _ (file : List ℕ) (image : Known) (is : IsImageOf file image) where
   named : (q k : ℕ) → own q ≢ 0 → own q / c ≡ k → names_cluster c k (own q) ≡ true
   named q k some here = names_it c k (own q) some here
 
-  one_own : (q k : ℕ) → q < length image.tables.words → own q ≢ 0 → own q / c ≡ k → 1 ≤ own_uses k
+  pub one_own : (q k : ℕ) → q < length image.tables.words → own q ≢ 0 → own q / c ≡ k → 1 ≤ own_uses k
   one_own q k below some here = count_some (λ word. names_cluster c k (own_offset word)) image.tables.words q below (named q k some here)
 
   -- two entries name two clusters

@@ -16,3 +16,4 @@ pub mod Taken
 pub mod Payload
 pub mod OwnWrites
 pub mod TreeChanged
+pub mod EntryWrites

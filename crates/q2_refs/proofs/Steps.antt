@@ -70,7 +70,7 @@ not_a_block file h k other none i = elim (cases_eq (block_at file h i) 0) [
 ]
 
 -- a byte of another cluster
-outside_cluster : (i k c : ℕ) → 0 < c → i / c ≢ k → (i < k * c) ⊎ (k * c + c ≤ i)
+pub outside_cluster : (i k c : ℕ) → 0 < c → i / c ≢ k → (i < k * c) ⊎ (k * c + c ≤ i)
 outside_cluster i k c some other =
     let parts = div-add-mod' i c in
     let column : i % c < c = omega arith in
