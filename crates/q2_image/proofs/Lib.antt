@@ -17,3 +17,5 @@ pub mod Payload
 pub mod OwnWrites
 pub mod TreeChanged
 pub mod EntryWrites
+pub mod EntryFrames
+pub mod LinkedImage
