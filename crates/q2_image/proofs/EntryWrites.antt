@@ -124,7 +124,7 @@ module _ (old : List ℕ) (image : Known) (is : IsImageOf old image) (ready : Is
     e_is : entries_in_cluster image.tables.c ≡ 8192
     e_is = let same = ready.tables_size ∙ c_is in rw same refl
 
-    in_l1 : row < length image.tables.l1
+    pub in_l1 : row < length image.tables.l1
     in_l1 =
         let count = ready.words in
         let size = c_is in

@@ -52,7 +52,7 @@ zero_entry word host is =
     let plain = parts.0 in
     rw plain parts.1
 
-host_placed : (c len : ℕ) (tree : Tree) → bad_host c len tree ≡ None → (cluster : ℕ) → cluster < guest_clusters c tree → is_misplaced c len (own_offset (l2_word_of tree c cluster)) ≡ false
+pub host_placed : (c len : ℕ) (tree : Tree) → bad_host c len tree ≡ None → (cluster : ℕ) → cluster < guest_clusters c tree → is_misplaced c len (own_offset (l2_word_of tree c cluster)) ≡ false
 unfolding bad_host
 host_placed c len tree none cluster below =
     let nowhere = option_map-none (λ k. own_offset (l2_word_of tree c k)) (lowest (λ k. is_misplaced c len (own_offset (l2_word_of tree c k))) (guest_clusters c tree)) none in

@@ -19,3 +19,4 @@ pub mod TreeChanged
 pub mod EntryWrites
 pub mod EntryFrames
 pub mod LinkedImage
+pub mod LinkedDisk

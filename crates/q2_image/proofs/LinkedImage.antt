@@ -48,7 +48,7 @@ named_cases c k offset = elim (cases_eq offset 0) [
       ]
 ]
 
-l1_bits : (table : ℕ) → table % 512 ≡ 0 → table < 2 ^ 56 → has_reserved_in_l1 (l1_spelling table) ≡ false
+pub l1_bits : (table : ℕ) → table % 512 ≡ 0 → table < 2 ^ 56 → has_reserved_in_l1 (l1_spelling table) ≡ false
 l1_bits table aligned small =
     let low : (l1_spelling table / 2 ^ 0) % 2 ^ 9 ≡ 0 = omega arith in
     let high : (l1_spelling table / 2 ^ 56) % 2 ^ 7 ≡ 0 = omega arith in
@@ -56,13 +56,13 @@ l1_bits table aligned small =
     let b = eq-eqb ((l1_spelling table / 2 ^ 56) % 2 ^ 7) 0 high in
     rw (a, b) refl
 
-spelled_offset : (table : ℕ) → table % 512 ≡ 0 → table < 2 ^ 56 → host_offset (l1_spelling table) ≡ table
+pub spelled_offset : (table : ℕ) → table % 512 ≡ 0 → table < 2 ^ 56 → host_offset (l1_spelling table) ≡ table
 spelled_offset table aligned small = omega arith
 
 module _ (image : Known) (cluster table word host : ℕ) (ready : IsOpen image) (below : cluster < length image.tables.words) (can : CanLink image.tables cluster table)
     (in_l1 : l1_index image.tables cluster < length image.tables.l1)
     (own : own_offset word ≡ host) (plain : is_plain word ≡ true) (reached : host < length image.refs.counts * cluster_size_in image) where
-  abbrev linked : Known
+  abbrev pub linked : Known
   linked = record image { tables = with_entry image.tables cluster word table }
 
   abbrev row : ℕ
@@ -72,7 +72,7 @@ module _ (image : Known) (cluster table word host : ℕ) (ready : IsOpen image) 
   words = slice_set image.tables.words cluster word
 
   -- the L1 table, by whether there is a new one
-  l1_cases : ((table ≡ 0) × (linked.tables.l1 ≡ image.tables.l1)) ⊎ ((table ≢ 0) × (linked.tables.l1 ≡ slice_set image.tables.l1 row (l1_spelling table)))
+  pub l1_cases : ((table ≡ 0) × (linked.tables.l1 ≡ image.tables.l1)) ⊎ ((table ≢ 0) × (linked.tables.l1 ≡ slice_set image.tables.l1 row (l1_spelling table)))
   l1_cases = elim (cases_eq table 0) [
     | inl none ↦ let test = eq-eqb table 0 none in inl (none, rw test refl)
     | inr some ↦ let test = ne_eqb table 0 some in inr (some, rw test refl)
@@ -142,7 +142,7 @@ module _ (image : Known) (cluster table word host : ℕ) (ready : IsOpen image) 
     abbrev refcounts : List ℕ
     refcounts = refcount_table old image.header
 
-    uses_old : (k : ℕ) → uses old image.header k ≡ uses_in image.header refcounts image.tables.l1 image.tables.words k
+    pub uses_old : (k : ℕ) → uses old image.header k ≡ uses_in image.header refcounts image.tables.l1 image.tables.words k
     uses_old k = same_uses old image.header image.refs image.tables k is.refs is.tables ∙ ap (λ (xs : List ℕ). uses_in image.header xs image.tables.l1 image.tables.words k) is.refs.table
 
     -- a spare cluster, by the kept header
