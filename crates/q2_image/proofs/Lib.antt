@@ -20,3 +20,4 @@ pub mod EntryWrites
 pub mod EntryFrames
 pub mod LinkedImage
 pub mod LinkedDisk
+pub mod LinkTold

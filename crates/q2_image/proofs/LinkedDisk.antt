@@ -22,12 +22,12 @@ use Rattle.q2_tables.specs.Kept as tables
 use Rattle.q2_tables.specs.Linking.{CanLink, entry_at, l1_index, l1_spelling, table_len, with_entry}
 use Rattle.q2_image.specs.Opening.{uses_in}
 use Rattle.q2_image.specs.Image.{Known, IsImageOf, IsOpen, cluster_size_in, entry_in}
-use Rattle.q2_image.specs.Writing.{IsDiskWith, IsSameDisk, IsSpare}
+use Rattle.q2_image.specs.Writing.{IsDiskWith, IsSameDisk, IsSpare, MayName}
 use Rattle.q2_image.proofs.DiskKept.{AreImages, HostStays, in_words, guest_by_entry, same_byte, same_disk, same_size}
 use Rattle.q2_image.proofs.EntryFrames.{counts_stay, byte_stays_beside}
 use Rattle.q2_image.proofs.EntryWrites.{EntryPlace, entry_place, in_l1}
 use Rattle.q2_image.proofs.HostUses.{host_entry, held_by, host_placed, spare_unnamed, consistent, size_in}
-use Rattle.q2_image.proofs.LinkedImage.{MayName, linked, l1_cases, l1_length, open_linked, fits_uses, l1_bits, spelled_offset}
+use Rattle.q2_image.proofs.LinkedImage.{linked, l1_cases, l1_length, open_linked, fits_uses, l1_bits, spelled_offset}
 use Rattle.q2_image.proofs.Opened.{same_uses}
 use Rattle.q2_image.proofs.TreeChanged.{FitsWith, KeepsCounts, image_changed}
 

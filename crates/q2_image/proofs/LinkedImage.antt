@@ -18,21 +18,13 @@ use Rattle.q2_tables.specs.Linking.{CanLink, entry_at, l1_index, l1_spelling, ta
 use Rattle.q2_tables.proofs.Links.{plain_set}
 use Rattle.q2_image.specs.Opening.{uses_in}
 use Rattle.q2_image.specs.Image.{Known, IsImageOf, IsOpen, cluster_size_in, entry_in}
-use Rattle.q2_image.specs.Writing.{IsSpare}
+use Rattle.q2_image.specs.Writing.{IsSpare, MayName}
 use Rattle.q2_image.proofs.HostUses.{consistent, size_in}
 use Rattle.q2_image.proofs.Opened.{same_uses}
 
 -- the L1 table behind a link
 abbrev pub l1_with : Known → ℕ → ℕ → List ℕ
 l1_with image cluster table = (with_entry image.tables cluster 0 table).l1
-
--- What a link may name for its guest cluster: no host cluster, the one that is named already, or a spare one
--- other than the new table's.
-abbrev pub MayName : List ℕ → Known → ℕ → ℕ → ℕ → Type 0
-MayName file image cluster table host =
-    (host ≡ 0)
-    ⊎ ((host ≡ own_offset (slice_index image.tables.words cluster))
-    ⊎ (IsSpare file (host / 65536) × (host % 65536 ≡ 0) × (host < length file) × (table ≢ 0 → host / 65536 ≢ table / 65536)))
 
 tally : ℕ → ℕ → ℕ → ℕ
 tally c k offset = cond (names_cluster c k offset) 1 0

@@ -1,12 +1,13 @@
 -- Writing an image: what changes of its disk, and when there is room for it.
-use Rattle.std.specs.Prelude.{◌≡◌, ◌≢◌, ◌⊎◌, ℕ, ◌+◌, ◌*◌, ◌/◌, ◌<◌, ◌≤◌, ◌==◌, Bool, true, if◌then◌else◌, ⊤, List, [], length, slice_index, Option, Some}
+use Rattle.std.specs.Prelude.{◌≡◌, ◌≢◌, ◌⊎◌, ℕ, ◌+◌, ◌*◌, ◌/◌, ◌%◌, ◌<◌, ◌≤◌, ◌==◌, Bool, true, if◌then◌else◌, ⊤, List, [], length, slice_index, Option, Some}
 use Rattle.blk_base.specs.Counts.{Rose}
 use Rattle.blk_base.specs.declared.fault.DevStop.{DevStop}
 use Rattle.blk_base.specs.declared.fault.DevStop.TheVariants.{Io, NoSpace}
 use Rattle.q2_format.specs.Entry.{host_of}
 use Rattle.q2_format.specs.Header.{header_of}
 use Rattle.q2_format.specs.Contents.{guest_byte}
-use Rattle.q2_format.specs.References.{uses}
+use Rattle.q2_format.specs.Bytes.{bytes_at}
+use Rattle.q2_format.specs.References.{uses, own_offset}
 use Rattle.q2_format.specs.Tables.{refcount_of}
 use Rattle.q2_format.specs.declared.entries.L2Entry.{L2Entry}
 use Rattle.q2_format.specs.declared.entries.L2Entry.TheVariants.{Unallocated, Zero, Host, Compressed, Reserved}
@@ -49,6 +50,22 @@ abbrev pub IsIdle : List ℕ → Known → ℕ → Type 0
 IsIdle file image offset =
     IsSpare file (offset / 65536)
     ⊎ ((cluster : ℕ) × (cluster < length image.tables.words) × (entry_in image cluster ≡ Zero offset) × (0 < offset))
+
+-- What a link may name for its guest cluster: no host cluster, the one that is named already, or a spare one
+-- other than the new table's.
+abbrev pub MayName : List ℕ → Known → ℕ → ℕ → ℕ → Type 0
+MayName file image cluster table host =
+    (host ≡ 0)
+    ⊎ ((host ≡ own_offset (slice_index image.tables.words cluster))
+    ⊎ (IsSpare file (host / 65536) × (host % 65536 ≡ 0) × (host < length file) × (table ≢ 0 → host / 65536 ≢ table / 65536)))
+
+-- the bytes that a guest cluster reads as by its own entry
+abbrev pub Shows : List ℕ → L2Entry → List ℕ → Type 0
+Shows file Unallocated bytes = ⊥
+Shows file (Zero host) bytes = (i : ℕ) → slice_index bytes i ≡ 0
+Shows file (Host host) bytes = bytes_at file host 65536 ≡ bytes
+Shows file Compressed bytes = ⊥
+Shows file Reserved bytes = ⊥
 
 -- Which clusters are taken, and when there is room.
 

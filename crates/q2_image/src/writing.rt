@@ -5,15 +5,18 @@ ghost use Rattle.blk_base.specs.Counts.{taken};
 ghost use Rattle.q2_format.specs.Bytes.{bytes_at};
 ghost use Rattle.q2_refs.specs.Allocating.{with_block_for};
 ghost use Rattle.q2_refs.specs.Free.{free_cluster};
-ghost use Rattle.q2_tables.specs.Linking.{stop_of};
+ghost use Rattle.q2_format.specs.Entry.{IsWritable, host_of};
+ghost use Rattle.q2_tables.specs.Entries.{entry_of};
+ghost use Rattle.q2_tables.specs.Linking.{stop_of, CanLink, link_end};
 ghost use Rattle.q2_image.specs.Image.{IsImageOf, IsOpen, clusters_in, cluster_size_in, entry_in};
 ghost use Rattle.q2_image.specs.Reading.{IsHost, IsWithinCluster};
-ghost use Rattle.q2_image.specs.Writing.{IsDiskWith, IsSameDisk, IsSpare, IsIdle, CanTake, IsFault, taken_at, after_take};
+ghost use Rattle.q2_image.specs.Writing.{IsDiskWith, IsSameDisk, HasEntriesBut, IsSpare, IsIdle, MayName, Shows, CanTake, IsFault, taken_at, after_take};
 
 use crate::header::cluster_size;
 use crate::image::Image;
 use blk_base::{DevStop, Device, Stop};
 use q2_refs::RefStop;
+use q2_tables::Mapping;
 
 /// The stop of a write, with the count of faults behind it.
 fn stopped(why: Stop, count: u64) -> DevStop
@@ -22,6 +25,16 @@ fn stopped(why: Stop, count: u64) -> DevStop
     match why {
         Stop::Failed => DevStop::Io { count },
         Stop::NoSpace => DevStop::NoSpace,
+    }
+}
+
+/// The offset of a mapping's host cluster, 0 for none.
+fn host_of(mapping: Mapping) -> u64
+    ensures { result ≡ host_of (entry_of mapping) }
+{
+    match mapping {
+        Mapping::Unallocated => 0,
+        Mapping::Zero { host } | Mapping::Host { host } => host,
     }
 }
 
@@ -72,5 +85,50 @@ impl Image {
             Ok(()) => Ok(()),
             Err(stop) => Err(stopped(stop.why, dev.faults())),
         }
+    }
+
+    /// Writes the L2 entry of a guest cluster, and a new L2 table with it where `table` isn't 0. Bit 63 is set
+    /// exactly where the refcount of a host cluster is one.
+    fn map_cluster<D: Device>(
+        &mut self,
+        dev: &mut D,
+        cluster: u64,
+        to: Mapping,
+        table: u64,
+    ) -> Result<(), DevStop>
+        requires below { cluster < length self.old.tables.words }
+        requires can { CanLink self.old.tables cluster table }
+        requires entry { IsWritable (entry_of to) }
+        requires reached { host_of (entry_of to) < length self.old.refs.counts * cluster_size_in self.old }
+        requires whole { table % 65536 ≡ 0 }
+        requires near { table + 65536 ≤ 549755813888 }
+        requires fits { link_end self.old.tables cluster table ≤ D.capacity dev.old }
+        requires image { (file : List ℕ) → D.content dev.old ≡ Some file → IsImageOf file self.old }
+        requires spare { (file : List ℕ) → D.content dev.old ≡ Some file → table ≢ 0 → IsSpare file (table / 65536) }
+        requires may { (file : List ℕ) → D.content dev.old ≡ Some file → MayName file self.old cluster table (host_of (entry_of to)) }
+        ensures entry { OnOk result (entry_in self.new cluster ≡ entry_of to) }
+        ensures others { HasEntriesBut self.old self.new cluster }
+        ensures unmapped { OnErr result (self.new ≡ self.old) }
+        ensures header { self.new.header ≡ self.old.header }
+        ensures refs { self.new.refs ≡ self.old.refs }
+        ensures image { (file : List ℕ) → D.content dev.new ≡ Some file → IsImageOf file self.new }
+        ensures disk { OnOk result ((old new bytes : List ℕ) → D.content dev.old ≡ Some old → D.content dev.new ≡ Some new
+            → length bytes ≡ 65536 → Shows old (entry_of to) bytes → IsDiskWith old new (cluster * 65536) bytes) }
+        ensures kept { OnErr result ((old new : List ℕ) → D.content dev.old ≡ Some old → D.content dev.new ≡ Some new → IsSameDisk old new) }
+        ensures cause { IfErr result (IsFault (D.faults dev.old) (D.faults dev.new)) }
+        ensures told { is_some (D.content dev.new) ≡ is_some (D.content dev.old) }
+        ensures faults { D.faults dev.old ≤ D.faults dev.new }
+        ensures capacity { D.capacity dev.new ≡ D.capacity dev.old }
+    {
+        let single = self.is_single(host_of(to));
+        self.tables.link(dev, cluster, to, single, table)
+    }
+
+    /// Whether there is a host cluster at an offset, and its refcount is exactly one.
+    fn is_single(&self, host: u64) -> bool
+        requires { host < length self.now.refs.counts * cluster_size_in self.now }
+        ensures { IsTrue result → 0 < host }
+    {
+        host != 0 && self.refs.count_of(host / cluster_size(&self.header)) == 1
     }
 }

@@ -1,5 +1,5 @@
 //! Writing entries: an L2 entry, or a new L2 table and the L1 entry that names it.
-ghost use Rattle.std.specs.Prelude.{◌≡◌, ◌≢◌, ◌⊎◌, ◌+◌, ◌*◌, ◌/◌, ◌%◌, ◌^◌, ◌<◌, ◌≤◌, max, ℕ, List, length, slice_index, true, false, Some, OnOk, OnErr, IfErr, is_ok, option_map, if◌then◌else◌};
+ghost use Rattle.std.specs.Prelude.{◌≡◌, ◌≢◌, ◌⊎◌, ◌+◌, ◌*◌, ◌/◌, ◌%◌, ◌^◌, ◌<◌, ◌≤◌, max, ℕ, List, length, slice_index, true, false, Some, OnOk, OnErr, IfErr, is_ok, is_some, option_map, if◌then◌else◌};
 ghost use Rattle.byteorder.specs.Endian.{big_bytes};
 ghost use Rattle.blk_base.specs.Content.{with_bytes};
 ghost use Rattle.q2_format.specs.Bytes.{IsWritten};
@@ -25,6 +25,7 @@ pub(crate) fn write_entry<D: Device>(dev: &mut D, at: u64, word: u64) -> Result<
     ensures kept { OnErr result (D.content dev.new ≡ D.content dev.old) }
     ensures stop { IfErr result (IsLinkStop (at + 8) (D.capacity dev.old) (D.faults dev.old) (D.faults dev.new)) }
     ensures fits { OnOk result (at + 8 ≤ D.capacity dev.old) }
+    ensures tells { is_some (D.content dev.new) ≡ is_some (D.content dev.old) }
     ensures flushed { D.is_flushed dev.new ≡ option_map (λ _. false) (D.is_flushed dev.old) }
     ensures faults { D.faults dev.old ≤ D.faults dev.new }
     ensures capacity { D.capacity dev.new ≡ D.capacity dev.old }
@@ -80,6 +81,7 @@ pub(crate) fn write_table<D: Device>(
     ensures stop { IfErr result (IsLinkStop (at + length buffer.old) (D.capacity dev.old) (D.faults dev.old) (D.faults dev.new)) }
     ensures fits { OnOk result (at + length buffer.old ≤ D.capacity dev.old) }
     ensures reaches { OnOk result (at + length buffer.old ≤ D.size dev.new) }
+    ensures tells { is_some (D.content dev.new) ≡ is_some (D.content dev.old) }
     ensures flushed { D.is_flushed dev.new ≡ option_map (λ _. false) (D.is_flushed dev.old) }
     ensures faults { D.faults dev.old ≤ D.faults dev.new }
     ensures capacity { D.capacity dev.new ≡ D.capacity dev.old }

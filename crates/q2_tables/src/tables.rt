@@ -1,5 +1,5 @@
 //! The tables in memory.
-ghost use Rattle.std.specs.Prelude.{◌≡◌, ◌≢◌, ◌↔◌, ◌+◌, ◌%◌, ◌^◌, ◌<◌, ◌≤◌, max, ℕ, List, length, slice_index, true, false, Some, OnOk, OnErr, IfErr, IsTrue, is_ok, option_map, if◌then◌else◌};
+ghost use Rattle.std.specs.Prelude.{◌≡◌, ◌≢◌, ◌↔◌, ◌+◌, ◌%◌, ◌^◌, ◌<◌, ◌≤◌, max, ℕ, List, length, slice_index, true, false, Some, OnOk, OnErr, IfErr, IsTrue, is_ok, is_some, option_map, if◌then◌else◌};
 ghost use Rattle.q2_format.specs.Entry.{l2_entry, l2_spelling, IsWritable, CanBeSingle};
 ghost use Rattle.q2_format.specs.Tables.{tree_at};
 ghost use Rattle.q2_tables.specs.Entries.{entry_of};
@@ -118,6 +118,7 @@ impl Tables {
         ensures stop { IfErr result (IsLinkStop (link_end self.old cluster 0) (D.capacity dev.old) (D.faults dev.old) (D.faults dev.new)) }
         ensures fits { OnOk result (link_end self.old cluster 0 ≤ D.capacity dev.old) }
         ensures reaches { OnOk result (0 + table_len self.old 0 ≤ D.size dev.new) }
+        ensures tells { is_some (D.content dev.new) ≡ is_some (D.content dev.old) }
         ensures flushed { D.is_flushed dev.new ≡ option_map (λ _. false) (D.is_flushed dev.old) }
         ensures faults { D.faults dev.old ≤ D.faults dev.new }
         ensures capacity { D.capacity dev.new ≡ D.capacity dev.old }
@@ -150,6 +151,7 @@ impl Tables {
         ensures stop { IfErr result (IsLinkStop (link_end self.old cluster table) (D.capacity dev.old) (D.faults dev.old) (D.faults dev.new)) }
         ensures fits { OnOk result (link_end self.old cluster table ≤ D.capacity dev.old) }
         ensures reaches { OnOk result (table + table_len self.old table ≤ D.size dev.new) }
+        ensures tells { is_some (D.content dev.new) ≡ is_some (D.content dev.old) }
         ensures flushed { D.is_flushed dev.new ≡ option_map (λ _. false) (D.is_flushed dev.old) }
         ensures faults { D.faults dev.old ≤ D.faults dev.new }
         ensures capacity { D.capacity dev.new ≡ D.capacity dev.old }
@@ -191,6 +193,7 @@ impl Tables {
         ensures stop { IfErr result (IsLinkStop (link_end self.old cluster table) (D.capacity dev.old) (D.faults dev.old) (D.faults dev.new)) }
         ensures fits { OnOk result (link_end self.old cluster table ≤ D.capacity dev.old) }
         ensures reaches { OnOk result (table + table_len self.old table ≤ D.size dev.new) }
+        ensures tells { is_some (D.content dev.new) ≡ is_some (D.content dev.old) }
         ensures flushed { D.is_flushed dev.new ≡ option_map (λ _. false) (D.is_flushed dev.old) }
         ensures faults { D.faults dev.old ≤ D.faults dev.new }
         ensures capacity { D.capacity dev.new ≡ D.capacity dev.old }
