@@ -1,5 +1,5 @@
 -- An image after a cluster was taken.
-use Rattle.std.proofs.Common.{◌≡◌, ◌≢◌, ℕ, ◌+◌, ◌*◌, ◌/◌, ◌%◌, ◌<◌, ◌≤◌, ◌⊎◌, inl, inr, eqb, List, [], ◌∷◌, length, get_or, slice_index, slice_set, Option, Some, None, is_some, Result, Ok, Err, IfOk, OnErr, refl, sym, ap, subst, ◌∙◌, arith, eq-eqb}
+use Rattle.std.proofs.Common.{◌≡◌, ◌≢◌, ℕ, ◌+◌, ◌*◌, ◌/◌, ◌%◌, ◌<◌, ◌≤◌, ◌⊎◌, inl, inr, eqb, List, [], ◌∷◌, length, get_or, slice_index, slice_index_or, slice_set, Option, Some, None, is_some, Result, Ok, Err, IfOk, OnErr, refl, sym, ap, subst, ◌∙◌, arith, eq-eqb}
 use Rattle.std.proofs.Math.ListN.{length-set}
 use Rattle.std.proofs.lemmas.Bool.{cases_eq, ne_eqb}
 use Rattle.std.proofs.lemmas.List.{get_or-set_same, get_or-set_other, get_or_past}
@@ -16,6 +16,7 @@ use Rattle.q2_refs.specs.Free.{free_cluster, free_clusters}
 use Rattle.q2_refs.specs.Kept.{IsCountsOf, per_block}
 use Rattle.q2_refs.specs.Kept as refs
 use Rattle.q2_refs.specs.declared.allocating.RefStop.{RefStop}
+use Rattle.q2_refs.proofs.FreeClusters.{first_free_cluster, given_count}
 use Rattle.q2_refs.proofs.Uses.{table_run, block_uses}
 use Rattle.q2_tables.specs.Kept.{IsTreeOf}
 use Rattle.q2_image.specs.Image.{Known, IsImageOf, IsOpen, HasRoom, cluster_size_in, entry_in}
@@ -160,3 +161,14 @@ module _ (old new : List ℕ) (image : Known) (r : refs.Kept) (is : IsImageOf ol
   disk_taken ready after =
       same_disk old new image (record image { refs = r }) (record { old_image = is; new_image = image_taken; old_open = ready; new_open = after; size = refl })
       (λ q below. refl) (hosts_stay ready)
+
+-- the cluster that is given had refcount 0
+pub fresh_count : (file : List ℕ) (image : Known) (n : ℕ) (rest : List ℕ) → IsImageOf file image → free_clusters image.refs ≡ n ∷ rest → n < length image.refs.counts
+    → refcount_of file (header_of file) n ≡ 0
+fresh_count file image n rest is given below =
+    let first : n ≡ free_cluster image.refs 0 = sym (ap (λ (xs : List ℕ). slice_index_or xs 0 (length image.refs.counts)) given) in
+    let free = first_free_cluster image.refs n first (λ e. omega (arith, e, below)) in
+    ap (λ (h : Header). refcount_of file h n) is.header ∙ sym (is.refs.counts n below) ∙ given_count image.refs n free.2
+
+pub by_size : (n size : ℕ) → size ≡ 65536 → n * size / 65536 ≡ n
+by_size n size is = rw is (omega arith)

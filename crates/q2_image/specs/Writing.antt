@@ -104,6 +104,26 @@ host_for image cluster =
 abbrev pub after_take : refs.Kept → refs.Kept
 after_take r = with_one (with_block_for r (free_cluster r 0)) (free_cluster r 0)
 
+-- the image after the next cluster was taken
+abbrev pub with_taken : Known → Known
+with_taken image = record image { refs = after_take image.refs }
+
+-- after an L2 table's cluster was taken where one is needed, and one for the data
+abbrev pub with_table : Known → ℕ → Known
+with_table image cluster = if needs_table image cluster then with_taken image else image
+
+abbrev pub with_host : Known → ℕ → Known
+with_host image cluster = if needs_host image cluster then with_taken image else image
+
+-- where the data go that are put next
+abbrev pub next_host : Known → ℕ → ℕ
+next_host image cluster = if needs_host image cluster then taken_at image 0 else idle_host (entry_in image cluster)
+
+-- only what is kept of the refcounts differs
+pub record HasSameEntries (old new : Known) : Type 0 where
+  pub header : new.header ≡ old.header
+  pub tables : new.tables ≡ old.tables
+
 -- the k-th cluster from now is below the reach, and what is written to take it ends within a capacity
 pub record CanTake (image : Known) (k capacity : ℕ) : Type 0 where
   pub below : free_cluster image.refs k < length image.refs.counts

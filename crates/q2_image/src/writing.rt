@@ -3,6 +3,8 @@
 ghost use Rattle.std.specs.Prelude.{◌≡◌, ◌≢◌, ◌↔◌, ◌⊎◌, ◌+◌, ◌*◌, ◌/◌, ◌%◌, ◌<◌, ◌≤◌, ℕ, List, [], length, Some, is_some, IsTrue, true, IfOk, IfErr, OnOk, OnErr};
 ghost use Rattle.blk_base.specs.Counts.{taken};
 ghost use Rattle.q2_format.specs.Bytes.{bytes_at};
+ghost use Rattle.q2_format.specs.Header.{header_of};
+ghost use Rattle.q2_format.specs.Tables.{refcount_of};
 ghost use Rattle.q2_refs.specs.Allocating.{with_block_for};
 ghost use Rattle.q2_refs.specs.Free.{free_cluster};
 ghost use Rattle.q2_format.specs.Entry.{IsWritable, host_of};
@@ -10,7 +12,7 @@ ghost use Rattle.q2_tables.specs.Entries.{entry_of};
 ghost use Rattle.q2_tables.specs.Linking.{stop_of, CanLink, link_end};
 ghost use Rattle.q2_image.specs.Image.{IsImageOf, IsOpen, clusters_in, cluster_size_in, entry_in};
 ghost use Rattle.q2_image.specs.Reading.{IsHost, IsWithinCluster};
-ghost use Rattle.q2_image.specs.Writing.{IsDiskWith, IsSameDisk, HasEntriesBut, IsSpare, IsIdle, MayName, Shows, CanTake, IsFault, taken_at, after_take};
+ghost use Rattle.q2_image.specs.Writing.{IsDiskWith, IsSameDisk, HasEntriesBut, IsSpare, IsIdle, MayName, Shows, CanTake, IsFault, HasSameEntries, taken_at, after_take, needs_table, needs_host, idle_host, next_host, table_for, with_table, with_host};
 
 use crate::header::cluster_size;
 use crate::image::Image;
@@ -38,6 +40,16 @@ fn host_of(mapping: Mapping) -> u64
     }
 }
 
+/// The host cluster of a mapping that reads as zeros, 0 for none.
+fn idle_host(mapping: Mapping) -> u64
+    ensures { result ≡ idle_host (entry_of mapping) }
+{
+    match mapping {
+        Mapping::Zero { host } => host,
+        Mapping::Unallocated | Mapping::Host { .. } => 0,
+    }
+}
+
 impl Image {
     /// Takes the cluster that is next, and gives its offset. It then counts, and nothing names it.
     fn take_cluster<D: Device>(&mut self, dev: &mut D) -> Result<u64, DevStop>
@@ -47,6 +59,7 @@ impl Image {
         ensures ok { OnOk result (self.new ≡ record self.old { refs = after_take self.old.refs }) }
         ensures err { OnErr result ((self.new ≡ self.old) ⊎ (self.new ≡ record self.old { refs = with_block_for self.old.refs (free_cluster self.old.refs 0) })) }
         ensures spare { IfOk result (λ offset. (file : List ℕ) → D.content dev.new ≡ Some file → IsSpare file (offset / 65536)) }
+        ensures fresh { IfOk result (λ offset. (file : List ℕ) → D.content dev.old ≡ Some file → refcount_of file (header_of file) (offset / 65536) ≡ 0) }
         ensures spare_stay { (old new : List ℕ) (n : ℕ) → D.content dev.old ≡ Some old → D.content dev.new ≡ Some new → IsSpare old n → IsSpare new n }
         ensures image { (file : List ℕ) → D.content dev.new ≡ Some file → IsImageOf file self.new }
         ensures disk { (old new : List ℕ) → D.content dev.old ≡ Some old → D.content dev.new ≡ Some new → IsSameDisk old new }
@@ -130,5 +143,54 @@ impl Image {
         ensures { IsTrue result → 0 < host }
     {
         host != 0 && self.refs.count_of(host / cluster_size(&self.header)) == 1
+    }
+
+    /// Takes a cluster for the L2 table of a guest cluster, where that has none, and gives its offset, else 0.
+    fn new_table<D: Device>(&mut self, dev: &mut D, cluster: u64) -> Result<u64, DevStop>
+        requires below { cluster < length self.old.tables.words }
+        requires can { needs_table self.old cluster ≡ true → CanTake self.old 0 (D.capacity dev.old) }
+        requires image { (file : List ℕ) → D.content dev.old ≡ Some file → IsImageOf file self.old }
+        ensures table { IfOk result (λ table. table ≡ table_for self.old cluster) }
+        ensures ok { OnOk result (self.new ≡ with_table self.old cluster) }
+        ensures same { HasSameEntries self.old self.new }
+        ensures spare { IfOk result (λ table. (file : List ℕ) → D.content dev.new ≡ Some file → table ≢ 0 → IsSpare file (table / 65536)) }
+        ensures image { (file : List ℕ) → D.content dev.new ≡ Some file → IsImageOf file self.new }
+        ensures disk { (old new : List ℕ) → D.content dev.old ≡ Some old → D.content dev.new ≡ Some new → IsSameDisk old new }
+        ensures cause { IfErr result (IsFault (D.faults dev.old) (D.faults dev.new)) }
+        ensures told { is_some (D.content dev.new) ≡ is_some (D.content dev.old) }
+        ensures faults { D.faults dev.old ≤ D.faults dev.new }
+        ensures capacity { D.capacity dev.new ≡ D.capacity dev.old }
+    {
+        if self.tables.table_of(cluster) != 0 {
+            return Ok(0);
+        }
+        self.take_cluster(dev)
+    }
+
+    /// Gives the offset that the data of a guest cluster can be put to without a byte of it being read before: that of
+    /// a host cluster behind an entry which reads as zeros, or else of a cluster that is taken.
+    fn new_host<D: Device>(&mut self, dev: &mut D, cluster: u64) -> Result<u64, DevStop>
+        requires below { cluster < length self.old.tables.words }
+        requires can { needs_host self.old cluster ≡ true → CanTake self.old 0 (D.capacity dev.old) }
+        requires image { (file : List ℕ) → D.content dev.old ≡ Some file → IsImageOf file self.old }
+        ensures host { IfOk result (λ host. host ≡ next_host self.old cluster) }
+        ensures ok { OnOk result (self.new ≡ with_host self.old cluster) }
+        ensures same { HasSameEntries self.old self.new }
+        ensures spare { IfOk result (λ host. needs_host self.old cluster ≡ true → (file : List ℕ) → D.content dev.new ≡ Some file → IsSpare file (host / 65536)) }
+        ensures fresh { IfOk result (λ host. needs_host self.old cluster ≡ true → (file : List ℕ) → D.content dev.old ≡ Some file
+            → refcount_of file (header_of file) (host / 65536) ≡ 0) }
+        ensures spare_stay { (old new : List ℕ) (n : ℕ) → D.content dev.old ≡ Some old → D.content dev.new ≡ Some new → IsSpare old n → IsSpare new n }
+        ensures image { (file : List ℕ) → D.content dev.new ≡ Some file → IsImageOf file self.new }
+        ensures disk { (old new : List ℕ) → D.content dev.old ≡ Some old → D.content dev.new ≡ Some new → IsSameDisk old new }
+        ensures cause { IfErr result (IsFault (D.faults dev.old) (D.faults dev.new)) }
+        ensures told { is_some (D.content dev.new) ≡ is_some (D.content dev.old) }
+        ensures faults { D.faults dev.old ≤ D.faults dev.new }
+        ensures capacity { D.capacity dev.new ≡ D.capacity dev.old }
+    {
+        let idle = idle_host(self.tables.lookup(cluster));
+        if idle != 0 {
+            return Ok(idle);
+        }
+        self.take_cluster(dev)
     }
 }

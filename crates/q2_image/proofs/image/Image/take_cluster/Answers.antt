@@ -1,7 +1,11 @@
-use Rattle.std.proofs.Common.{◌≡◌, ℕ, List, sym, subst}
+use Rattle.std.proofs.Common.{◌≡◌, ℕ, List, sym, ap, subst, ◌∙◌}
+use Rattle.q2_format.specs.Header.{header_of}
+use Rattle.q2_format.specs.Tables.{refcount_of}
+use Rattle.q2_refs.specs.Free.{free_clusters}
 use Rattle.q2_image.specs.Image.{Known, IsImageOf}
-use Rattle.q2_image.proofs.Taken.{told_too, image_taken, spare_stays, disk_taken, open_with_refs, ready_result}
+use Rattle.q2_image.proofs.Taken.{told_too, image_taken, spare_stays, disk_taken, open_with_refs, ready_result, fresh_count, by_size}
 use Rattle.q2_image.proofs.image.Image.take_cluster.Goals as goal
+use Rattle.q2_image.proofs.image.Image.take_cluster.Goals.{in-Ok, in-Err-Dev}
 
 pub returns-clause-spare_stay : goal.returns-clause-spare_stay
 returns-clause-spare_stay g c = λ old new n told_old told_new spare.
@@ -22,3 +26,15 @@ returns-clause-disk g c = λ old new told_old told_new.
     let P : Known → Type 0 = IsImageOf old in
     disk_taken old new seen c.allocate.new.self (subst P (sym c.self.view_is) (c.requires.image old told_old)) (c.allocate.ensures.keeps old new told_old told_new) (c.allocate.ensures.step new told_new)
     c.self.invariant (open_with_refs seen c.allocate.new.self c.self.invariant (ready_result c.self.inside.refs c.allocate.new.self c.allocate.result c.allocate.ensures.kept c.allocate.ensures.partly))
+
+pub returns-clause-fresh : goal.returns-clause-fresh
+returns-clause-fresh g c =
+    let seen : Known = record { header = c.self.inside.header; tables = c.self.inside.tables; refs = c.self.inside.refs } in
+    elim c.match-allocate.branch [
+      | in-Ok w ↦ rw w.result-is (λ file told.
+          let P : Known → Type 0 = IsImageOf file in
+          let is = subst P (sym c.self.view_is) (c.requires.image file told) in
+          ap (refcount_of file (header_of file)) (by_size w.in-Ok.cluster w.cluster_size.result w.cluster_size.ensures.number)
+          ∙ fresh_count file seen w.in-Ok.cluster (free_clusters c.allocate.new.self) is w.in-Ok.ensures.given w.in-Ok.ensures.below)
+      | in-Err-Dev w ↦ rw w.result-is tt
+    ]
