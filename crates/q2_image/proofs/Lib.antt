@@ -21,3 +21,4 @@ pub mod EntryFrames
 pub mod LinkedImage
 pub mod LinkedDisk
 pub mod LinkTold
+pub mod Plans

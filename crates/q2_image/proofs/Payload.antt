@@ -112,23 +112,23 @@ told_now f o n old new is was told = let e : option_map f (Some old) ≡ Some ne
 
 module _ (o n : Option (List ℕ)) (image : Known) (at : ℕ) (bytes : List ℕ) (is : n ≡ option_map (λ b. with_bytes b at bytes) o)
     (of_image : (file : List ℕ) → o ≡ Some file → IsImageOf file image) (ready : IsOpen image) (idle : (file : List ℕ) → o ≡ Some file → IsIdle file image at)
-    (whole : at % 65536 ≡ 0) (short : length bytes ≤ 65536) (small : at < 549755813888) where
+    (whole : (file : List ℕ) → o ≡ Some file → at % 65536 ≡ 0) (short : length bytes ≤ 65536) (small : at < 549755813888) where
   pub told_image : (file : List ℕ) → n ≡ Some file → IsImageOf file image
   told_image file told =
       let was = told_before (λ b. with_bytes b at bytes) o n file is told in
       let P : List ℕ → Type 0 = λ f. IsImageOf f image in
-      subst P was.2 (payload_image was.0 image at bytes (of_image was.0 was.1) ready (idle was.0 was.1) whole short small)
+      subst P was.2 (payload_image was.0 image at bytes (of_image was.0 was.1) ready (idle was.0 was.1) (whole was.0 was.1) short small)
 
   pub told_disk : (old new : List ℕ) → o ≡ Some old → n ≡ Some new → IsSameDisk old new
   told_disk old new was told =
       let P : List ℕ → Type 0 = IsSameDisk old in
-      subst P (told_now (λ b. with_bytes b at bytes) o n old new is was told) (payload_disk old image at bytes (of_image old was) ready (idle old was) whole short small)
+      subst P (told_now (λ b. with_bytes b at bytes) o n old new is was told) (payload_disk old image at bytes (of_image old was) ready (idle old was) (whole old was) short small)
 
   pub told_spare : (old new : List ℕ) (k : ℕ) → o ≡ Some old → n ≡ Some new → IsSpare old k → IsSpare new k
   told_spare old new k was told spare =
       let P : List ℕ → Type 0 = λ f. IsSpare f k in
       subst P (told_now (λ b. with_bytes b at bytes) o n old new is was told)
-      (spare_kept old (with_bytes old at bytes) (payload_tables old image at bytes (of_image old was) ready (idle old was) whole short small) k spare)
+      (spare_kept old (with_bytes old at bytes) (payload_tables old image at bytes (of_image old was) ready (idle old was) (whole old was) short small) k spare)
 
 pub told_written : (o n : Option (List ℕ)) (at : ℕ) (bytes : List ℕ) → n ≡ option_map (λ b. with_bytes b at bytes) o → length bytes ≡ 65536
     → (file : List ℕ) → n ≡ Some file → bytes_at file at 65536 ≡ bytes

@@ -12,7 +12,7 @@ ghost use Rattle.q2_tables.specs.Entries.{entry_of};
 ghost use Rattle.q2_tables.specs.Linking.{stop_of, CanLink, link_end};
 ghost use Rattle.q2_image.specs.Image.{IsImageOf, IsOpen, clusters_in, cluster_size_in, entry_in};
 ghost use Rattle.q2_image.specs.Reading.{IsHost, IsWithinCluster};
-ghost use Rattle.q2_image.specs.Writing.{IsDiskWith, IsSameDisk, HasEntriesBut, IsSpare, IsIdle, MayName, Shows, CanTake, IsFault, HasSameEntries, taken_at, after_take, needs_table, needs_host, idle_host, next_host, table_for, with_table, with_host};
+ghost use Rattle.q2_image.specs.Writing.{IsDiskWith, IsSameDisk, HasEntriesBut, IsSpare, IsIdle, MayName, Shows, PutFits, CanTake, IsFault, HasSameEntries, taken_at, after_take, needs_table, needs_host, idle_host, next_host, table_for, with_table, with_host};
 
 use crate::header::cluster_size;
 use crate::image::Image;
@@ -80,12 +80,13 @@ impl Image {
     fn write_payload<D: Device>(&self, dev: &mut D, host: u64, bytes: &[u8]) -> Result<(), DevStop>
         requires open { IsOpen self.now }
         requires whole { length bytes.now ≡ 65536 }
-        requires aligned { host % 65536 ≡ 0 }
+        requires aligned { (file : List ℕ) → D.content dev.old ≡ Some file → host % 65536 ≡ 0 }
         requires small { host < 549755813888 }
         requires fits { host + 65536 ≤ D.capacity dev.old }
         requires image { (file : List ℕ) → D.content dev.old ≡ Some file → IsImageOf file self.now }
         requires idle { (file : List ℕ) → D.content dev.old ≡ Some file → IsIdle file self.now host }
         ensures written { OnOk result ((file : List ℕ) → D.content dev.new ≡ Some file → bytes_at file host 65536 ≡ bytes.now) }
+        ensures reaches { OnOk result (host + 65536 ≤ D.size dev.new) }
         ensures spare_stay { (old new : List ℕ) (n : ℕ) → D.content dev.old ≡ Some old → D.content dev.new ≡ Some new → IsSpare old n → IsSpare new n }
         ensures image { (file : List ℕ) → D.content dev.new ≡ Some file → IsImageOf file self.now }
         ensures disk { (old new : List ℕ) → D.content dev.old ≡ Some old → D.content dev.new ≡ Some new → IsSameDisk old new }
@@ -192,5 +193,36 @@ impl Image {
             return Ok(idle);
         }
         self.take_cluster(dev)
+    }
+
+    /// Puts the bytes of a guest cluster, where there is room: takes the clusters that are needed, writes the data, and
+    /// then the entry that makes them visible.
+    fn put_into<D: Device>(
+        &mut self,
+        dev: &mut D,
+        cluster: u64,
+        bytes: &[u8],
+    ) -> Result<(), DevStop>
+        requires open { IsOpen self.old }
+        requires below { cluster < length self.old.tables.words }
+        requires whole { length bytes.now ≡ 65536 }
+        requires fits { PutFits self.old cluster (D.capacity dev.old) }
+        requires image { (file : List ℕ) → D.content dev.old ≡ Some file → IsImageOf file self.old }
+        ensures mapped { OnOk result (IsHost (entry_in self.new cluster)) }
+        ensures unmapped { OnErr result (entry_in self.new cluster ≡ entry_in self.old cluster) }
+        ensures others { HasEntriesBut self.old self.new cluster }
+        ensures header { self.new.header ≡ self.old.header }
+        ensures image { (file : List ℕ) → D.content dev.new ≡ Some file → IsImageOf file self.new }
+        ensures disk { OnOk result ((old new : List ℕ) → D.content dev.old ≡ Some old → D.content dev.new ≡ Some new → IsDiskWith old new (cluster * 65536) bytes.now) }
+        ensures kept { OnErr result ((old new : List ℕ) → D.content dev.old ≡ Some old → D.content dev.new ≡ Some new → IsSameDisk old new) }
+        ensures cause { IfErr result (IsFault (D.faults dev.old) (D.faults dev.new)) }
+        ensures told { is_some (D.content dev.new) ≡ is_some (D.content dev.old) }
+        ensures faults { D.faults dev.old ≤ D.faults dev.new }
+        ensures capacity { D.capacity dev.new ≡ D.capacity dev.old }
+    {
+        let table = self.new_table(dev, cluster)?;
+        let host = self.new_host(dev, cluster)?;
+        self.write_payload(dev, host, bytes)?;
+        self.map_cluster(dev, cluster, Mapping::Host { host }, table)
     }
 }
