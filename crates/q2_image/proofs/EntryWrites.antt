@@ -69,7 +69,7 @@ module _ (old : List ℕ) (image : Known) (is : IsImageOf old image) (ready : Is
   pub table_whole : (i : ℕ) → i < length image.tables.l1 → host_offset (get_or image.tables.l1 i 0) % 65536 ≡ 0
   table_whole i below =
       let P : List ℕ → Type 0 = λ xs. (j : ℕ) → j < length xs → host_offset (get_or xs j 0) % 65536 ≡ 0 in
-      let all : P (active_tree old h).l1 = λ j in_tree. 
+      let all : P (active_tree old h).l1 = λ j in_tree.
       let o : ℕ = host_offset (get_or (active_tree old h).l1 j 0) in
       ap (λ (n : ℕ). o % n) (sym c_is) ∙ whole_of (cluster_size_in image) (length old) o (l2_placed (cluster_size_in image) (length old) (active_tree old h) nothing.l2_tables j in_tree) in
       subst P (sym l1_is) all i below

@@ -46,6 +46,19 @@ own_of word (Host host) is can = (host_entry word host is).0
 own_of word Compressed is can = absurd can
 own_of word Reserved is can = absurd can
 
+own_by_bits : (o : ℕ) (a b z n : Bool) → (not a && not b) ≡ true → (n ≡ true → o ≡ 0)
+    → cond a 0 o ≡ host_of (cond a Compressed (cond b Reserved (cond z (Zero o) (cond n Unallocated (Host o)))))
+own_by_bits o true b z n plain none = absurd (cc)
+own_by_bits o false true z n plain none = absurd (cc)
+own_by_bits o false false true n plain none = refl
+own_by_bits o false false false true plain none = none refl
+own_by_bits o false false false false plain none = refl
+
+-- the host offset of an entry in order
+pub own_of_plain : (word : ℕ) → is_plain word ≡ true → own_offset word ≡ host_of (l2_entry word)
+unfolding l2_entry
+own_of_plain word plain = own_by_bits (host_offset word) (is_compressed word) (has_reserved_in_l2 word) (reads_as_zeros word) (eqb (host_offset word) 0) plain (eqb-true (host_offset word) 0)
+
 plain_by_bits : (o : ℕ) (e : L2Entry) (a b z n : Bool) → cond a Compressed (cond b Reserved (cond z (Zero o) (cond n Unallocated (Host o)))) ≡ e → IsWritable e → (not a && not b) ≡ true
 plain_by_bits o e true b z n is can = absurd (subst IsWritable (sym is) can)
 plain_by_bits o e false true z n is can = absurd (subst IsWritable (sym is) can)

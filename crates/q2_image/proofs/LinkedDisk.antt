@@ -74,9 +74,10 @@ module _ (old new : List ℕ) (image : Known) (cluster table : ℕ) (is : IsImag
       → (host / 65536 ≢ entry_at image.tables cluster table / 65536) × (table ≢ 0 → host / 65536 ≢ table / 65536)
   named_apart q host below_q own some =
       let by_c = ap (λ (n : ℕ). host / n) (sym c_is) ∙ ap (λ (n : ℕ). n / c) (sym own) in
-      let named : own_offset (get_or image.tables.words q 0) ≢ 0 = λ none. some (sym own ∙ none) in
-      (λ e. place.holds.unnamed q below_q named (sym by_c ∙ e),
-      λ some_table e. spare_unnamed old image is q (table / 65536) below_q (spare some_table).unnamed named (sym by_c ∙ e))
+      let named : own_offset (get_or image.tables.words q 0) ≢ 0 = λ none. some (sym own ∙ none) in (
+        λ e. place.holds.unnamed q below_q named (sym by_c ∙ e),
+        λ some_table e. spare_unnamed old image is q (table / 65536) below_q (spare some_table).unnamed named (sym by_c ∙ e),
+      )
 
   hosts_stay : (q : ℕ) → q < length image.tables.words → HostStays old new (entry_in image q)
   hosts_stay q below_q = λ host i entry inside.
@@ -176,7 +177,7 @@ module _ (old new : List ℕ) (image : Known) (cluster table : ℕ) (is : IsImag
           let zero_whole : host % c ≡ 0 = let size = c_is in rw (none, size) refl in
           placed_by c (length new) host zero_whole (omega (arith, none, some))
       | inr (inl same) ↦ ap (is_misplaced c (length new)) same ∙ old_host cluster below
-      | inr (inr (free , aligned , inside , _)) ↦ placed_by c (length new) host (ap (λ (n : ℕ). host % n) c_is ∙ aligned) (omega (arith, inside))
+      | inr (inr (free, aligned, inside, _)) ↦ placed_by c (length new) host (ap (λ (n : ℕ). host % n) c_is ∙ aligned) (omega (arith, inside))
     ]
 
     fits_next : FitsWith old new x next.tables
@@ -205,14 +206,14 @@ module _ (old new : List ℕ) (image : Known) (cluster table : ℕ) (is : IsImag
               ∙ old_bits i (subst (λ (n : ℕ). i < n) (length-set {A = ℕ} image.tables.l1 row (l1_spelling table)) in_row)
         ] in
         record {
-          tables = elim cases [ inl (none , same) ↦ subst T (sym same) old_table | inr (some , set_there) ↦ subst T (sym set_there) (table_set some) ];
+          tables = elim cases [ inl (none, same) ↦ subst T (sym same) old_table | inr (some, set_there) ↦ subst T (sym set_there) (table_set some) ];
           hosts = λ q in_row. elim (cases_eq q cluster) [
             | inl here ↦ ap (λ (m : ℕ). is_misplaced c (length new) (own_offset (get_or words m 0))) here ∙ ap (λ (w : ℕ). is_misplaced c (length new) (own_offset w)) here_word ∙ ap (is_misplaced c (length new)) own ∙ host_fits
             | inr other ↦
                 ap (λ (w : ℕ). is_misplaced c (length new) (own_offset w)) (get_or-set_other image.tables.words cluster q word 0 other)
                 ∙ old_host q (subst (λ (n : ℕ). q < n) (length-set {A = ℕ} image.tables.words cluster word) in_row)
           ];
-          l1_bits = elim cases [ inl (none , same) ↦ subst B (sym same) old_bits | inr (some , set_there) ↦ subst B (sym set_there) (bits_set some) ];
+          l1_bits = elim cases [ inl (none, same) ↦ subst B (sym same) old_bits | inr (some, set_there) ↦ subst B (sym set_there) (bits_set some) ];
           plain = open_next.plain;
           once = λ k. (uses_fit k).0;
           counted = λ k. (uses_fit k).1;
@@ -235,7 +236,7 @@ module _ (old new : List ℕ) (image : Known) (cluster table : ℕ) (is : IsImag
           let held = held_by old image is ready cluster host below (sym same) some in
           let apart = named_apart cluster host below (sym same) some in
           apart_byte host i held.whole inside apart.0 apart.1
-      | inr (inr (free , aligned , _ , differ)) ↦
+      | inr (inr (free, aligned, _, differ)) ↦
           apart_byte host i aligned inside
           (λ e. let used = place.holds.used in let unnamed = ap (uses old (header_of old)) (sym e) ∙ free.unnamed in omega (arith, used, unnamed)) differ
     ]

@@ -71,7 +71,7 @@ module _ (image : Known) (cluster table word host : ℕ) (ready : IsOpen image) 
   ]
 
   pub l1_length : length linked.tables.l1 ≡ length image.tables.l1
-  l1_length = elim l1_cases [ inl (none , same) ↦ ap length same | inr (some , set_there) ↦ ap length set_there ∙ length-set {A = ℕ} image.tables.l1 row (l1_spelling table) ]
+  l1_length = elim l1_cases [ inl (none, same) ↦ ap length same | inr (some, set_there) ↦ ap length set_there ∙ length-set {A = ℕ} image.tables.l1 row (l1_spelling table) ]
 
   pub open_linked : IsOpen linked
   open_linked =
@@ -104,11 +104,11 @@ module _ (image : Known) (cluster table word host : ℕ) (ready : IsOpen image) 
   l1_names : (c k : ℕ) → count_by (λ w. names_cluster c k (host_offset w)) linked.tables.l1
       ≡ count_by (λ w. names_cluster c k (host_offset w)) image.tables.l1 + cond (names_cluster c k table) 1 0
   l1_names c k = elim l1_cases [
-    | inl (none , same) ↦
+    | inl (none, same) ↦
         let zero_there : ◌≡◌ {A = ℕ} (cond (names_cluster c k table) 1 0) 0 = ap (λ (o : ℕ). cond (names_cluster c k o) 1 0) none in
         let words_same = ap (λ (xs : List ℕ). count_by (λ w. names_cluster c k (host_offset w)) xs) same in
         omega (arith, zero_there, words_same)
-    | inr (some , set_there) ↦
+    | inr (some, set_there) ↦
         let change = sum_by-set (λ w. cond (names_cluster c k (host_offset w)) 1 0) image.tables.l1 row (l1_spelling table) 0 in_l1 in
         let before : ◌≡◌ {A = ℕ} (cond (names_cluster c k (host_offset (get_or image.tables.l1 row 0))) 1 0) 0 = ap (λ (o : ℕ). cond (names_cluster c k o) 1 0) (can.new some) in
         let after : ◌≡◌ {A = ℕ} (cond (names_cluster c k (host_offset (l1_spelling table))) 1 0) (cond (names_cluster c k table) 1 0) = ap (λ (o : ℕ). cond (names_cluster c k o) 1 0) (spelled_offset table can.aligned can.small) in
@@ -159,9 +159,9 @@ module _ (image : Known) (cluster table word host : ℕ) (ready : IsOpen image) 
             | inr (inl same) ↦
                 let same_host : ◌≡◌ {A = ℕ} (cond (names_cluster c k host) 1 0) (cond (names_cluster c k (own_offset (get_or image.tables.words cluster 0))) 1 0) = ap (λ (o : ℕ). cond (names_cluster c k o) 1 0) same in
                 (omega (arith, all, was, once, no_table, same_host), omega (arith, all, was, counted, no_table, same_host))
-            | inr (inr (free , _ , _ , _)) ↦ elim (named_cases c k host) [
+            | inr (inr (free, _, _, _)) ↦ elim (named_cases c k host) [
               | inl no_host ↦ (omega (arith, all, was, once, no_table, no_host), omega (arith, all, was, counted, no_table, no_host))
-              | inr (one , some , here) ↦
+              | inr (one, some, here) ↦
                   let at : host / 65536 ≡ k = ap (λ (n : ℕ). host / n) (sym c_is) ∙ here in
                   let none = spare_by (host / 65536) free in
                   let unnamed = ap (uses old image.header) (sym at) ∙ none.0 in
@@ -169,7 +169,7 @@ module _ (image : Known) (cluster table word host : ℕ) (ready : IsOpen image) 
                   (omega (arith, all, was, unnamed, no_table, one), omega (arith, all, was, unnamed, no_table, one, count))
             ]
           ]
-          | inr (one_table , some_table , here_table) ↦
+          | inr (one_table, some_table, here_table) ↦
               let at_table : table / 65536 ≡ k = ap (λ (n : ℕ). table / n) (sym c_is) ∙ here_table in
               let none_table = spare_by (table / 65536) (spare some_table) in
               let unnamed = ap (uses old image.header) (sym at_table) ∙ none_table.0 in
@@ -181,9 +181,9 @@ module _ (image : Known) (cluster table word host : ℕ) (ready : IsOpen image) 
                 | inr (inl same) ↦
                     let same_host : ◌≡◌ {A = ℕ} (cond (names_cluster c k host) 1 0) (cond (names_cluster c k (own_offset (get_or image.tables.words cluster 0))) 1 0) = ap (λ (o : ℕ). cond (names_cluster c k o) 1 0) same in
                     (omega (arith, all, was, unnamed, one_table, same_host), omega (arith, all, was, unnamed, one_table, same_host, count))
-                | inr (inr (free , _ , _ , differ)) ↦ elim (named_cases c k host) [
+                | inr (inr (free, _, _, differ)) ↦ elim (named_cases c k host) [
                   | inl no_host ↦ (omega (arith, all, was, unnamed, one_table, no_host), omega (arith, all, was, unnamed, one_table, no_host, count))
-                  | inr (one , some , here) ↦ absurd (differ some_table (ap (λ (n : ℕ). host / n) (sym c_is) ∙ here ∙ sym at_table))
+                  | inr (one, some, here) ↦ absurd (differ some_table (ap (λ (n : ℕ). host / n) (sym c_is) ∙ here ∙ sym at_table))
                 ]
               ]
         ]

@@ -57,7 +57,7 @@ module _ (old : List ℕ) (image : Known) (at place : ℕ) (bytes : List ℕ) (i
 
 idle_free : (old : List ℕ) (image : Known) (at : ℕ) → IsImageOf old image → IsOpen image → IsIdle old image at → HoldsNoTable old (at / 65536)
 idle_free old image at is ready (inl spare) = spare_holds old image is (at / 65536) spare.unnamed
-idle_free old image at is ready (inr (q , below , entry , some)) =
+idle_free old image at is ready (inr (q, below, entry, some)) =
     (held_by old image is ready q at below (zero_entry (get_or image.tables.words q 0) at entry) (λ none. omega arith)).holds.free
 
 idle_other : (old : List ℕ) (image : Known) (at : ℕ) → IsImageOf old image → IsOpen image → IsIdle old image at
@@ -67,7 +67,7 @@ idle_other old image at is ready (inl spare) q host below entry =
     let size = size_in image ready in
     λ same. spare_unnamed old image is q (at / 65536) below spare.unnamed (λ none. own.1 (sym own.0 ∙ none))
     (ap (λ (n : ℕ). n / cluster_size_in image) own.0 ∙ ap (λ (n : ℕ). host / n) size ∙ same)
-idle_other old image at is ready (inr (p , below_p , entry_p , some)) q host below entry =
+idle_other old image at is ready (inr (p, below_p, entry_p, some)) q host below entry =
     let own = host_entry (get_or image.tables.words q 0) host entry in
     let other = zero_entry (get_or image.tables.words p 0) at entry_p in
     let size = size_in image ready in

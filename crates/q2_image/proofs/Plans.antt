@@ -206,6 +206,7 @@ host_if true image cluster capacity test ready below can fits =
   where
     rows : (n m size : ℕ) → size ≡ 65536 → n < m → n * size < m * size
     rows n m size is h = rw is (omega arith)
+
     positive : (n : ℕ) → n ≢ 0 → 0 < n
     positive n some = omega arith
 host_if false image cluster capacity test ready below can fits =

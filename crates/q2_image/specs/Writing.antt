@@ -1,6 +1,9 @@
 -- Writing an image: what changes of its disk, and when there is room for it.
-use Rattle.std.specs.Prelude.{◌≡◌, ◌≢◌, ◌⊎◌, ℕ, ◌+◌, ◌*◌, ◌/◌, ◌%◌, ◌<◌, ◌≤◌, ◌==◌, Bool, true, if◌then◌else◌, ⊤, List, [], length, slice_index, Option, Some}
+use Rattle.std.specs.Prelude.{◌≡◌, ◌≢◌, ◌⊎◌, ℕ, ◌+◌, ◌*◌, ◌/◌, ◌%◌, ◌<◌, ◌≤◌, max, ◌==◌, Bool, true, if◌then◌else◌, ⊤, List, [], length, slice_index, Option, Some}
 use Rattle.blk_base.specs.Counts.{Rose}
+use Rattle.blk_base.specs.Pieces.{Extent}
+use Rattle.blk_base.specs.declared.device.WriteStop.{WriteStop}
+use Rattle.blk_base.specs.declared.device.Stop.TheVariants as why
 use Rattle.blk_base.specs.declared.fault.DevStop.{DevStop}
 use Rattle.blk_base.specs.declared.fault.DevStop.TheVariants.{Io, NoSpace}
 use Rattle.q2_format.specs.Entry.{host_of}
@@ -58,6 +61,11 @@ MayName file image cluster table host =
     (host ≡ 0)
     ⊎ ((host ≡ own_offset (slice_index image.tables.words cluster))
     ⊎ (IsSpare file (host / 65536) × (host % 65536 ≡ 0) × (host < length file) × (table ≢ 0 → host / 65536 ≢ table / 65536)))
+
+-- the bytes of a guest cluster that reads as zeros
+pub record AreClusterZeros (bytes : List ℕ) : Type 0 where
+  pub whole : length bytes ≡ 65536
+  pub zeros : (i : ℕ) → slice_index bytes i ≡ 0
 
 -- the bytes that a guest cluster reads as by its own entry
 abbrev pub Shows : List ℕ → L2Entry → List ℕ → Type 0
@@ -154,3 +162,24 @@ IsFault before now NoSpace = ⊥
 abbrev pub HasWriteCause : ℕ → ℕ → DevStop → Type 0
 HasWriteCause before now (Io count) = Rose before count × (count ≡ now)
 HasWriteCause before now NoSpace = ⊤
+
+-- one image has the header of another, but for the autoclear field
+abbrev pub HasHeaderOf : Known → Known → Type 0
+HasHeaderOf old new = (autocleared new).header ≡ (autocleared old).header
+
+-- the end of a write in place, and of the autoclear field where that is written before it
+abbrev pub own_end : Known → Extent → ℕ
+own_end image span =
+    let c = cluster_size_in image in
+    max (autoclear_end image) (host_of (entry_in image (span.start / c)) + span.start % c + span.len)
+
+-- a write in place that a failed call stopped: some of its first bytes are written, but not all
+pub record IsFailedOwn (len before now : ℕ) (stop : WriteStop) : Type 0 where
+  pub why : stop.why ≡ why.Failed
+  pub part : (stop.done ≡ 0) ⊎ (stop.done < len)
+  pub rose : Rose before now
+
+-- want of space comes exactly where the write would end above the capacity, and then nothing was written
+pub record IsOwnStop (end capacity len before now : ℕ) (stop : WriteStop) : Type 0 where
+  pub no_space : stop.why ≡ why.NoSpace → (capacity < end) × (stop.done ≡ 0)
+  pub failed : stop.why ≡ why.Failed → (end ≤ capacity) × IsFailedOwn len before now stop

@@ -2,7 +2,9 @@
 #![tactic(auto)]
 
 mod autoclear;
+mod changing;
 mod counting;
+mod fitting;
 mod header;
 mod image;
 mod load;

@@ -3,6 +3,7 @@
 ghost use Rattle.std.specs.Prelude.{◌≡◌, ◌≢◌, ◌↔◌, ◌⊎◌, ◌+◌, ◌*◌, ◌/◌, ◌%◌, ◌<◌, ◌≤◌, ℕ, List, [], length, Some, is_some, IsTrue, true, IfOk, IfErr, OnOk, OnErr};
 ghost use Rattle.blk_base.specs.Counts.{taken};
 ghost use Rattle.q2_format.specs.Bytes.{bytes_at};
+ghost use Rattle.q2_format.specs.declared.entries.L2Entry.TheVariants.{Zero};
 ghost use Rattle.q2_format.specs.Header.{header_of};
 ghost use Rattle.q2_format.specs.Tables.{refcount_of};
 ghost use Rattle.q2_refs.specs.Allocating.{with_block_for};
@@ -12,7 +13,7 @@ ghost use Rattle.q2_tables.specs.Entries.{entry_of};
 ghost use Rattle.q2_tables.specs.Linking.{stop_of, CanLink, link_end};
 ghost use Rattle.q2_image.specs.Image.{IsImageOf, IsOpen, clusters_in, cluster_size_in, entry_in};
 ghost use Rattle.q2_image.specs.Reading.{IsHost, IsWithinCluster};
-ghost use Rattle.q2_image.specs.Writing.{IsDiskWith, IsSameDisk, HasEntriesBut, IsSpare, IsIdle, MayName, Shows, PutFits, CanTake, IsFault, HasSameEntries, taken_at, after_take, needs_table, needs_host, idle_host, next_host, table_for, with_table, with_host};
+ghost use Rattle.q2_image.specs.Writing.{IsDiskWith, IsSameDisk, HasEntriesBut, IsSpare, IsIdle, MayName, Shows, PutFits, ZeroFits, AreClusterZeros, CanTake, IsFault, HasSameEntries, taken_at, after_take, needs_table, needs_host, idle_host, next_host, table_for, with_table, with_host};
 
 use crate::header::cluster_size;
 use crate::image::Image;
@@ -41,7 +42,7 @@ fn host_of(mapping: Mapping) -> u64
 }
 
 /// The host cluster of a mapping that reads as zeros, 0 for none.
-fn idle_host(mapping: Mapping) -> u64
+pub(crate) fn idle_host(mapping: Mapping) -> u64
     ensures { result ≡ idle_host (entry_of mapping) }
 {
     match mapping {
@@ -197,7 +198,7 @@ impl Image {
 
     /// Puts the bytes of a guest cluster, where there is room: takes the clusters that are needed, writes the data, and
     /// then the entry that makes them visible.
-    fn put_into<D: Device>(
+    pub(crate) fn put_into<D: Device>(
         &mut self,
         dev: &mut D,
         cluster: u64,
@@ -224,5 +225,29 @@ impl Image {
         let host = self.new_host(dev, cluster)?;
         self.write_payload(dev, host, bytes)?;
         self.map_cluster(dev, cluster, Mapping::Host { host }, table)
+    }
+
+    /// Makes a guest cluster read as zeros, where there is room. A host cluster that it has is kept.
+    pub(crate) fn zero_into<D: Device>(&mut self, dev: &mut D, cluster: u64) -> Result<(), DevStop>
+        requires open { IsOpen self.old }
+        requires below { cluster < length self.old.tables.words }
+        requires fits { ZeroFits self.old cluster (D.capacity dev.old) }
+        requires image { (file : List ℕ) → D.content dev.old ≡ Some file → IsImageOf file self.old }
+        ensures mapped { OnOk result (entry_in self.new cluster ≡ Zero (host_of (entry_in self.old cluster))) }
+        ensures unmapped { OnErr result (entry_in self.new cluster ≡ entry_in self.old cluster) }
+        ensures others { HasEntriesBut self.old self.new cluster }
+        ensures header { self.new.header ≡ self.old.header }
+        ensures image { (file : List ℕ) → D.content dev.new ≡ Some file → IsImageOf file self.new }
+        ensures disk { OnOk result ((old new zeros : List ℕ) → D.content dev.old ≡ Some old → D.content dev.new ≡ Some new
+            → AreClusterZeros zeros → IsDiskWith old new (cluster * 65536) zeros) }
+        ensures kept { OnErr result ((old new : List ℕ) → D.content dev.old ≡ Some old → D.content dev.new ≡ Some new → IsSameDisk old new) }
+        ensures cause { IfErr result (IsFault (D.faults dev.old) (D.faults dev.new)) }
+        ensures told { is_some (D.content dev.new) ≡ is_some (D.content dev.old) }
+        ensures faults { D.faults dev.old ≤ D.faults dev.new }
+        ensures capacity { D.capacity dev.new ≡ D.capacity dev.old }
+    {
+        let table = self.new_table(dev, cluster)?;
+        let host = host_of(self.tables.lookup(cluster));
+        self.map_cluster(dev, cluster, Mapping::Zero { host }, table)
     }
 }

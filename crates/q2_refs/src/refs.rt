@@ -97,7 +97,8 @@ impl Refs {
     /// The cluster that the `k`-th call of `allocate` from now would give, counted from 0, or the reach where
     /// that call would answer `HostLimit`.
     pub fn next_free(&self, k: u64) -> u64
-        ensures { result ≡ free_cluster self.now k }
+        ensures cluster { result ≡ free_cluster self.now k }
+        ensures within { result ≤ length self.now.counts }
     {
         let mut left = k;
         for cluster in self.cursor..self.counts.len() {

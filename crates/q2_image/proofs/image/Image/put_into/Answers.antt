@@ -202,11 +202,12 @@ map_cluster-requires-clause-may g c = λ file told.
     let size = g.met.D.Device.told_size c.write_payload.new.dev file told in
     elim (bool_cases (needs_host c.new_table.new.self c.args.cluster)) [
       | inl taken ↦ inr (inr (
-          c.in_ok-write_payload.ensures.spare_stay second.0 file (c.in_ok-host.host / 65536) second.1 told (c.in_ok-host.ensures.spare taken second.0 second.1),
-          taken_whole c.args.self.now c.new_table.new.self c.new_host.new.self c.args.cluster c.in_ok-table.table c.in_ok-host.host (g.D.Device.capacity c.args.dev.now) put taken,
-          omega (arith, size, c.in_ok-write_payload.ensures.reaches),
-          λ some same. (c.in_ok-table.ensures.spare first.0 first.1 some).counted
-              (ap (refcount_of first.0 (header_of first.0)) (sym same) ∙ c.in_ok-host.ensures.fresh taken first.0 first.1)))
+        c.in_ok-write_payload.ensures.spare_stay second.0 file (c.in_ok-host.host / 65536) second.1 told (c.in_ok-host.ensures.spare taken second.0 second.1),
+        taken_whole c.args.self.now c.new_table.new.self c.new_host.new.self c.args.cluster c.in_ok-table.table c.in_ok-host.host (g.D.Device.capacity c.args.dev.now) put taken,
+        omega (arith, size, c.in_ok-write_payload.ensures.reaches),
+        λ some same. (c.in_ok-table.ensures.spare first.0 first.1 some).counted
+            (ap (refcount_of first.0 (header_of first.0)) (sym same) ∙ c.in_ok-host.ensures.fresh taken first.0 first.1),
+      ))
       | inr idle ↦
           let there = idle_host_there c.args.self.now c.new_table.new.self c.new_host.new.self c.args.cluster c.in_ok-table.table c.in_ok-host.host (g.D.Device.capacity c.args.dev.now) put idle in
           inr (inl (sym (zero_entry (get_or c.new_host.new.self.tables.words c.args.cluster 0) c.in_ok-host.host there.0)))

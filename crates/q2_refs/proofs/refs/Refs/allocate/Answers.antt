@@ -13,7 +13,7 @@ returns-then-cluster-len-clause-full g c =
     let counts = ap (λ (k : Kept). length k.counts) c.self.view_is in
     let len : c.len.result ≡ length S.counts = omega (arith, counts, c.self.inside.counts.ok.0, c.len.ensures) in
     let P : Kept → Type 0 = λ k. free_clusters k ≡ [] in
-    (λ full. subst P c.skip_taken.ensures (none_free S (sym len ∙ sym c.if-cluster-len.true ∙ c.next_free-cluster.ensures)), λ none. refl)
+    (λ full. subst P c.skip_taken.ensures (none_free S (sym len ∙ sym c.if-cluster-len.true ∙ c.next_free-cluster.ensures.cluster)), λ none. refl)
 
 pub take-requires-clause-cluster : goal.take-requires-clause-cluster
 take-requires-clause-cluster g c =
@@ -21,7 +21,7 @@ take-requires-clause-cluster g c =
     let n : ℕ = c.next_free-cluster.result in
     let counts = ap (λ (k : Kept). length k.counts) c.self.view_is in
     let len : c.len.result ≡ length S.counts = omega (arith, counts, c.self.inside.counts.ok.0, c.len.ensures) in
-    let first = first_free_cluster S n c.next_free-cluster.ensures (λ e. c.if-cluster-len.false (e ∙ sym len)) in
+    let first = first_free_cluster S n c.next_free-cluster.ensures.cluster (λ e. c.if-cluster-len.false (e ∙ sym len)) in
     first.3
 
 pub take-requires-clause-given : goal.take-requires-clause-given
@@ -30,7 +30,7 @@ take-requires-clause-given g c =
     let n : ℕ = c.next_free-cluster.result in
     let counts = ap (λ (k : Kept). length k.counts) c.self.view_is in
     let len : c.len.result ≡ length S.counts = omega (arith, counts, c.self.inside.counts.ok.0, c.len.ensures) in
-    let first = first_free_cluster S n c.next_free-cluster.ensures (λ e. c.if-cluster-len.false (e ∙ sym len)) in
+    let first = first_free_cluster S n c.next_free-cluster.ensures.cluster (λ e. c.if-cluster-len.false (e ∙ sym len)) in
     first.2
 
 pub returns-in_err-take-clause-again : goal.returns-in_err-take-clause-again
@@ -39,7 +39,7 @@ returns-in_err-take-clause-again g c =
     let n : ℕ = c.next_free-cluster.result in
     let counts = ap (λ (k : Kept). length k.counts) c.self.view_is in
     let len : c.len.result ≡ length S.counts = omega (arith, counts, c.self.inside.counts.ok.0, c.len.ensures) in
-    let first = first_free_cluster S n c.next_free-cluster.ensures (λ e. c.if-cluster-len.false (e ∙ sym len)) in
+    let first = first_free_cluster S n c.next_free-cluster.ensures.cluster (λ e. c.if-cluster-len.false (e ∙ sym len)) in
     let A : Kept → Type 0 = λ k. length k.counts ≤ length k.table * per_block k in
     let reach : A S = subst A c.self.view_is c.self.invariant.reach in
     let B : Kept → Type 0 = λ k. 0 < per_block k in
@@ -58,7 +58,7 @@ returns-clause-given g c =
     let n : ℕ = c.next_free-cluster.result in
     let counts = ap (λ (k : Kept). length k.counts) c.self.view_is in
     let len : c.len.result ≡ length S.counts = omega (arith, counts, c.self.inside.counts.ok.0, c.len.ensures) in
-    let first = first_free_cluster S n c.next_free-cluster.ensures (λ e. c.if-cluster-len.false (e ∙ sym len)) in
+    let first = first_free_cluster S n c.next_free-cluster.ensures.cluster (λ e. c.if-cluster-len.false (e ∙ sym len)) in
     let A : Kept → Type 0 = λ k. length k.counts ≤ length k.table * per_block k in
     let reach : A S = subst A c.self.view_is c.self.invariant.reach in
     let B : Kept → Type 0 = λ k. 0 < per_block k in
@@ -72,7 +72,7 @@ returns-clause-below g c =
     let n : ℕ = c.next_free-cluster.result in
     let counts = ap (λ (k : Kept). length k.counts) c.self.view_is in
     let len : c.len.result ≡ length S.counts = omega (arith, counts, c.self.inside.counts.ok.0, c.len.ensures) in
-    let first = first_free_cluster S n c.next_free-cluster.ensures (λ e. c.if-cluster-len.false (e ∙ sym len)) in
+    let first = first_free_cluster S n c.next_free-cluster.ensures.cluster (λ e. c.if-cluster-len.false (e ∙ sym len)) in
     let P : Kept → Type 0 = λ k. n < length k.counts in
     subst P c.skip_taken.ensures first.3
 
@@ -82,7 +82,7 @@ returns-clause-unused g c =
     let n : ℕ = c.next_free-cluster.result in
     let counts = ap (λ (k : Kept). length k.counts) c.self.view_is in
     let len : c.len.result ≡ length S.counts = omega (arith, counts, c.self.inside.counts.ok.0, c.len.ensures) in
-    let first = first_free_cluster S n c.next_free-cluster.ensures (λ e. c.if-cluster-len.false (e ∙ sym len)) in
+    let first = first_free_cluster S n c.next_free-cluster.ensures.cluster (λ e. c.if-cluster-len.false (e ∙ sym len)) in
     λ file told.
     let P : Kept → Type 0 = λ k. IsInStep file k in
     unused_by_count file S n (subst P (sym c.skip_taken.ensures) (c.requires.step file told)) first.3 (given_count S n first.2)
@@ -97,7 +97,7 @@ returns-clause-counted g c =
     let n : ℕ = c.next_free-cluster.result in
     let counts = ap (λ (k : Kept). length k.counts) c.self.view_is in
     let len : c.len.result ≡ length S.counts = omega (arith, counts, c.self.inside.counts.ok.0, c.len.ensures) in
-    let first = first_free_cluster S n c.next_free-cluster.ensures (λ e. c.if-cluster-len.false (e ∙ sym len)) in
+    let first = first_free_cluster S n c.next_free-cluster.ensures.cluster (λ e. c.if-cluster-len.false (e ∙ sym len)) in
     λ file told.
     let one = given_counts_one S n first.3 in
     let step = c.in_ok-take.ensures.step file told in

@@ -14,9 +14,9 @@ loop-cluster-init c =
     let start : 0 + c.args.k ≡ c.args.k = omega arith in
     ap (λ (xs : List ℕ). length xs + c.args.k) none ∙ start
 
-pub returns-then-left-eq0 : goal.returns-then-left-eq0
+pub returns-then-left-eq0-clause-cluster : goal.returns-then-left-eq0-clause-cluster
 unfolding free_clusters
-returns-then-left-eq0 c =
+returns-then-left-eq0-clause-cluster c =
     let kept : Kept = c.args.self.now in
     let cluster : ℕ = c.loop-cluster.cluster in
     let counts = ap (λ (kept : Kept). length kept.counts) c.self.view_is in
@@ -36,9 +36,9 @@ loop-cluster-preserved c = elim c.if-will_be_given.branch [
       ap (λ (xs : List ℕ). length xs + c.if-will_be_given.left) same ∙ omega (arith, c.loop-cluster.invariant)
 ]
 
-pub returns : goal.returns
+pub returns-clause-cluster : goal.returns-clause-cluster
 unfolding free_clusters
-returns c =
+returns-clause-cluster c =
     let kept : Kept = c.args.self.now in
     let counts = ap (λ (kept : Kept). length kept.counts) c.self.view_is in
     let reach : c.len.result ≡ length kept.counts = omega (arith, counts, c.self.inside.counts.ok.0, c.len.ensures) in

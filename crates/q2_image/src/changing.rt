@@ -1,0 +1,240 @@
+//! The calls that change an image: each looks first whether there is room for all that it writes.
+
+ghost use Rattle.std.specs.Prelude.{◌≡◌, ◌↔◌, ◌⊎◌, ◌+◌, ◌*◌, ◌/◌, ◌%◌, ◌<◌, ◌≤◌, max, ℕ, Bool, true, ◌||◌, List, length, Option, Some, is_some, is_ok, option_map, Err, IfErr, OnOk, OnErr};
+ghost use Rattle.blk_base.specs.Counts.{taken, Rose};
+ghost use Rattle.blk_base.specs.declared.device.Stop.TheVariants as why;
+ghost use Rattle.blk_base.specs.declared.fault.DevStop.TheVariants.{NoSpace};
+ghost use Rattle.q2_format.specs.Entry.{host_of};
+ghost use Rattle.q2_format.specs.declared.entries.L2Entry.TheVariants.{Zero, Host};
+ghost use Rattle.q2_image.specs.Image.{IsImageOf, IsOpen, clusters_in, cluster_size_in, entry_in};
+ghost use Rattle.q2_image.specs.Reading.{IsHost, IsWithinCluster};
+ghost use Rattle.q2_image.specs.Writing.{IsDiskWith, IsSameDisk, HasEntriesBut, AreClusterZeros, PutFits, ZeroFits, HasWriteCause, IsFault, IsOwnStop, IsFailedOwn, own_end, autoclear_end, autocleared, HasHeaderOf};
+
+use crate::header::cluster_size;
+use crate::image::Image;
+use blk_base::{DevStop, Device, Span, Stop, WriteStop};
+use q2_tables::Mapping;
+
+impl Image {
+    /// Makes a guest cluster Host with these bytes, the whole cluster's. What it takes and writes comes in this order:
+    /// clusters that nothing names, for an L2 table where the guest cluster has none and for the data; the data; and the
+    /// entry, which alone makes them visible. Behind an entry that reads as zeros and has a host cluster the data go
+    /// there. A cluster that was mapped before gets another host cluster, and the old one is left, counted and unused.
+    ///
+    /// `NoSpace` comes exactly where a write would end above the capacity, or a cluster that is needed isn't below the
+    /// reach. After each refusal the image is sound and no byte of its disk has changed; clusters that were taken stay
+    /// counted. No memory is taken.
+    pub fn put_cluster<D: Device>(
+        &mut self,
+        dev: &mut D,
+        cluster: u64,
+        bytes: &[u8],
+    ) -> Result<(), DevStop>
+        requires cluster { cluster < clusters_in self.old }
+        requires whole { length bytes.now ≡ 65536 }
+        requires image { (file : List ℕ) → D.content dev.old ≡ Some file → IsImageOf file self.old }
+
+        // the image
+        ensures mapped { OnOk result (IsHost (entry_in self.new cluster)) }
+        ensures unmapped { OnErr result (entry_in self.new cluster ≡ entry_in self.old cluster) }
+        ensures others { HasEntriesBut self.old self.new cluster }
+        ensures header { HasHeaderOf self.old self.new }
+        ensures image { (file : List ℕ) → D.content dev.new ≡ Some file → IsImageOf file self.new }
+        ensures disk { OnOk result ((old new : List ℕ) → D.content dev.old ≡ Some old → D.content dev.new ≡ Some new
+            → IsDiskWith old new (cluster * 65536) bytes.now) }
+        ensures kept { OnErr result ((old new : List ℕ) → D.content dev.old ≡ Some old → D.content dev.new ≡ Some new → IsSameDisk old new) }
+
+        // why each answer comes
+        ensures no_space { (result ≡ Err NoSpace) ↔ (PutFits self.old cluster (D.capacity dev.old) → ⊥) }
+        ensures untouched { result ≡ Err NoSpace → (self.new ≡ self.old) × (D.content dev.new ≡ D.content dev.old) × (D.log dev.new ≡ D.log dev.old)
+            × (D.is_flushed dev.new ≡ D.is_flushed dev.old) × (D.size dev.new ≡ D.size dev.old) × (D.faults dev.new ≡ D.faults dev.old) }
+        ensures cause { IfErr result (HasWriteCause (D.faults dev.old) (D.faults dev.new)) }
+
+        // the device
+        ensures told { is_some (D.content dev.new) ≡ is_some (D.content dev.old) }
+        ensures faults { D.faults dev.old ≤ D.faults dev.new }
+        ensures capacity { D.capacity dev.new ≡ D.capacity dev.old }
+    {
+        if !self.put_fits(cluster, dev.capacity()) {
+            return Err(DevStop::NoSpace);
+        }
+        self.put_cleared(dev, cluster, bytes)
+    }
+
+    /// Makes a guest cluster Zero, with the host cluster that it had: one L2 entry is written, in a new L2 table where
+    /// there is none. Answers as `put_cluster` does.
+    pub fn zero_cluster<D: Device>(&mut self, dev: &mut D, cluster: u64) -> Result<(), DevStop>
+        requires cluster { cluster < clusters_in self.old }
+        requires image { (file : List ℕ) → D.content dev.old ≡ Some file → IsImageOf file self.old }
+
+        // the image
+        ensures mapped { OnOk result (entry_in self.new cluster ≡ Zero (host_of (entry_in self.old cluster))) }
+        ensures unmapped { OnErr result (entry_in self.new cluster ≡ entry_in self.old cluster) }
+        ensures others { HasEntriesBut self.old self.new cluster }
+        ensures header { HasHeaderOf self.old self.new }
+        ensures image { (file : List ℕ) → D.content dev.new ≡ Some file → IsImageOf file self.new }
+        ensures disk { OnOk result ((old new zeros : List ℕ) → D.content dev.old ≡ Some old → D.content dev.new ≡ Some new
+            → AreClusterZeros zeros → IsDiskWith old new (cluster * 65536) zeros) }
+        ensures kept { OnErr result ((old new : List ℕ) → D.content dev.old ≡ Some old → D.content dev.new ≡ Some new → IsSameDisk old new) }
+
+        // why each answer comes
+        ensures no_space { (result ≡ Err NoSpace) ↔ (ZeroFits self.old cluster (D.capacity dev.old) → ⊥) }
+        ensures untouched { result ≡ Err NoSpace → (self.new ≡ self.old) × (D.content dev.new ≡ D.content dev.old) × (D.log dev.new ≡ D.log dev.old)
+            × (D.is_flushed dev.new ≡ D.is_flushed dev.old) × (D.size dev.new ≡ D.size dev.old) × (D.faults dev.new ≡ D.faults dev.old) }
+        ensures cause { IfErr result (HasWriteCause (D.faults dev.old) (D.faults dev.new)) }
+
+        // the device
+        ensures told { is_some (D.content dev.new) ≡ is_some (D.content dev.old) }
+        ensures faults { D.faults dev.old ≤ D.faults dev.new }
+        ensures capacity { D.capacity dev.new ≡ D.capacity dev.old }
+    {
+        if !self.zero_fits(cluster, dev.capacity()) {
+            return Err(DevStop::NoSpace);
+        }
+        self.zero_cleared(dev, cluster)
+    }
+
+    /// Writes a part of one mapped cluster in place. After a failed write its first `done` bytes are written.
+    pub fn write_own<D: Device>(
+        &mut self,
+        dev: &mut D,
+        span: Span,
+        bytes: &[u8],
+    ) -> Result<(), WriteStop>
+        requires cluster { IsWithinCluster (cluster_size_in self.old) span }
+        requires disk { span.start / cluster_size_in self.old < clusters_in self.old }
+        requires mapped { IsHost (entry_in self.old (span.start / cluster_size_in self.old)) }
+        requires whole { length bytes.now ≡ span.len }
+        requires image { (file : List ℕ) → D.content dev.old ≡ Some file → IsImageOf file self.old }
+
+        // the image
+        ensures known { (self.new ≡ self.old) ⊎ (self.new ≡ autocleared self.old) }
+        ensures image { (file : List ℕ) → D.content dev.new ≡ Some file → IsImageOf file self.new }
+        ensures disk { (old new : List ℕ) → D.content dev.old ≡ Some old → D.content dev.new ≡ Some new → IsDiskWith old new span.start (taken result bytes.now) }
+
+        // why each answer comes
+        ensures fits { OnOk result (own_end self.old span ≤ D.capacity dev.old) }
+        ensures stop { IfErr result (IsOwnStop (own_end self.old span) (D.capacity dev.old) (length bytes.now) (D.faults dev.old) (D.faults dev.new)) }
+
+        // the device
+        ensures told { is_some (D.content dev.new) ≡ is_some (D.content dev.old) }
+        ensures faults { D.faults dev.old ≤ D.faults dev.new }
+        ensures capacity { D.capacity dev.new ≡ D.capacity dev.old }
+    {
+        let cluster_size = cluster_size(&self.header);
+        let Mapping::Host { host } = self.tables.lookup(span.start / cluster_size) else {
+            unreachable!()
+        };
+        let place = host + span.start % cluster_size;
+        if !self.own_fits(place, bytes.len() as u64, dev.capacity()) {
+            return Err(WriteStop {
+                done: 0,
+                why: Stop::NoSpace,
+            });
+        }
+        self.write_cleared(dev, span, place, bytes)
+    }
+
+    /// Returns once all that was written is kept.
+    pub fn flush<D: Device>(&mut self, dev: &mut D) -> Result<(), DevStop>
+        ensures known { self.new ≡ self.old }
+        ensures flushed { D.is_flushed dev.new ≡ option_map (λ f. is_ok result || f) (D.is_flushed dev.old) }
+        ensures cause { IfErr result (IsFault (D.faults dev.old) (D.faults dev.new)) }
+        ensures content { D.content dev.new ≡ D.content dev.old }
+        ensures size { D.size dev.new ≡ D.size dev.old }
+        ensures capacity { D.capacity dev.new ≡ D.capacity dev.old }
+        ensures log { D.log dev.new ≡ D.log dev.old }
+        ensures faults { D.faults dev.old ≤ D.faults dev.new }
+    {
+        match dev.flush() {
+            Ok(()) => Ok(()),
+            Err(_) => Err(DevStop::Io {
+                count: dev.faults(),
+            }),
+        }
+    }
+
+    /// Puts the bytes of a guest cluster, where there is room, behind a cleared autoclear field.
+    fn put_cleared<D: Device>(
+        &mut self,
+        dev: &mut D,
+        cluster: u64,
+        bytes: &[u8],
+    ) -> Result<(), DevStop>
+        requires open { IsOpen self.old }
+        requires below { cluster < length self.old.tables.words }
+        requires whole { length bytes.now ≡ 65536 }
+        requires fits { PutFits self.old cluster (D.capacity dev.old) }
+        requires image { (file : List ℕ) → D.content dev.old ≡ Some file → IsImageOf file self.old }
+        ensures mapped { OnOk result (IsHost (entry_in self.new cluster)) }
+        ensures unmapped { OnErr result (entry_in self.new cluster ≡ entry_in self.old cluster) }
+        ensures others { HasEntriesBut self.old self.new cluster }
+        ensures header { HasHeaderOf self.old self.new }
+        ensures image { (file : List ℕ) → D.content dev.new ≡ Some file → IsImageOf file self.new }
+        ensures disk { OnOk result ((old new : List ℕ) → D.content dev.old ≡ Some old → D.content dev.new ≡ Some new
+            → IsDiskWith old new (cluster * 65536) bytes.now) }
+        ensures kept { OnErr result ((old new : List ℕ) → D.content dev.old ≡ Some old → D.content dev.new ≡ Some new → IsSameDisk old new) }
+        ensures cause { IfErr result (IsFault (D.faults dev.old) (D.faults dev.new)) }
+        ensures told { is_some (D.content dev.new) ≡ is_some (D.content dev.old) }
+        ensures faults { D.faults dev.old ≤ D.faults dev.new }
+        ensures capacity { D.capacity dev.new ≡ D.capacity dev.old }
+    {
+        self.clear_autoclear(dev)?;
+        self.put_into(dev, cluster, bytes)
+    }
+
+    /// Makes a guest cluster read as zeros, where there is room, behind a cleared autoclear field.
+    fn zero_cleared<D: Device>(&mut self, dev: &mut D, cluster: u64) -> Result<(), DevStop>
+        requires open { IsOpen self.old }
+        requires below { cluster < length self.old.tables.words }
+        requires fits { ZeroFits self.old cluster (D.capacity dev.old) }
+        requires image { (file : List ℕ) → D.content dev.old ≡ Some file → IsImageOf file self.old }
+        ensures mapped { OnOk result (entry_in self.new cluster ≡ Zero (host_of (entry_in self.old cluster))) }
+        ensures unmapped { OnErr result (entry_in self.new cluster ≡ entry_in self.old cluster) }
+        ensures others { HasEntriesBut self.old self.new cluster }
+        ensures header { HasHeaderOf self.old self.new }
+        ensures image { (file : List ℕ) → D.content dev.new ≡ Some file → IsImageOf file self.new }
+        ensures disk { OnOk result ((old new zeros : List ℕ) → D.content dev.old ≡ Some old → D.content dev.new ≡ Some new
+            → AreClusterZeros zeros → IsDiskWith old new (cluster * 65536) zeros) }
+        ensures kept { OnErr result ((old new : List ℕ) → D.content dev.old ≡ Some old → D.content dev.new ≡ Some new → IsSameDisk old new) }
+        ensures cause { IfErr result (IsFault (D.faults dev.old) (D.faults dev.new)) }
+        ensures told { is_some (D.content dev.new) ≡ is_some (D.content dev.old) }
+        ensures faults { D.faults dev.old ≤ D.faults dev.new }
+        ensures capacity { D.capacity dev.new ≡ D.capacity dev.old }
+    {
+        self.clear_autoclear(dev)?;
+        self.zero_into(dev, cluster)
+    }
+
+    /// Writes in place, where there is room, behind a cleared autoclear field.
+    fn write_cleared<D: Device>(
+        &mut self,
+        dev: &mut D,
+        span: Span,
+        place: u64,
+        bytes: &[u8],
+    ) -> Result<(), WriteStop>
+        requires open { IsOpen self.old }
+        requires below { span.start / 65536 < length self.old.tables.words }
+        requires mapped { (host : ℕ) × (entry_in self.old (span.start / 65536) ≡ Host host) × (place ≡ host + span.start % 65536) }
+        requires cluster { span.start % 65536 + length bytes.now ≤ 65536 }
+        requires header_fits { autoclear_end self.old ≤ D.capacity dev.old }
+        requires fits { place + length bytes.now ≤ D.capacity dev.old }
+        requires image { (file : List ℕ) → D.content dev.old ≡ Some file → IsImageOf file self.old }
+        ensures known { (self.new ≡ self.old) ⊎ (self.new ≡ autocleared self.old) }
+        ensures image { (file : List ℕ) → D.content dev.new ≡ Some file → IsImageOf file self.new }
+        ensures disk { (old new : List ℕ) → D.content dev.old ≡ Some old → D.content dev.new ≡ Some new → IsDiskWith old new span.start (taken result bytes.now) }
+        ensures stop { IfErr result (IsFailedOwn (length bytes.now) (D.faults dev.old) (D.faults dev.new)) }
+        ensures told { is_some (D.content dev.new) ≡ is_some (D.content dev.old) }
+        ensures faults { D.faults dev.old ≤ D.faults dev.new }
+        ensures capacity { D.capacity dev.new ≡ D.capacity dev.old }
+    {
+        match self.clear_autoclear(dev) {
+            Ok(()) => dev.write_at(place, bytes),
+            Err(_) => Err(WriteStop {
+                done: 0,
+                why: Stop::Failed,
+            }),
+        }
+    }
+}
