@@ -63,14 +63,14 @@ module _ (file : List ℕ) (size : ℕ) (name format : Option (List ℕ)) (can :
   four_clusters =
       let one = one_table_cluster size name format can.small in
       let few = few_l1_entries in
-      let len = created.clusters in
+      let len = created.tables.whole in
       omega (arith, one, few, len)
 
   l1_zeros : AreZeros file made.l1_offset (made.l1_offset + 8 * made.l1_size)
   l1_zeros i low high =
       let one = one_table_cluster size name format can.small in
       let few = few_l1_entries in
-      created.l1_table i low (omega (arith, one, few))
+      created.tables.l1_table i low (omega (arith, one, few))
 
   -- the refcount table: one block, at 131072
 
@@ -87,7 +87,7 @@ module _ (file : List ℕ) (size : ℕ) (name format : Option (List ℕ)) (can :
       let one = one_table in
       elim (cases_lt k 8192) [
         | inl inside ↦
-            let word = created.refcount_table.entry k (omega (arith, one)) in
+            let word = created.tables.refcount_table.entry k (omega (arith, one)) in
             let block : (1 + made.ref_clusters) * 65536 ≡ 131072 = omega (arith, one) in
             get_or-words_at file 65536 (made.ref_clusters * 8192) k (omega (arith, one)) ∙ word ∙ ap (λ (offset : ℕ). cond (eqb k 0) offset 0) block
         | inr past ↦
@@ -232,7 +232,7 @@ module _ (file : List ℕ) (size : ℕ) (name format : Option (List ℕ)) (can :
       let one = one_table in
       let few = few_l1_entries in
       let inside : cluster < created_clusters (creation_of size name format) = omega (arith, one) in
-      let entry = created.refcounts.count cluster (omega arith) in
+      let entry = created.tables.refcounts.count cluster (omega arith) in
       let test = lt-ltb cluster (created_clusters (creation_of size name format)) inside in
       let at : (1 + made.ref_clusters) * 65536 ≡ 131072 = omega (arith, one) in
       let count = rw (at, test) at entry in

@@ -66,7 +66,7 @@ module _ (new : Creation) (file : List ℕ) (created : IsCreated new file) where
   unfolding header_of
   l1_zeros i low high =
       let f : HasCreatedFields new file = created.header.fields in
-      created.l1_table i (omega (arith, f.l1_offset)) (omega (arith, f.l1_offset, f.l1_size, l1_fits new))
+      created.tables.l1_table i (omega (arith, f.l1_offset)) (omega (arith, f.l1_offset, f.l1_size, l1_fits new))
 
   pub created_word : (cluster : ℕ) → l2_word_of (active_tree file (header_of file)) (cluster_size (header_of file).cluster_bits) cluster ≡ 0
   created_word cluster = l2_word_of-unmapped file (cluster_size (header_of file).cluster_bits) (header_of file).l1_offset (header_of file).l1_size cluster l1_zeros

@@ -157,10 +157,14 @@ pub record HasCreatedCounts (new : Creation) (file : List ℕ) (at : ℕ) : Type
       → number_at file (at + k * refcount_bytes new.refcount_order) (refcount_bytes new.refcount_order)
       ≡ (if nat_lt k (created_clusters new) then 1 else 0)
 
--- the whole image; a longer file has any bytes behind the created clusters
-pub record IsCreated (new : Creation) (file : List ℕ) : Type 0 where
-  pub header : HasCreatedHeader new file
-  pub clusters : created_length new ≤ length file
+-- what stands behind the header's cluster; a longer file has any bytes behind the created clusters
+pub record HasCreatedTables (new : Creation) (file : List ℕ) : Type 0 where
+  pub whole : created_length new ≤ length file
   pub refcount_table : HasCreatedTable new file (created_cluster_size new)
   pub refcounts : HasCreatedCounts new file (created_block_offset new)
   pub l1_table : AreZeros file (created_l1_offset new) (created_length new)
+
+-- the whole image
+pub record IsCreated (new : Creation) (file : List ℕ) : Type 0 where
+  pub header : HasCreatedHeader new file
+  pub tables : HasCreatedTables new file

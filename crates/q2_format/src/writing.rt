@@ -7,11 +7,10 @@ ghost use Rattle.q2_format.specs.Created.{creation_of, AreZeros, IsFormatExtensi
 
 use crate::extensions::BACKING_FORMAT;
 use crate::header::MAX_DISK_SIZE;
+use crate::layout::{CLUSTER_SIZE, CREATED_L1_TABLE, CREATED_REFCOUNT_TABLE};
 use crate::numbers::{put_bytes, put_u32, put_u64};
 use crate::reading::{CLUSTER_BITS, MAGIC, REFCOUNT_ORDER, VERSION};
-
-/// The bytes of a cluster.
-const CLUSTER_SIZE: u64 = 1 << CLUSTER_BITS;
+use crate::refcounts::clear;
 
 /// The entries of an L2 table.
 const L2_ENTRIES: u64 = CLUSTER_SIZE / 8;
@@ -19,13 +18,7 @@ const L2_ENTRIES: u64 = CLUSTER_SIZE / 8;
 /// The header's length, behind which the extensions begin.
 const HEADER_LENGTH: u32 = 112;
 
-/// Where a created image's refcount table stands, in one cluster.
-const REFCOUNT_TABLE_OFFSET: u64 = CLUSTER_SIZE;
-
-/// Where its L1 table stands, behind the refcount table and one refcount block.
-const L1_OFFSET: u64 = 3 * CLUSTER_SIZE;
-
-/// Where its backing name stands.
+/// Where a created image's backing name stands.
 const NAME_OFFSET: u64 = CLUSTER_SIZE / 2;
 
 /// The L1 entries that a disk needs.
@@ -49,18 +42,11 @@ fn put_fields(out: &mut [u8], size: u64)
     put_u32(out, 20, CLUSTER_BITS);
     put_u64(out, 24, size);
     put_u32(out, 36, l1_entries(size));
-    put_u64(out, 40, L1_OFFSET);
-    put_u64(out, 48, REFCOUNT_TABLE_OFFSET);
+    put_u64(out, 40, CREATED_L1_TABLE);
+    put_u64(out, 48, CREATED_REFCOUNT_TABLE);
     put_u32(out, 56, 1);
     put_u32(out, 96, REFCOUNT_ORDER);
     put_u32(out, 100, HEADER_LENGTH);
-}
-
-/// Makes all bytes 0.
-fn clear(out: &mut [u8])
-    ensures { (i : ℕ) → slice_index out.new i ≡ 0 }
-{
-    out.fill(0);
 }
 
 /// Puts a name of 1 byte or more, and the fields that say where it stands.
