@@ -3,7 +3,7 @@ use Rattle.std.proofs.Common.{◌≡◌, ℕ, ◌+◌, ◌*◌, ◌<◌, ◌≤�
 use Rattle.std.proofs.lemmas.Bool.{cases_eq, ne_eqb}
 use Rattle.std.specs.Option.{ForSome, option_copied}
 use Rattle.q2_format.specs.Bytes.{number_at, ReadsAlike}
-use Rattle.q2_format.specs.Created.{Creation, creation_of, created_table_clusters, created_clusters, created_block_offset, created_l1_offset, AreZeros, HasCreatedFields, HasCreatedName, HasCreatedTable, HasCreatedCounts, IsNewName}
+use Rattle.q2_format.specs.Created.{Creation, creation_of, created_table_clusters, created_clusters, created_block_offset, created_l1_offset, created_length, AreZeros, HasCreatedFields, HasCreatedName, HasCreatedTable, HasCreatedCounts, IsNewName}
 use Rattle.q2_format.proofs.ByPlace.{number_at-zeros, number_at-within, bytes_at-within}
 
 -- a number among bytes that are 0
@@ -35,6 +35,12 @@ made_table file size name format small first others = record {
 -- a block in which four clusters count one
 pub four_clusters : (size : ℕ) (name format : Option (List ℕ)) → size ≤ 274877906944 → created_clusters (creation_of size name format) ≡ 4
 four_clusters size name format small = let one = one_table_cluster size name format small in omega (arith, one)
+
+pub block_behind : (size : ℕ) (name format : Option (List ℕ)) → size ≤ 274877906944 → created_block_offset (creation_of size name format) ≡ 131072
+block_behind size name format small = let one = one_table_cluster size name format small in omega (arith, one)
+
+pub length_created : (size : ℕ) (name format : Option (List ℕ)) → size ≤ 274877906944 → created_length (creation_of size name format) ≡ 262144
+length_created size name format small = let four = four_clusters size name format small in omega (arith, four)
 
 pub made_counts : (file : List ℕ) (size : ℕ) (name format : Option (List ℕ)) → size ≤ 274877906944
     → ((k : ℕ) → k < 32768 → number_at file (0 + k * 2) 2 ≡ cond (ltb k 4) 1 0) → HasCreatedCounts (creation_of size name format) file 0

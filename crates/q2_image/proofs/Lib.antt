@@ -8,3 +8,4 @@ pub mod Order
 pub mod Opened
 pub mod Whole
 pub mod Mapped
+pub mod Creations

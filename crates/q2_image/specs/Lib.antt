@@ -6,3 +6,4 @@ pub mod Guest
 pub mod Merge
 pub mod Image
 pub mod Reading
+pub mod Creating

@@ -2,6 +2,7 @@
 #![tactic(auto)]
 
 mod counting;
+mod create;
 mod header;
 mod image;
 mod load;
@@ -12,6 +13,7 @@ mod stop;
 #[cfg(test)]
 mod tests;
 
+pub use create::CreateStop;
 pub use image::Image;
 pub use opening::open_image;
 pub use stop::ImageStop;
