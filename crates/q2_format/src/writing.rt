@@ -2,8 +2,9 @@
 
 ghost use Rattle.std.specs.Prelude.{◌≡◌, ◌+◌, ◌*◌, ◌/◌, ◌<◌, ◌≤◌, ℕ, List, Option, length, slice_index, None, Some};
 ghost use Rattle.std.specs.Option.{ForSome, option_copied};
+ghost use Rattle.std.specs.Str.{IsUtf8};
 ghost use Rattle.q2_format.specs.Sizes.{l1_entries_for};
-ghost use Rattle.q2_format.specs.Created.{creation_of, AreZeros, IsFormatExtension, HasCreatedFields, HasCreatedName, HasCreatedExtensions, HasCreatedHeader, IsNewName, IsNewFormat};
+ghost use Rattle.q2_format.specs.Created.{creation_of, CanBeCreated, AreZeros, IsFormatExtension, HasCreatedFields, HasCreatedName, HasCreatedExtensions, HasCreatedHeader, IsNewName, IsNewFormat};
 
 use crate::extensions::BACKING_FORMAT;
 use crate::header::MAX_DISK_SIZE;
@@ -82,6 +83,14 @@ fn put_format(out: &mut [u8], format: &[u8])
     put_bytes(out, HEADER_LENGTH as usize + 8, format);
 }
 
+/// The bytes of a text, which are UTF-8.
+fn text_bytes(text: &str) -> &[u8]
+    ensures bytes { result.now ≡ text.now }
+    ensures utf8 { IsUtf8 text.now }
+{
+    text.as_bytes()
+}
+
 /// Puts the backing name, where there is one.
 fn put_backing_name(out: &mut [u8], name: Option<&str>)
     requires whole { length out.old ≡ 65536 }
@@ -92,10 +101,11 @@ fn put_backing_name(out: &mut [u8], name: Option<&str>)
         → HasCreatedFields (creation_of size (option_copied name.entry) format) out.new }
     ensures name { (size : ℕ) (format : Option (List ℕ))
         → HasCreatedName (creation_of size (option_copied name.entry) format) out.new }
+    ensures text { ForSome (option_copied name.entry) IsUtf8 }
     ensures between { (i : ℕ) → 112 ≤ i → i < 32768 → slice_index out.new i ≡ slice_index out.old i }
 {
     if let Some(name) = name {
-        put_name(out, name.as_bytes());
+        put_name(out, text_bytes(name));
     }
 }
 
@@ -123,8 +133,9 @@ pub fn write_header(size: u64, name: Option<&str>, format: Option<&str>, out: &m
     requires size { size ≤ MAX_DISK_SIZE }
     requires name { ForSome name (λ name. IsNewName name.now) }
     requires format { ForSome format (λ format. IsNewFormat format.now) }
-    ensures { HasCreatedHeader
+    ensures header { HasCreatedHeader
         (creation_of size (option_copied name.entry) (option_copied format.entry)) out.new }
+    ensures readable { CanBeCreated size (option_copied name.entry) (option_copied format.entry) }
 {
     clear(out);
     put_fields(out, size);
