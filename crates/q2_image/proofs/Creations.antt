@@ -1,13 +1,24 @@
 -- What writes that create an image leave of what a device tells.
-use Rattle.std.proofs.Common.{◌≡◌, ◌⊎◌, ℕ, ◌+◌, ◌-◌, ◌<◌, ◌≤◌, inl, inr, List, [], ◌∷◌, length, slice_index, Option, None, Some, is_some, option_map, refl, sym, ap, ◌∙◌, arith}
-use Rattle.std.proofs.lemmas.Bool.{cases_lt}
+use Rattle.std.proofs.Common.{◌≡◌, ◌⊎◌, ℕ, ◌+◌, ◌-◌, ◌<◌, ◌≤◌, inl, inr, List, [], ◌∷◌, length, slice_index, Option, None, Some, Result, Ok, Err, OnErr, is_some, option_map, refl, sym, ap, ◌∙◌, arith}
+use Rattle.std.proofs.lemmas.Bool.{cases_lt, le-ltb}
 use Rattle.blk_base.specs.Content.{with_bytes, size_with}
 use Rattle.blk_base.proofs.Contents.{get_or-with_bytes_inside, get_or-with_bytes_outside, length-with_bytes}
 use Rattle.q2_format.specs.Bytes.{ReadsAlike, Holds}
-use Rattle.q2_format.specs.Created.{creation_of, HasCreatedTable, HasCreatedCounts, HasCreatedTables}
+use Rattle.q2_format.specs.Created.{creation_of, created_header, CanBeCreated, HasCreatedName, HasCreatedExtensions, HasCreatedTable, HasCreatedCounts, HasCreatedTables, IsCreated}
+use Rattle.q2_format.specs.Header.{header_of, header_refusal, format_refusal}
+use Rattle.q2_format.specs.Sizes.{cluster_size, clusters_for}
+use Rattle.q2_format.specs.Sound.{image_refusal, IsSound, InHeader}
+use Rattle.q2_format.specs.declared.header.HeaderStop.TheVariants.{Magic}
+use Rattle.q2_format.proofs.ByPlace.{number_at-zeros}
+use Rattle.q2_format.proofs.CreatedSound.{created_is_sound}
+use Rattle.q2_format.proofs.ReadBack.{header_read}
 use Rattle.q2_format.proofs.Creating.{l1_table_behind, block_behind, length_created}
-use Rattle.q2_format.proofs.Placed.{table_held, counts_held, zeros_held, counts_alike}
-use Rattle.q2_image.specs.Creating.{ChangesWithin}
+use Rattle.q2_format.proofs.Placed.{table_held, table_alike, counts_held, counts_alike, zeros_held}
+use Rattle.q2_image.specs.Creating.{ChangesWithin, LacksHeader, text_at}
+
+pub on_err : {T E P : Type 0} (r : Result T E) → P → OnErr r P
+on_err (Ok value) holds = tt
+on_err (Err error) holds = holds
 
 -- One write.
 
@@ -129,3 +140,63 @@ cluster_put t1 t2 cluster sector rest file len_sector len_rest is_sector is_rest
           change.outside a.0 file a.1 now i (inr behind) ∙ ap (λ (p : ℕ). slice_index a.0 p) (sym there) ∙ (hold1 a.0 a.1).each (i - 512) (omega arith)
           ∙ is_rest (i - 512) ∙ ap (λ (p : ℕ). slice_index cluster p) there
     ] }
+
+-- What is written behind the first sector leaves it as it is.
+pub headless_stays : (t1 t2 : Option (List ℕ)) (from to : ℕ) → 512 ≤ from → ((f : List ℕ) → t1 ≡ Some f → LacksHeader f) → ChangesWithin t1 t2 from to
+    → (f : List ℕ) → t2 ≡ Some f → LacksHeader f
+headless_stays t1 t2 from to behind lacks change f now =
+    let a = told_before t1 t2 from to f change now in
+    let before = lacks a.0 a.1 in
+    let grown = change.grows a.0 f a.1 now in
+    record {
+      sector = λ i low high. change.outside a.0 f a.1 now i (inl (omega arith)) ∙ before.sector i low high;
+      whole = omega (arith, before.whole, grown);
+    }
+
+-- What is written to the header's cluster leaves the tables as they are.
+pub tables_stay : (t1 t2 : Option (List ℕ)) (size : ℕ) (name format : Option (List ℕ)) (file : List ℕ) → size ≤ 274877906944
+    → ((f : List ℕ) → t1 ≡ Some f → HasCreatedTables (creation_of size name format) f) → ChangesWithin t1 t2 0 65536 → t2 ≡ Some file
+    → HasCreatedTables (creation_of size name format) file
+tables_stay t1 t2 size name format file small tables change now =
+    let a = told_before t1 t2 0 65536 file change now in
+    let before = tables a.0 a.1 in
+    let grown = change.grows a.0 file a.1 now in
+    let l1 = l1_table_behind size name format small in
+    let place = block_behind size name format small in
+    let counts : HasCreatedCounts (creation_of size name format) a.0 131072 = rw place at before.refcounts in
+    record {
+      whole = omega (arith, before.whole, grown);
+      refcount_table = table_alike size name format a.0 file 65536 small (record { same = λ i low high. change.outside a.0 file a.1 now i (inr low) }) before.refcount_table;
+      refcounts = rw place (counts_alike size name format a.0 file 131072 (record { same = λ i low high. change.outside a.0 file a.1 now i (inr (omega arith)) }) counts);
+      l1_table = λ i low high. change.outside a.0 file a.1 now i (inr (omega (arith, l1))) ∙ before.l1_table i low high;
+    }
+
+-- A file whose first sector is zeros is refused.
+pub headless_refused : (file : List ℕ) → LacksHeader file → image_refusal file ≡ Some (InHeader Magic)
+unfolding image_refusal header_refusal format_refusal
+headless_refused file lacks =
+    let magic = number_at-zeros file 0 4 (λ i low high. lacks.sector i low (omega arith)) in
+    let whole = le-ltb (length file) 104 (omega (arith, lacks.whole)) in
+    rw (whole, magic) refl
+
+-- What a created image says.
+
+name_read : (file : List ℕ) (size : ℕ) (name format : Option (List ℕ)) → HasCreatedName (creation_of size name format) file
+    → text_at file (created_header (creation_of size name format)).name ≡ name
+name_read file size None format named = refl
+name_read file size (Some name) format named = ap Some named.text
+
+format_read : (file : List ℕ) (size : ℕ) (name format : Option (List ℕ)) → HasCreatedExtensions (creation_of size name format) file
+    → text_at file (created_header (creation_of size name format)).format ≡ format
+format_read file size name None extensions = refl
+format_read file size name (Some format) extensions = ap Some extensions.format.text
+
+module _ (file : List ℕ) (size : ℕ) (name format : Option (List ℕ)) (can : CanBeCreated size name format) (created : IsCreated (creation_of size name format) file) where
+  pub made_header : header_of file ≡ created_header (creation_of size name format)
+  made_header = header_read file size name format created.header can.name_fits can.format_fits
+
+  pub made_texts : (text_at file (header_of file).name ≡ name) × (text_at file (header_of file).format ≡ format)
+  made_texts = let header = made_header in rw header (name_read file size name format created.header.name, format_read file size name format created.header.extensions)
+
+  pub made_sound : clusters_for (cluster_size (header_of file).cluster_bits) (length file) ≤ 8388608 → IsSound file
+  made_sound short = let header = made_header in let few = rw header at short in created_is_sound file size name format can created few

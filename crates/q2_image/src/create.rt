@@ -5,7 +5,7 @@ ghost use Rattle.std.specs.Bool.{OnFalse};
 ghost use Rattle.std.specs.Option.{ForSome, option_copied};
 ghost use Rattle.q2_format.specs.Bytes.{bytes_at, Holds};
 ghost use Rattle.q2_format.specs.Contents.{image_disk};
-ghost use Rattle.q2_format.specs.Created.{creation_of, created_header, created_length, IsNewName, IsNewFormat, HasCreatedHeader, HasCreatedTables, IsCreated};
+ghost use Rattle.q2_format.specs.Created.{creation_of, CanBeCreated, created_header, created_length, IsNewName, IsNewFormat, HasCreatedHeader, HasCreatedTables, IsCreated};
 ghost use Rattle.q2_format.specs.Header.{header_of};
 ghost use Rattle.q2_format.specs.Sizes.{cluster_size, clusters_for};
 ghost use Rattle.q2_format.specs.Sound.{image_refusal, IsSound, InHeader};
@@ -183,6 +183,7 @@ fn put_header<D: Device>(
     requires format { ForSome format (λ format. IsNewFormat format.now) }
     ensures header { OnOk result ((file : List ℕ) → D.content dev.new ≡ Some file
         → HasCreatedHeader (creation_of size (option_copied name.entry) (option_copied format.entry)) file) }
+    ensures readable { OnOk result (CanBeCreated size (option_copied name.entry) (option_copied format.entry)) }
     ensures within { ChangesWithin (D.content dev.old) (D.content dev.new) 0 65536 }
     ensures unnamed { OnErr result (ChangesWithin (D.content dev.old) (D.content dev.new) 512 65536) }
     ensures cause { IfErr result (IsFailedCall (D.faults dev.old) (D.faults dev.new)) }
@@ -214,6 +215,7 @@ fn write_image<D: Device>(
     requires format { ForSome format (λ format. IsNewFormat format.now) }
     ensures created { OnOk result ((file : List ℕ) → D.content dev.new ≡ Some file
         → IsCreated (creation_of size (option_copied name.entry) (option_copied format.entry)) file) }
+    ensures readable { OnOk result (CanBeCreated size (option_copied name.entry) (option_copied format.entry)) }
     ensures headless { OnErr result ((D.content dev.new ≡ D.content dev.old)
         ⊎ ((file : List ℕ) → D.content dev.new ≡ Some file → LacksHeader file)) }
     ensures within { ChangesWithin (D.content dev.old) (D.content dev.new) 0 262144 }
@@ -287,5 +289,6 @@ pub fn create_image<D: Device>(
     if dev.capacity() < CREATED_LENGTH {
         return Err(CreateStop::NoSpace);
     }
-    write_image(dev, size, name, format, &mut buffer)
+    write_image(dev, size, name, format, &mut buffer)?;
+    Ok(())
 }

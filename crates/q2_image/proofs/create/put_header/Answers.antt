@@ -18,4 +18,4 @@ returns-clause-header g c = λ file now.
     let change : ChangesWithin t1 t2 0 512 = changes_more t1 t2 0 (0 + length sector) 0 512 (omega arith) (omega arith) c.write-2.ensures.within in
     let alike = cluster_put t1 t2 cluster sector rest file c.first_sector.ensures.whole c.behind_first_sector.ensures.whole
     c.first_sector.ensures.bytes c.behind_first_sector.ensures.bytes c.in_ok-write.ensures.holds c.in_ok-write-2.ensures.holds change now in
-    header_alike c.args.size c.args.name c.args.format cluster file c.requires.name c.requires.format c.write_header.ensures alike
+    header_alike c.args.size c.args.name c.args.format cluster file c.requires.name c.requires.format c.write_header.ensures.header alike

@@ -1,39 +1,47 @@
-use Rattle.std.proofs.Common.{rules, ◌≡◌, ◌⊎◌, ◌+◌, ◌%◌, ◌<◌, ◌≤◌, max, ℕ, false, List, Option, length, slice_index, Some, IfOk, IfErr, OnOk, OnErr, option_map, if◌then◌else◌, ◌-◌, ◌*◌, ◌/◌, Bool, true, nat_eq, nat_lt, [], ◌∷◌, ◌++◌, slice_index_or, slice_set, bit_and, bit_or, Fits, w8, w32, w64, Bor, MutBor}
-use Rattle.std.specs.Bool.{OnFalse}
-use Rattle.std.specs.Option.{ForSome, option_copied}
-use Rattle.q2_format.specs.Bytes.{bytes_at, Holds}
-use Rattle.q2_format.specs.Contents.{image_disk}
-use Rattle.q2_format.specs.Created.{creation_of, created_header, created_length, IsNewName, IsNewFormat, HasCreatedHeader, HasCreatedTables, IsCreated}
-use Rattle.q2_format.specs.Header.{header_of}
-use Rattle.q2_format.specs.Sizes.{cluster_size, clusters_for}
-use Rattle.q2_format.specs.Sound.{image_refusal, IsSound, InHeader}
-use Rattle.q2_format.specs.declared.entries.L2Entry.TheVariants.{Unallocated}
-use Rattle.q2_format.specs.declared.header.HeaderStop.TheVariants.{Magic}
-use Rattle.q2_format.specs.declared.header.TheConstants.{MAX_DISK_SIZE, MAX_FILE_CLUSTERS}
-use Rattle.q2_image.specs.Creating.{CreateAnswers, wrote, IsFailedCall, ChangesWithin, LacksHeader, text_at}
-use Rattle.q2_image.specs.Guest.{file_entry}
+-- The first sector is zeros from the first write up to the last.
+use Rattle.std.proofs.Common.{◌≡◌, ℕ, ◌≤◌, List, Option, inr, arith}
+use Rattle.std.specs.Option.{option_copied}
+use Rattle.q2_image.proofs.Creations.{changes_both, headless_stays, tables_stay, on_err}
 use Rattle.q2_image.proofs.create.write_image.Goals as goal
 
--- src/create.rt:229:5
-pub returns-in_err-write_tables-clause-headless : goal.returns-in_err-write_tables-clause-headless
-returns-in_err-write_tables-clause-headless g c = ?
-
--- src/create.rt:229:5
 pub returns-in_err-write_tables-clause-within : goal.returns-in_err-write_tables-clause-within
-returns-in_err-write_tables-clause-within g c = ?
+returns-in_err-write_tables-clause-within g c =
+    changes_both _ _ _ _ _ _ _ 0 262144 c.clear_header.ensures.within c.write_tables.ensures.within (omega arith) (omega arith) (omega arith) (omega arith)
 
--- src/create.rt:230:5
-pub returns-in_err-put_header-clause-headless : goal.returns-in_err-put_header-clause-headless
-returns-in_err-put_header-clause-headless g c = ?
-
--- src/create.rt:230:5
 pub returns-in_err-put_header-clause-within : goal.returns-in_err-put_header-clause-within
-returns-in_err-put_header-clause-within g c = ?
+returns-in_err-put_header-clause-within g c =
+    let two = changes_both _ _ _ _ _ _ _ 0 262144 c.clear_header.ensures.within c.write_tables.ensures.within (omega arith) (omega arith) (omega arith) (omega arith) in
+    changes_both _ _ _ _ _ _ _ 0 262144 two c.put_header.ensures.within (omega arith) (omega arith) (omega arith) (omega arith)
 
--- src/create.rt:203:1
-pub returns-clause-created : goal.returns-clause-created
-returns-clause-created g c = ?
-
--- src/create.rt:203:1
 pub returns-clause-within : goal.returns-clause-within
-returns-clause-within g c = ?
+returns-clause-within g c =
+    let two = changes_both _ _ _ _ _ _ _ 0 262144 c.clear_header.ensures.within c.write_tables.ensures.within (omega arith) (omega arith) (omega arith) (omega arith) in
+    changes_both _ _ _ _ _ _ _ 0 262144 two c.put_header.ensures.within (omega arith) (omega arith) (omega arith) (omega arith)
+
+pub returns-in_err-write_tables-clause-headless : goal.returns-in_err-write_tables-clause-headless
+returns-in_err-write_tables-clause-headless g c =
+    let t1 = g.D.Device.content c.clear_header.new.dev in
+    let t2 = g.D.Device.content c.write_tables.new.dev in
+    on_err c.from_residual-in_err-write_tables.result
+    (inr (headless_stays t1 t2 65536 262144 (omega arith) c.in_ok-clear_header.ensures.cleared c.write_tables.ensures.within))
+
+pub returns-in_err-put_header-clause-headless : goal.returns-in_err-put_header-clause-headless
+returns-in_err-put_header-clause-headless g c =
+    let t1 = g.D.Device.content c.clear_header.new.dev in
+    let t2 = g.D.Device.content c.write_tables.new.dev in
+    let t3 = g.D.Device.content c.put_header.new.dev in
+    let lacks = headless_stays t1 t2 65536 262144 (omega arith) c.in_ok-clear_header.ensures.cleared c.write_tables.ensures.within in
+    on_err c.from_residual-in_err-put_header.result (inr (headless_stays t2 t3 512 65536 (omega arith) lacks c.in_err-put_header.ensures.unnamed))
+
+pub returns-clause-created : goal.returns-clause-created
+returns-clause-created g c = λ file now.
+    let size : ℕ = c.args.size in
+    let name : Option (List ℕ) = option_copied c.args.name in
+    let format : Option (List ℕ) = option_copied c.args.format in
+    let t2 = g.D.Device.content c.write_tables.new.dev in
+    let t3 = g.D.Device.content c.put_header.new.dev in
+    record {
+      header = c.in_ok-put_header.ensures.header file now;
+      tables = tables_stay t2 t3 size name format file c.requires.size (λ f told. c.in_ok-write_tables.ensures.tables size name format f c.requires.size told)
+          c.put_header.ensures.within now;
+    }
