@@ -13,7 +13,7 @@ mod stop;
 #[cfg(test)]
 mod tests;
 
-pub use create::CreateStop;
+pub use create::{CreateStop, create_image};
 pub use image::Image;
 pub use opening::open_image;
 pub use stop::ImageStop;
