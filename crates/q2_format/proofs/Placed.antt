@@ -16,9 +16,6 @@ number_held file bytes at i n held fits = big_from-moved n (at + i) (0 + i) file
     let here : 0 + i + k ≡ i + k = omega arith in
     ap (λ (p : ℕ). slice_index file p) there ∙ held.each (i + k) (omega arith) ∙ sym (ap (λ (p : ℕ). slice_index bytes p) here))
 
-row_fits : (k n w : ℕ) → k < n → k * w + w ≤ n * w
-row_fits k n w below = grind arith
-
 pub table_held : (size : ℕ) (name format : Option (List ℕ)) (file bytes : List ℕ) (at : ℕ) → size ≤ 274877906944 → length bytes ≡ 65536 → Holds file at bytes
     → HasCreatedTable (creation_of size name format) bytes 0 → HasCreatedTable (creation_of size name format) file at
 table_held size name format file bytes at small whole held table = record {

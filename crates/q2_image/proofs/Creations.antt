@@ -131,15 +131,17 @@ pub cluster_put : (t1 t2 : Option (List ℕ)) (cluster sector rest file : List �
     → ReadsAlike cluster file 0 65536
 cluster_put t1 t2 cluster sector rest file len_sector len_rest is_sector is_rest hold1 hold2 change now =
     let a = told_before t1 t2 0 512 file change now in
-    record { same = λ i low high. elim (cases_lt i 512) [
-      | inl inside ↦
-          let here : 0 + i ≡ i = omega arith in
-          ap (λ (p : ℕ). slice_index file p) (sym here) ∙ (hold2 file now).each i (omega arith) ∙ is_sector i inside
-      | inr behind ↦
-          let there : 512 + (i - 512) ≡ i = omega arith in
-          change.outside a.0 file a.1 now i (inr behind) ∙ ap (λ (p : ℕ). slice_index a.0 p) (sym there) ∙ (hold1 a.0 a.1).each (i - 512) (omega arith)
-          ∙ is_rest (i - 512) ∙ ap (λ (p : ℕ). slice_index cluster p) there
-    ] }
+    record {
+      same = λ i low high. elim (cases_lt i 512) [
+        | inl inside ↦
+            let here : 0 + i ≡ i = omega arith in
+            ap (λ (p : ℕ). slice_index file p) (sym here) ∙ (hold2 file now).each i (omega arith) ∙ is_sector i inside
+        | inr behind ↦
+            let there : 512 + (i - 512) ≡ i = omega arith in
+            change.outside a.0 file a.1 now i (inr behind) ∙ ap (λ (p : ℕ). slice_index a.0 p) (sym there) ∙ (hold1 a.0 a.1).each (i - 512) (omega arith)
+            ∙ is_rest (i - 512) ∙ ap (λ (p : ℕ). slice_index cluster p) there
+      ];
+    }
 
 -- What is written behind the first sector leaves it as it is.
 pub headless_stays : (t1 t2 : Option (List ℕ)) (from to : ℕ) → 512 ≤ from → ((f : List ℕ) → t1 ≡ Some f → LacksHeader f) → ChangesWithin t1 t2 from to

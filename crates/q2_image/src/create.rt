@@ -185,7 +185,7 @@ fn put_header<D: Device>(
         → HasCreatedHeader (creation_of size (option_copied name.entry) (option_copied format.entry)) file) }
     ensures readable { OnOk result (CanBeCreated size (option_copied name.entry) (option_copied format.entry)) }
     ensures within { ChangesWithin (D.content dev.old) (D.content dev.new) 0 65536 }
-    ensures unnamed { OnErr result (ChangesWithin (D.content dev.old) (D.content dev.new) 512 65536) }
+    ensures sector { OnErr result (ChangesWithin (D.content dev.old) (D.content dev.new) 512 65536) }
     ensures cause { IfErr result (IsFailedCall (D.faults dev.old) (D.faults dev.new)) }
     ensures flushed { D.is_flushed dev.new ≡ option_map (λ _. false) (D.is_flushed dev.old) }
     ensures faults { D.faults dev.old ≤ D.faults dev.new }
@@ -285,10 +285,10 @@ pub fn create_image<D: Device>(
     ensures faults { D.faults dev.old ≤ D.faults dev.new }
     ensures capacity { D.capacity dev.new ≡ D.capacity dev.old }
 {
-    let mut buffer = cluster_buffer(alloc)?;
     if dev.capacity() < CREATED_LENGTH {
         return Err(CreateStop::NoSpace);
     }
+    let mut buffer = cluster_buffer(alloc)?;
     write_image(dev, size, name, format, &mut buffer)?;
     Ok(())
 }

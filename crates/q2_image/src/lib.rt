@@ -3,6 +3,8 @@
 
 mod counting;
 mod create;
+#[cfg(test)]
+mod create_tests;
 mod header;
 mod image;
 mod load;

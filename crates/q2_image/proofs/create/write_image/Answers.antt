@@ -31,7 +31,7 @@ returns-in_err-put_header-clause-headless g c =
     let t2 = g.D.Device.content c.write_tables.new.dev in
     let t3 = g.D.Device.content c.put_header.new.dev in
     let lacks = headless_stays t1 t2 65536 262144 (omega arith) c.in_ok-clear_header.ensures.cleared c.write_tables.ensures.within in
-    on_err c.from_residual-in_err-put_header.result (inr (headless_stays t2 t3 512 65536 (omega arith) lacks c.in_err-put_header.ensures.unnamed))
+    on_err c.from_residual-in_err-put_header.result (inr (headless_stays t2 t3 512 65536 (omega arith) lacks c.in_err-put_header.ensures.sector))
 
 pub returns-clause-created : goal.returns-clause-created
 returns-clause-created g c = λ file now.
