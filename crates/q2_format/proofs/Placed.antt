@@ -1,9 +1,8 @@
 -- The parts of a created image are the same in a buffer and in the file that it was written to.
-use Rattle.std.proofs.Common.{◌≡◌, ℕ, ◌+◌, ◌-◌, ◌*◌, ◌<◌, ◌≤◌, List, Option, None, Some, length, slice_index, Bor, refl, sym, ap, ◌∙◌, subst, arith}
-use Rattle.std.specs.Option.{IfSome, ForSome, option_copied}
+use Rattle.std.proofs.Common.{◌≡◌, ℕ, ◌+◌, ◌-◌, ◌*◌, ◌≤◌, List, Option, None, Some, length, slice_index, Bor, refl, sym, ap, ◌∙◌, subst, arith}
+use Rattle.std.specs.Option.{ForSome, option_copied}
 use Rattle.q2_format.specs.Bytes.{number_at, ReadsAlike, Holds}
-use Rattle.q2_format.specs.Sizes.{entries_in_cluster, refcount_bytes, block_entries}
-use Rattle.q2_format.specs.Created.{Creation, creation_of, created_cluster_size, created_table_clusters, AreZeros, IsFormatExtension, HasCreatedExtensions, HasCreatedHeader, HasCreatedTable, HasCreatedCounts, HasCreatedTables, IsNewName, IsNewFormat}
+use Rattle.q2_format.specs.Created.{creation_of, AreZeros, IsFormatExtension, HasCreatedExtensions, HasCreatedHeader, HasCreatedTable, HasCreatedCounts, IsNewName, IsNewFormat}
 use Rattle.q2_format.proofs.ByPlace.{big_from-moved, number_at-within, bytes_at-within}
 use Rattle.q2_format.proofs.Creating.{fields_alike, given_name_alike, one_table_cluster}
 

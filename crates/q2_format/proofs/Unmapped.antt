@@ -91,6 +91,6 @@ created_disk new file backing created =
     let size = created_size new file created in
     let len = length-map-range_with_len (guest_byte file backing) 0 new.size in
     let same : map (guest_byte file backing) (range_with_len 0 new.size) ≡ bytes_at backing 0 (length (map (guest_byte file backing) (range_with_len 0 new.size))) =
-        bytes_from_places backing (map (guest_byte file backing) (range_with_len 0 new.size)) 0
-        (λ k below. get_or-map-range_with_len (guest_byte file backing) 0 new.size k (0 + k) 0 (omega (arith, len)) refl ∙ created_byte new file backing (0 + k) created) in
+    bytes_from_places backing (map (guest_byte file backing) (range_with_len 0 new.size)) 0
+    (λ k below. get_or-map-range_with_len (guest_byte file backing) 0 new.size k (0 + k) 0 (omega (arith, len)) refl ∙ created_byte new file backing (0 + k) created) in
     rw size (same ∙ ap (bytes_at backing 0) len)

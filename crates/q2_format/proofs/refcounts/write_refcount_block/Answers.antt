@@ -1,5 +1,5 @@
 -- At first every number among the zeros is 0.
-use Rattle.std.proofs.Common.{◌≡◌, ◌∙◌, ◌+◌, ◌*◌, arith, sym, ap, cond, ltb, false}
+use Rattle.std.proofs.Common.{◌≡◌, ◌+◌, ◌*◌, arith}
 use Rattle.std.proofs.lemmas.Bool.{le-ltb}
 use Rattle.q2_format.proofs.ByPlace.{number_at-zeros}
 use Rattle.q2_format.proofs.Creating.{made_counts}

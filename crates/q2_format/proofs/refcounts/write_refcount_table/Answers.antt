@@ -1,5 +1,5 @@
 -- The entry stands first, among zeros.
-use Rattle.std.proofs.Common.{◌∙◌, arith}
+use Rattle.std.proofs.Common.{◌∙◌}
 use Rattle.q2_format.proofs.ByPlace.{number_at-zeros}
 use Rattle.q2_format.proofs.Creating.{made_table}
 use Rattle.q2_format.proofs.refcounts.write_refcount_table.Goals as goal
