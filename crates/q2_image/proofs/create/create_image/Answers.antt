@@ -1,5 +1,5 @@
 -- What a created file is follows from its bytes.
-use Rattle.std.proofs.Common.{◌≡◌, ℕ, List, Option, inl, inr}
+use Rattle.std.proofs.Common.{inl, inr}
 use Rattle.std.specs.Option.{option_copied}
 use Rattle.q2_format.proofs.Unmapped.{created_entry, created_disk}
 use Rattle.q2_format.specs.Created.{creation_of}

@@ -1,5 +1,5 @@
 -- The first sector was written behind the rest of its cluster.
-use Rattle.std.proofs.Common.{◌≡◌, ◌+◌, ◌≤◌, length, arith}
+use Rattle.std.proofs.Common.{◌+◌, length, arith}
 use Rattle.q2_format.proofs.Placed.{header_alike}
 use Rattle.q2_image.specs.Creating.{ChangesWithin}
 use Rattle.q2_image.proofs.Creations.{changes_more, changes_both, cluster_put}

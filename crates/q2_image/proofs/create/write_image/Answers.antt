@@ -1,5 +1,5 @@
 -- The first sector is zeros from the first write up to the last.
-use Rattle.std.proofs.Common.{◌≡◌, ℕ, ◌≤◌, List, Option, inr, arith}
+use Rattle.std.proofs.Common.{ℕ, List, Option, inr, arith}
 use Rattle.std.specs.Option.{option_copied}
 use Rattle.q2_image.proofs.Creations.{changes_both, headless_stays, tables_stay, on_err}
 use Rattle.q2_image.proofs.create.write_image.Goals as goal

@@ -1,5 +1,5 @@
 -- Three clusters were written, one behind the other.
-use Rattle.std.proofs.Common.{◌≡◌, ◌+◌, ◌≤◌, length, arith}
+use Rattle.std.proofs.Common.{◌≡◌, ◌+◌, length, arith}
 use Rattle.q2_image.specs.Creating.{ChangesWithin}
 use Rattle.q2_image.proofs.Creations.{changes_more, changes_both, tables_made}
 use Rattle.q2_image.proofs.create.write_tables.Goals as goal
