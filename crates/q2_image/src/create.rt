@@ -249,6 +249,7 @@ pub fn create_image<D: Device>(
     requires size { size ≤ MAX_DISK_SIZE }
     requires name { ForSome name (λ name. IsNewName name.now) }
     requires format { ForSome format (λ format. IsNewFormat format.now) }
+
     // the image
     ensures created { OnOk result ((file : List ℕ) → D.content dev.new ≡ Some file
         → IsCreated (creation_of size (option_copied name.entry) (option_copied format.entry)) file) }
