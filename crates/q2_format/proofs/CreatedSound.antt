@@ -11,7 +11,7 @@ use Rattle.q2_format.specs.Entry.{host_offset, block_offset, is_compressed, has_
 use Rattle.q2_format.specs.Tables.{refcount_table, Tree, tree_at, active_tree, l2_word_of, refcount_of}
 use Rattle.q2_format.specs.References.{names_cluster, in_run, own_offset, structure_uses, tree_uses, uses, cluster_bound}
 use Rattle.q2_format.specs.Sound.{is_misplaced, bad_refcount_table, bad_l1_table, bad_block, bad_l2_table, bad_host, guest_clusters, reserved_in_l1, reserved_in_refcount_table, reserved_in_l2, compressed_cluster, overlap, uncounted, is_header_full, IsSound}
-use Rattle.q2_format.specs.Created.{CanBeCreated, creation_of, created_header, created_l1_size, created_clusters, IsCreated, IsNewFormat}
+use Rattle.q2_format.specs.Created.{CanBeCreated, creation_of, created_header, created_l1_size, created_clusters, AreZeros, IsCreated, IsNewFormat}
 use Rattle.q2_format.specs.declared.header.Header.{Header}
 use Rattle.q2_format.proofs.ByPlace.{get_or-words_at, length-words_at}
 use Rattle.q2_format.proofs.Creating.{one_table_cluster, l1_table_behind}
@@ -59,15 +59,18 @@ module _ (file : List ℕ) (size : ℕ) (name format : Option (List ℕ)) (can :
   few_l1_entries : created_l1_size (creation_of size name format) ≤ 512
   few_l1_entries = let small = can.small in omega arith
 
-  four_clusters : length file ≡ 262144
+  four_clusters : 262144 ≤ length file
   four_clusters =
       let one = one_table_cluster size name format can.small in
       let few = few_l1_entries in
-      let len = created.clusters in
+      let len = created.tables.whole in
       omega (arith, one, few, len)
 
-  l1_zeros : (i : ℕ) → 196608 ≤ i → slice_index file i ≡ 0
-  l1_zeros i low = let place = l1_table_behind size name format can.small in created.l1_table i (omega (arith, place))
+  l1_zeros : AreZeros file made.l1_offset (made.l1_offset + 8 * made.l1_size)
+  l1_zeros i low high =
+      let one = one_table_cluster size name format can.small in
+      let few = few_l1_entries in
+      created.tables.l1_table i low (omega (arith, one, few))
 
   -- the refcount table: one block, at 131072
 
@@ -84,7 +87,7 @@ module _ (file : List ℕ) (size : ℕ) (name format : Option (List ℕ)) (can :
       let one = one_table in
       elim (cases_lt k 8192) [
         | inl inside ↦
-            let word = created.refcount_table k (omega (arith, one)) in
+            let word = created.tables.refcount_table.entry k (omega (arith, one)) in
             let block : (1 + made.ref_clusters) * 65536 ≡ 131072 = omega (arith, one) in
             get_or-words_at file 65536 (made.ref_clusters * 8192) k (omega (arith, one)) ∙ word ∙ ap (λ (offset : ℕ). cond (eqb k 0) offset 0) block
         | inr past ↦
@@ -106,14 +109,14 @@ module _ (file : List ℕ) (size : ℕ) (name format : Option (List ℕ)) (can :
 
   l1_word : (k : ℕ) → slice_index tree.l1 k ≡ 0
   unfolding tree_at
-  l1_word k = zero_word file made.l1_offset made.l1_size k created.l1_table
+  l1_word k = zero_word file made.l1_offset made.l1_size k l1_zeros
 
   l2_word : (cluster : ℕ) → l2_word_of tree 65536 cluster ≡ 0
-  l2_word cluster = l2_word_of-unmapped file 65536 made.l1_offset made.l1_size cluster created.l1_table
+  l2_word cluster = l2_word_of-unmapped file 65536 made.l1_offset made.l1_size cluster l1_zeros
 
   no_l2_table : (i : ℕ) → get_or tree.l2 i [] ≡ []
   unfolding tree_at
-  no_l2_table i = no_table file 65536 made.l1_offset made.l1_size i created.l1_table
+  no_l2_table i = no_table file 65536 made.l1_offset made.l1_size i l1_zeros
 
   -- no look finds anything
 
@@ -229,7 +232,7 @@ module _ (file : List ℕ) (size : ℕ) (name format : Option (List ℕ)) (can :
       let one = one_table in
       let few = few_l1_entries in
       let inside : cluster < created_clusters (creation_of size name format) = omega (arith, one) in
-      let entry = created.refcounts cluster (omega arith) in
+      let entry = created.tables.refcounts.count cluster (omega arith) in
       let test = lt-ltb cluster (created_clusters (creation_of size name format)) inside in
       let at : (1 + made.ref_clusters) * 65536 ≡ 131072 = omega (arith, one) in
       let count = rw (at, test) at entry in
@@ -274,8 +277,8 @@ module _ (file : List ℕ) (size : ℕ) (name format : Option (List ℕ)) (can :
     room = good_room;
   }
 
-  pub created_is_sound : IsSound file
-  created_is_sound =
-      let accepted = created_header_accepted file size (length file) name format created.header can.name_fits can.name_is_text can.format_fits can.small (omega (arith, four_clusters)) (omega (arith, four_clusters)) in
+  pub created_is_sound : clusters_for 65536 (length file) ≤ 8388608 → IsSound file
+  created_is_sound short =
+      let accepted = created_header_accepted file size (length file) name format created.header can.name_fits can.name_is_text can.format_fits can.small (omega (arith, four_clusters)) (omega (arith, short)) in
       let read = header_read file size name format created.header can.name_fits can.format_fits in
       sound_from_parts file accepted (subst (λ (h : Header). FindsNothing file h (length file)) (sym read) made_finds_nothing)

@@ -1,8 +1,9 @@
 -- What a created image's sizes come to, and what its bytes of 0 read as.
-use Rattle.std.proofs.Common.{◌≡◌, ℕ, ◌+◌, ◌≤◌, List, Option, None, Some, length, Bor, refl, ◌∙◌, arith}
+use Rattle.std.proofs.Common.{◌≡◌, ℕ, ◌+◌, ◌*◌, ◌<◌, ◌≤◌, inl, inr, true, cond, eqb, ltb, List, Option, None, Some, length, Bor, refl, sym, ◌∙◌, arith}
+use Rattle.std.proofs.lemmas.Bool.{cases_eq, ne_eqb}
 use Rattle.std.specs.Option.{ForSome, option_copied}
 use Rattle.q2_format.specs.Bytes.{number_at, ReadsAlike}
-use Rattle.q2_format.specs.Created.{Creation, creation_of, created_table_clusters, created_l1_offset, AreZeros, HasCreatedFields, HasCreatedName, IsNewName}
+use Rattle.q2_format.specs.Created.{Creation, creation_of, created_table_clusters, created_clusters, created_block_offset, created_l1_offset, created_length, AreZeros, HasCreatedFields, HasCreatedName, HasCreatedTable, HasCreatedCounts, IsNewName}
 use Rattle.q2_format.proofs.ByPlace.{number_at-zeros, number_at-within, bytes_at-within}
 
 -- a number among bytes that are 0
@@ -15,6 +16,37 @@ one_table_cluster size name format h = omega arith
 
 pub l1_table_behind : (size : ℕ) (name format : Option (List ℕ)) → size ≤ 274877906944 → created_l1_offset (creation_of size name format) ≡ 196608
 l1_table_behind size name format h = let one = one_table_cluster size name format h in omega (arith, one)
+
+-- a table whose first word is the block's offset, among zeros
+table_word : (file : List ℕ) (k block : ℕ) → block ≡ 131072 → number_at file 0 8 ≡ 131072 → ((i : ℕ) → 8 ≤ i → number_at file i 8 ≡ 0)
+    → number_at file (0 + 8 * k) 8 ≡ cond (eqb k 0) block 0
+table_word file k block is first others = elim (cases_eq k 0) [
+  | inl here ↦ let place : 0 + 8 * k ≡ 0 = omega arith in let test : eqb k 0 ≡ true = rw here refl in rw (place, test) (first ∙ sym is)
+  | inr other ↦ let none = ne_eqb k 0 (λ e. other e) in rw none (others (0 + 8 * k) (omega arith))
+]
+
+pub made_table : (file : List ℕ) (size : ℕ) (name format : Option (List ℕ)) → size ≤ 274877906944 → number_at file 0 8 ≡ 131072 → ((i : ℕ) → 8 ≤ i → number_at file i 8 ≡ 0)
+    → HasCreatedTable (creation_of size name format) file 0
+made_table file size name format small first others = record {
+  entry = λ k below. let one = one_table_cluster size name format small in
+      table_word file k (created_block_offset (creation_of size name format)) (omega (arith, one)) first others;
+}
+
+-- a block in which four clusters count one
+pub four_clusters : (size : ℕ) (name format : Option (List ℕ)) → size ≤ 274877906944 → created_clusters (creation_of size name format) ≡ 4
+four_clusters size name format small = let one = one_table_cluster size name format small in omega (arith, one)
+
+pub block_behind : (size : ℕ) (name format : Option (List ℕ)) → size ≤ 274877906944 → created_block_offset (creation_of size name format) ≡ 131072
+block_behind size name format small = let one = one_table_cluster size name format small in omega (arith, one)
+
+pub length_created : (size : ℕ) (name format : Option (List ℕ)) → size ≤ 274877906944 → created_length (creation_of size name format) ≡ 262144
+length_created size name format small = let four = four_clusters size name format small in omega (arith, four)
+
+pub made_counts : (file : List ℕ) (size : ℕ) (name format : Option (List ℕ)) → size ≤ 274877906944
+    → ((k : ℕ) → k < 32768 → number_at file (0 + k * 2) 2 ≡ cond (ltb k 4) 1 0) → HasCreatedCounts (creation_of size name format) file 0
+made_counts file size name format small counts = record {
+  count = λ k below. let four = four_clusters size name format small in rw four (counts k below);
+}
 
 -- the fields read the same where their bytes do
 pub fields_alike : (new : Creation) (old file : List ℕ) → HasCreatedFields new old → ReadsAlike old file 0 112 → HasCreatedFields new file

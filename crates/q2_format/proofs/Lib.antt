@@ -3,6 +3,7 @@ pub mod Words
 pub mod Extending
 pub mod Texts
 pub mod Creating
+pub mod Placed
 pub mod Unmapped
 pub mod Firsts
 pub mod Consistent

@@ -23,3 +23,8 @@ pub record ReadsAlike (old new : List ℕ) (at n : ℕ) : Type 0 where
 pub record IsWritten (old new : List ℕ) (at : ℕ) (bytes : List ℕ) : Type 0 where
   pub inside : (i : ℕ) → i < length bytes → slice_index new (at + i) ≡ slice_index bytes i
   pub outside : (i : ℕ) → (i < at) ⊎ (at + length bytes ≤ i) → slice_index new i ≡ slice_index old i
+
+-- a list of bytes stands in a file from a place on
+pub record Holds (file : List ℕ) (at : ℕ) (bytes : List ℕ) : Type 0 where
+  pub each : (i : ℕ) → i < length bytes → slice_index file (at + i) ≡ slice_index bytes i
+  pub ends : at + length bytes ≤ length file

@@ -142,15 +142,29 @@ created_header new = record {
   ended = true;
 }
 
--- the whole file
+-- the bytes of the created clusters
+abbrev pub created_length : Creation → ℕ
+created_length new = created_clusters new * created_cluster_size new
+
+-- The refcount table that begins at a place: its first entry names the one block.
+pub record HasCreatedTable (new : Creation) (file : List ℕ) (at : ℕ) : Type 0 where
+  pub entry : (k : ℕ) → k < created_table_clusters new * entries_in_cluster (created_cluster_size new)
+      → number_at file (at + 8 * k) 8 ≡ (if k == 0 then created_block_offset new else 0)
+
+-- The refcount block that begins at a place: it counts each created cluster once.
+pub record HasCreatedCounts (new : Creation) (file : List ℕ) (at : ℕ) : Type 0 where
+  pub count : (k : ℕ) → k < block_entries (created_cluster_size new) new.refcount_order
+      → number_at file (at + k * refcount_bytes new.refcount_order) (refcount_bytes new.refcount_order)
+      ≡ (if nat_lt k (created_clusters new) then 1 else 0)
+
+-- what stands behind the header's cluster; a longer file has any bytes behind the created clusters
+pub record HasCreatedTables (new : Creation) (file : List ℕ) : Type 0 where
+  pub whole : created_length new ≤ length file
+  pub refcount_table : HasCreatedTable new file (created_cluster_size new)
+  pub refcounts : HasCreatedCounts new file (created_block_offset new)
+  pub l1_table : AreZeros file (created_l1_offset new) (created_length new)
+
+-- the whole image
 pub record IsCreated (new : Creation) (file : List ℕ) : Type 0 where
   pub header : HasCreatedHeader new file
-  pub clusters : length file ≡ created_clusters new * created_cluster_size new
-  -- the table names the one block, by its first entry
-  pub refcount_table : (k : ℕ) → k < created_table_clusters new * entries_in_cluster (created_cluster_size new)
-      → number_at file (created_cluster_size new + 8 * k) 8 ≡ (if k == 0 then created_block_offset new else 0)
-  -- the block counts each cluster of the file once
-  pub refcounts : (k : ℕ) → k < block_entries (created_cluster_size new) new.refcount_order
-      → number_at file (created_block_offset new + k * refcount_bytes new.refcount_order) (refcount_bytes new.refcount_order)
-      ≡ (if nat_lt k (created_clusters new) then 1 else 0)
-  pub l1_table : (i : ℕ) → created_l1_offset new ≤ i → slice_index file i ≡ 0
+  pub tables : HasCreatedTables new file

@@ -5,8 +5,10 @@ mod entries;
 mod extensions;
 mod header;
 mod laws;
+mod layout;
 mod numbers;
 mod reading;
+mod refcounts;
 #[cfg(test)]
 mod tests;
 mod writing;
@@ -20,5 +22,9 @@ pub use laws::{
     created_headers_read_back, created_images_are_sound, created_images_map_nothing,
     l2_entries_have_one_word, sound_images_are_consistent,
 };
+pub use layout::{
+    CREATED_L1_TABLE, CREATED_LENGTH, CREATED_REFCOUNT_BLOCK, CREATED_REFCOUNT_TABLE,
+};
 pub use reading::read_header;
+pub use refcounts::{write_refcount_block, write_refcount_table};
 pub use writing::write_header;

@@ -56,6 +56,18 @@ pub(crate) fn put_bytes(out: &mut [u8], at: usize, bytes: &[u8])
     out[at..at + bytes.len()].copy_from_slice(bytes);
 }
 
+/// Puts a number into the 2 bytes from `at` on.
+pub(crate) fn put_u16(out: &mut [u8], at: usize, value: u16)
+    requires { at + 2 ≤ length out.old }
+    ensures put { number_at out.new at 2 ≡ value }
+    ensures before { (i n : ℕ) → i + n ≤ at → number_at out.new i n ≡ number_at out.old i n }
+    ensures behind { (i n : ℕ) → at + 2 ≤ i → number_at out.new i n ≡ number_at out.old i n }
+{
+    let mut field = [0; 2];
+    BigEndian::write_u16(&mut field, value);
+    put_bytes(out, at, &field);
+}
+
 /// Puts a number into the 4 bytes from `at` on.
 pub(crate) fn put_u32(out: &mut [u8], at: usize, value: u32)
     requires { at + 4 ≤ length out.old }

@@ -1,6 +1,9 @@
 //! Headers as the published text and `qemu-img` have them, and what is refused of them.
 
-use crate::{Header, HeaderStop, L2Entry, Place, l2_word, read_header, read_l2, write_header};
+use crate::{
+    Header, HeaderStop, L2Entry, Place, l2_word, read_header, read_l2, write_header,
+    write_refcount_block, write_refcount_table,
+};
 use std::alloc::{AllocError, Global};
 use std::test::Fail;
 
@@ -44,17 +47,21 @@ fn zeros(alloc: Global) -> Result<Vec<u8>, AllocError> {
     vec![in alloc; 0; CLUSTER]
 }
 
+fn put(cluster: &mut [u8], edits: &[(usize, &[u8])]) {
+    for (at, bytes) in edits {
+        for (to, byte) in cluster.iter_mut().skip(*at).zip(bytes.iter()) {
+            *to = *byte;
+        }
+    }
+}
+
 /// The header cluster of a created image of 1 MiB, with these bytes written over it.
 fn edited(alloc: Global, edits: &[(usize, &[u8])]) -> Result<Vec<u8>, AllocError> {
     let mut cluster = zeros(alloc)?;
     for (to, byte) in cluster.iter_mut().zip(CREATED) {
         *to = byte;
     }
-    for (at, bytes) in edits {
-        for (to, byte) in cluster.iter_mut().skip(*at).zip(bytes.iter()) {
-            *to = *byte;
-        }
-    }
+    put(&mut cluster, edits);
     Ok(cluster)
 }
 
@@ -173,6 +180,21 @@ fn writes_a_created_header(rt: HostRuntime) -> Result<(), Fail> {
         (32_768, b"base.qcow2"),
     ];
     assert_eq!(rt; cluster.as_slice(), edited(rt.alloc(), &edits)?.as_slice());
+    Ok(())
+}
+
+#[test]
+fn writes_created_refcounts(rt: HostRuntime) -> Result<(), Fail> {
+    let mut cluster = edited(rt.alloc(), &[(500, b"old")])?;
+    let mut want = zeros(rt.alloc())?;
+    assert_eq!(rt; (cluster.len(), want.len()), (CLUSTER, CLUSTER));
+    write_refcount_table(&mut cluster);
+    put(&mut want, &[(0, &[0, 0, 0, 0, 0, 2, 0, 0])]);
+    assert_eq!(rt; cluster.as_slice(), want.as_slice());
+
+    write_refcount_block(&mut cluster);
+    put(&mut want, &[(0, &[0, 1, 0, 1, 0, 1, 0, 1])]);
+    assert_eq!(rt; cluster.as_slice(), want.as_slice());
     Ok(())
 }
 

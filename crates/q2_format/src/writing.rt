@@ -2,16 +2,16 @@
 
 ghost use Rattle.std.specs.Prelude.{◌≡◌, ◌+◌, ◌*◌, ◌/◌, ◌<◌, ◌≤◌, ℕ, List, Option, length, slice_index, None, Some};
 ghost use Rattle.std.specs.Option.{ForSome, option_copied};
+ghost use Rattle.std.specs.Str.{IsUtf8};
 ghost use Rattle.q2_format.specs.Sizes.{l1_entries_for};
-ghost use Rattle.q2_format.specs.Created.{creation_of, AreZeros, IsFormatExtension, HasCreatedFields, HasCreatedName, HasCreatedExtensions, HasCreatedHeader, IsNewName, IsNewFormat};
+ghost use Rattle.q2_format.specs.Created.{creation_of, CanBeCreated, AreZeros, IsFormatExtension, HasCreatedFields, HasCreatedName, HasCreatedExtensions, HasCreatedHeader, IsNewName, IsNewFormat};
 
 use crate::extensions::BACKING_FORMAT;
 use crate::header::MAX_DISK_SIZE;
+use crate::layout::{CLUSTER_SIZE, CREATED_L1_TABLE, CREATED_REFCOUNT_TABLE};
 use crate::numbers::{put_bytes, put_u32, put_u64};
 use crate::reading::{CLUSTER_BITS, MAGIC, REFCOUNT_ORDER, VERSION};
-
-/// The bytes of a cluster.
-const CLUSTER_SIZE: u64 = 1 << CLUSTER_BITS;
+use crate::refcounts::clear;
 
 /// The entries of an L2 table.
 const L2_ENTRIES: u64 = CLUSTER_SIZE / 8;
@@ -19,13 +19,7 @@ const L2_ENTRIES: u64 = CLUSTER_SIZE / 8;
 /// The header's length, behind which the extensions begin.
 const HEADER_LENGTH: u32 = 112;
 
-/// Where a created image's refcount table stands, in one cluster.
-const REFCOUNT_TABLE_OFFSET: u64 = CLUSTER_SIZE;
-
-/// Where its L1 table stands, behind the refcount table and one refcount block.
-const L1_OFFSET: u64 = 3 * CLUSTER_SIZE;
-
-/// Where its backing name stands.
+/// Where a created image's backing name stands.
 const NAME_OFFSET: u64 = CLUSTER_SIZE / 2;
 
 /// The L1 entries that a disk needs.
@@ -49,18 +43,11 @@ fn put_fields(out: &mut [u8], size: u64)
     put_u32(out, 20, CLUSTER_BITS);
     put_u64(out, 24, size);
     put_u32(out, 36, l1_entries(size));
-    put_u64(out, 40, L1_OFFSET);
-    put_u64(out, 48, REFCOUNT_TABLE_OFFSET);
+    put_u64(out, 40, CREATED_L1_TABLE);
+    put_u64(out, 48, CREATED_REFCOUNT_TABLE);
     put_u32(out, 56, 1);
     put_u32(out, 96, REFCOUNT_ORDER);
     put_u32(out, 100, HEADER_LENGTH);
-}
-
-/// Makes all bytes 0.
-fn clear(out: &mut [u8])
-    ensures { (i : ℕ) → slice_index out.new i ≡ 0 }
-{
-    out.fill(0);
 }
 
 /// Puts a name of 1 byte or more, and the fields that say where it stands.
@@ -96,6 +83,14 @@ fn put_format(out: &mut [u8], format: &[u8])
     put_bytes(out, HEADER_LENGTH as usize + 8, format);
 }
 
+/// The bytes of a text, which are UTF-8.
+fn text_bytes(text: &str) -> &[u8]
+    ensures bytes { result.now ≡ text.now }
+    ensures utf8 { IsUtf8 text.now }
+{
+    text.as_bytes()
+}
+
 /// Puts the backing name, where there is one.
 fn put_backing_name(out: &mut [u8], name: Option<&str>)
     requires whole { length out.old ≡ 65536 }
@@ -106,10 +101,11 @@ fn put_backing_name(out: &mut [u8], name: Option<&str>)
         → HasCreatedFields (creation_of size (option_copied name.entry) format) out.new }
     ensures name { (size : ℕ) (format : Option (List ℕ))
         → HasCreatedName (creation_of size (option_copied name.entry) format) out.new }
+    ensures text { ForSome (option_copied name.entry) IsUtf8 }
     ensures between { (i : ℕ) → 112 ≤ i → i < 32768 → slice_index out.new i ≡ slice_index out.old i }
 {
     if let Some(name) = name {
-        put_name(out, name.as_bytes());
+        put_name(out, text_bytes(name));
     }
 }
 
@@ -137,8 +133,9 @@ pub fn write_header(size: u64, name: Option<&str>, format: Option<&str>, out: &m
     requires size { size ≤ MAX_DISK_SIZE }
     requires name { ForSome name (λ name. IsNewName name.now) }
     requires format { ForSome format (λ format. IsNewFormat format.now) }
-    ensures { HasCreatedHeader
+    ensures header { HasCreatedHeader
         (creation_of size (option_copied name.entry) (option_copied format.entry)) out.new }
+    ensures readable { CanBeCreated size (option_copied name.entry) (option_copied format.entry) }
 {
     clear(out);
     put_fields(out, size);

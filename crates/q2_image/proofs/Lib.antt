@@ -22,3 +22,4 @@ pub mod LinkedImage
 pub mod LinkedDisk
 pub mod LinkTold
 pub mod Plans
+pub mod Creations

@@ -7,3 +7,4 @@ pub mod Merge
 pub mod Image
 pub mod Reading
 pub mod Writing
+pub mod Creating

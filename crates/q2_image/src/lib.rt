@@ -4,6 +4,9 @@
 mod autoclear;
 mod changing;
 mod counting;
+mod create;
+#[cfg(test)]
+mod create_tests;
 mod fitting;
 mod header;
 mod image;
@@ -16,6 +19,7 @@ mod stop;
 mod tests;
 mod writing;
 
+pub use create::{CreateStop, create_image};
 pub use image::Image;
 pub use opening::open_image;
 pub use stop::ImageStop;

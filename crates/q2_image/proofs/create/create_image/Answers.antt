@@ -1,0 +1,32 @@
+-- What a created file is follows from its bytes.
+use Rattle.std.proofs.Common.{inl, inr}
+use Rattle.std.specs.Option.{option_copied}
+use Rattle.q2_format.proofs.Unmapped.{created_entry, created_disk}
+use Rattle.q2_format.specs.Created.{creation_of}
+use Rattle.q2_image.proofs.Creations.{on_err, headless_refused, made_header, made_texts, made_sound}
+use Rattle.q2_image.proofs.create.create_image.Goals as goal
+
+pub returns-in_err-write_image-clause-unfinished : goal.returns-in_err-write_image-clause-unfinished
+returns-in_err-write_image-clause-unfinished g c =
+    on_err c.from_residual-in_err-write_image.result
+    (elim c.in_err-write_image.ensures.headless [ inl same ↦ inl same | inr lacks ↦ inr (λ file now. headless_refused file (lacks file now)) ])
+
+pub returns-clause-header : goal.returns-clause-header
+returns-clause-header g c = λ file now.
+    made_header file c.args.size (option_copied c.args.name) (option_copied c.args.format) c.in_ok-write_image.ensures.readable (c.in_ok-write_image.ensures.created file now)
+
+pub returns-clause-names : goal.returns-clause-names
+returns-clause-names g c = λ file now.
+    made_texts file c.args.size (option_copied c.args.name) (option_copied c.args.format) c.in_ok-write_image.ensures.readable (c.in_ok-write_image.ensures.created file now)
+
+pub returns-clause-unmapped : goal.returns-clause-unmapped
+returns-clause-unmapped g c = λ file cluster now.
+    created_entry (creation_of c.args.size (option_copied c.args.name) (option_copied c.args.format)) file (c.in_ok-write_image.ensures.created file now) cluster
+
+pub returns-clause-disk : goal.returns-clause-disk
+returns-clause-disk g c = λ file backing now.
+    created_disk (creation_of c.args.size (option_copied c.args.name) (option_copied c.args.format)) file backing (c.in_ok-write_image.ensures.created file now)
+
+pub returns-clause-sound : goal.returns-clause-sound
+returns-clause-sound g c = λ file now short.
+    made_sound file c.args.size (option_copied c.args.name) (option_copied c.args.format) c.in_ok-write_image.ensures.readable (c.in_ok-write_image.ensures.created file now) short
