@@ -2,7 +2,7 @@
 use Rattle.std.proofs.Common.{◌≡◌, ℕ, List, [], take, refl, Option, Some, None, zero, suc}
 use Rattle.std.specs.Prelude.{option_map}
 use Rattle.blk_base.specs.Pieces.{Extent}
-use Rattle.trace_codec.specs.declared.op.Op.TheVariants.{Read, Flush}
+use Rattle.trace_codec.specs.declared.op.Op.TheVariants.{Read}
 use Rattle.blk_history.specs.Disk.{done_in}
 use Rattle.blk_base.specs.declared.fault.Outcome.{Outcome}
 use Rattle.blk_base.specs.declared.fault.Outcome.TheVariants.{Good, Torn, Io, NoSpace}
@@ -18,12 +18,6 @@ pub read_changes_nothing : (span part : Extent) (n : ℕ) (disk : Option (List �
 read_changes_nothing span part n None = refl
 read_changes_nothing span part zero (Some bytes) = refl
 read_changes_nothing span part (suc n) (Some bytes) = refl
-
--- nor does a flush
-pub flush_changes_nothing : (part : Extent) (n : ℕ) (disk : Option (List ℕ)) → option_map (done_in Flush part n) disk ≡ disk
-flush_changes_nothing part n None = refl
-flush_changes_nothing part zero (Some bytes) = refl
-flush_changes_nothing part (suc n) (Some bytes) = refl
 
 -- a read that is good tells the disk's bytes
 pub reads_tell : (span part : Extent) (outcome : Outcome) (disk buffer : List ℕ) → IsRead outcome disk part buffer → Tells outcome (Read span) part (Some disk) (shown_of (Read span) outcome buffer)
