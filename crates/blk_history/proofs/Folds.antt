@@ -1,5 +1,5 @@
 -- One more entry at the end of a history.
-use Rattle.std.proofs.Common.{◌≡◌, ℕ, Bool, true, false, cond, List, [], ◌∷◌, ◌++◌, refl, ap}
+use Rattle.std.proofs.Common.{◌≡◌, ℕ, true, false, cond, List, [], ◌∷◌, ◌++◌, refl, ap}
 use Rattle.std.specs.Prelude.{◌==◌}
 use Rattle.blk_history.specs.Fold.{run, Each}
 use Rattle.blk_history.specs.Owned.{asked_by}

@@ -17,11 +17,11 @@ use Rattle.blk_history.specs.declared.event.Event.TheVariants.{Admit, Refuse, Pi
 abbrev pub IsInside : Op → Node → Type 0
 IsInside op node = end_of (span_of op) ≤ node.size
 
--- a write of a guest that may only read
+-- a guest that may only read asks for what needs one that may write
 abbrev pub IsForbidden : Op → Guest → Type 0
 IsForbidden op row = IsTrue (row.is_read_only && is_write op)
 
--- why a request is refused: its span first
+-- why a request is refused: its span first; a flush, which speaks of no bytes and writes none, never is
 abbrev pub IsRefusedFor : Op → Guest → Node → Refused → Type 0
 IsRefusedFor op row node Range = node.size < end_of (span_of op)
 IsRefusedFor op row node ReadOnly = IsInside op node × IsForbidden op row

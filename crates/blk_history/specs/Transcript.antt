@@ -1,11 +1,12 @@
 -- The transcript: one line for each entry.
 use Rattle.std.specs.Prelude.{ℕ, List, [], ◌∷◌, ◌++◌, get_or, flat_map, codes, decimal}
+use Rattle.blk_base.specs.Pieces.{Extent}
 use Rattle.blk_base.specs.declared.fault.DevNo.{DevNo}
 use Rattle.blk_base.specs.declared.fault.Outcome.{Outcome}
 use Rattle.blk_base.specs.declared.fault.Outcome.TheVariants.{Good, Torn, Io, NoSpace}
 use Rattle.blk_runs.specs.Runs.{runs_text}
 use Rattle.trace_codec.specs.declared.op.Op.{Op}
-use Rattle.trace_codec.specs.declared.op.Op.TheVariants.{Read, Write}
+use Rattle.trace_codec.specs.declared.op.Op.TheVariants.{Read, Write, Zero, Flush, Discard}
 use Rattle.blk_history.specs.declared.entry.Refused.{Refused}
 use Rattle.blk_history.specs.declared.entry.Refused.TheVariants.{Range, ReadOnly}
 use Rattle.blk_history.specs.declared.event.Event.{Event}
@@ -19,9 +20,16 @@ pub record RowNames : Type 0 where
 abbrev pub sentence : List ℕ → List (List ℕ) → List ℕ
 sentence verb words = verb ++ flat_map (λ word. 32 ∷ word) words ++ 10 ∷ []
 
+-- a request's name, and its span where it has one
+abbrev pub span_words : List ℕ → Extent → List (List ℕ)
+span_words name span = name ∷ decimal span.start ∷ decimal span.len ∷ []
+
 abbrev pub op_words : Op → List (List ℕ)
-op_words (Read span) = codes "read" ∷ decimal span.start ∷ decimal span.len ∷ []
-op_words (Write span payload) = codes "write" ∷ decimal span.start ∷ decimal span.len ∷ []
+op_words (Read span) = span_words (codes "read") span
+op_words (Write span payload) = span_words (codes "write") span
+op_words (Zero span) = span_words (codes "zero") span
+op_words Flush = codes "flush" ∷ []
+op_words (Discard span) = span_words (codes "discard") span
 
 abbrev pub refused_word : Refused → List ℕ
 refused_word Range = codes "range"

@@ -1,12 +1,12 @@
 //! The transcript's line of an entry.
 ghost use Rattle.std.specs.Prelude.{◌≡◌, ◌+◌, ◌*◌, ◌^◌, ◌<◌, ◌≤◌, [], ◌∷◌, ◌++◌, length, codes, decimal, get_or, slice_range, SomeIff, IsOk, OnOk, OnErr};
 ghost use Rattle.blk_base.specs.Pieces.{end_of};
-ghost use Rattle.blk_history.specs.Transcript.{op_words, refused_word, dev_word, good_words, outcome_words, line_of};
+ghost use Rattle.blk_history.specs.Transcript.{span_words, op_words, refused_word, dev_word, good_words, outcome_words, line_of};
 ghost use Rattle.blk_history.specs.Recorded.{event_of, PointsWithin};
 ghost use Rattle.blk_history.specs.Line.{blanked, HasName, line_room, Appends};
 
 use crate::{Entry, Refused, Rows};
-use blk_base::{DevNo, NoMemory, Outcome, Text};
+use blk_base::{DevNo, NoMemory, Outcome, Span, Text};
 use blk_runs::push_runs;
 use trace_codec::Op;
 
@@ -39,22 +39,27 @@ fn push_dev(out: &mut Text, dev: DevNo)
     out.push_number(u64::from(dev.0));
 }
 
-fn push_op(out: &mut Text, op: &Op)
-    requires { 48 ≤ out.old.spare }
-    ensures { Appends out.old out.new (blanked (op_words op.now)) 48 }
+/// Puts a request's name and its span at the end.
+fn push_span(out: &mut Text, name: &str, span: Span)
+    requires { length name.now + 43 ≤ out.old.spare }
+    ensures { Appends out.old out.new (blanked (span_words name.now span)) (length name.now + 43) }
 {
-    let span = match op {
-        Op::Read(span) => {
-            push_word(out, "read");
-            span
-        }
-        Op::Write(span, _) => {
-            push_word(out, "write");
-            span
-        }
-    };
+    push_word(out, name);
     push_count(out, span.start);
     push_count(out, span.len);
+}
+
+fn push_op(out: &mut Text, op: &Op)
+    requires { 50 ≤ out.old.spare }
+    ensures { Appends out.old out.new (blanked (op_words op.now)) 50 }
+{
+    match op {
+        Op::Read(span) => push_span(out, "read", *span),
+        Op::Write(span, _) => push_span(out, "write", *span),
+        Op::Zero(span) => push_span(out, "zero", *span),
+        Op::Flush => push_word(out, "flush"),
+        Op::Discard(span) => push_span(out, "discard", *span),
+    }
 }
 
 fn push_refused(out: &mut Text, why: Refused)

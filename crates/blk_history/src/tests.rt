@@ -3,7 +3,7 @@ ghost use Rattle.blk_history.specs.Recorded.{event_of, PointsWithin};
 ghost use Rattle.blk_history.specs.Line.{guest_of};
 
 use super::*;
-use blk_base::{DevNo, Names1, Outcome, Room, Span, Text};
+use blk_base::{Bytes, DevNo, Names1, Outcome, Room, Span, Text};
 use std::test::Fail;
 use trace_codec::{Op, Payload};
 
@@ -63,6 +63,16 @@ fn line(rt: &HostRuntime, entry: Entry, got: &[u8]) -> Result<Text, Fail>
     Ok(out)
 }
 
+// The line of the admission of a request.
+fn admission(rt: &HostRuntime, op: Op) -> Result<Text, Fail> {
+    let entry = Entry::Admit {
+        guest: 0,
+        request: 3,
+        op: Asked::new(op),
+    };
+    line(rt, entry, &[])
+}
+
 #[test]
 fn lines_of_requests(rt: HostRuntime) -> Result<(), Fail> {
     let entry = Entry::Admit {
@@ -101,6 +111,39 @@ fn lines_of_requests(rt: HostRuntime) -> Result<(), Fail> {
     assert_eq!(rt;
         line(&rt, entry, &[])?.as_str(),
         "retire guest2 4294967295\n"
+    );
+    Ok(())
+}
+
+#[test]
+fn lines_of_other_requests(rt: HostRuntime) -> Result<(), Fail> {
+    let span = Span {
+        start: 65_535,
+        len: 2,
+    };
+    let raw = Payload::Raw(Bytes::from_vec(vec![in rt.alloc(); 1, 2]?));
+    assert_eq!(rt;
+        admission(&rt, Op::Write(span, raw))?.as_str(),
+        "admit a 3 write 65535 2\n"
+    );
+    assert_eq!(rt;
+        admission(&rt, Op::Zero(span))?.as_str(),
+        "admit a 3 zero 65535 2\n"
+    );
+    assert_eq!(rt; admission(&rt, Op::Flush)?.as_str(), "admit a 3 flush\n");
+    assert_eq!(rt;
+        admission(&rt, Op::Discard(span))?.as_str(),
+        "admit a 3 discard 65535 2\n"
+    );
+    let refused = Entry::Refuse {
+        guest: 0,
+        request: 4,
+        op: Asked::new(Op::Zero(span)),
+        why: Refused::ReadOnly,
+    };
+    assert_eq!(rt;
+        line(&rt, refused, &[])?.as_str(),
+        "refuse a 4 zero 65535 2 readonly\n"
     );
     Ok(())
 }

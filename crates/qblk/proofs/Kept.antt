@@ -1,5 +1,5 @@
 -- Each step of a run leaves a history from the same opening.
-use Rattle.std.proofs.Common.{◌≡◌, ℕ, ◌≤◌, List, [], ◌∷◌, ◌++◌, refl, sym, ◌∙◌, ap, arith, Option, Some, None, IsSome}
+use Rattle.std.proofs.Common.{◌≡◌, ℕ, ◌≤◌, Bool, List, [], ◌∷◌, ◌++◌, refl, sym, ◌∙◌, ap, arith, Option, Some, None, IsSome}
 use Rattle.std.specs.Prelude.{option_map}
 use Rattle.std.proofs.lemmas.Bool.{false≢true}
 use Rattle.blk_base.specs.Counts.{Rose}
@@ -208,8 +208,8 @@ pub piece-made : (w v : Face) (outcome : Outcome) → With w.guest.flight (CanPi
 piece-made w v outcome can puts = piece-of w v outcome w.guest.flight refl can puts
 
 -- a run begins at its opening
-pub comes-start : (o : Opening) (faults : ℕ) (log : Recorded) → o.faults ≤ faults → log.events ≡ [] → Comes o (record { format = o.format; disk = o.disk; faults = faults; capacity = o.capacity; size = o.size; guest = new_guest o.format; log = log })
-comes-start o faults log later empty = record {
+pub comes-start : (o : Opening) (is_flushed : Option Bool) (faults : ℕ) (log : Recorded) → o.faults ≤ faults → log.events ≡ [] → Comes o (record { format = o.format; disk = o.disk; is_flushed = is_flushed; faults = faults; capacity = o.capacity; size = o.size; guest = new_guest o.format; log = log })
+comes-start o is_flushed faults log later empty = record {
   format = refl;
   size = refl;
   capacity = refl;

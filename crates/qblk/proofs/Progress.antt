@@ -8,7 +8,7 @@ use Rattle.blk_base.specs.Pieces.{count_of_pieces, piece_of}
 use Rattle.blk_base.specs.Outcomes.{is_good}
 use Rattle.blk_base.specs.declared.fault.Outcome.{Outcome}
 use Rattle.trace_codec.specs.declared.op.Op.{Op}
-use Rattle.trace_codec.specs.declared.op.Op.TheVariants.{Read, Write}
+use Rattle.trace_codec.specs.declared.op.Op.TheVariants.{Read, Write, Zero, Flush, Discard}
 use Rattle.trace_codec.specs.Request.{pieces_of, read_bytes_of}
 use Rattle.blk_history.specs.Disk.{piece}
 use Rattle.blk_history.specs.Fold.{With}
@@ -30,14 +30,23 @@ pub shown-next : (op : Op) (k : ℕ) → k < pieces_of op → shows_in op (piece
 unfolding count_of_pieces piece_of
 shown-next (Read span) k below = omega arith
 shown-next (Write span payload) k below = omega arith
+shown-next (Zero span) k below = omega arith
+shown-next Flush k below = omega arith
+shown-next (Discard span) k below = omega arith
 
 pub shown-within : (op : Op) (k : ℕ) → shown_before op k ≤ read_bytes_of op
 shown-within (Read span) k = omega arith
 shown-within (Write span payload) k = omega arith
+shown-within (Zero span) k = omega arith
+shown-within Flush k = omega arith
+shown-within (Discard span) k = omega arith
 
 shown-start : (op : Op) → shown_before op 0 ≡ 0
 shown-start (Read span) = omega arith
 shown-start (Write span payload) = refl
+shown-start (Zero span) = refl
+shown-start Flush = refl
+shown-start (Discard span) = refl
 
 pub start-piece : (w : Face) (pieces : ℕ) (f : Flight) → w.guest.flight ≡ Some f → CanRun w pieces f → AtPiece w w 0 f
 start-piece w pieces f is can = record {

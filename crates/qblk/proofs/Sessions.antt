@@ -17,7 +17,7 @@ use Rattle.qblk.proofs.Kept.{comes-start}
 
 -- what an engine shows before its first request
 abbrev pub begun : Format → ℕ → ℕ → Seen → Recorded → Face
-begun format size faults d log = record { format = format; disk = option_map (disk_of format) d.content; faults = faults; capacity = d.capacity; size = size; guest = new_guest format; log = log }
+begun format size faults d log = record { format = format; disk = option_map (disk_of format) d.content; is_flushed = d.is_flushed; faults = faults; capacity = d.capacity; size = size; guest = new_guest format; log = log }
 
 asked-all : (e w : Face) (ops : List Op) → e.log.events ≡ [] → RequestsDone e w ops → asked_by 0 w.log.events ≡ ops
 asked-all e w ops empty made = made.asked ∙ ap (λ es. asked_by 0 es ++ ops) empty
@@ -27,7 +27,7 @@ pub made-run : (format : Format) (size faults : ℕ) (d n : Seen) (w : Face) (lo
     → option_map (disk_of w.format) n.content ≡ w.disk → n.capacity ≡ w.capacity → w.faults ≤ n.faults → ((bytes : List ℕ) → n.content ≡ Some bytes → is_some n.is_flushed ≡ true) → IsFlushed n w.faults fault
     → IsMade format bytes d n w fault
 made-run format size start d n w log ops bytes fault good later text is empty made content capacity faults tells flushed =
-    let comes = made.comes (opening_of format size d) (comes-start (opening_of format size d) start log later empty) in
+    let comes = made.comes (opening_of format size d) (comes-start (opening_of format size d) d.is_flushed start log later empty) in
     let C : Format → Type 0 = λ f. option_map (disk_of f) n.content ≡ w.disk in
     record {
       size = size;

@@ -1,5 +1,5 @@
 -- What is seen of one disk and its guest while a trace is run on them.
-use Rattle.std.specs.Prelude.{◌≡◌, ℕ, ◌≤◌, ◌&&◌, false, List, [], ◌∷◌, slice_get, Option, Some, None, option_map, option_and_then}
+use Rattle.std.specs.Prelude.{◌≡◌, ℕ, ◌≤◌, ◌&&◌, Bool, false, List, [], ◌∷◌, slice_get, Option, Some, None, option_map, option_and_then}
 use Rattle.trace_codec.specs.declared.op.Op.{Op}
 use Rattle.blk_base.specs.Pieces.{end_of}
 use Rattle.blk_history.specs.Disk.{is_write, span_of}
@@ -14,8 +14,10 @@ use Rattle.qblk.specs.declared.flight.InFlight.{InFlight}
 pub record Face : Type 0 where
   -- how the image's file reads as a disk
   pub format : Format
-  -- the disk, where the device tells its bytes, the device's count of faults, and the highest end that a write may have
+  -- the disk and whether it is flushed, where the device tells its bytes, the device's count of faults, and the highest
+  -- end that a write may have
   pub disk : Option (List ℕ)
+  pub is_flushed : Option Bool
   pub faults : ℕ
   pub capacity : ℕ
   -- the size of the disk

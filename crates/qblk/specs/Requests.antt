@@ -3,7 +3,7 @@ use Rattle.std.specs.Prelude.{◌≡◌, ℕ, ◌+◌, ◌-◌, ◌*◌, ◌/◌
 use Rattle.blk_base.specs.Pieces.{end_of}
 use Rattle.blk_base.specs.declared.memory.Room.{Room}
 use Rattle.trace_codec.specs.declared.op.Op.{Op}
-use Rattle.trace_codec.specs.declared.op.Op.TheVariants.{Read, Write}
+use Rattle.trace_codec.specs.declared.op.Op.TheVariants.{Read, Write, Zero, Flush, Discard}
 use Rattle.trace_codec.specs.Request.{pieces_of, read_bytes_of}
 use Rattle.blk_history.specs.Fold.{With}
 use Rattle.blk_history.specs.Machine.{Flight}
@@ -16,6 +16,9 @@ use Rattle.qblk.specs.Comes.{Opening, Comes}
 abbrev pub shown_before : Op → ℕ → ℕ
 shown_before (Read span) k = min (max span.start ((span.start / 65536 + k) * 65536)) (end_of span) - span.start
 shown_before (Write span payload) k = 0
+shown_before (Zero span) k = 0
+shown_before Flush k = 0
+shown_before (Discard span) k = 0
 
 -- a request that was admitted, before its first piece, and room for what its pieces add and one entry more
 pub record CanRun (w : Face) (pieces : ℕ) (f : Flight) : Type 0 where

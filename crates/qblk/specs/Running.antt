@@ -7,7 +7,7 @@ use Rattle.qblk.specs.Steps.{Side}
 use Rattle.qblk.specs.declared.flight.InFlight.{InFlight}
 
 abbrev pub side_in : Medium → Side
-side_in m = record { disk = disk_in m; faults = m.faults; capacity = m.capacity }
+side_in m = record { disk = disk_in m; is_flushed = m.is_flushed; faults = m.faults; capacity = m.capacity }
 
 -- what is in flight was admitted, the disk is still there, and a block fits in the buffer
 pub record IsRunning (medium : Medium) (size : ℕ) (events : List Event) (flight : Option InFlight) (buffer : List ℕ) : Type 0 where

@@ -1,13 +1,11 @@
 -- What each step of a run leaves.
-use Rattle.std.specs.Prelude.{◌≡◌, ℕ, ◌-◌, ◌^◌, ◌<◌, ◌≤◌, List, [], ◌∷◌, ◌++◌, length, Option, Some, None, option_map, false, replicate}
+use Rattle.std.specs.Prelude.{◌≡◌, ℕ, ◌-◌, ◌^◌, ◌<◌, ◌≤◌, Bool, List, [], ◌∷◌, ◌++◌, length, Option, Some, None, option_map, true, false}
 use Rattle.blk_base.specs.Pieces.{Extent, end_of}
 use Rattle.blk_base.specs.Counts.{Rose}
 use Rattle.blk_base.specs.declared.fault.Outcome.{Outcome}
 use Rattle.blk_base.specs.declared.fault.Outcome.TheVariants.{Good, Torn, Io, NoSpace}
 use Rattle.trace_codec.specs.declared.op.Op.{Op}
-use Rattle.trace_codec.specs.declared.op.Op.TheVariants.{Read, Write}
-use Rattle.trace_codec.specs.declared.op.Payload.{Payload}
-use Rattle.trace_codec.specs.declared.op.Payload.TheVariants.{Fill}
+use Rattle.trace_codec.specs.declared.op.Op.TheVariants.{Read, Write, Zero, Flush, Discard}
 use Rattle.blk_base.specs.Content.{bytes_at}
 use Rattle.trace_codec.specs.Request.{pieces_of}
 use Rattle.blk_history.specs.Disk.{piece, done_in}
@@ -60,11 +58,17 @@ shown_of (Read span) (Torn done dev count) buffer = []
 shown_of (Read span) (Io dev count) buffer = []
 shown_of (Read span) (NoSpace dev) buffer = []
 shown_of (Write span payload) outcome buffer = []
+shown_of (Zero span) outcome buffer = []
+shown_of Flush outcome buffer = []
+shown_of (Discard span) outcome buffer = []
 
 -- how many of n bytes a piece may show
 abbrev pub shows_in : Op → ℕ → ℕ
 shows_in (Read span) n = n
 shows_in (Write span payload) n = 0
+shows_in (Zero span) n = 0
+shows_in Flush n = 0
+shows_in (Discard span) n = 0
 
 -- the next piece can be made: there is one, and the history has room for what it adds
 pub record CanPiece (log : Recorded) (f : Flight) : Type 0 where
@@ -74,16 +78,29 @@ pub record CanPiece (log : Recorded) (f : Flight) : Type 0 where
   pub room : 0 < log.room
   pub byte_room : shows_in f.op (piece f.op f.next).len ≤ log.byte_room
 
--- the device of a run: the bytes that it tells, its count of faults, its capacity
+-- the device of a run: the bytes that it tells and whether they are flushed, its count of faults, its capacity
 pub record Side : Type 0 where
   pub disk : Option (List ℕ)
+  pub is_flushed : Option Bool
   pub faults : ℕ
   pub capacity : ℕ
+
+-- after a good flush the device is flushed, where it tells its bytes
+abbrev pub KeepsAll : Op → Outcome → Option (List ℕ) → Option Bool → Type 0
+KeepsAll Flush Good disk is_flushed = (bytes : List ℕ) → disk ≡ Some bytes → is_flushed ≡ Some true
+KeepsAll op outcome disk is_flushed = Unit {0}
+
+-- a piece has bytes, of one block; that of a flush has none, and a discard has no piece
+abbrev pub IsPart : Op → Extent → Type 0
+IsPart Flush part = part.len ≡ 0
+IsPart (Discard span) part = ⊥
+IsPart op part = 0 < part.len
 
 -- the next piece of a request in flight was made, with this outcome, and showed these bytes
 pub record MakesPiece (old new : Side) (before now : Recorded) (request : ℕ) (f : Flight) (outcome : Outcome) (got : List ℕ) : Type 0 where
   pub tells : (disk : List ℕ) → old.disk ≡ Some disk → Tells outcome f.op (piece f.op f.next) (Some disk) got
   pub disk : new.disk ≡ option_map (done_in f.op (piece f.op f.next) (done_by outcome (piece f.op f.next))) old.disk
+  pub flushed : KeepsAll f.op outcome new.disk new.is_flushed
   pub cause : HasCause old.faults new.faults old.capacity (piece f.op f.next) outcome
   pub faults : old.faults ≤ new.faults
   pub capacity : new.capacity ≡ old.capacity
@@ -92,7 +109,7 @@ pub record MakesPiece (old new : Side) (before now : Recorded) (request : ℕ) (
   pub log : now ≡ log_with before (events.Piece 0 request f.next outcome got) got
 
 abbrev pub side_of : Face → Side
-side_of w = record { disk = w.disk; faults = w.faults; capacity = w.capacity }
+side_of w = record { disk = w.disk; is_flushed = w.is_flushed; faults = w.faults; capacity = w.capacity }
 
 -- so it was, and the guest's row is one piece further
 pub record PutsPiece (old new : Face) (f : Flight) (outcome : Outcome) (got : List ℕ) : Type 0 where
@@ -100,10 +117,6 @@ pub record PutsPiece (old new : Face) (f : Flight) (outcome : Outcome) (got : Li
   pub guest : new.guest ≡ past_piece outcome old.guest
   pub size : new.size ≡ old.size
   pub format : new.format ≡ old.format
-
--- so many bytes of a payload
-abbrev pub payload_bytes : Payload → ℕ → List ℕ
-payload_bytes (Fill byte) n = replicate n byte
 
 -- a read was good and left the disk's bytes in the buffer, or it was none
 abbrev pub IsRead : Outcome → List ℕ → Extent → List ℕ → Type 0
@@ -118,3 +131,10 @@ IsWritten Good part = Unit {0}
 IsWritten (Torn done dev count) part = (0 < done) × (done < part.len)
 IsWritten (Io dev count) part = Unit {0}
 IsWritten (NoSpace dev) part = Unit {0}
+
+-- a flush is good where it was answered, and else a fault with a risen count
+abbrev pub IsFlush : Option Bool → Option Bool → ℕ → ℕ → Outcome → Type 0
+IsFlush old new before now Good = new ≡ option_map (λ _. true) old
+IsFlush old new before now (Torn done dev count) = ⊥
+IsFlush old new before now (Io dev count) = (new ≡ old) × (dev.0 ≡ 0) × Rose before count × (count ≡ now)
+IsFlush old new before now (NoSpace dev) = ⊥

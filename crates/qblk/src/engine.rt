@@ -39,6 +39,7 @@ impl<D: Device> Model for Engine<D> {
     ghost view = { λ a. record {
       format = a.medium.format;
       disk = disk_in a.medium;
+      is_flushed = a.medium.is_flushed;
       faults = a.medium.faults;
       capacity = a.medium.capacity;
       size = a.size;
@@ -155,6 +156,7 @@ impl<D: Device> Engine<D> {
         ensures { result ≡ record {
           format = medium.format;
           disk = disk_in medium;
+          is_flushed = medium.is_flushed;
           faults = medium.faults;
           capacity = medium.capacity;
           size = medium.size;

@@ -6,12 +6,14 @@ ghost use Rattle.q2_image.specs.Image.{IsImageOf, clusters_in};
 ghost use Rattle.q2_image.specs.Reading.{IsWithinCluster};
 ghost use Rattle.qblk.specs.Steps.{HasCause, IsRead};
 
-use crate::transfer::{DEVICE, is_write, last_flush, load_payload, read_part, write_part};
+use crate::transfer::{
+    DEVICE, flush_device, is_write, last_flush, load_bytes, read_part, write_part,
+};
 use blk_base::{DevStop, Device, FaultAt, Outcome, Span};
 use q2_image::Image;
 use q2_tables::Mapping;
 use std::marker::Model;
-use trace_codec::Op;
+use trace_codec::{Op, Payload};
 
 /// What reads a disk from a device's bytes.
 #[derive(Drop)]
@@ -81,7 +83,7 @@ fn read_image<D: Device>(device: &mut D, image: &Image, part: Span, buffer: &mut
 }
 
 impl<D: Device> Medium<D> {
-    ghost use Rattle.std.specs.Prelude.{◌≡◌, ◌&&◌, ◌≤◌, ◌<◌, ℕ, List, length, true, false, take, is_some, Some, Option, option_map, MatchOption};
+    ghost use Rattle.std.specs.Prelude.{◌≡◌, ◌&&◌, ◌≤◌, ◌<◌, ℕ, List, length, true, false, take, replicate, is_some, Some, Option, option_map, MatchOption};
     ghost use Rattle.blk_base.specs.Pieces.{end_of};
     ghost use Rattle.blk_base.specs.Counts.{Rose};
     ghost use Rattle.blk_base.specs.Content.{with_bytes};
@@ -92,10 +94,11 @@ impl<D: Device> Medium<D> {
     ghost use Rattle.q2_image.specs.Reading.{IsWithinCluster};
     ghost use Rattle.qblk.specs.Format.{only_reads};
     ghost use Rattle.qblk.specs.Medium.{disk_in};
-    ghost use Rattle.qblk.specs.Steps.{HasCause, IsRead, IsWritten, shown_of};
+    ghost use Rattle.qblk.specs.Steps.{HasCause, IsPart, IsRead, IsWritten, IsFlush, KeepsAll, shown_of};
+    ghost use Rattle.trace_codec.specs.declared.op.Op.{Op};
     ghost use Rattle.qblk.specs.declared.words.Format.TheVariants as formats;
 
-    /// Whether a request would change a disk whose guest may only read.
+    /// Whether a request needs a guest that may write, where this one may only read.
     pub(crate) fn forbids(&self, op: &Op) -> bool
         ensures { result ≡ (only_reads self.now.format && is_write op.now) }
     {
@@ -147,15 +150,42 @@ impl<D: Device> Medium<D> {
         write_part(&mut self.device, part, bytes)
     }
 
+    /// Writes one byte over a part of a raw disk.
+    fn fill(&mut self, part: Span, byte: u8, buffer: &mut [u8]) -> Outcome
+        requires whole { length buffer.old ≡ part.len }
+        requires raw { self.old.format ≡ formats.Raw }
+        ensures written { IsWritten result part }
+        ensures content { disk_in self.new ≡ option_map (λ disk. with_bytes disk part.start (take (done_by result part) (replicate part.len byte))) (disk_in self.old) }
+        ensures format { self.new.format ≡ self.old.format }
+        ensures size { self.old.size ≤ self.new.size }
+        ensures cause { HasCause self.old.faults self.new.faults self.old.capacity part result }
+        ensures faults { self.old.faults ≤ self.new.faults }
+        ensures capacity { self.new.capacity ≡ self.old.capacity }
+    {
+        buffer.fill(byte);
+        self.write(part, buffer)
+    }
+
+    /// Flushes the device for the guest.
+    fn flush(&mut self) -> Outcome
+        ensures flushed { IsFlush self.old.is_flushed self.new.is_flushed self.old.faults self.new.faults result }
+        ensures told { KeepsAll Op.Flush result (disk_in self.new) self.new.is_flushed }
+        ensures kept { self.new ≡ record self.old { is_flushed = self.new.is_flushed; faults = self.new.faults } }
+        ensures faults { self.old.faults ≤ self.new.faults }
+    {
+        flush_device(&mut self.device)
+    }
+
     /// Makes one piece of a request. A good read leaves its bytes in the buffer.
     pub(crate) fn transfer(&mut self, op: &Op, part: Span, buffer: &mut [u8]) -> Outcome
         requires whole { length buffer.old ≡ part.len }
-        requires some { 0 < part.len }
+        requires part { IsPart op.now part }
         requires block { IsWithinCluster 65536 part }
         requires inside { end_of part ≤ self.old.size }
         requires allowed { (only_reads self.old.format && is_write op.now) ≡ false }
         ensures tells { (disk : List ℕ) → disk_in self.old ≡ Some disk → Tells result op.now part (Some disk) (shown_of op.now result buffer.new) }
         ensures content { disk_in self.new ≡ option_map (done_in op.now part (done_by result part)) (disk_in self.old) }
+        ensures flushed { KeepsAll op.now result (disk_in self.new) self.new.is_flushed }
         ensures format { self.new.format ≡ self.old.format }
         ensures size { self.old.size ≤ self.new.size }
         ensures cause { HasCause self.old.faults self.new.faults self.old.capacity part result }
@@ -164,10 +194,15 @@ impl<D: Device> Medium<D> {
     {
         match op {
             Op::Read(_) => self.read(part, buffer),
-            Op::Write(_, payload) => {
-                load_payload(payload, buffer);
+            Op::Write(_, Payload::Fill(byte)) => self.fill(part, *byte, buffer),
+            Op::Write(span, Payload::Raw(bytes)) => {
+                let from = part.start.saturating_sub(span.start);
+                load_bytes(bytes.as_slice(), from, buffer);
                 self.write(part, buffer)
             }
+            Op::Zero(_) => self.fill(part, 0, buffer),
+            Op::Flush => self.flush(),
+            Op::Discard(_) => unreachable!(),
         }
     }
 

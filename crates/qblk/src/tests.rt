@@ -342,6 +342,106 @@ fn a_torn_write_leaves_its_beginning(rt: HostRuntime) -> Result<(), Fail> {
 }
 
 #[test]
+fn zeros_and_bytes_are_written(rt: HostRuntime) -> Result<(), Fail> {
+    let table: [(&[u8], &str); 2] = [
+        (
+            b"write -P 7 0 65536\nwrite -z 0 65536\nwrite -P 9 10 1\nread 0 12\n",
+            "admit disk 0 write 0 65536\n\
+             piece disk 0 0 ok\n\
+             retire disk 0\n\
+             admit disk 1 zero 0 65536\n\
+             piece disk 1 0 ok\n\
+             retire disk 1\n\
+             admit disk 2 write 10 1\n\
+             piece disk 2 0 ok\n\
+             retire disk 2\n\
+             admit disk 3 read 0 12\n\
+             piece disk 3 0 ok 00*10 09*1 00*1\n\
+             retire disk 3\n",
+        ),
+        (
+            b"bytes 65534 0a0B0c0d\nread 65533 6\n",
+            "admit disk 0 write 65534 4\n\
+             piece disk 0 0 ok\n\
+             piece disk 0 1 ok\n\
+             retire disk 0\n\
+             admit disk 1 read 65533 6\n\
+             piece disk 1 0 ok 00*1 0a*1 0b*1\n\
+             piece disk 1 1 ok 0c*1 0d*1 00*1\n\
+             retire disk 1\n",
+        ),
+    ];
+    for (trace, transcript) in table {
+        let ran = io(&rt, 1_048_576, &[], trace)?;
+        assert!(rt; is_so(&rt, &ran, "", transcript)?, "{transcript}");
+    }
+    Ok(())
+}
+
+#[test]
+fn flushes_and_discards_change_nothing(rt: HostRuntime) -> Result<(), Fail> {
+    let ran = io(
+        &rt,
+        1_048_576,
+        &[],
+        b"write -P 1 0 2\nflush\ndiscard 0 1M\ndiscard 1048575 2\nwrite -z 1048575 2\nread 0 2\n",
+    )?;
+    assert!(rt;
+        is_so(
+            &rt,
+            &ran,
+            "",
+            "admit disk 0 write 0 2\n\
+        piece disk 0 0 ok\n\
+        retire disk 0\n\
+        admit disk 1 flush\n\
+        piece disk 1 0 ok\n\
+        retire disk 1\n\
+        admit disk 2 discard 0 1048576\n\
+        retire disk 2\n\
+        refuse disk 3 discard 1048575 2 range\n\
+        refuse disk 4 zero 1048575 2 range\n\
+        admit disk 5 read 0 2\n\
+        piece disk 5 0 ok 01*2\n\
+        retire disk 5\n"
+        )?
+    );
+    Ok(())
+}
+
+// The device's calls are the write, the flush, the zero write, the read and the last flush.
+const KINDS: &[u8] = b"write -P 1 0 4096\nflush\nwrite -z 0 4096\nread 0 4096\n";
+
+#[test]
+fn a_flush_or_a_zero_write_fails(rt: HostRuntime) -> Result<(), Fail> {
+    let table: [(u64, u64, &str, &str, &str, &str); 4] = [
+        (1, 0, "", "io dev0 1", "ok", "00*4096"),
+        (2, 0, "", "ok", "io dev0 1", "01*4096"),
+        (2, 1_024, "", "ok", "torn 1024 dev0 1", "00*1024 01*3072"),
+        (4, 0, "fault dev0 1", "ok", "ok", "00*4096"),
+    ];
+    for (call, done, status, flush, zero, read) in table {
+        let ran = io(&rt, 1_048_576, &failing(call, done), KINDS)?;
+        let transcript = format!(in rt.alloc();
+            "admit disk 0 write 0 4096\n\
+            piece disk 0 0 ok\n\
+            retire disk 0\n\
+            admit disk 1 flush\n\
+            piece disk 1 0 {flush}\n\
+            retire disk 1\n\
+            admit disk 2 zero 0 4096\n\
+            piece disk 2 0 {zero}\n\
+            retire disk 2\n\
+            admit disk 3 read 0 4096\n\
+            piece disk 3 0 ok {read}\n\
+            retire disk 3\n"
+        )?;
+        assert!(rt; is_so(&rt, &ran, status, transcript.as_str())?, "{call}");
+    }
+    Ok(())
+}
+
+#[test]
 fn a_store_or_sink_fails(rt: HostRuntime) -> Result<(), Fail> {
     let words = "io raw disk.img t";
     for call in 0..2 {
@@ -383,7 +483,8 @@ fn a_qcow2_image_is_read(rt: HostRuntime) -> Result<(), Fail> {
     // The feature name table of `qemu-img create`, whose file ends behind the L1 table's one entry.
     let names: Edits = &[(112, b"\x68\x03\xf8\x57\x00\x00\x01\x80\x00\x00dirty bit")];
     assert!(rt; is_read(&rt, 196_616, names, b"read 0 4\n", zeros)?);
-    let trace = b"read 2 4\nwrite -P 1 0 1\nread 65533 5\nread 1048575 2\n";
+    let trace = b"read 2 4\nwrite -P 1 0 1\nread 65533 5\nread 1048575 2\n\
+        write -z 0 1\nbytes 0 00\ndiscard 0 1\nflush\n";
     let transcript = "admit disk 0 read 2 4\n\
         piece disk 0 0 ok 09*2 00*2\n\
         retire disk 0\n\
@@ -392,7 +493,13 @@ fn a_qcow2_image_is_read(rt: HostRuntime) -> Result<(), Fail> {
         piece disk 2 0 ok 01*1 02*1 03*1\n\
         piece disk 2 1 ok 00*2\n\
         retire disk 2\n\
-        refuse disk 3 read 1048575 2 range\n";
+        refuse disk 3 read 1048575 2 range\n\
+        refuse disk 4 zero 0 1 readonly\n\
+        refuse disk 5 write 0 1 readonly\n\
+        refuse disk 6 discard 0 1 readonly\n\
+        admit disk 7 flush\n\
+        piece disk 7 0 ok\n\
+        retire disk 7\n";
     assert!(rt; is_read(&rt, 393_216, &MAPPED, trace, transcript)?);
     Ok(())
 }

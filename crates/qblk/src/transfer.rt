@@ -7,10 +7,10 @@ ghost use Rattle.trace_codec.specs.Request.{pieces_of};
 ghost use Rattle.blk_base.specs.Content.{bytes_at, with_bytes};
 ghost use Rattle.blk_history.specs.Disk.{span_of, is_write, piece};
 ghost use Rattle.blk_history.specs.Machine.{done_by};
-ghost use Rattle.qblk.specs.Steps.{HasCause, shown_of, IsRead, IsWritten, payload_bytes, shows_in};
+ghost use Rattle.qblk.specs.Steps.{HasCause, shown_of, IsPart, IsRead, IsWritten, IsFlush, shows_in};
 
 use blk_base::{DevNo, Device, FaultAt, FaultFrom, Outcome, Span, Stop, piece_at};
-use trace_codec::{Op, Payload};
+use trace_codec::Op;
 
 /// The only device of this run.
 pub(crate) const DEVICE: DevNo = DevNo(0);
@@ -20,17 +20,18 @@ pub(crate) fn request_span(op: &Op) -> Span
     ensures { result ≡ span_of op.now }
 {
     match op {
-        Op::Read(span) | Op::Write(span, _) => *span,
+        Op::Read(span) | Op::Write(span, _) | Op::Zero(span) | Op::Discard(span) => *span,
+        Op::Flush => Span { start: 0, len: 0 },
     }
 }
 
-/// Whether a request changes the disk.
+/// Whether only a guest that may write can ask for it.
 pub(crate) fn is_write(op: &Op) -> bool
     ensures { result ≡ is_write op.now }
 {
     match op {
-        Op::Read(_) => false,
-        Op::Write(..) => true,
+        Op::Read(_) | Op::Flush => false,
+        Op::Write(..) | Op::Zero(_) | Op::Discard(_) => true,
     }
 }
 
@@ -39,13 +40,26 @@ pub(crate) fn request_piece(op: &Op, k: u64) -> Span
     requires { k < pieces_of op.now }
     ensures cut { result ≡ piece op.now k }
     ensures small { result.len ≤ 65536 }
-    ensures some { 0 < result.len }
+    ensures part { IsPart op.now result }
     ensures block { IsWithinCluster 65536 result }
     ensures inside { end_of result ≤ end_of (span_of op.now) }
 {
     match op {
-        Op::Read(span) | Op::Write(span, _) => small_piece(*span, k),
+        Op::Read(span) | Op::Write(span, _) | Op::Zero(span) => small_piece(*span, k),
+        Op::Flush => no_bytes(k),
+        Op::Discard(_) => unreachable!(),
     }
+}
+
+/// The piece of a flush.
+#[tactic(auto, unfolding(blk_base::specs::Pieces::piece_of))]
+fn no_bytes(k: u64) -> Span
+    requires { k < 1 }
+    ensures cut { result ≡ piece_of (record { start = 0; len = 0 }) k }
+    ensures empty { result ≡ record { start = 0; len = 0 } }
+{
+    let _ = k;
+    Span { start: 0, len: 0 }
 }
 
 /// Piece `k` of a span. It lies in one block.
@@ -72,13 +86,16 @@ pub(crate) fn shown_part<'a>(op: &Op, outcome: Outcome, buffer: &'a [u8]) -> &'a
     }
 }
 
-/// Puts what a write puts into a part of its span into the buffer.
-pub(crate) fn load_payload(payload: &Payload, buffer: &mut [u8])
-    ensures { buffer.new ≡ payload_bytes payload.now (length buffer.old) }
+/// Copies bytes from a place on into the buffer, zeros past their end.
+#[tactic(auto, unfolding(blk_base::specs::Content::bytes_at))]
+pub(crate) fn load_bytes(bytes: &[u8], from: u64, buffer: &mut [u8])
+    ensures { buffer.new ≡ bytes_at bytes.now from (length buffer.old) }
 {
-    match payload {
-        Payload::Fill(byte) => buffer.fill(*byte),
-    }
+    let from = from.min(bytes.len() as u64) as usize;
+    let rest = &bytes[from..];
+    let (front, back) = buffer.split_at_mut(rest.len().min(buffer.len()));
+    front.copy_from_slice(&rest[..front.len()]);
+    back.fill(0);
 }
 
 /// Reads a part of the disk.
@@ -123,6 +140,23 @@ pub(crate) fn write_part<D: Device>(device: &mut D, part: Span, bytes: &[u8]) ->
             dev: DEVICE,
             count,
         },
+    }
+}
+
+/// Flushes a device for a guest.
+pub(crate) fn flush_device<D: Device>(device: &mut D) -> Outcome
+    ensures flushed { IsFlush (D.is_flushed device.old) (D.is_flushed device.new) (D.faults device.old) (D.faults device.new) result }
+    ensures content { D.content device.new ≡ D.content device.old }
+    ensures size { D.size device.new ≡ D.size device.old }
+    ensures faults { D.faults device.old ≤ D.faults device.new }
+    ensures capacity { D.capacity device.new ≡ D.capacity device.old }
+{
+    let Err(_) = device.flush() else {
+        return Outcome::Good;
+    };
+    Outcome::Io {
+        dev: DEVICE,
+        count: device.faults(),
     }
 }
 

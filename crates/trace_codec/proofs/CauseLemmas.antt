@@ -14,6 +14,7 @@ use Rattle.trace_codec.specs.Reading.{Reading}
 use Rattle.trace_codec.specs.Request.{with_op, passes_total}
 use Rattle.trace_codec.specs.Trace.{◌>>=◌, next_line, after_line, after_lines, lines_of, trace_of}
 use Rattle.trace_codec.specs.Causes.{IsGood, op_in, requests_of, with_ops, are_too_many, AreTaken, IsTaken, IsCause, StopsAt}
+use Rattle.trace_codec.specs.Traced.{IsRequest, IsTrace}
 
 -- a reading that may go on
 pub record MayGoOn (r : Reading) : Type 0 where
@@ -227,6 +228,14 @@ pub all_requests : (before : Amounts) (text : List ℕ) (asked : Amounts) (r : R
     IfOk r (λ ops. trace_of before text ≡ Ok (ops, asked)) → IfOk r (λ ops. ops ≡ requests_of (lines_of text))
 all_requests before text asked (Ok ops) e h = (trace_takes nothing text ops asked refl (rw e at h)).requests
 all_requests before text asked (Err stop) e h = tt
+
+-- so a trace can ask for them
+pub all_askable : (before : Amounts) (text : List ℕ) (asked : Amounts) (r : Result (List Op) TraceStop) → before ≡ nothing →
+    IfOk r (λ ops. trace_of before text ≡ Ok (ops, asked)) → IfOk r (AllByRecursion IsRequest) → IfOk r IsTrace
+all_askable before text asked (Ok ops) e h each =
+    let t = trace_takes nothing text ops asked refl (rw e at h) in
+    record { each = each; few = subst (λ (l : List Op). are_too_many nothing l ≡ false) (sym t.requests) t.all.few }
+all_askable before text asked (Err stop) e h each = tt
 
 pub first_cause : (before : Amounts) (text : List ℕ) (r : Result (List Op) TraceStop) → before ≡ nothing →
     IfErr r (λ stop. (stop ≡ NoMemory) ⊎ (trace_of before text ≡ Err stop)) → IfErr r (λ stop. (stop ≡ NoMemory) ⊎ StopsAt nothing (lines_of text) stop)

@@ -1,9 +1,12 @@
 pub mod Number
 pub mod Cut
+pub mod Hex
 pub mod Line
 pub mod Amounts
 pub mod Request
 pub mod Reading
 pub mod Trace
 pub mod Causes
+pub mod Traced
+pub mod Spelling
 pub mod Stop

@@ -1,14 +1,15 @@
 -- What a line of a trace says.
-use Rattle.std.specs.Prelude.{ℕ, ◌^◌, List, [], ◌∷◌, codes, ◌==◌, if◌then◌else◌, Option, Some, None}
+use Rattle.std.specs.Prelude.{ℕ, ◌^◌, List, [], ◌∷◌, length, codes, ◌==◌, if◌then◌else◌, Option, Some, None}
 use Rattle.std.specs.List.{slice_split}
 use Rattle.std.specs.Str.{bytes_eq}
 use Rattle.blk_base.specs.Pieces.{Extent}
 use Rattle.trace_codec.specs.declared.op.Op.{Op}
-use Rattle.trace_codec.specs.declared.op.Op.TheVariants.{Read, Write}
-use Rattle.trace_codec.specs.declared.op.Payload.TheVariants.{Fill}
+use Rattle.trace_codec.specs.declared.op.Op.TheVariants.{Read, Write, Zero, Flush, Discard}
+use Rattle.trace_codec.specs.declared.op.Payload.TheVariants.{Fill, Raw}
 use Rattle.trace_codec.specs.declared.line.Line.{Line}
 use Rattle.trace_codec.specs.declared.line.Line.TheVariants.{Passed, Asks, Bad}
 use Rattle.trace_codec.specs.Number.{◌>>=◌, number_of, below}
+use Rattle.trace_codec.specs.Hex.{payload_of}
 
 -- The words of a line, parted by single spaces. A space at an end, or two in a row, leave an empty word, which no rule takes.
 abbrev pub words_of : List ℕ → List (List ℕ)
@@ -46,10 +47,38 @@ fill_in (byte ∷ words) = do
   span ← span_in words
   Some (Write span (Fill value))
 
+-- `write -z OFF LEN`, behind the second word
+abbrev pub zero_in : List (List ℕ) → Option Op
+zero_in words = do
+  span ← span_in words
+  Some (Zero span)
+
 -- the kinds of writes, by their flag
 abbrev pub write_in : List (List ℕ) → Option Op
 write_in [] = None
-write_in (flag ∷ words) = if bytes_eq flag (codes "-P") then fill_in words else None
+write_in (flag ∷ words) =
+    if bytes_eq flag (codes "-P") then fill_in words
+    else if bytes_eq flag (codes "-z") then zero_in words
+    else None
+
+-- `bytes OFF HEX`, behind the first word: a write of these bytes, as many as there are
+abbrev pub raw_in : List (List ℕ) → Option Op
+raw_in (offset ∷ digits ∷ []) = do
+  start ← offset_of offset
+  bytes ← payload_of digits
+  Some (Write (record { start = start; len = length bytes }) (Raw bytes))
+raw_in _ = None
+
+-- `flush`, and no word behind it
+abbrev pub flush_in : List (List ℕ) → Option Op
+flush_in [] = Some Flush
+flush_in _ = None
+
+-- `discard OFF LEN`, behind the first word
+abbrev pub discard_in : List (List ℕ) → Option Op
+discard_in words = do
+  span ← span_in words
+  Some (Discard span)
 
 -- the request that some words make, by the first of them
 abbrev pub request_in : List (List ℕ) → Option Op
@@ -57,6 +86,9 @@ request_in [] = None
 request_in (name ∷ words) =
     if bytes_eq name (codes "read") then read_in words
     else if bytes_eq name (codes "write") then write_in words
+    else if bytes_eq name (codes "bytes") then raw_in words
+    else if bytes_eq name (codes "flush") then flush_in words
+    else if bytes_eq name (codes "discard") then discard_in words
     else None
 
 abbrev pub asked : Option Op → Line

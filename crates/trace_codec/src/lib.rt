@@ -6,15 +6,18 @@ mod line;
 mod number;
 mod op;
 mod ops;
+mod payload;
 mod reading;
 mod stop;
 #[cfg(test)]
 mod tests;
 mod totals;
 mod trace;
+mod writing;
 
 pub use op::{Op, Payload};
 pub use ops::Ops;
 pub use stop::TraceStop;
 pub use totals::Totals;
 pub use trace::{read_trace, read_trace_after};
+pub use writing::write_trace;

@@ -2,22 +2,30 @@
 
 ghost use Rattle.std.specs.Prelude.{◌≡◌};
 
-use blk_base::{Span, piece_count};
+use blk_base::{Bytes, Span, piece_count};
 
 /// The bytes of a write.
-#[derive(Debug, PartialEq, Eq, Drop)]
+#[derive(Debug, Drop)]
 pub enum Payload {
     /// Every byte is this one.
     Fill(u8),
+    /// These bytes, as many as the span has.
+    Raw(Bytes),
 }
 
 /// One request.
-#[derive(Debug, PartialEq, Eq, Drop)]
+#[derive(Debug, Drop)]
 pub enum Op {
     /// Read these bytes.
     Read(Span),
     /// Write this payload over these bytes.
     Write(Span, Payload),
+    /// Write zeros over these bytes.
+    Zero(Span),
+    /// Keep all that was written.
+    Flush,
+    /// These bytes are not needed any more. It is advice, and changes nothing.
+    Discard(Span),
 }
 
 impl Op {
@@ -28,7 +36,9 @@ impl Op {
         ensures { result ≡ pieces_of self.now }
     {
         match self {
-            Op::Read(span) | Op::Write(span, _) => piece_count(*span),
+            Op::Read(span) | Op::Write(span, _) | Op::Zero(span) => piece_count(*span),
+            Op::Flush => 1,
+            Op::Discard(_) => 0,
         }
     }
 
@@ -38,7 +48,7 @@ impl Op {
     {
         match self {
             Op::Read(span) => span.len,
-            Op::Write(_, _) => 0,
+            Op::Write(..) | Op::Zero(_) | Op::Flush | Op::Discard(_) => 0,
         }
     }
 }

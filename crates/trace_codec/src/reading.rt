@@ -50,7 +50,7 @@ impl Reading {
         ensures ok { OnOk result (after_line self.old (line_of line.now) ≡ Ok self.new) }
         ensures refused { IfErr result (λ stop. (stop ≡ TraceStop.NoMemory) ⊎ (after_line self.old (line_of line.now) ≡ Err stop)) }
     {
-        match read_line(line) {
+        match read_line(*self.ops.allocator(), line)? {
             Line::Passed => {}
             Line::Asks(op) => self.add(op)?,
             Line::Bad => return Err(TraceStop::BadLine(self.line)),

@@ -3,6 +3,8 @@
 ghost use Rattle.std.specs.Prelude.{◌≡◌, ◌⊎◌, [], Ok, Err, IfOk, IfErr, OnOk, OnErr};
 ghost use Rattle.trace_codec.specs.Amounts.{nothing};
 ghost use Rattle.trace_codec.specs.Causes.{AreTaken, StopsAt, requests_of};
+ghost use Rattle.std.specs.List.{AllByRecursion};
+ghost use Rattle.trace_codec.specs.Traced.{IsRequest, IsTrace};
 ghost use Rattle.trace_codec.specs.Trace.{after_lines, lines_of, trace_of, ops_of};
 
 use crate::cut::cut;
@@ -13,7 +15,8 @@ use crate::totals::Totals;
 use std::alloc::Global;
 
 /// Reads a trace before which there is none. Each of its lines, parted by line feeds, is empty, a comment that begins
-/// with `#`, `read OFF LEN` or `write -P BYTE OFF LEN`, its words parted by single spaces.
+/// with `#`, `read OFF LEN`, `write -P BYTE OFF LEN`, `write -z OFF LEN`, `bytes OFF HEX`, `flush` or `discard OFF LEN`,
+/// its words parted by single spaces.
 pub fn read_trace(alloc: Global, text: &str) -> Result<Ops, TraceStop>
     ensures ok { IfOk result (λ ops. ops_of text.now ≡ Ok ops) }
     ensures refused { IfErr result (λ stop. (stop ≡ TraceStop.NoMemory) ⊎ (ops_of text.now ≡ Err stop)) }
@@ -21,6 +24,7 @@ pub fn read_trace(alloc: Global, text: &str) -> Result<Ops, TraceStop>
     // In other words: all lines are taken and these are their requests, or the first line with a cause is named.
     ensures taken { OnOk result (AreTaken nothing (lines_of text.now)) }
     ensures requests { IfOk result (λ ops. ops ≡ requests_of (lines_of text.now)) }
+    ensures askable { IfOk result IsTrace }
     ensures cause { IfErr result (λ stop. (stop ≡ TraceStop.NoMemory) ⊎ StopsAt nothing (lines_of text.now) stop) }
 {
     let mut asked = Totals::new();
@@ -32,6 +36,7 @@ pub fn read_trace(alloc: Global, text: &str) -> Result<Ops, TraceStop>
 #[tactic(auto, unfolding(crate::specs::Trace::trace_of))]
 pub fn read_trace_after(alloc: Global, asked: &mut Totals, text: &str) -> Result<Ops, TraceStop>
     ensures ok { IfOk result (λ ops. trace_of asked.old text.now ≡ Ok (ops, asked.new)) }
+    ensures each { IfOk result (AllByRecursion IsRequest) }
     ensures refused { IfErr result (λ stop. (stop ≡ TraceStop.NoMemory) ⊎ (trace_of asked.old text.now ≡ Err stop)) }
     ensures err { OnErr result (asked.new ≡ asked.old) }
 {

@@ -1,4 +1,4 @@
-use Rattle.trace_codec.proofs.CauseLemmas.{all_taken, all_requests, first_cause}
+use Rattle.trace_codec.proofs.CauseLemmas.{all_taken, all_requests, all_askable, first_cause}
 use Rattle.trace_codec.proofs.trace.read_trace.Goals as goal
 
 pub returns-clause-taken : goal.returns-clause-taken
@@ -11,3 +11,7 @@ returns-clause-requests c =
 
 pub returns-clause-cause : goal.returns-clause-cause
 returns-clause-cause c = first_cause c.new-asked.result c.args.text.now c.read_trace_after.result c.new-asked.ensures c.read_trace_after.ensures.refused
+
+pub returns-clause-askable : goal.returns-clause-askable
+returns-clause-askable c =
+    all_askable c.new-asked.result c.args.text.now c.read_trace_after.new.asked c.read_trace_after.result c.new-asked.ensures c.read_trace_after.ensures.ok c.read_trace_after.ensures.each
