@@ -23,3 +23,4 @@ pub mod LinkedDisk
 pub mod LinkTold
 pub mod Plans
 pub mod Creations
+pub mod OwnTold

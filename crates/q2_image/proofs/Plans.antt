@@ -1,7 +1,7 @@
 -- What a put needs of each of its steps, where there is room for it.
 use Rattle.std.proofs.Common.{◌≡◌, ◌≢◌, ℕ, ◌+◌, ◌*◌, ◌/◌, ◌%◌, ◌^◌, ◌<◌, ◌≤◌, ◌⊎◌, inl, inr, max, Bool, true, false, cond, eqb, List, [], ◌∷◌, length, get_or, slice_index, slice_index_or, refl, sym, ap, subst, ◌∙◌, arith}
 use Rattle.std.proofs.lemmas.Bool.{eqb-true, eqb-false}
-use Rattle.q2_format.specs.Entry.{l2_entry, IsWritable, host_offset, is_compressed}
+use Rattle.q2_format.specs.Entry.{l2_entry, host_of, IsWritable, host_offset, is_compressed}
 use Rattle.q2_format.specs.References.{own_offset}
 use Rattle.q2_format.specs.declared.entries.L2Entry.{L2Entry}
 use Rattle.q2_format.specs.declared.entries.L2Entry.TheVariants.{Unallocated, Zero, Host, Compressed, Reserved}
@@ -16,6 +16,7 @@ use Rattle.q2_tables.specs.Linking.{CanLink, link_end, table_of}
 use Rattle.q2_image.specs.Image.{Known, IsOpen, HasRoom, cluster_size_in, entry_in}
 use Rattle.q2_image.specs.Writing.{CanTake, PutFits, ZeroFits, needs_table, needs_host, idle_host, taken_at, table_for, host_for, next_host, after_take, with_taken, with_table, with_host}
 use Rattle.q2_image.proofs.HostUses.{size_in, zero_entry}
+use Rattle.q2_image.proofs.LinkTold.{own_of_plain}
 use Rattle.q2_image.proofs.Taken.{open_with_refs, ready_taken}
 
 -- The clusters that are taken.
@@ -325,3 +326,40 @@ module _ (zeroth first second : Known) (cluster table host capacity : ℕ) (put 
       let own : host ≡ taken_at first 0 = put.host_is ∙ ap (λ (b : Bool). cond b (taken_at first 0) (idle_host (entry_in first cluster))) test in
       let at = offset_of first capacity open_first (can_first test) in
       ap (λ (n : ℕ). n % 65536) own ∙ at.whole
+
+-- The host cluster that a guest cluster keeps when it is made to read as zeros.
+pub record IsKeptHost (image : Known) (cluster host : ℕ) : Type 0 where
+  pub own : host ≡ own_offset (get_or image.tables.words cluster 0)
+  pub offset : (host % 512 ≡ 0) × (host < 2 ^ 56)
+  pub reached : host < length image.refs.counts * cluster_size_in image
+
+pub kept_host : (image : Known) (cluster host : ℕ) (entry : L2Entry) → IsOpen image → cluster < length image.tables.words → host ≡ host_of entry → entry ≡ entry_in image cluster
+    → IsKeptHost image cluster host
+kept_host image cluster host entry ready below is there =
+    let word : ℕ = get_or image.tables.words cluster 0 in
+    let own : host ≡ own_offset word = is ∙ ap host_of there ∙ sym (own_of_plain word (ready.plain cluster below)) in
+    let parts = idle_offset word in
+    record {
+      own = own;
+      offset = (ap (λ (n : ℕ). n % 512) own ∙ parts.0, omega (arith, own, parts.1));
+      reached = omega (arith, own, ready.hosts cluster below);
+    }
+
+-- One zero write: the image after a table's cluster was taken.
+module _ (zeroth first : Known) (cluster table capacity : ℕ) (ready : IsOpen zeroth) (below : cluster < length zeroth.tables.words) (fits : ZeroFits zeroth cluster capacity)
+    (table_is : table ≡ table_for zeroth cluster) (first_is : first ≡ with_table zeroth cluster) where
+  pub zero_open : IsOpen first
+  zero_open = subst IsOpen (sym first_is) (open_if (needs_table zeroth cluster) zeroth ready)
+
+  pub zero_tables : first.tables ≡ zeroth.tables
+  zero_tables = ap (λ (k : Known). k.tables) first_is ∙ tables_if (needs_table zeroth cluster) zeroth
+
+  pub zero_below : cluster < length first.tables.words
+  zero_below = let P : tables.Kept → Type 0 = λ t. cluster < length t.words in subst P (sym zero_tables) below
+
+  pub zero_table : IsTableOffset first cluster table
+  zero_table =
+      let T : tables.Kept → Type 0 = λ t. CanLink t cluster table in
+      let P : ℕ → Type 0 = IsTableOffset zeroth cluster in
+      let at = subst P (sym table_is) (table_offset zeroth cluster capacity ready below fits.table) in
+      record { can = subst T (sym zero_tables) at.can; whole = at.whole; near = at.near }

@@ -1,7 +1,7 @@
 //! Whether there is room for a write: looked at before anything is written.
 
 ghost use Rattle.std.specs.Prelude.{◌≡◌, ◌↔◌, ◌+◌, ◌*◌, ◌<◌, ◌≤◌, max, ℕ, length, IsTrue, true, if◌then◌else◌};
-ghost use Rattle.q2_image.specs.Image.{IsOpen, cluster_size_in, entry_in};
+ghost use Rattle.q2_image.specs.Image.{IsOpen, clusters_in, cluster_size_in, entry_in};
 ghost use Rattle.q2_image.specs.Writing.{CanTake, ZeroFits, PutFits, autoclear_end, needs_table, needs_host, taken_at, table_for, host_for, idle_host};
 
 use crate::header::cluster_size;
@@ -28,13 +28,6 @@ impl Image {
     {
         let cluster = self.refs.next_free(k);
         cluster < self.refs.reach() && self.refs.allocation_fits(cluster, capacity)
-    }
-
-    /// Whether the autoclear field can be written where it has to be.
-    fn autoclear_fits(&self, capacity: u64) -> bool
-        ensures { IsTrue result ↔ (autoclear_end self.now ≤ capacity) }
-    {
-        self.header.autoclear == 0 || AUTOCLEAR_END <= capacity
     }
 
     /// Where the `k`-th cluster from now will be taken.
@@ -110,11 +103,15 @@ impl Image {
 
     /// Whether there is room to make a guest cluster read as zeros.
     pub(crate) fn zero_fits(&self, cluster: u64, capacity: u64) -> bool
-        requires { cluster < length self.now.tables.words }
+        requires { cluster < clusters_in self.now }
         ensures fits { IsTrue result ↔ ZeroFits self.now cluster capacity }
         ensures open { IsOpen self.now }
+        ensures below { cluster < length self.now.tables.words }
     {
-        if !self.autoclear_fits(capacity) || !self.table_fits(cluster, capacity) {
+        if self.header.autoclear != 0 && capacity < AUTOCLEAR_END {
+            return false;
+        }
+        if !self.table_fits(cluster, capacity) {
             return false;
         }
         self.tables
@@ -123,9 +120,10 @@ impl Image {
 
     /// Whether there is room to put the data of a guest cluster.
     pub(crate) fn put_fits(&self, cluster: u64, capacity: u64) -> bool
-        requires { cluster < length self.now.tables.words }
+        requires { cluster < clusters_in self.now }
         ensures fits { IsTrue result ↔ PutFits self.now cluster capacity }
         ensures open { IsOpen self.now }
+        ensures below { cluster < length self.now.tables.words }
     {
         if !self.zero_fits(cluster, capacity) || !self.host_fits(cluster, capacity) {
             return false;
@@ -138,6 +136,9 @@ impl Image {
         ensures fits { IsTrue result ↔ (max (autoclear_end self.now) (place + len) ≤ capacity) }
         ensures open { IsOpen self.now }
     {
-        self.autoclear_fits(capacity) && ends_within(place, len, capacity)
+        if self.header.autoclear != 0 && capacity < AUTOCLEAR_END {
+            return false;
+        }
+        ends_within(place, len, capacity)
     }
 }

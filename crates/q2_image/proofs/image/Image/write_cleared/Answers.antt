@@ -1,0 +1,37 @@
+use Rattle.std.proofs.Common.{◌≡◌, ℕ, ◌/◌, ◌<◌, List, length, sym, subst}
+use Rattle.blk_base.specs.Content.{with_bytes}
+use Rattle.blk_base.specs.Counts.{taken}
+use Rattle.q2_image.specs.Image.{Known, IsOpen}
+use Rattle.q2_image.proofs.OwnTold.{IsOwnPlace, open_cleared, part_within, own_told_image, own_told_disk, same_at}
+use Rattle.q2_image.proofs.OwnWrites.{disk_then}
+use Rattle.q2_refs.proofs.Placing.{told_before}
+use Rattle.q2_image.proofs.image.Image.write_cleared.Goals as goal
+
+pub returns-in-Ok-clause-image : goal.returns-in-Ok-clause-image
+returns-in-Ok-clause-image g c =
+    let image : Known = c.clear_autoclear.new.self in
+    let ready : IsOpen image = subst IsOpen (sym c.in-Ok.ensures.cleared) (open_cleared c.args.self.now c.requires.open) in
+    let B : Known → Type 0 = λ k. c.args.span.start / 65536 < length k.tables.words in
+    let below : B image = subst B (sym c.in-Ok.ensures.cleared) c.requires.below in
+    let M : Known → Type 0 = λ k. IsOwnPlace k c.args.span.start c.args.place in
+    let at : M image = subst M (sym c.in-Ok.ensures.cleared) c.requires.mapped in
+    let bytes : List ℕ = taken c.write_at.result c.args.bytes.now in
+    let within = part_within c.write_at.result c.args.bytes.now c.args.span.start c.requires.cluster in
+    own_told_image (g.D.Device.content c.clear_autoclear.new.dev) (g.D.Device.content c.write_at.new.self) image c.args.span.start c.args.place bytes c.write_at.ensures.written c.in-Ok.ensures.image ready below at within
+
+pub returns-in-Ok-clause-disk : goal.returns-in-Ok-clause-disk
+returns-in-Ok-clause-disk g c = λ old new told_old told_new.
+    let image : Known = c.clear_autoclear.new.self in
+    let ready : IsOpen image = subst IsOpen (sym c.in-Ok.ensures.cleared) (open_cleared c.args.self.now c.requires.open) in
+    let B : Known → Type 0 = λ k. c.args.span.start / 65536 < length k.tables.words in
+    let below : B image = subst B (sym c.in-Ok.ensures.cleared) c.requires.below in
+    let M : Known → Type 0 = λ k. IsOwnPlace k c.args.span.start c.args.place in
+    let at : M image = subst M (sym c.in-Ok.ensures.cleared) c.requires.mapped in
+    let bytes : List ℕ = taken c.write_at.result c.args.bytes.now in
+    let within = part_within c.write_at.result c.args.bytes.now c.args.span.start c.requires.cluster in
+    let mid = told_before (λ b. with_bytes b c.args.place bytes) (g.D.Device.content c.clear_autoclear.new.dev) (g.D.Device.content c.write_at.new.self) new c.write_at.ensures.written told_new in
+    disk_then old mid.0 new c.args.span.start bytes (c.in-Ok.ensures.disk old mid.0 told_old mid.1)
+    (own_told_disk (g.D.Device.content c.clear_autoclear.new.dev) (g.D.Device.content c.write_at.new.self) image c.args.span.start c.args.place bytes c.write_at.ensures.written c.in-Ok.ensures.image ready below at within mid.0 new mid.1 told_new)
+
+pub returns-in-Err-clause-disk : goal.returns-in-Err-clause-disk
+returns-in-Err-clause-disk g c = λ old new told_old told_new. same_at old new c.args.span.start (c.in-Err.ensures.disk old new told_old told_new)

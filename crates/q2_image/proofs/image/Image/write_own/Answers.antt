@@ -1,0 +1,9 @@
+use Rattle.std.proofs.Common.{◌≡◌, ◌+◌, ◌%◌, ℕ, sym, arith}
+use Rattle.q2_image.proofs.Mapped.{host_below}
+use Rattle.q2_image.proofs.image.Image.write_own.Goals as goal
+
+pub overflow_add-place : goal.overflow_add-place
+overflow_add-place g c =
+    let small = host_below _ c.in-Host.host (sym c.in-Host.ensures) in
+    let size = c.cluster_size-cluster_size.ensures.number in
+    omega arith
