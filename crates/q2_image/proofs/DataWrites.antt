@@ -1,5 +1,5 @@
 -- A write into a cluster of an image that holds none of its tables: the image stays what it is, whatever was written.
-use Rattle.std.proofs.Common.{◌≡◌, ◌≢◌, ℕ, ◌+◌, ◌*◌, ◌/◌, ◌<◌, ◌≤◌, List, length, get_or, refl, sym, ap, subst, ◌∙◌, arith}
+use Rattle.std.proofs.Common.{◌≡◌, ℕ, ◌/◌, ◌<◌, ◌≤◌, List, length, get_or, sym, ap, subst, ◌∙◌, arith}
 use Rattle.q2_format.specs.Bytes.{ReadsAlike, IsWritten}
 use Rattle.q2_format.specs.Header.{header_of}
 use Rattle.q2_format.specs.References.{uses}
@@ -11,7 +11,7 @@ use Rattle.q2_format.proofs.Consistent.{sound_tables, sound_is_consistent}
 use Rattle.q2_refs.specs.Kept.{IsCountsOf}
 use Rattle.q2_refs.proofs.Ranges.{in_block}
 use Rattle.q2_refs.proofs.SoundAfter.{StaysSound, sound_after}
-use Rattle.q2_refs.proofs.Steps.{sound_shape, cluster_is, header_kept, uses_alike, block_longer, not_a_block, byte_stays}
+use Rattle.q2_refs.proofs.Steps.{sound_shape, cluster_is, header_kept, uses_alike, block_longer, not_a_block}
 use Rattle.q2_refs.proofs.Uses.{IsApart, table_run, block_uses}
 use Rattle.q2_refs.proofs.Writes.{IsWithin, table_stays, tree_stays, header_stays, count_stays}
 use Rattle.q2_tables.specs.Kept.{IsTreeOf}

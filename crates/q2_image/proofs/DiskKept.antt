@@ -1,14 +1,12 @@
 -- What a write into the file changes of the disk: nothing where each entry and what it names stays.
-use Rattle.std.proofs.Common.{◌≡◌, ◌≢◌, ℕ, ◌+◌, ◌*◌, ◌/◌, ◌%◌, ◌<◌, ◌≤◌, ◌⊎◌, inl, inr, List, [], length, get_or, slice_index, refl, sym, ap, subst, ◌∙◌, arith}
-use Rattle.std.proofs.lemmas.Bool.{cases_eq, cases_lt}
-use Rattle.q2_format.specs.Bytes.{IsWritten}
+use Rattle.std.proofs.Common.{◌≡◌, ℕ, ◌+◌, ◌/◌, ◌%◌, ◌<◌, List, length, slice_index, refl, sym, ap, ◌∙◌, arith}
 use Rattle.q2_format.specs.Contents.{byte_by_entry, guest_byte}
 use Rattle.q2_format.specs.Header.{header_of}
 use Rattle.q2_format.specs.declared.header.Header.{Header}
 use Rattle.q2_format.specs.declared.entries.L2Entry.{L2Entry}
 use Rattle.q2_format.specs.declared.entries.L2Entry.TheVariants.{Unallocated, Zero, Host, Compressed, Reserved}
-use Rattle.q2_image.specs.Image.{Known, IsImageOf, IsOpen, clusters_in, entry_in}
-use Rattle.q2_image.specs.Writing.{IsDiskWith, IsSameDisk}
+use Rattle.q2_image.specs.Image.{Known, IsImageOf, IsOpen, entry_in}
+use Rattle.q2_image.specs.Writing.{IsSameDisk}
 use Rattle.q2_image.proofs.Mapped.{entry_of_file, below_words}
 
 -- a byte of the disk, by the kept entry of its cluster

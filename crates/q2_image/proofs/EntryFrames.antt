@@ -1,5 +1,5 @@
 -- A file of which an entry was written, and the cluster of a new table before it: its refcounts stay.
-use Rattle.std.proofs.Common.{◌≡◌, ◌≢◌, ℕ, ◌+◌, ◌*◌, ◌/◌, ◌%◌, ◌<◌, ◌≤◌, ◌⊎◌, inl, inr, Bool, true, false, not, ◌&&◌, cond, ltb, eqb, List, length, map, get_or, slice_index, count_by, refl, sym, ap, subst, ◌∙◌, arith, eq-eqb}
+use Rattle.std.proofs.Common.{◌≡◌, ◌≢◌, ℕ, ◌+◌, ◌/◌, ◌%◌, ◌<◌, ◌≤◌, ◌⊎◌, inl, inr, Bool, true, false, not, ◌&&◌, cond, ltb, List, length, map, get_or, count_by, refl, sym, ap, ◌∙◌, arith, eq-eqb}
 use Rattle.std.specs.List.{range_with_len}
 use Rattle.std.proofs.lemmas.Bool.{cases_eq, cases_lt, lt-ltb, le-ltb, ne_eqb}
 use Rattle.std.proofs.lemmas.List.{get_or_past}
@@ -13,7 +13,7 @@ use Rattle.q2_format.specs.Tables.{refcount_table}
 use Rattle.q2_format.specs.declared.header.Header.{Header}
 use Rattle.q2_format.proofs.ByPlace.{get_or-bytes_at, length-bytes_at}
 use Rattle.q2_refs.proofs.Steps.{outside_cluster}
-use Rattle.q2_refs.proofs.Uses.{table_run, block_uses}
+use Rattle.q2_refs.proofs.Uses.{table_run}
 use Rattle.q2_refs.proofs.Writes.{IsWithin}
 use Rattle.q2_tables.specs.Linking.{CanLink, entry_at, table_len}
 use Rattle.q2_image.specs.Image.{Known, IsImageOf, IsOpen}

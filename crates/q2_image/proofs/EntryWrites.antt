@@ -1,33 +1,25 @@
 -- Where an entry is written, and what the file is behind it.
-use Rattle.std.proofs.Common.{◌≡◌, ◌≢◌, ℕ, ◌+◌, ◌*◌, ◌/◌, ◌%◌, ◌<◌, ◌≤◌, ◌⊎◌, inl, inr, Bool, true, false, not, ◌&&◌, cond, ltb, eqb, List, length, map, get_or, slice_index, count_by, refl, sym, ap, subst, ◌∙◌, arith}
-use Rattle.std.specs.List.{range_with_len}
-use Rattle.std.proofs.lemmas.Bool.{cases_eq, cases_lt, lt-ltb, le-ltb, eq-eqb, ne_eqb}
-use Rattle.std.proofs.lemmas.List.{get_or_past, length-map}
-use Rattle.std.proofs.lemmas.List.FromFn.{get_or-map-range_with_len, length-map-range_with_len}
+use Rattle.std.proofs.Common.{◌≡◌, ◌≢◌, ℕ, ◌+◌, ◌*◌, ◌/◌, ◌%◌, ◌<◌, ◌≤◌, inl, inr, cond, eqb, List, length, get_or, count_by, refl, sym, ap, subst, ◌∙◌, arith}
+use Rattle.std.proofs.lemmas.Bool.{cases_eq, eq-eqb, ne_eqb}
 use Rattle.std.proofs.lemmas.Grind.{div_ceil_times}
-use Rattle.q2_format.specs.Bytes.{bytes_at, IsWritten}
 use Rattle.q2_format.specs.Entry.{host_offset}
 use Rattle.q2_format.specs.Header.{header_of}
 use Rattle.q2_format.specs.References.{names_cluster, own_offset, uses}
-use Rattle.q2_format.specs.Sizes.{cluster_size, clusters_for, entries_in_cluster}
-use Rattle.q2_format.specs.Tables.{Tree, active_tree, refcount_table}
+use Rattle.q2_format.specs.Sizes.{clusters_for, entries_in_cluster}
+use Rattle.q2_format.specs.Tables.{active_tree}
 use Rattle.q2_format.specs.declared.header.Header.{Header}
-use Rattle.q2_format.proofs.ByPlace.{get_or-bytes_at, length-bytes_at}
 use Rattle.q2_format.proofs.Consistent.{FindsNothing, sound_tables, sound_header}
 use Rattle.q2_format.proofs.Limits.{within_limits}
 use Rattle.q2_refs.proofs.Placing.{short_file}
-use Rattle.q2_refs.proofs.Steps.{outside_cluster}
-use Rattle.q2_refs.proofs.Uses.{IsApart, header_uses, table_run, block_uses, l1_run, table_uses, names_it, count_some, run_has}
-use Rattle.q2_refs.proofs.Writes.{IsWithin, l2_placed, l1_placed, whole_of, below_of}
-use Rattle.q2_tables.specs.Linking.{CanLink, LiesApart, IsFreeBut, entry_at, l1_index, table_of, table_len}
-use Rattle.q2_tables.specs.Kept.{IsTreeOf}
+use Rattle.q2_refs.proofs.Uses.{table_run, block_uses, l1_run, table_uses, names_it, count_some, run_has}
+use Rattle.q2_refs.proofs.Writes.{l2_placed, l1_placed, whole_of, below_of}
+use Rattle.q2_tables.specs.Linking.{CanLink, LiesApart, IsFreeBut, entry_at, l1_index, table_of}
 use Rattle.q2_tables.proofs.Apart.{AreNamedOnce, l1_names, l1_of_uses, tables_beside, table_free, unnamed_free}
 use Rattle.q2_image.specs.Image.{Known, IsImageOf, IsOpen, cluster_size_in}
 use Rattle.q2_image.specs.Writing.{IsSpare}
-use Rattle.q2_image.proofs.DataWrites.{HoldsNoTable, KeepsTables, tables_kept}
-use Rattle.q2_image.proofs.HostUses.{consistent, parts_of, one_own, spare_holds, size_in}
+use Rattle.q2_image.proofs.HostUses.{consistent, parts_of, one_own, size_in}
 use Rattle.q2_image.proofs.Taken.{step_of}
-use Rattle.q2_image.proofs.TreeChanged.{HoldsNoCount, KeepsCounts, counts_kept_by, counts_of_tables, counts_then}
+use Rattle.q2_image.proofs.TreeChanged.{HoldsNoCount}
 
 -- a cluster in which an entry of an L1 or L2 table lies: it holds nothing else
 pub record HoldsEntries (file : List ℕ) (image : Known) (k : ℕ) : Type 0 where

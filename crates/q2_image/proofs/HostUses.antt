@@ -1,14 +1,13 @@
 -- What the clusters of a sound image hold: each that an entry names holds that entry's bytes and nothing else.
-use Rattle.std.proofs.Common.{◌≡◌, ◌≢◌, ℕ, ◌+◌, ◌*◌, ◌/◌, ◌%◌, ◌<◌, ◌≤◌, ◌⊎◌, inl, inr, Bool, true, false, cond, eqb, List, length, get_or, count_by, None, refl, sym, ap, subst, ◌∙◌, arith}
+use Rattle.std.proofs.Common.{◌≡◌, ◌≢◌, ℕ, ◌+◌, ◌*◌, ◌/◌, ◌%◌, ◌<◌, ◌≤◌, Bool, true, false, cond, eqb, List, length, get_or, count_by, None, refl, sym, ap, subst, ◌∙◌, arith}
 use Rattle.std.proofs.lemmas.Bool.{eqb-false}
 use Rattle.q2_format.specs.Entry.{l2_entry, host_offset, is_compressed, has_reserved_in_l2, reads_as_zeros}
 use Rattle.q2_format.specs.Header.{header_of}
 use Rattle.q2_format.specs.References.{names_cluster, own_offset, uses, tree_uses}
-use Rattle.q2_format.specs.Sizes.{cluster_size, entries_in_cluster}
+use Rattle.q2_format.specs.Sizes.{entries_in_cluster}
 use Rattle.q2_format.specs.Sound.{IsConsistent, is_misplaced, lowest, bad_host, guest_clusters}
 use Rattle.q2_format.specs.Tables.{Tree, active_tree, l2_word_of, refcount_of}
 use Rattle.q2_format.specs.declared.header.Header.{Header}
-use Rattle.q2_format.specs.declared.entries.L2Entry.{L2Entry}
 use Rattle.q2_format.specs.declared.entries.L2Entry.TheVariants.{Unallocated, Zero, Host, Compressed, Reserved}
 use Rattle.q2_format.proofs.Consistent.{FindsNothing, sound_tables, sound_is_consistent}
 use Rattle.q2_format.proofs.Firsts.{lowest-none, option_map-none}
@@ -16,7 +15,7 @@ use Rattle.q2_refs.proofs.Uses.{IsApart, header_uses, table_run, block_uses, l1_
 use Rattle.q2_refs.proofs.Writes.{whole_of}
 use Rattle.q2_tables.proofs.Apart.{count_two}
 use Rattle.q2_tables.proofs.Uses.{tree_uses_of}
-use Rattle.q2_image.specs.Image.{Known, IsImageOf, IsOpen, cluster_size_in, entry_in}
+use Rattle.q2_image.specs.Image.{Known, IsImageOf, IsOpen, cluster_size_in}
 use Rattle.q2_image.proofs.DataWrites.{HoldsNoTable}
 
 -- An entry's own offset.

@@ -1,24 +1,23 @@
 -- A link, whatever it answers, as its callers see it.
-use Rattle.std.proofs.Common.{◌≡◌, ◌≢◌, ℕ, ◌+◌, ◌*◌, ◌/◌, ◌%◌, ◌<◌, ◌≤◌, ◌⊎◌, inl, inr, max, Bool, true, false, not, ◌&&◌, cond, eqb, List, length, get_or, slice_index, Option, Some, Result, Ok, Err, OnOk, OnErr, IsTrue, is_ok, refl, sym, ap, subst, ◌∙◌, arith, eq-eqb}
+use Rattle.std.proofs.Common.{◌≡◌, ◌≢◌, ℕ, ◌+◌, ◌*◌, ◌/◌, ◌%◌, ◌<◌, ◌≤◌, ◌⊎◌, inl, inr, max, Bool, true, false, not, ◌&&◌, cond, eqb, List, length, get_or, Option, Some, Result, Ok, Err, OnOk, OnErr, is_ok, refl, sym, ap, subst, ◌∙◌, arith, eq-eqb}
 use Rattle.std.proofs.lemmas.Bool.{cases_eq, ne_eqb, eqb-true}
 use Rattle.blk_base.specs.declared.fault.DevStop.{DevStop}
 use Rattle.q2_format.specs.Contents.{byte_by_entry}
 use Rattle.q2_format.specs.Entry.{l2_entry, l2_spelling, host_of, host_offset, is_compressed, has_reserved_in_l2, reads_as_zeros, IsWritable}
 use Rattle.q2_format.specs.References.{own_offset}
 use Rattle.q2_format.specs.Sizes.{entries_in_cluster}
-use Rattle.q2_format.specs.Tables.{active_tree, tree_at}
-use Rattle.q2_format.specs.declared.header.Header.{Header}
+use Rattle.q2_format.specs.Tables.{tree_at}
 use Rattle.q2_format.specs.declared.entries.L2Entry.{L2Entry}
 use Rattle.q2_format.specs.declared.entries.L2Entry.TheVariants.{Unallocated, Zero, Host, Compressed, Reserved}
 use Rattle.q2_format.proofs.ByPlace.{get_or-bytes_at}
 use Rattle.q2_format.proofs.Words.{entry_of_spelling}
 use Rattle.q2_tables.specs.Kept.{IsTreeOf, is_plain}
 use Rattle.q2_tables.specs.Kept as tables
-use Rattle.q2_tables.specs.Linking.{CanLink, FileAfter, LiesApart, entry_at, l1_index, link_end, table_len, with_entry}
+use Rattle.q2_tables.specs.Linking.{CanLink, FileAfter, entry_at, l1_index, link_end, table_len, with_entry}
 use Rattle.std.proofs.lemmas.List.{get_or-set_same}
 use Rattle.q2_image.specs.Image.{Known, IsImageOf, IsOpen, cluster_size_in, entry_in}
 use Rattle.q2_image.specs.Writing.{IsDiskWith, IsSameDisk, IsSpare, MayName, Shows}
-use Rattle.q2_image.proofs.EntryWrites.{entry_place, lies_apart, short}
+use Rattle.q2_image.proofs.EntryWrites.{entry_place, short}
 use Rattle.q2_image.proofs.HostUses.{host_entry, zero_entry, size_in}
 use Rattle.q2_image.proofs.LinkedImage.{open_linked}
 use Rattle.q2_image.proofs.LinkedDisk.{image_stopped, disk_stopped, image_linked, disk_linked, host_same}

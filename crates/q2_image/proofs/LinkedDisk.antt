@@ -1,24 +1,22 @@
 -- The file behind a link: it is an image of what is known then, and its disk has changed in that one guest cluster.
-use Rattle.std.proofs.Common.{◌≡◌, ◌≢◌, ℕ, ◌+◌, ◌*◌, ◌/◌, ◌%◌, ◌^◌, ◌<◌, ◌≤◌, ◌⊎◌, inl, inr, Bool, true, false, not, ◌||◌, eqb, ltb, List, length, get_or, slice_index, slice_set, None, refl, sym, ap, subst, ◌∙◌, arith, eq-eqb}
+use Rattle.std.proofs.Common.{◌≡◌, ◌≢◌, ℕ, ◌+◌, ◌*◌, ◌/◌, ◌%◌, ◌<◌, ◌≤◌, ◌⊎◌, inl, inr, true, false, List, length, get_or, slice_set, refl, sym, ap, subst, ◌∙◌, arith, eq-eqb}
 use Rattle.std.proofs.Math.ListN.{length-set}
 use Rattle.std.proofs.lemmas.Bool.{cases_eq, lt-ltb}
 use Rattle.std.proofs.lemmas.List.{get_or-set_same, get_or-set_other}
-use Rattle.q2_format.specs.Contents.{guest_byte, byte_by_entry}
+use Rattle.q2_format.specs.Contents.{byte_by_entry}
 use Rattle.q2_format.specs.Entry.{host_offset, l2_entry, has_reserved_in_l1}
 use Rattle.q2_format.specs.Header.{header_of}
 use Rattle.q2_format.specs.References.{own_offset, uses}
-use Rattle.q2_format.specs.Sizes.{cluster_size, entries_in_cluster}
-use Rattle.q2_format.specs.Sound.{is_misplaced, lowest, guest_clusters, reserved_in_l1}
-use Rattle.q2_format.specs.Tables.{Tree, active_tree, tree_at, refcount_table, refcount_of, l2_word_of}
+use Rattle.q2_format.specs.Sizes.{entries_in_cluster}
+use Rattle.q2_format.specs.Sound.{is_misplaced, guest_clusters, reserved_in_l1}
+use Rattle.q2_format.specs.Tables.{active_tree, tree_at, refcount_table, l2_word_of}
 use Rattle.q2_format.specs.declared.header.Header.{Header}
 use Rattle.q2_format.specs.declared.entries.L2Entry.{L2Entry}
-use Rattle.q2_format.specs.declared.entries.L2Entry.TheVariants.{Unallocated, Zero, Host, Compressed, Reserved}
 use Rattle.q2_format.proofs.Consistent.{FindsNothing, sound_tables}
 use Rattle.q2_format.proofs.Firsts.{lowest-none}
 use Rattle.q2_format.proofs.Frames.{placed_longer}
 use Rattle.q2_refs.proofs.Writes.{l1_placed, l2_placed, below_of}
 use Rattle.q2_tables.specs.Kept.{IsTreeOf, is_plain}
-use Rattle.q2_tables.specs.Kept as tables
 use Rattle.q2_tables.specs.Linking.{CanLink, entry_at, l1_index, l1_spelling, table_len, with_entry}
 use Rattle.q2_image.specs.Opening.{uses_in}
 use Rattle.q2_image.specs.Image.{Known, IsImageOf, IsOpen, cluster_size_in, entry_in}
@@ -27,7 +25,7 @@ use Rattle.q2_image.proofs.DiskKept.{AreImages, HostStays, in_words, guest_by_en
 use Rattle.q2_image.proofs.EntryFrames.{counts_stay, byte_stays_beside}
 use Rattle.q2_image.proofs.EntryWrites.{EntryPlace, entry_place, in_l1}
 use Rattle.q2_image.proofs.HostUses.{host_entry, held_by, host_placed, spare_unnamed, consistent, size_in}
-use Rattle.q2_image.proofs.LinkedImage.{linked, l1_cases, l1_length, open_linked, fits_uses, l1_bits, spelled_offset}
+use Rattle.q2_image.proofs.LinkedImage.{l1_cases, l1_length, open_linked, fits_uses, l1_bits, spelled_offset}
 use Rattle.q2_image.proofs.Opened.{same_uses}
 use Rattle.q2_image.proofs.TreeChanged.{FitsWith, KeepsCounts, image_changed}
 

@@ -1,23 +1,18 @@
 -- An image of which a guest cluster was mapped: what it then names, and its disk.
-use Rattle.std.proofs.Common.{◌≡◌, ◌≢◌, ℕ, ◌+◌, ◌*◌, ◌/◌, ◌%◌, ◌^◌, ◌<◌, ◌≤◌, ◌⊎◌, inl, inr, Bool, true, false, not, ◌&&◌, cond, eqb, ltb, List, length, replicate, get_or, slice_index, slice_set, count_by, refl, sym, ap, subst, ◌∙◌, arith, eq-eqb}
+use Rattle.std.proofs.Common.{◌≡◌, ◌≢◌, ℕ, ◌+◌, ◌*◌, ◌/◌, ◌%◌, ◌^◌, ◌<◌, ◌≤◌, ◌⊎◌, inl, inr, true, false, cond, List, length, get_or, slice_set, count_by, refl, sym, ap, subst, ◌∙◌, arith, eq-eqb}
 use Rattle.std.proofs.Math.ListN.{length-set}
-use Rattle.std.proofs.lemmas.Bool.{cases_eq, ne_eqb, lt-ltb, not_from_true, or_from}
-use Rattle.std.proofs.lemmas.Bool.Decides.{nat_tests}
+use Rattle.std.proofs.lemmas.Bool.{cases_eq, ne_eqb}
 use Rattle.std.proofs.lemmas.List.{get_or-set_same, get_or-set_other}
 use Rattle.std.proofs.lemmas.List.Sums.{sum_by-set}
-use Rattle.q2_format.specs.Entry.{host_offset, l2_entry, has_reserved_in_l1}
-use Rattle.q2_format.specs.Header.{header_of}
-use Rattle.q2_format.specs.References.{names_cluster, own_offset, uses, structure_uses}
-use Rattle.q2_format.specs.Sizes.{cluster_size}
-use Rattle.q2_format.specs.Sound.{is_misplaced}
-use Rattle.q2_format.specs.Tables.{active_tree, refcount_table, refcount_of}
+use Rattle.q2_format.specs.Entry.{host_offset, has_reserved_in_l1}
+use Rattle.q2_format.specs.References.{names_cluster, own_offset, uses}
+use Rattle.q2_format.specs.Tables.{refcount_table, refcount_of}
 use Rattle.q2_format.specs.declared.header.Header.{Header}
-use Rattle.q2_tables.specs.Kept.{IsTreeOf, is_plain}
-use Rattle.q2_tables.specs.Kept as tables
-use Rattle.q2_tables.specs.Linking.{CanLink, entry_at, l1_index, l1_spelling, table_of, with_entry}
+use Rattle.q2_tables.specs.Kept.{is_plain}
+use Rattle.q2_tables.specs.Linking.{CanLink, l1_index, l1_spelling, with_entry}
 use Rattle.q2_tables.proofs.Links.{plain_set}
 use Rattle.q2_image.specs.Opening.{uses_in}
-use Rattle.q2_image.specs.Image.{Known, IsImageOf, IsOpen, cluster_size_in, entry_in}
+use Rattle.q2_image.specs.Image.{Known, IsImageOf, IsOpen, cluster_size_in}
 use Rattle.q2_image.specs.Writing.{IsSpare, MayName}
 use Rattle.q2_image.proofs.HostUses.{consistent, size_in}
 use Rattle.q2_image.proofs.Opened.{same_uses}

@@ -1,5 +1,5 @@
 -- A write in place, as its device tells it.
-use Rattle.std.proofs.Common.{◌≡◌, ◌≢◌, ℕ, ◌+◌, ◌*◌, ◌/◌, ◌%◌, ◌<◌, ◌≤◌, inr, List, [], length, take, Option, Some, Result, Ok, Err, option_map, refl, sym, ap, subst, ◌∙◌, arith}
+use Rattle.std.proofs.Common.{◌≡◌, ℕ, ◌+◌, ◌*◌, ◌/◌, ◌%◌, ◌<◌, ◌≤◌, inr, List, [], length, Option, Some, Result, Ok, Err, option_map, sym, subst, arith}
 use Rattle.std.proofs.lemmas.List.{length-take}
 use Rattle.blk_base.specs.Content.{with_bytes}
 use Rattle.blk_base.specs.Counts.{taken}

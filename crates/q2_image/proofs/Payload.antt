@@ -1,10 +1,10 @@
 -- A write into a host cluster in which no guest byte lies.
-use Rattle.std.proofs.Common.{◌≡◌, ◌≢◌, ℕ, ◌+◌, ◌*◌, ◌/◌, ◌%◌, ◌<◌, ◌≤◌, ◌⊎◌, inl, inr, max, List, [], ◌∷◌, length, get_or, take, Option, Some, None, Result, Ok, Err, OnOk, is_some, option_map, refl, sym, ap, subst, ◌∙◌, arith}
+use Rattle.std.proofs.Common.{◌≡◌, ◌≢◌, ℕ, ◌+◌, ◌*◌, ◌/◌, ◌%◌, ◌<◌, ◌≤◌, inl, inr, max, List, [], ◌∷◌, length, get_or, take, Option, Some, option_map, refl, sym, ap, subst, ◌∙◌, arith}
 use Rattle.std.proofs.lemmas.Bool.{cases_eq}
 use Rattle.std.proofs.lemmas.List.{length-take}
 use Rattle.blk_base.specs.Content.{with_bytes, size_with}
 use Rattle.blk_base.proofs.Contents.{length-with_bytes}
-use Rattle.q2_format.specs.Bytes.{bytes_at, IsWritten}
+use Rattle.q2_format.specs.Bytes.{bytes_at}
 use Rattle.q2_format.specs.Header.{header_of}
 use Rattle.q2_format.specs.Sizes.{cluster_size}
 use Rattle.q2_format.specs.declared.header.Header.{Header}
@@ -18,7 +18,7 @@ use Rattle.q2_image.specs.Image.{Known, IsImageOf, IsOpen, cluster_size_in, entr
 use Rattle.q2_image.specs.Writing.{IsSameDisk, IsSpare, IsIdle}
 use Rattle.q2_image.proofs.DataWrites.{HoldsNoTable, KeepsTables, tables_kept, image_kept, spare_kept}
 use Rattle.q2_image.proofs.HostUses.{host_entry, zero_entry, spare_holds, spare_unnamed, owners_differ, held_by, size_in}
-use Rattle.q2_image.proofs.DiskKept.{HostStays, same_disk}
+use Rattle.q2_image.proofs.DiskKept.{same_disk}
 use Rattle.q2_image.proofs.Taken.{step_of}
 
 not_both : (e : L2Entry) (a b : ℕ) → e ≡ Zero a → e ≡ Host b → ⊥

@@ -1,12 +1,12 @@
 -- What a put needs of each of its steps, where there is room for it.
-use Rattle.std.proofs.Common.{◌≡◌, ◌≢◌, ℕ, ◌+◌, ◌*◌, ◌/◌, ◌%◌, ◌^◌, ◌<◌, ◌≤◌, ◌⊎◌, inl, inr, max, Bool, true, false, cond, eqb, List, [], ◌∷◌, length, get_or, slice_index, slice_index_or, refl, sym, ap, subst, ◌∙◌, arith}
+use Rattle.std.proofs.Common.{◌≡◌, ◌≢◌, ℕ, ◌+◌, ◌*◌, ◌%◌, ◌^◌, ◌<◌, ◌≤◌, Bool, true, false, cond, List, length, get_or, slice_index_or, refl, sym, ap, subst, ◌∙◌, arith}
 use Rattle.std.proofs.lemmas.Bool.{eqb-true, eqb-false}
 use Rattle.q2_format.specs.Entry.{l2_entry, host_of, IsWritable, host_offset, is_compressed}
 use Rattle.q2_format.specs.References.{own_offset}
 use Rattle.q2_format.specs.declared.entries.L2Entry.{L2Entry}
 use Rattle.q2_format.specs.declared.entries.L2Entry.TheVariants.{Unallocated, Zero, Host, Compressed, Reserved}
-use Rattle.q2_refs.specs.Allocating.{end_of_allocation, with_one, with_block_for, place_of_block}
-use Rattle.q2_refs.specs.Free.{free_cluster, free_clusters}
+use Rattle.q2_refs.specs.Allocating.{end_of_allocation}
+use Rattle.q2_refs.specs.Free.{free_cluster}
 use Rattle.q2_refs.specs.Kept.{per_block}
 use Rattle.q2_refs.specs.Kept as refs
 use Rattle.q2_refs.proofs.Ends.{HasEntry, second_end}

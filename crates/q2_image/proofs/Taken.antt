@@ -1,5 +1,5 @@
 -- An image after a cluster was taken.
-use Rattle.std.proofs.Common.{◌≡◌, ◌≢◌, ℕ, ◌+◌, ◌*◌, ◌/◌, ◌%◌, ◌<◌, ◌≤◌, ◌⊎◌, inl, inr, eqb, List, [], ◌∷◌, length, get_or, slice_index, slice_index_or, slice_set, Option, Some, None, is_some, Result, Ok, Err, IfOk, OnErr, refl, sym, ap, subst, ◌∙◌, arith, eq-eqb}
+use Rattle.std.proofs.Common.{◌≡◌, ◌≢◌, ℕ, ◌+◌, ◌*◌, ◌/◌, ◌<◌, ◌⊎◌, inl, inr, List, ◌∷◌, length, get_or, slice_index, slice_index_or, slice_set, Option, Some, None, is_some, Result, Ok, Err, IfOk, OnErr, refl, sym, ap, subst, ◌∙◌, arith, eq-eqb}
 use Rattle.std.proofs.Math.ListN.{length-set}
 use Rattle.std.proofs.lemmas.Bool.{cases_eq, ne_eqb}
 use Rattle.std.proofs.lemmas.List.{get_or-set_same, get_or-set_other, get_or_past}
@@ -10,20 +10,17 @@ use Rattle.q2_format.specs.References.{uses}
 use Rattle.q2_format.specs.Sizes.{cluster_size}
 use Rattle.q2_format.specs.Tables.{Tree, active_tree, refcount_of}
 use Rattle.q2_format.specs.declared.header.Header.{Header}
-use Rattle.q2_format.specs.declared.entries.L2Entry.TheVariants.{Host}
 use Rattle.q2_refs.specs.Allocating.{IsInStep, KeepsCounted, with_one, with_block, with_block_for, place_of_block, refcount_uses}
 use Rattle.q2_refs.specs.Free.{free_cluster, free_clusters}
 use Rattle.q2_refs.specs.Kept.{IsCountsOf, per_block}
 use Rattle.q2_refs.specs.Kept as refs
 use Rattle.q2_refs.specs.declared.allocating.RefStop.{RefStop}
 use Rattle.q2_refs.proofs.FreeClusters.{first_free_cluster, given_count}
-use Rattle.q2_refs.proofs.Uses.{table_run, block_uses}
 use Rattle.q2_tables.specs.Kept.{IsTreeOf}
-use Rattle.q2_image.specs.Image.{Known, IsImageOf, IsOpen, HasRoom, cluster_size_in, entry_in}
+use Rattle.q2_image.specs.Image.{Known, IsImageOf, IsOpen, cluster_size_in, entry_in}
 use Rattle.q2_image.specs.Writing.{IsSameDisk, IsSpare}
-use Rattle.q2_image.proofs.DataWrites.{HoldsNoTable}
 use Rattle.q2_image.proofs.HostUses.{host_entry, held_by}
-use Rattle.q2_image.proofs.DiskKept.{AreImages, HostStays, same_disk}
+use Rattle.q2_image.proofs.DiskKept.{HostStays, same_disk}
 
 -- What is known stays so.
 

@@ -1,12 +1,11 @@
 -- An image of which an entry was written: its refcounts stay, and it is sound where what the kept words name fits.
-use Rattle.std.proofs.Common.{◌≡◌, ◌≢◌, ℕ, ◌+◌, ◌*◌, ◌/◌, ◌<◌, ◌≤◌, Bool, true, false, not, ◌&&◌, List, length, get_or, slice_index, None, refl, sym, ap, subst, ◌∙◌, arith}
-use Rattle.std.proofs.lemmas.Bool.Decides.{nat_tests}
+use Rattle.std.proofs.Common.{◌≡◌, ◌≢◌, ℕ, ◌/◌, ◌<◌, ◌≤◌, Bool, true, false, not, ◌&&◌, List, length, get_or, None, refl, sym, ap, subst, ◌∙◌, arith}
 use Rattle.q2_format.specs.Bytes.{ReadsAlike, IsWritten}
 use Rattle.q2_format.specs.Entry.{host_offset, is_compressed, has_reserved_in_l1, has_reserved_in_l2}
 use Rattle.q2_format.specs.Header.{header_of}
 use Rattle.q2_format.specs.References.{own_offset, uses}
-use Rattle.q2_format.specs.Sizes.{cluster_size, entries_in_cluster}
-use Rattle.q2_format.specs.Sound.{IsSound, is_misplaced, lowest, guest_clusters, bad_l2_table, bad_host, reserved_in_l1, reserved_in_l2, compressed_cluster}
+use Rattle.q2_format.specs.Sizes.{cluster_size}
+use Rattle.q2_format.specs.Sound.{IsSound, is_misplaced, guest_clusters, bad_l2_table, bad_host, reserved_in_l1, reserved_in_l2, compressed_cluster}
 use Rattle.q2_format.specs.Tables.{Tree, active_tree, refcount_table, refcount_of, l2_word_of}
 use Rattle.q2_format.specs.declared.header.Header.{Header}
 use Rattle.q2_format.proofs.Consistent.{FindsNothing, sound_tables, sound_header, sound_from_parts}
@@ -21,7 +20,7 @@ use Rattle.q2_refs.proofs.Writes.{IsWithin, table_stays, header_stays, count_sta
 use Rattle.q2_tables.specs.Kept.{IsTreeOf, is_plain}
 use Rattle.q2_tables.specs.Kept as tables
 use Rattle.q2_image.specs.Opening.{uses_in}
-use Rattle.q2_image.specs.Image.{Known, IsImageOf, IsOpen, cluster_size_in}
+use Rattle.q2_image.specs.Image.{Known, IsImageOf}
 use Rattle.q2_image.proofs.DataWrites.{KeepsTables}
 use Rattle.q2_image.proofs.Opened.{same_uses}
 

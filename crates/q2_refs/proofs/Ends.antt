@@ -1,5 +1,5 @@
 -- Where the writes of allocations end.
-use Rattle.std.proofs.Common.{◌≡◌, ◌≢◌, ℕ, ◌+◌, ◌*◌, ◌/◌, ◌%◌, ◌^◌, ◌<◌, ◌≤◌, max, inl, inr, cond, eqb, List, length, get_or, slice_index, slice_set, refl, sym, ap, subst, ◌∙◌, arith, eq-eqb}
+use Rattle.std.proofs.Common.{◌≡◌, ℕ, ◌+◌, ◌*◌, ◌/◌, ◌%◌, ◌^◌, ◌<◌, ◌≤◌, max, inl, inr, cond, eqb, length, get_or, slice_index, slice_set, refl, sym, ap, subst, ◌∙◌, arith, eq-eqb}
 use Rattle.std.proofs.lemmas.Bool.{cases_eq, ne_eqb}
 use Rattle.std.proofs.Math.ListN.{length-set}
 use Rattle.std.proofs.lemmas.List.{get_or-set_same, get_or-set_other}
@@ -110,5 +110,6 @@ second_end kept n m first second =
   where
     same_second : (x a b : ℕ) → x ≡ b → x ≤ max a b
     same_second x a b is = omega arith
+
     below_second : (x a b u v : ℕ) → x ≡ u → b ≡ v → u ≤ v → x ≤ max a b
     below_second x a b u v p q h = omega arith

@@ -1,11 +1,10 @@
-use Rattle.std.proofs.Common.{◌≡◌, ◌≢◌, ℕ, ◌+◌, ◌*◌, ◌/◌, ◌<◌, ◌≤◌, max, List, length, Option, Some, Result, Ok, Err, OnOk, OnErr, is_ok, cond, refl, sym, ap, subst, ◌∙◌, arith}
+use Rattle.std.proofs.Common.{◌≡◌, ℕ, ◌+◌, ◌*◌, ◌<◌, ◌≤◌, max, length, Result, Ok, Err, OnOk, OnErr, is_ok, cond, refl, sym, subst, arith}
 use Rattle.blk_base.specs.declared.fault.DevStop.{DevStop}
 use Rattle.q2_format.specs.Entry.{host_of, l2_spelling}
 use Rattle.q2_tables.specs.Entries.{entry_of}
 use Rattle.q2_tables.specs.Linking.{CanLink, FileAfter, entry_at, link_end, table_len, with_entry}
-use Rattle.q2_tables.specs.Kept as tables
-use Rattle.q2_image.specs.Image.{Known, IsImageOf, IsOpen, cluster_size_in}
-use Rattle.q2_image.specs.Writing.{IsDiskWith, IsSameDisk, IsSpare, MayName, Shows}
+use Rattle.q2_image.specs.Image.{Known, IsImageOf, cluster_size_in}
+use Rattle.q2_image.specs.Writing.{MayName}
 use Rattle.q2_image.proofs.EntryWrites.{lies_apart}
 use Rattle.q2_image.proofs.LinkTold.{open_after, entry_after, image_after, disk_after, disk_kept, tree_by_kept}
 use Rattle.q2_image.proofs.Taken.{told_too}

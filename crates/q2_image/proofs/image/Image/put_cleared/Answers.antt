@@ -1,4 +1,4 @@
-use Rattle.std.proofs.Common.{◌≡◌, ℕ, ◌*◌, List, [], Result, Ok, Err, OnErr}
+use Rattle.std.proofs.Common.{ℕ, ◌*◌, [], Result, Ok, Err, OnErr}
 use Rattle.std.proofs.lemmas.Result.{on_ok_weaker}
 use Rattle.q2_image.proofs.OwnWrites.{disk_then}
 use Rattle.q2_image.proofs.Taken.{told_too}

@@ -1,12 +1,12 @@
-use Rattle.std.proofs.Common.{◌≡◌, ℕ, ◌+◌, ◌*◌, ◌/◌, ◌%◌, ◌<◌, ◌≤◌, ◌⊎◌, inl, inr, Bool, true, false, List, [], length, get_or, Option, Some, Result, Ok, Err, OnErr, refl, sym, ap, subst, ◌∙◌, arith}
+use Rattle.std.proofs.Common.{◌≡◌, ℕ, ◌*◌, ◌/◌, ◌⊎◌, inl, inr, Bool, true, false, [], get_or, Result, Ok, Err, OnErr, refl, sym, ap, subst, ◌∙◌, arith}
 use Rattle.std.proofs.lemmas.Result.{err_from_is_err_and, on_ok_weaker}
 use Rattle.q2_format.specs.Header.{header_of}
 use Rattle.q2_format.specs.Tables.{refcount_of}
-use Rattle.q2_image.specs.Image.{Known, IsImageOf, IsOpen}
-use Rattle.q2_image.specs.Writing.{CanTake, IsSameDisk, needs_host, with_table}
+use Rattle.q2_image.specs.Image.{Known}
+use Rattle.q2_image.specs.Writing.{CanTake, needs_host, with_table}
 use Rattle.q2_image.proofs.HostUses.{held_by, zero_entry}
 use Rattle.q2_image.proofs.OwnWrites.{disk_then}
-use Rattle.q2_image.proofs.Plans.{IsPut, can_host, open_second, below_second, host_facts, reached_second, table_facts, link_fits, idle_host_there, taken_whole}
+use Rattle.q2_image.proofs.Plans.{IsPut, can_host, open_second, below_second, host_facts, reached_second, table_facts, idle_host_there, taken_whole}
 use Rattle.q2_image.proofs.Taken.{told_too}
 use Rattle.q2_image.proofs.image.Image.put_into.Goals as goal
 

@@ -1,4 +1,4 @@
-use Rattle.std.proofs.Common.{◌≡◌, ℕ, ◌/◌, ◌<◌, List, length, sym, subst}
+use Rattle.std.proofs.Common.{ℕ, ◌/◌, ◌<◌, List, length, sym, subst}
 use Rattle.blk_base.specs.Content.{with_bytes}
 use Rattle.blk_base.specs.Counts.{taken}
 use Rattle.q2_image.specs.Image.{Known, IsOpen}

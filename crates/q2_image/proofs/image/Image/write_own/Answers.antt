@@ -1,4 +1,4 @@
-use Rattle.std.proofs.Common.{◌≡◌, ◌+◌, ◌%◌, ℕ, sym, arith}
+use Rattle.std.proofs.Common.{sym, arith}
 use Rattle.q2_image.proofs.Mapped.{host_below}
 use Rattle.q2_image.proofs.image.Image.write_own.Goals as goal
 

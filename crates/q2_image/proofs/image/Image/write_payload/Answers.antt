@@ -1,4 +1,4 @@
-use Rattle.std.proofs.Common.{ℕ, List, length, take, sym, subst, ◌≤◌, arith}
+use Rattle.std.proofs.Common.{take, arith}
 use Rattle.q2_image.proofs.Payload.{told_image, told_disk, told_spare, told_written, part_short}
 use Rattle.q2_image.proofs.image.Image.write_payload.Goals as goal
 

@@ -1,4 +1,4 @@
-use Rattle.std.proofs.Common.{◌≡◌, ℕ, refl, sym, subst}
+use Rattle.std.proofs.Common.{ℕ, refl, sym, subst}
 use Rattle.q2_tables.specs.Linking.{CanLink}
 use Rattle.q2_image.specs.Image.{Known, IsOpen}
 use Rattle.q2_image.proofs.Mapped.{below_words}
