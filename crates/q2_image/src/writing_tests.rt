@@ -1,7 +1,9 @@
 //! Images that are written on devices in memory: the writes in their order, what they leave, and writes that fail.
 
+ghost use Rattle.std.specs.Prelude.{◌≡◌, ◌↔◌, ◌<◌, IsTrue, IfSome};
 ghost use Rattle.blk_fakes.specs.Disk.{bytes_of};
-ghost use Rattle.q2_image.specs.Image.{IsImageOf};
+ghost use Rattle.q2_image.specs.Image.{IsImageOf, clusters_in, entry_in};
+ghost use Rattle.q2_tables.specs.Entries.{entry_of};
 
 use crate::{Image, create_image, open_image};
 use blk_base::{DevStop, Device, Span, Stop, WriteStop};
@@ -46,7 +48,9 @@ fn open(alloc: Global, bytes: &[u8], capacity: u64, fails: &[FailAt]) -> Result<
     let capacity = capacity.max(bytes.len() as u64);
     let made = MemDevice::new(alloc, bytes, capacity, fails, 16, 1_048_576);
     let mut dev = made.ok().ok_or("no device")?;
-    let image = open_image(alloc, &mut dev).ok().ok_or("refused")?;
+    let Ok(image) = open_image(alloc, &mut dev) else {
+        return Err(Fail::new("refused"));
+    };
     Ok(Opened { dev, image })
 }
 
@@ -57,11 +61,15 @@ impl Opened {
     }
 
     /// Whether the disk has this cluster.
-    fn has(&self, cluster: u64) -> bool {
+    fn has(&self, cluster: u64) -> bool
+        ensures { IsTrue result ↔ (cluster < clusters_in self.now.image) }
+    {
         cluster < self.image.size().div_ceil(self.image.cluster_size())
     }
 
-    fn mapping(&self, cluster: u64) -> Option<Mapping> {
+    fn mapping(&self, cluster: u64) -> Option<Mapping>
+        ensures { IfSome result (λ mapping. (cluster < clusters_in self.now.image) × (entry_of mapping ≡ entry_in self.now.image cluster)) }
+    {
         if self.has(cluster) {
             Some(self.image.mapping(cluster))
         } else {
@@ -85,11 +93,12 @@ impl Opened {
 
     /// Writes in place into the first guest cluster.
     fn write(&mut self, start: u64, bytes: &[u8]) -> Option<Result<(), WriteStop>> {
-        let len = bytes.len() as u64;
         let Some(Mapping::Host { .. }) = self.mapping(0) else {
             return None;
         };
-        if len > 65_536 || start > 65_536 - len {
+        let len = bytes.len() as u64;
+        let size = self.image.cluster_size();
+        if start >= size || len > size - start {
             return None;
         }
         let span = Span { start, len };
