@@ -163,13 +163,18 @@ fn open_created(alloc: Global, fails: &[FailAt]) -> Result<Opened, Fail> {
     open(alloc, &created(alloc)?, ROOM, fails)
 }
 
-/// The image with a bit of its autoclear field set, open again.
-fn marked(alloc: Global, at: &Opened) -> Result<Opened, Fail> {
+/// The image with one byte changed, open again.
+fn with_byte(alloc: Global, at: &Opened, place: usize, byte: u8) -> Result<Opened, Fail> {
     let mut bytes = Vec::from_slice(alloc, at.dev.bytes())?;
-    for to in bytes.iter_mut().skip(95).take(1) {
-        *to = 1;
+    for to in bytes.iter_mut().skip(place).take(1) {
+        *to = byte;
     }
     open(alloc, &bytes, ROOM, &[])
+}
+
+/// The image with a bit of its autoclear field set, open again.
+fn marked(alloc: Global, at: &Opened) -> Result<Opened, Fail> {
+    with_byte(alloc, at, 95, 1)
 }
 
 /// Whether a put takes clusters 6 and 7, where 4 and 5 count and nothing names them.
@@ -231,6 +236,17 @@ fn keeps_the_cluster_of_a_zero_write(rt: HostRuntime) -> Result<(), Fail> {
     assert!(rt; at.holds(0x40000, &[0x80, 0, 0, 0, 0, 5, 0, 0]));
     assert!(rt; at.holds(0x50000, &again));
     assert_eq!(rt; at.dev.length(), PUT_LENGTH);
+    Ok(())
+}
+
+#[test]
+fn marks_no_cluster_that_counts_two(rt: HostRuntime) -> Result<(), Fail> {
+    let alloc = rt.alloc();
+    let mut at = open_created(alloc, &[])?;
+    assert_eq!(rt; at.put(0, &data(alloc, 7, 4)?), Some(Ok(())));
+    let mut at = with_byte(alloc, &at, 0x2000b, 2)?;
+    assert_eq!(rt; at.zero(0), Some(Ok(())));
+    assert!(rt; at.holds(0x40000, &[0, 0, 0, 0, 0, 5, 0, 1]));
     Ok(())
 }
 
