@@ -9,6 +9,8 @@ mod merge;
 mod row;
 mod sources;
 mod stop;
+#[cfg(test)]
+mod tests;
 
 pub use bitmaps::{Bitmaps, MOST_BITMAPS};
 pub use granularity::Granularity;
