@@ -115,6 +115,9 @@ impl Image {
         // why each answer comes
         ensures fits { OnOk result (own_end self.old span ≤ D.capacity dev.old) }
         ensures stop { IfErr result (IsOwnStop (own_end self.old span) (D.capacity dev.old) (length bytes.now) (D.faults dev.old) (D.faults dev.new)) }
+        ensures untouched { IfErr result (λ stop. stop.why ≡ why.NoSpace → (self.new ≡ self.old) × (D.content dev.new ≡ D.content dev.old)
+            × (D.log dev.new ≡ D.log dev.old) × (D.is_flushed dev.new ≡ D.is_flushed dev.old) × (D.size dev.new ≡ D.size dev.old)
+            × (D.faults dev.new ≡ D.faults dev.old)) }
 
         // the device
         ensures told { is_some (D.content dev.new) ≡ is_some (D.content dev.old) }
