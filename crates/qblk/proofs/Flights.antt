@@ -6,7 +6,6 @@ use Rattle.blk_history.specs.declared.event.Event.{Event}
 use Rattle.blk_history.specs.declared.event.Event.TheVariants.{Admit}
 use Rattle.blk_history.specs.Line.{admitted_by}
 use Rattle.qblk.specs.Face.{request_at, row_of, WasAdmitted}
-use Rattle.qblk.specs.declared.words.Format.{Format}
 use Rattle.qblk.specs.declared.flight.InFlight.{InFlight}
 
 get-push : (es : List Event) (e : Event) (n : ℕ) → n ≡ length es → slice_get (es ++ e ∷ []) n ≡ Some e
@@ -26,13 +25,13 @@ request-append (x ∷ es) more zero op is = is
 request-append (x ∷ es) more (suc n) op is = request-append es more n op is
 
 -- so does the guest's row
-pub row-append : (format : Format) (size : ℕ) (es more : List Event) (done : ℕ) (flight : Option InFlight) → WasAdmitted format size es flight → row_of format (es ++ more) done flight ≡ row_of format es done flight
-row-append format size es more done None was = refl
-row-append format size es more done (Some f) was =
+pub row-append : (size : ℕ) (es more : List Event) (done : ℕ) (flight : Option InFlight) → WasAdmitted size es flight → row_of (es ++ more) done flight ≡ row_of es done flight
+row-append size es more done None was = refl
+row-append size es more done (Some f) was =
     let now = request-append es more f.place was.0 was.1 in
     let then = was.1 in
     rw (now, then) refl
 
-pub admitted-append : (format : Format) (size : ℕ) (es more : List Event) (flight : Option InFlight) → WasAdmitted format size es flight → WasAdmitted format size (es ++ more) flight
-admitted-append format size es more None was = tt
-admitted-append format size es more (Some f) was = (was.0, request-append es more f.place was.0 was.1, was.2)
+pub admitted-append : (size : ℕ) (es more : List Event) (flight : Option InFlight) → WasAdmitted size es flight → WasAdmitted size (es ++ more) flight
+admitted-append size es more None was = tt
+admitted-append size es more (Some f) was = (was.0, request-append es more f.place was.0 was.1, was.2)

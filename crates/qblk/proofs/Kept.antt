@@ -1,9 +1,8 @@
 -- Each step of a run leaves a history from the same opening.
 use Rattle.std.proofs.Common.{◌≡◌, ℕ, ◌≤◌, Bool, List, [], ◌∷◌, ◌++◌, refl, sym, ◌∙◌, ap, arith, Option, Some, None, IsSome}
-use Rattle.std.specs.Prelude.{option_map}
+use Rattle.std.specs.Prelude.{◌↔◌, option_map}
 use Rattle.std.proofs.lemmas.Bool.{false≢true}
 use Rattle.blk_base.specs.Counts.{Rose}
-use Rattle.blk_base.specs.Pieces.{Extent}
 use Rattle.blk_history.specs.Disk.{piece}
 use Rattle.blk_history.specs.Recorded.{Recorded}
 use Rattle.blk_base.specs.declared.fault.Outcome.{Outcome}
@@ -17,7 +16,8 @@ use Rattle.blk_history.specs.declared.entry.Refused.{Refused}
 use Rattle.blk_history.specs.declared.event.Event.{Event}
 use Rattle.blk_history.specs.declared.event.Event.TheVariants.{Admit, Refuse, Piece, Retire}
 use Rattle.blk_history.proofs.Folds.{run-push, each-push}
-use Rattle.qblk.specs.Format.{only_reads}
+use Rattle.q2_image.specs.Image.{Known}
+use Rattle.qblk.specs.Space.{HasSpace, LacksSpace, MayBe}
 use Rattle.qblk.specs.Face.{Face, new_guest, state_of}
 use Rattle.qblk.specs.Steps.{after_admission, IsJudged, after_retirement, CanPiece, PutsPiece, HasCause}
 use Rattle.qblk.specs.Comes.{Opening, opening_state, HadNoSpace, AreLicensed, HasLine, HaveLines, Comes}
@@ -48,9 +48,10 @@ record Adds (w v : Face) (e : Event) : Type 0 where
   capacity : v.capacity ≡ w.capacity
   on_image : v.guest.node ≡ w.guest.node
   access : v.guest.is_read_only ≡ w.guest.is_read_only
+  known : MayBe v.format v.disk v.image
   faults : w.faults ≤ v.faults
   licensed : IsLicensed w.faults v.faults (named_in e)
-  space : HadNoSpace w.capacity (state_of w) e
+  space : HadNoSpace w.format w.capacity (state_of w) e
   state : after (state_of w) e ≡ state_of v
   told : IsSome w.disk → IsSome v.disk
   fits : IsSome w.disk → Fits (state_of w) e
@@ -62,7 +63,7 @@ licensed-push o w v e comes adds =
     record {
       risen = rw adds.events (each-push step (λ counts x. RoseSince counts (named_in x)) (o.faults ∷ []) w.log.events e was.risen (rose-next _ w.faults v.faults (named_in e) was.last adds.licensed));
       last = rw (adds.events, run-push step (o.faults ∷ []) w.log.events e) (last-next _ w.faults v.faults (named_in e) was.last adds.faults adds.licensed);
-      space = rw adds.events (each-push after (HadNoSpace o.capacity) (opening_state o) w.log.events e was.space (rw (comes.replay, ← comes.capacity) adds.space));
+      space = rw adds.events (each-push after (HadNoSpace o.format o.capacity) (opening_state o) w.log.events e was.space (rw (comes.replay, ← comes.capacity, ← comes.format) adds.space));
     }
 
 lines-push : (es : List Event) (e : Event) → HaveLines es → HasLine e → HaveLines (es ++ e ∷ [])
@@ -76,7 +77,8 @@ comes-push o w v e comes adds = record {
   capacity = adds.capacity ∙ comes.capacity;
   faults = let before = comes.faults in let more = adds.faults in omega arith;
   on_image = adds.on_image ∙ comes.on_image;
-  access = adds.access ∙ comes.access ∙ sym (ap only_reads adds.format);
+  access = adds.access ∙ comes.access;
+  known = adds.known;
   licensed = licensed-push o w v e comes adds;
   lines = rw adds.events (lines-push w.log.events e comes.lines adds.line);
   replay = rw (adds.events, run-push after (opening_state o) w.log.events e, comes.replay) adds.state;
@@ -93,6 +95,7 @@ adds-admission o w op comes idle judged = record {
   capacity = refl;
   on_image = refl;
   access = refl;
+  known = comes.known;
   faults = omega arith;
   licensed = tt;
   space = tt;
@@ -113,6 +116,7 @@ adds-refusal o w op why comes idle judged = record {
   capacity = refl;
   on_image = refl;
   access = refl;
+  known = comes.known;
   faults = omega arith;
   licensed = tt;
   space = tt;
@@ -130,8 +134,8 @@ over : (flight : Option Flight) → With flight IsOver → (f : Flight) × (flig
 over None is = absurd is
 over (Some f) is = (f, refl, is)
 
-adds-retirement : (w : Face) → With w.guest.flight IsOver → Adds w (after_retirement w) (Retire 0 w.guest.done)
-adds-retirement w is =
+adds-retirement : (w : Face) → MayBe w.format w.disk w.image → With w.guest.flight IsOver → Adds w (after_retirement w) (Retire 0 w.guest.done)
+adds-retirement w known is =
     let found = over w.guest.flight is in
     record {
       events = refl;
@@ -141,6 +145,7 @@ adds-retirement w is =
       capacity = refl;
       on_image = refl;
       access = refl;
+      known = known;
       faults = omega arith;
       licensed = tt;
       space = tt;
@@ -150,19 +155,20 @@ adds-retirement w is =
     }
 
 pub retirement-kept : (w : Face) → With w.guest.flight IsOver → (o : Opening) → Comes o w → Comes o (after_retirement w)
-retirement-kept w is o comes = comes-push o w _ _ comes (adds-retirement w is)
+retirement-kept w is o comes = comes-push o w _ _ comes (adds-retirement w comes.known is)
 
-licensed-piece : (before now capacity : ℕ) (part : Extent) (outcome : Outcome) → HasCause before now capacity part outcome → IsLicensed before now (named_by outcome)
-licensed-piece before now capacity part Good cause = tt
-licensed-piece before now capacity part (Torn done dev count) cause = (cause.0, cause.1, omega arith)
-licensed-piece before now capacity part (Io dev count) cause = (cause.0, cause.1, omega arith)
-licensed-piece before now capacity part (NoSpace dev) cause = tt
+licensed-piece : (before now : ℕ) (outcome : Outcome) → HasCause before now outcome → IsLicensed before now (named_by outcome)
+licensed-piece before now Good cause = tt
+licensed-piece before now (Torn done dev count) cause = (cause.0, cause.1, omega arith)
+licensed-piece before now (Io dev count) cause = (cause.0, cause.1, omega arith)
+licensed-piece before now (NoSpace dev) cause = tt
 
-space-piece : (w : Face) (f : Flight) (outcome : Outcome) (now r : ℕ) (got : List ℕ) → w.guest.flight ≡ Some f → HasCause w.faults now w.capacity (piece f.op f.next) outcome → HadNoSpace w.capacity (state_of w) (Piece 0 r f.next outcome got)
-space-piece w f Good now r got is cause = tt
-space-piece w f (Torn done dev count) now r got is cause = tt
-space-piece w f (Io dev count) now r got is cause = tt
-space-piece w f (NoSpace dev) now r got is cause = rw is cause.1
+space-piece : (w : Face) (f : Flight) (outcome : Outcome) (r : ℕ) (got : List ℕ) → w.guest.flight ≡ Some f → w.guest.node ≡ 1 → MayBe w.format w.disk w.image
+    → LacksSpace outcome ↔ (HasSpace w.image w.capacity f.op (piece f.op f.next) → ⊥) → HadNoSpace w.format w.capacity (state_of w) (Piece 0 r f.next outcome got)
+space-piece w f Good r got is node known space = tt
+space-piece w f (Torn done dev count) r got is node known space = tt
+space-piece w f (Io dev count) r got is node known space = tt
+space-piece w f (NoSpace dev) r got is node known space = rw (is, node) (w.image, known, space.0 tt)
 
 some-map : {A : Type 0} (f : A → A) (a : Option A) → IsSome a → IsSome (option_map f a)
 some-map f None is = is
@@ -181,9 +187,10 @@ adds-piece o w v f outcome got comes is can puts = record {
   capacity = puts.made.capacity;
   on_image = ap (λ (g : Guest). g.node) puts.guest;
   access = ap (λ (g : Guest). g.is_read_only) puts.guest;
+  known = puts.known;
   faults = puts.made.faults;
-  licensed = licensed-piece w.faults v.faults w.capacity (piece f.op f.next) outcome puts.made.cause;
-  space = space-piece w f outcome v.faults w.guest.done got is puts.made.cause;
+  licensed = licensed-piece w.faults v.faults outcome puts.made.cause;
+  space = space-piece w f outcome w.guest.done got is comes.on_image comes.known puts.made.space;
   state = rw (puts.size, puts.guest, puts.made.disk, is, comes.on_image) refl;
   told = λ h. rw puts.made.disk (some-map _ w.disk h);
   fits = λ h. let d = some-of w.disk h in rw is (
@@ -208,14 +215,16 @@ pub piece-made : (w v : Face) (outcome : Outcome) → With w.guest.flight (CanPi
 piece-made w v outcome can puts = piece-of w v outcome w.guest.flight refl can puts
 
 -- a run begins at its opening
-pub comes-start : (o : Opening) (is_flushed : Option Bool) (faults : ℕ) (log : Recorded) → o.faults ≤ faults → log.events ≡ [] → Comes o (record { format = o.format; disk = o.disk; is_flushed = is_flushed; faults = faults; capacity = o.capacity; size = o.size; guest = new_guest o.format; log = log })
-comes-start o is_flushed faults log later empty = record {
+pub comes-start : (o : Opening) (image : Option Known) (is_flushed : Option Bool) (faults : ℕ) (log : Recorded) → MayBe o.format o.disk image → o.faults ≤ faults → log.events ≡ []
+    → Comes o (record { format = o.format; image = image; disk = o.disk; is_flushed = is_flushed; faults = faults; capacity = o.capacity; size = o.size; guest = new_guest; log = log })
+comes-start o image is_flushed faults log known later empty = record {
   format = refl;
   size = refl;
   capacity = refl;
   faults = later;
   on_image = refl;
   access = refl;
+  known = known;
   licensed = record { risen = rw empty tt; last = (o.faults, rw empty refl, later); space = rw empty tt };
   lines = rw empty tt;
   replay = rw empty refl;

@@ -9,3 +9,5 @@ pub mod Forms
 pub mod Returned
 pub mod Quiet
 pub mod Disks
+pub mod Outcomes
+pub mod ImageDisks

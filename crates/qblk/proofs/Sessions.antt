@@ -8,7 +8,9 @@ use Rattle.trace_codec.specs.Trace.{ops_of}
 use Rattle.trace_codec.specs.declared.op.Op.{Op}
 use Rattle.blk_history.specs.Owned.{asked_by}
 use Rattle.blk_history.specs.Recorded.{Recorded}
-use Rattle.qblk.specs.Format.{disk_of}
+use Rattle.q2_image.specs.Image.{Known}
+use Rattle.qblk.specs.Format.{disk_of, IsSoundAs}
+use Rattle.qblk.specs.Space.{MayBe}
 use Rattle.qblk.specs.declared.words.Format.{Format}
 use Rattle.qblk.specs.Face.{Face, new_guest}
 use Rattle.qblk.specs.Requests.{RequestsDone}
@@ -16,27 +18,29 @@ use Rattle.qblk.specs.Session.{Seen, opening_of, IsGood, IsFlushed, IsMade}
 use Rattle.qblk.proofs.Kept.{comes-start}
 
 -- what an engine shows before its first request
-abbrev pub begun : Format → ℕ → ℕ → Seen → Recorded → Face
-begun format size faults d log = record { format = format; disk = option_map (disk_of format) d.content; is_flushed = d.is_flushed; faults = faults; capacity = d.capacity; size = size; guest = new_guest format; log = log }
+abbrev pub begun : Format → Option Known → ℕ → ℕ → Seen → Recorded → Face
+begun format image size faults d log = record { format = format; image = image; disk = option_map (disk_of format) d.content; is_flushed = d.is_flushed; faults = faults; capacity = d.capacity; size = size; guest = new_guest; log = log }
 
 asked-all : (e w : Face) (ops : List Op) → e.log.events ≡ [] → RequestsDone e w ops → asked_by 0 w.log.events ≡ ops
 asked-all e w ops empty made = made.asked ∙ ap (λ es. asked_by 0 es ++ ops) empty
 
-pub made-run : (format : Format) (size faults : ℕ) (d n : Seen) (w : Face) (log : Recorded) (ops : List Op) (bytes : List ℕ) (fault : Option FaultAt)
-    → IsGood format size d.content → d.faults ≤ faults → IsUtf8 bytes → ops_of bytes ≡ Ok ops → log.events ≡ [] → RequestsDone (begun format size faults d log) w ops
-    → option_map (disk_of w.format) n.content ≡ w.disk → n.capacity ≡ w.capacity → w.faults ≤ n.faults → ((bytes : List ℕ) → n.content ≡ Some bytes → is_some n.is_flushed ≡ true) → IsFlushed n w.faults fault
+pub made-run : (format : Format) (image : Option Known) (size faults : ℕ) (d n : Seen) (w : Face) (log : Recorded) (ops : List Op) (bytes : List ℕ) (fault : Option FaultAt)
+    → IsGood format size d.content → MayBe format (option_map (disk_of format) d.content) image → d.faults ≤ faults → IsUtf8 bytes → ops_of bytes ≡ Ok ops → log.events ≡ [] → RequestsDone (begun format image size faults d log) w ops
+    → option_map (disk_of w.format) n.content ≡ w.disk → ((bytes : List ℕ) → n.content ≡ Some bytes → IsSoundAs w.format bytes) → n.capacity ≡ w.capacity → w.faults ≤ n.faults → ((bytes : List ℕ) → n.content ≡ Some bytes → is_some n.is_flushed ≡ true) → IsFlushed n w.faults fault
     → IsMade format bytes d n w fault
-made-run format size start d n w log ops bytes fault good later text is empty made content capacity faults tells flushed =
-    let comes = made.comes (opening_of format size d) (comes-start (opening_of format size d) d.is_flushed start log later empty) in
+made-run format image size start d n w log ops bytes fault good known later text is empty made content sound capacity faults tells flushed =
+    let comes = made.comes (opening_of format size d) (comes-start (opening_of format size d) image d.is_flushed start log known later empty) in
     let C : Format → Type 0 = λ f. option_map (disk_of f) n.content ≡ w.disk in
+    let S : Format → Type 0 = λ f. (bytes : List ℕ) → n.content ≡ Some bytes → IsSoundAs f bytes in
     record {
       size = size;
       good = good;
       text = text;
-      ops = is ∙ ap (λ asked. Ok asked) (sym (asked-all (begun format size start d log) w ops empty made));
+      ops = is ∙ ap (λ asked. Ok asked) (sym (asked-all (begun format image size start d log) w ops empty made));
       comes = comes;
       idle = made.idle;
       content = subst C comes.format content;
+      sound = subst S comes.format sound;
       capacity = capacity;
       faults = faults;
       tells = tells;

@@ -101,8 +101,8 @@ tells-disk format image bytes d n w fault files new f told made returned =
     let flag = told-flag n.is_flushed (made.tells held.0 content) in
     let capacity : n.capacity ≡ f.capacity = made.capacity ∙ made.comes.capacity ∙ told.capacity in
     let L : State → Type 0 = λ s. Legal s w.log.events in
-    let N : State → Type 0 = λ s. Each after (HadNoSpace d.capacity) s w.log.events in
-    let C : ℕ → Type 0 = λ c. Each after (HadNoSpace c) (machine_of format f.bytes) w.log.events in
+    let N : State → Type 0 = λ s. Each after (HadNoSpace format d.capacity) s w.log.events in
+    let C : ℕ → Type 0 = λ c. Each after (HadNoSpace format c) (machine_of format f.bytes) w.log.events in
     let R : State → Type 0 = λ s. replay s w.log.events ≡ state_of w in
     let replayed : replay (machine_of format f.bytes) w.log.events ≡ state_of w = subst R machine made.comes.replay in
     record {
@@ -110,7 +110,7 @@ tells-disk format image bytes d n w fault files new f told made returned =
       legal = subst L machine (made.comes.legal (disk_of format f.bytes) opened);
       retired = rw replayed (idle-all w.guest made.idle);
       space = subst C told.capacity (subst N machine made.comes.licensed.space);
-      disk = (held.0, rw replayed read, flag.0, flag-good n w.faults fault held.0 flag.0 made.flushed content flag.1, returned ∙ returned-told image n.content n.capacity n.is_flushed files held.0 f.capacity flag.0 content capacity flag.1);
+      disk = (held.0, rw replayed read, made.sound held.0 content, flag.0, flag-good n w.faults fault held.0 flag.0 made.flushed content flag.1, returned ∙ returned-told image n.content n.capacity n.is_flushed files held.0 f.capacity flag.0 content capacity flag.1);
     }
 
 -- the inputs were as they have to be

@@ -1,19 +1,20 @@
 -- What is seen of one disk and its guest while a trace is run on them.
-use Rattle.std.specs.Prelude.{◌≡◌, ℕ, ◌≤◌, ◌&&◌, Bool, false, List, [], ◌∷◌, slice_get, Option, Some, None, option_map, option_and_then}
+use Rattle.std.specs.Prelude.{◌≡◌, ℕ, ◌≤◌, Bool, false, List, [], ◌∷◌, slice_get, Option, Some, None, option_map, option_and_then}
 use Rattle.trace_codec.specs.declared.op.Op.{Op}
 use Rattle.blk_base.specs.Pieces.{end_of}
-use Rattle.blk_history.specs.Disk.{is_write, span_of}
+use Rattle.blk_history.specs.Disk.{span_of}
 use Rattle.blk_history.specs.Machine.{Node, Flight, Guest, State}
 use Rattle.blk_history.specs.Recorded.{Recorded}
 use Rattle.blk_history.specs.Line.{admitted_by}
 use Rattle.blk_history.specs.declared.event.Event.{Event}
-use Rattle.qblk.specs.Format.{only_reads}
+use Rattle.q2_image.specs.Image.{Known}
 use Rattle.qblk.specs.declared.words.Format.{Format}
 use Rattle.qblk.specs.declared.flight.InFlight.{InFlight}
 
 pub record Face : Type 0 where
-  -- how the image's file reads as a disk
+  -- how the image's file reads as a disk, and what is known of a qcow2 image
   pub format : Format
+  pub image : Option Known
   -- the disk and whether it is flushed, where the device tells its bytes, the device's count of faults, and the highest
   -- end that a write may have
   pub disk : Option (List ℕ)
@@ -37,18 +38,13 @@ abbrev pub flight_of : List Event → InFlight → Option Flight
 flight_of events f = option_map (flight_with f) (request_at events f.place)
 
 -- the guest's row: it is on the image's node
-abbrev pub row_of : Format → List Event → ℕ → Option InFlight → Guest
-row_of format events done flight = record { node = 1; is_read_only = only_reads format; done = done; flight = option_and_then (flight_of events) flight }
+abbrev pub row_of : List Event → ℕ → Option InFlight → Guest
+row_of events done flight = record { node = 1; is_read_only = false; done = done; flight = option_and_then (flight_of events) flight }
 
--- a request that the guest may ask for, within a disk of so many bytes
-pub record MayRun (format : Format) (size : ℕ) (op : Op) : Type 0 where
-  pub allowed : (only_reads format && is_write op) ≡ false
-  pub inside : end_of (span_of op) ≤ size
-
--- what is in flight was admitted
-abbrev pub WasAdmitted : Format → ℕ → List Event → Option InFlight → Type 0
-WasAdmitted format size events None = Unit {0}
-WasAdmitted format size events (Some f) = (op : Op) × (request_at events f.place ≡ Some op) × MayRun format size op
+-- what is in flight was admitted, within a disk of so many bytes
+abbrev pub WasAdmitted : ℕ → List Event → Option InFlight → Type 0
+WasAdmitted size events None = Unit {0}
+WasAdmitted size events (Some f) = (op : Op) × (request_at events f.place ≡ Some op) × (end_of (span_of op) ≤ size)
 
 abbrev pub node_of : ℕ → Node
 node_of size = record { size = size }
@@ -64,5 +60,5 @@ abbrev pub state_of : Face → State
 state_of w = state_with w.size w.guest w.disk
 
 -- before its first request
-abbrev pub new_guest : Format → Guest
-new_guest format = record { node = 1; is_read_only = only_reads format; done = 0; flight = None }
+abbrev pub new_guest : Guest
+new_guest = record { node = 1; is_read_only = false; done = 0; flight = None }

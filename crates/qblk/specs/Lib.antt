@@ -1,4 +1,5 @@
 pub mod Format
+pub mod Space
 pub mod Medium
 pub mod Face
 pub mod Steps

@@ -20,7 +20,7 @@ use Rattle.blk_history.specs.declared.event.Event.{Event}
 use Rattle.q2_format.specs.Header.{header_of}
 use Rattle.q2_format.specs.Sound.{IsSound, image_refusal}
 use Rattle.q2_image.specs.Opening.{refusal_of}
-use Rattle.qblk.specs.Format.{disk_of, IsGoodImage}
+use Rattle.qblk.specs.Format.{disk_of, IsGoodImage, IsSoundAs}
 use Rattle.qblk.specs.declared.words.Format.{Format}
 use Rattle.qblk.specs.declared.words.Format.TheVariants.{Raw, Qcow2}
 use Rattle.qblk.specs.Face.{state_with, new_guest}
@@ -40,7 +40,7 @@ pub record Outside : Type 0 where
 
 -- the machine of an image whose file holds these bytes, before the first request
 abbrev pub machine_of : Format → List ℕ → State
-machine_of format bytes = let disk = disk_of format bytes in state_with (length disk) (new_guest format) (Some disk)
+machine_of format bytes = let disk = disk_of format bytes in state_with (length disk) new_guest (Some disk)
 
 -- the one guest is called `disk`
 abbrev pub guest_names : RowNames
@@ -51,9 +51,9 @@ pub record TellsDisk (format : Format) (image : List ℕ) (h : List Event) (flus
   pub file : file_at image files ≡ Some f
   pub legal : Legal (machine_of format f.bytes) h
   pub retired : IsIdle (replay (machine_of format f.bytes) h)
-  -- a piece had no space only where it would have ended above the file's capacity
-  pub space : Each after (HadNoSpace f.capacity) (machine_of format f.bytes) h
-  pub disk : (bytes : List ℕ) × (disk_in (replay (machine_of format f.bytes) h).disks 1 ≡ Some (disk_of format bytes))
+  -- a piece was stopped for want of space only where the file's capacity, or the image's reach, left no room for it
+  pub space : Each after (HadNoSpace format f.capacity) (machine_of format f.bytes) h
+  pub disk : (bytes : List ℕ) × (disk_in (replay (machine_of format f.bytes) h).disks 1 ≡ Some (disk_of format bytes)) × IsSoundAs format bytes
       × (fl : Bool) × (flushed ≡ true → fl ≡ true) × (new ≡ Some (put_file (record { name = image; bytes = bytes; capacity = f.capacity; is_flushed = fl }) files))
 
 -- A history of these requests on that image: each stands once, in order, and the faults it names are rises of the

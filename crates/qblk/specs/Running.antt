@@ -7,10 +7,10 @@ use Rattle.qblk.specs.Steps.{Side}
 use Rattle.qblk.specs.declared.flight.InFlight.{InFlight}
 
 abbrev pub side_in : Medium → Side
-side_in m = record { disk = disk_in m; is_flushed = m.is_flushed; faults = m.faults; capacity = m.capacity }
+side_in m = record { image = m.image; disk = disk_in m; is_flushed = m.is_flushed; faults = m.faults; capacity = m.capacity }
 
 -- what is in flight was admitted, the disk is still there, and a block fits in the buffer
 pub record IsRunning (medium : Medium) (size : ℕ) (events : List Event) (flight : Option InFlight) (buffer : List ℕ) : Type 0 where
-  pub admitted : WasAdmitted medium.format size events flight
+  pub admitted : WasAdmitted size events flight
   pub whole : size ≤ medium.size
   pub block : length buffer ≡ 65536

@@ -11,7 +11,7 @@ use Rattle.trace_codec.specs.Trace.{ops_of}
 use Rattle.blk_history.specs.Owned.{asked_by}
 use Rattle.qblk.specs.Face.{Face}
 use Rattle.qblk.specs.Comes.{Opening, Comes}
-use Rattle.qblk.specs.Format.{disk_of, IsGoodImage}
+use Rattle.qblk.specs.Format.{disk_of, IsGoodImage, IsSoundAs}
 use Rattle.qblk.specs.declared.words.Format.{Format}
 use Rattle.qblk.specs.declared.words.Format.TheVariants.{Qcow2}
 use Rattle.qblk.specs.Run.{IsBadTrace, IsBadBytes}
@@ -84,6 +84,7 @@ pub record IsMade (format : Format) (bytes : List ℕ) (before now : Seen) (w : 
   pub comes : Comes (opening_of format size before) w
   pub idle : w.guest.flight ≡ None
   pub content : option_map (disk_of format) now.content ≡ w.disk
+  pub sound : (bytes : List ℕ) → now.content ≡ Some bytes → IsSoundAs format bytes
   pub capacity : now.capacity ≡ w.capacity
   pub faults : w.faults ≤ now.faults
   pub tells : (bytes : List ℕ) → now.content ≡ Some bytes → is_some now.is_flushed ≡ true

@@ -1,7 +1,12 @@
 -- What each step of a run leaves.
-use Rattle.std.specs.Prelude.{◌≡◌, ℕ, ◌-◌, ◌^◌, ◌<◌, ◌≤◌, Bool, List, [], ◌∷◌, ◌++◌, length, Option, Some, None, option_map, true, false}
+use Rattle.std.specs.Prelude.{◌≡◌, ◌↔◌, ℕ, ◌-◌, ◌^◌, ◌<◌, ◌≤◌, ◌==◌, if◌then◌else◌, Bool, List, [], ◌∷◌, ◌++◌, length, Option, Some, None, option_map, Result, Ok, Err, true, false}
 use Rattle.blk_base.specs.Pieces.{Extent, end_of}
 use Rattle.blk_base.specs.Counts.{Rose}
+use Rattle.blk_base.specs.declared.device.Stop.{Stop}
+use Rattle.blk_base.specs.declared.device.Stop.TheVariants as why
+use Rattle.blk_base.specs.declared.device.WriteStop.{WriteStop}
+use Rattle.blk_base.specs.declared.fault.DevStop.{DevStop}
+use Rattle.blk_base.specs.declared.fault.DevStop.TheVariants as stops
 use Rattle.blk_base.specs.declared.fault.Outcome.{Outcome}
 use Rattle.blk_base.specs.declared.fault.Outcome.TheVariants.{Good, Torn, Io, NoSpace}
 use Rattle.trace_codec.specs.declared.op.Op.{Op}
@@ -15,6 +20,8 @@ use Rattle.blk_history.specs.Recorded.{Recorded}
 use Rattle.blk_history.specs.declared.entry.Refused.{Refused}
 use Rattle.blk_history.specs.declared.event.Event.{Event}
 use Rattle.blk_history.specs.declared.event.Event.TheVariants as events
+use Rattle.q2_image.specs.Image.{Known}
+use Rattle.qblk.specs.Space.{HasSpace, LacksSpace, MayBe}
 use Rattle.qblk.specs.Face.{Face, node_of}
 
 -- the history with one more entry, and with bytes that it shows
@@ -43,13 +50,12 @@ IsJudged w op (Some why) = IsRefusedFor op w.guest (node_of w.size) why
 abbrev pub after_retirement : Face → Face
 after_retirement w = record w { guest = finished w.guest; log = log_of w.log (events.Retire 0 w.guest.done) }
 
--- Why a piece went so, from the count of faults before and after, and the capacity: a fault is a rise of the count, and
--- want of space a write that ends above the capacity.
-abbrev pub HasCause : ℕ → ℕ → ℕ → Extent → Outcome → Type 0
-HasCause before now capacity part Good = Unit {0}
-HasCause before now capacity part (Torn done dev count) = (dev.0 ≡ 0) × Rose before count × (count ≡ now)
-HasCause before now capacity part (Io dev count) = (dev.0 ≡ 0) × Rose before count × (count ≡ now)
-HasCause before now capacity part (NoSpace dev) = (dev.0 ≡ 0) × (capacity < end_of part)
+-- why a piece went so, from the count of faults before and after: a fault is a rise of the count, which it names
+abbrev pub HasCause : ℕ → ℕ → Outcome → Type 0
+HasCause before now Good = Unit {0}
+HasCause before now (Torn done dev count) = (dev.0 ≡ 0) × Rose before count × (count ≡ now)
+HasCause before now (Io dev count) = (dev.0 ≡ 0) × Rose before count × (count ≡ now)
+HasCause before now (NoSpace dev) = dev.0 ≡ 0
 
 -- what a piece shows, of what its read left in the buffer
 abbrev pub shown_of : Op → Outcome → List ℕ → List ℕ
@@ -78,8 +84,10 @@ pub record CanPiece (log : Recorded) (f : Flight) : Type 0 where
   pub room : 0 < log.room
   pub byte_room : shows_in f.op (piece f.op f.next).len ≤ log.byte_room
 
--- the device of a run: the bytes that it tells and whether they are flushed, its count of faults, its capacity
+-- the device of a run: what is known of its image, the bytes that it tells and whether they are flushed, its count of
+-- faults, its capacity
 pub record Side : Type 0 where
+  pub image : Option Known
   pub disk : Option (List ℕ)
   pub is_flushed : Option Bool
   pub faults : ℕ
@@ -101,7 +109,9 @@ pub record MakesPiece (old new : Side) (before now : Recorded) (request : ℕ) (
   pub tells : (disk : List ℕ) → old.disk ≡ Some disk → Tells outcome f.op (piece f.op f.next) (Some disk) got
   pub disk : new.disk ≡ option_map (done_in f.op (piece f.op f.next) (done_by outcome (piece f.op f.next))) old.disk
   pub flushed : KeepsAll f.op outcome new.disk new.is_flushed
-  pub cause : HasCause old.faults new.faults old.capacity (piece f.op f.next) outcome
+  pub cause : HasCause old.faults new.faults outcome
+  -- want of space comes exactly where there is no room for what the piece writes
+  pub space : LacksSpace outcome ↔ (HasSpace old.image old.capacity f.op (piece f.op f.next) → ⊥)
   pub faults : old.faults ≤ new.faults
   pub capacity : new.capacity ≡ old.capacity
   pub bound : length got ≤ shows_in f.op (piece f.op f.next).len
@@ -109,7 +119,7 @@ pub record MakesPiece (old new : Side) (before now : Recorded) (request : ℕ) (
   pub log : now ≡ log_with before (events.Piece 0 request f.next outcome got) got
 
 abbrev pub side_of : Face → Side
-side_of w = record { disk = w.disk; is_flushed = w.is_flushed; faults = w.faults; capacity = w.capacity }
+side_of w = record { image = w.image; disk = w.disk; is_flushed = w.is_flushed; faults = w.faults; capacity = w.capacity }
 
 -- so it was, and the guest's row is one piece further
 pub record PutsPiece (old new : Face) (f : Flight) (outcome : Outcome) (got : List ℕ) : Type 0 where
@@ -117,6 +127,7 @@ pub record PutsPiece (old new : Face) (f : Flight) (outcome : Outcome) (got : Li
   pub guest : new.guest ≡ past_piece outcome old.guest
   pub size : new.size ≡ old.size
   pub format : new.format ≡ old.format
+  pub known : MayBe new.format new.disk new.image
 
 -- a read was good and left the disk's bytes in the buffer, or it was none
 abbrev pub IsRead : Outcome → List ℕ → Extent → List ℕ → Type 0
@@ -131,6 +142,20 @@ IsWritten Good part = Unit {0}
 IsWritten (Torn done dev count) part = (0 < done) × (done < part.len)
 IsWritten (Io dev count) part = Unit {0}
 IsWritten (NoSpace dev) part = Unit {0}
+
+-- how a write went that a device stopped, whose count of faults is then this
+abbrev pub outcome_by : Stop → ℕ → ℕ → Outcome
+outcome_by why.NoSpace done count = NoSpace (record { 0 = 0 })
+outcome_by why.Failed done count = if done == 0 then Io (record { 0 = 0 }) count else Torn done (record { 0 = 0 }) count
+
+abbrev pub outcome_of : WriteStop → ℕ → Outcome
+outcome_of stop count = outcome_by stop.why stop.done count
+
+-- how a write of a whole cluster went, or of its entry
+abbrev pub cluster_outcome_of : Result (Unit {0}) DevStop → Outcome
+cluster_outcome_of (Ok done) = Good
+cluster_outcome_of (Err (stops.Io count)) = Io (record { 0 = 0 }) count
+cluster_outcome_of (Err stops.NoSpace) = NoSpace (record { 0 = 0 })
 
 -- a flush is good where it was answered, and else a fault with a risen count
 abbrev pub IsFlush : Option Bool → Option Bool → ℕ → ℕ → Outcome → Type 0

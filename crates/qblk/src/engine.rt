@@ -2,7 +2,9 @@
 ghost use Rattle.std.specs.Prelude.{◌≡◌, ◌<◌, ◌≤◌, length, List, ℕ, Some};
 ghost use Rattle.qblk.specs.Steps.{log_of, log_with, CanPiece, MakesPiece};
 ghost use Rattle.qblk.specs.Face.{request_at, flight_of, WasAdmitted};
+ghost use Rattle.qblk.specs.Medium.{disk_in};
 ghost use Rattle.qblk.specs.Running.{side_in};
+ghost use Rattle.qblk.specs.Space.{MayBe};
 ghost use Rattle.trace_codec.specs.declared.op.Op.{Op};
 ghost use Rattle.blk_history.specs.Fold.{With};
 ghost use Rattle.blk_history.specs.declared.event.Event.{Event};
@@ -38,12 +40,13 @@ impl<D: Device> Model for Engine<D> {
 
     ghost view = { λ a. record {
       format = a.medium.format;
+      image = a.medium.image;
       disk = disk_in a.medium;
       is_flushed = a.medium.is_flushed;
       faults = a.medium.faults;
       capacity = a.medium.capacity;
       size = a.size;
-      guest = row_of a.medium.format a.history.events a.done a.flight;
+      guest = row_of a.history.events a.done a.flight;
       log = a.history;
     } };
 
@@ -120,10 +123,11 @@ fn make_piece<D: Device>(
 ) -> Outcome
     requires block { length buffer.old ≡ 65536 }
     requires can { With (flight_of history.old.events flight.now) (CanPiece history.old) }
-    requires admitted { WasAdmitted medium.old.format medium.old.size history.old.events (Some flight.now) }
+    requires admitted { WasAdmitted medium.old.size history.old.events (Some flight.now) }
     ensures made { With (flight_of history.old.events flight.now) (λ f. (got : List ℕ)
         × MakesPiece (side_in medium.old) (side_in medium.new) history.old history.new request f result got) }
     ensures format { medium.new.format ≡ medium.old.format }
+    ensures known { MayBe medium.new.format (disk_in medium.new) medium.new.image }
     ensures size { medium.old.size ≤ medium.new.size }
 {
     let op = flying(history, flight);
@@ -141,7 +145,7 @@ impl<D: Device> Engine<D> {
     ghost use Rattle.blk_base.specs.declared.fault.FaultFrom.{FaultFrom};
     ghost use Rattle.std.specs.Prelude.{option_map};
     ghost use Rattle.qblk.specs.Face.{new_guest};
-    ghost use Rattle.qblk.specs.Format.{disk_of};
+    ghost use Rattle.qblk.specs.Format.{disk_of, IsSoundAs};
     ghost use Rattle.qblk.specs.Medium.{disk_in};
     ghost use Rattle.std.specs.Prelude.{◌≡◌, ◌+◌, ◌<◌, ◌≤◌, ◌^◌, ℕ, List, None};
     ghost use Rattle.qblk.specs.Face.{Face};
@@ -155,12 +159,13 @@ impl<D: Device> Engine<D> {
         requires block { length buffer.items ≡ 65536 }
         ensures { result ≡ record {
           format = medium.format;
+          image = medium.image;
           disk = disk_in medium;
           is_flushed = medium.is_flushed;
           faults = medium.faults;
           capacity = medium.capacity;
           size = medium.size;
-          guest = new_guest medium.format;
+          guest = new_guest;
           log = history;
         } }
     {
@@ -178,6 +183,7 @@ impl<D: Device> Engine<D> {
     /// Flushes the device, and gives it back with the history, and with the fault where the flush failed.
     pub(crate) fn finish(self) -> (D, History, Option<FaultAt>)
         ensures disk { option_map (disk_of self.format) (D.content result.0) ≡ self.disk }
+        ensures sound { (bytes : List ℕ) → D.content result.0 ≡ Some bytes → IsSoundAs self.format bytes }
         ensures capacity { D.capacity result.0 ≡ self.capacity }
         ensures faults { self.faults ≤ D.faults result.0 }
         ensures history { result.1 ≡ self.log }
@@ -211,11 +217,6 @@ impl<D: Device> Engine<D> {
             note_refusal(&mut self.history, self.done, op, Refused::Range);
             self.done += 1;
             return Some(Refused::Range);
-        }
-        if self.medium.forbids(&op) {
-            note_refusal(&mut self.history, self.done, op, Refused::ReadOnly);
-            self.done += 1;
-            return Some(Refused::ReadOnly);
         }
         let place = note_admission(&mut self.history, self.done, op);
         self.flight = Some(InFlight {

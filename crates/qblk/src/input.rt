@@ -67,8 +67,8 @@ fn requests_in(alloc: Global, bytes: &[u8]) -> Result<Vec<Op>, Option<(u32, Inpu
     }
 }
 
-/// The buffer of the pieces.
-fn block_buffer(alloc: Global) -> Result<Vec<u8>, NoMemory>
+/// A buffer of one block.
+pub(crate) fn block_buffer(alloc: Global) -> Result<Vec<u8>, NoMemory>
     ensures { IfOk result (λ buffer. length buffer.items ≡ 65536) }
 {
     Ok(vec![in alloc; 0; BLOCK]?)

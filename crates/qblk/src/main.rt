@@ -1,5 +1,5 @@
-//! The block layer of QEMU as a program: `qblk io FORMAT IMAGE TRACE` runs a trace of reads and writes on a raw image, or of
-//! reads on a qcow2 image, and writes the transcript to standard output.
+//! The block layer of QEMU as a program: `qblk io FORMAT IMAGE TRACE` runs a trace of reads and writes on a raw or qcow2
+//! image, and writes the transcript to standard output.
 #![tactic(auto)]
 
 mod engine;
@@ -9,6 +9,7 @@ mod input;
 mod medium;
 mod opening;
 mod output;
+mod qcow2;
 mod requests;
 mod run;
 mod session;

@@ -1,17 +1,8 @@
 //! A device whose bytes are read as a disk, by the image's format.
-ghost use Rattle.std.specs.Prelude.{◌≡◌, ◌+◌, ◌/◌, ◌<◌, ◌≤◌, ℕ, List, [], length, replicate, Some};
-ghost use Rattle.blk_base.specs.Pieces.{end_of};
-ghost use Rattle.q2_format.specs.Contents.{image_disk};
-ghost use Rattle.q2_image.specs.Image.{IsImageOf, clusters_in};
-ghost use Rattle.q2_image.specs.Reading.{IsWithinCluster};
-ghost use Rattle.qblk.specs.Steps.{HasCause, IsRead};
-
-use crate::transfer::{
-    DEVICE, flush_device, is_write, last_flush, load_bytes, read_part, write_part,
-};
-use blk_base::{DevStop, Device, FaultAt, Outcome, Span};
+use crate::qcow2::{read_image, write_image, zero_image};
+use crate::transfer::{flush_device, last_flush, load_bytes, read_part, write_part};
+use blk_base::{Device, FaultAt, Outcome, Span};
 use q2_image::Image;
-use q2_tables::Mapping;
 use std::marker::Model;
 use trace_codec::{Op, Payload};
 
@@ -20,8 +11,8 @@ use trace_codec::{Op, Payload};
 pub(crate) enum Driver {
     /// The bytes are the disk's.
     Raw,
-    /// An image without a backing file.
-    Qcow2(Image),
+    /// An image without a backing file, and a buffer for a whole cluster of it.
+    Qcow2 { image: Image, cluster: Vec<u8> },
 }
 
 /// A device whose bytes are read as a disk.
@@ -31,13 +22,13 @@ pub(crate) struct Medium<D: Device> {
 }
 
 impl<D: Device> Model for Medium<D> {
-    ghost use Rattle.std.specs.Prelude.{◌≡◌, ℕ, List, Some};
-    ghost use Rattle.qblk.specs.Medium.{Medium, format_by, size_by, IsReadBy};
+    ghost use Rattle.qblk.specs.Medium.{Medium, format_by, image_by, size_by, IsMedium};
 
     ghost Value = { Medium };
 
     ghost view = { λ m. record {
       format = format_by m.driver;
+      image = image_by m.driver;
       content = D.content m.device;
       is_flushed = D.is_flushed m.device;
       faults = D.faults m.device;
@@ -45,68 +36,26 @@ impl<D: Device> Model for Medium<D> {
       size = size_by m.driver (D.size m.device);
     } };
 
-    ghost invariant = { λ m. (bytes : List ℕ) → D.content m.device ≡ Some bytes → IsReadBy m.driver bytes };
-}
-
-/// Reads zeros.
-fn read_zeros(buffer: &mut [u8]) -> Outcome
-    ensures zeros { buffer.new ≡ replicate (length buffer.old) 0 }
-    ensures good { result ≡ Outcome.Good }
-{
-    buffer.fill(0);
-    Outcome::Good
-}
-
-/// Reads a part of one cluster of an image's disk.
-fn read_image<D: Device>(device: &mut D, image: &Image, part: Span, buffer: &mut [u8]) -> Outcome
-    requires whole { length buffer.old ≡ part.len }
-    requires some { 0 < part.len }
-    requires block { IsWithinCluster 65536 part }
-    requires inside { end_of part ≤ image.now.header.size }
-    ensures read { (file : List ℕ) → D.content device.old ≡ Some file → IsImageOf file image.now → IsRead result (image_disk file []) part buffer.new }
-    ensures content { D.content device.new ≡ D.content device.old }
-    ensures flushed { D.is_flushed device.new ≡ D.is_flushed device.old }
-    ensures size { D.size device.new ≡ D.size device.old }
-    ensures cause { HasCause (D.faults device.old) (D.faults device.new) (D.capacity device.old) part result }
-    ensures faults { D.faults device.old ≤ D.faults device.new }
-    ensures capacity { D.capacity device.new ≡ D.capacity device.old }
-{
-    match image.mapping(part.start / image.cluster_size()) {
-        Mapping::Host { .. } => match image.read_own(device, part, buffer) {
-            Ok(()) => Outcome::Good,
-            Err(DevStop::Io { count }) => Outcome::Io { dev: DEVICE, count },
-            Err(DevStop::NoSpace) => unreachable!(),
-        },
-        Mapping::Zero { .. } => read_zeros(buffer),
-        Mapping::Unallocated => read_zeros(buffer),
-    }
+    ghost invariant = { λ m. IsMedium m.driver (D.content m.device) };
 }
 
 impl<D: Device> Medium<D> {
-    ghost use Rattle.std.specs.Prelude.{◌≡◌, ◌&&◌, ◌≤◌, ◌<◌, ℕ, List, length, true, false, take, replicate, is_some, Some, Option, option_map, MatchOption};
+    ghost use Rattle.std.specs.Prelude.{◌≡◌, ◌↔◌, ◌≤◌, ◌<◌, ℕ, List, length, true, take, replicate, is_some, Some, Option, option_map, MatchOption};
     ghost use Rattle.blk_base.specs.Pieces.{end_of};
     ghost use Rattle.blk_base.specs.Counts.{Rose};
     ghost use Rattle.blk_base.specs.Content.{with_bytes};
     ghost use Rattle.blk_base.specs.declared.fault.FaultFrom.{FaultFrom};
-    ghost use Rattle.blk_history.specs.Disk.{done_in, is_write};
+    ghost use Rattle.blk_history.specs.Disk.{done_in};
     ghost use Rattle.blk_history.specs.Machine.{done_by};
     ghost use Rattle.blk_history.specs.Legal.{Tells};
     ghost use Rattle.q2_image.specs.Reading.{IsWithinCluster};
-    ghost use Rattle.qblk.specs.Format.{only_reads};
+    ghost use Rattle.qblk.specs.Format.{IsSoundAs};
+    ghost use Rattle.qblk.specs.Space.{HasSpace, LacksSpace, MayBe};
     ghost use Rattle.qblk.specs.Medium.{disk_in};
     ghost use Rattle.qblk.specs.Steps.{HasCause, IsPart, IsRead, IsWritten, IsFlush, KeepsAll, shown_of};
     ghost use Rattle.trace_codec.specs.declared.op.Op.{Op};
-    ghost use Rattle.qblk.specs.declared.words.Format.TheVariants as formats;
-
-    /// Whether a request needs a guest that may write, where this one may only read.
-    pub(crate) fn forbids(&self, op: &Op) -> bool
-        ensures { result ≡ (only_reads self.now.format && is_write op.now) }
-    {
-        match self.driver {
-            Driver::Raw => false,
-            Driver::Qcow2(_) => is_write(op),
-        }
-    }
+    ghost use Rattle.trace_codec.specs.declared.op.Payload.{Payload};
+    ghost use Rattle.blk_base.specs.Pieces.{Extent};
 
     /// The bytes of the disk.
     pub(crate) fn size(&self) -> u64
@@ -114,7 +63,7 @@ impl<D: Device> Medium<D> {
     {
         match &self.driver {
             Driver::Raw => self.device.length(),
-            Driver::Qcow2(image) => image.size(),
+            Driver::Qcow2 { image, .. } => image.size(),
         }
     }
 
@@ -125,40 +74,55 @@ impl<D: Device> Medium<D> {
         requires block { IsWithinCluster 65536 part }
         requires inside { end_of part ≤ self.old.size }
         ensures read { (disk : List ℕ) → disk_in self.old ≡ Some disk → IsRead result disk part buffer.new }
+        ensures space { LacksSpace result → ⊥ }
+        ensures known { MayBe self.new.format (disk_in self.new) self.new.image }
         ensures kept { self.new ≡ record self.old { faults = self.new.faults } }
-        ensures cause { HasCause self.old.faults self.new.faults self.old.capacity part result }
+        ensures cause { HasCause self.old.faults self.new.faults result }
         ensures faults { self.old.faults ≤ self.new.faults }
     {
         match &self.driver {
             Driver::Raw => read_part(&mut self.device, part, buffer),
-            Driver::Qcow2(image) => read_image(&mut self.device, image, part, buffer),
+            Driver::Qcow2 { image, .. } => read_image(&mut self.device, image, part, buffer),
         }
     }
 
-    /// Writes a part of a raw disk.
+    /// Writes a part of the disk, in one block.
     fn write(&mut self, part: Span, bytes: &[u8]) -> Outcome
         requires whole { length bytes.now ≡ part.len }
-        requires raw { self.old.format ≡ formats.Raw }
+        requires some { 0 < part.len }
+        requires block { IsWithinCluster 65536 part }
+        requires inside { end_of part ≤ self.old.size }
         ensures written { IsWritten result part }
         ensures content { disk_in self.new ≡ option_map (λ disk. with_bytes disk part.start (take (done_by result part) bytes.now)) (disk_in self.old) }
         ensures format { self.new.format ≡ self.old.format }
         ensures size { self.old.size ≤ self.new.size }
-        ensures cause { HasCause self.old.faults self.new.faults self.old.capacity part result }
+        ensures cause { HasCause self.old.faults self.new.faults result }
+        ensures space { (span : Extent) (payload : Payload) → LacksSpace result ↔ (HasSpace self.old.image self.old.capacity (Op.Write span payload) part → ⊥) }
+        ensures known { MayBe self.new.format (disk_in self.new) self.new.image }
         ensures faults { self.old.faults ≤ self.new.faults }
         ensures capacity { self.new.capacity ≡ self.old.capacity }
     {
-        write_part(&mut self.device, part, bytes)
+        match &mut self.driver {
+            Driver::Raw => write_part(&mut self.device, part, bytes),
+            Driver::Qcow2 { image, cluster } => {
+                write_image(&mut self.device, image, cluster, part, bytes)
+            }
+        }
     }
 
-    /// Writes one byte over a part of a raw disk.
+    /// Writes one byte over a part of the disk, in one block.
     fn fill(&mut self, part: Span, byte: u8, buffer: &mut [u8]) -> Outcome
         requires whole { length buffer.old ≡ part.len }
-        requires raw { self.old.format ≡ formats.Raw }
+        requires some { 0 < part.len }
+        requires block { IsWithinCluster 65536 part }
+        requires inside { end_of part ≤ self.old.size }
         ensures written { IsWritten result part }
         ensures content { disk_in self.new ≡ option_map (λ disk. with_bytes disk part.start (take (done_by result part) (replicate part.len byte))) (disk_in self.old) }
         ensures format { self.new.format ≡ self.old.format }
         ensures size { self.old.size ≤ self.new.size }
-        ensures cause { HasCause self.old.faults self.new.faults self.old.capacity part result }
+        ensures cause { HasCause self.old.faults self.new.faults result }
+        ensures space { (span : Extent) (payload : Payload) → LacksSpace result ↔ (HasSpace self.old.image self.old.capacity (Op.Write span payload) part → ⊥) }
+        ensures known { MayBe self.new.format (disk_in self.new) self.new.image }
         ensures faults { self.old.faults ≤ self.new.faults }
         ensures capacity { self.new.capacity ≡ self.old.capacity }
     {
@@ -166,8 +130,37 @@ impl<D: Device> Medium<D> {
         self.write(part, buffer)
     }
 
+    /// Writes zeros over a part of the disk, in one block.
+    fn zero(&mut self, part: Span, buffer: &mut [u8]) -> Outcome
+        requires whole { length buffer.old ≡ part.len }
+        requires some { 0 < part.len }
+        requires block { IsWithinCluster 65536 part }
+        requires inside { end_of part ≤ self.old.size }
+        ensures written { IsWritten result part }
+        ensures content { disk_in self.new ≡ option_map (λ disk. with_bytes disk part.start (take (done_by result part) (replicate part.len 0))) (disk_in self.old) }
+        ensures format { self.new.format ≡ self.old.format }
+        ensures size { self.old.size ≤ self.new.size }
+        ensures cause { HasCause self.old.faults self.new.faults result }
+        ensures space { (span : Extent) → LacksSpace result ↔ (HasSpace self.old.image self.old.capacity (Op.Zero span) part → ⊥) }
+        ensures known { MayBe self.new.format (disk_in self.new) self.new.image }
+        ensures faults { self.old.faults ≤ self.new.faults }
+        ensures capacity { self.new.capacity ≡ self.old.capacity }
+    {
+        match &mut self.driver {
+            Driver::Raw => {
+                buffer.fill(0);
+                write_part(&mut self.device, part, buffer)
+            }
+            Driver::Qcow2 { image, cluster } => {
+                zero_image(&mut self.device, image, cluster, part, buffer)
+            }
+        }
+    }
+
     /// Flushes the device for the guest.
     fn flush(&mut self) -> Outcome
+        ensures space { LacksSpace result → ⊥ }
+        ensures known { MayBe self.new.format (disk_in self.new) self.new.image }
         ensures flushed { IsFlush self.old.is_flushed self.new.is_flushed self.old.faults self.new.faults result }
         ensures told { KeepsAll Op.Flush result (disk_in self.new) self.new.is_flushed }
         ensures kept { self.new ≡ record self.old { is_flushed = self.new.is_flushed; faults = self.new.faults } }
@@ -182,13 +175,14 @@ impl<D: Device> Medium<D> {
         requires part { IsPart op.now part }
         requires block { IsWithinCluster 65536 part }
         requires inside { end_of part ≤ self.old.size }
-        requires allowed { (only_reads self.old.format && is_write op.now) ≡ false }
         ensures tells { (disk : List ℕ) → disk_in self.old ≡ Some disk → Tells result op.now part (Some disk) (shown_of op.now result buffer.new) }
         ensures content { disk_in self.new ≡ option_map (done_in op.now part (done_by result part)) (disk_in self.old) }
         ensures flushed { KeepsAll op.now result (disk_in self.new) self.new.is_flushed }
         ensures format { self.new.format ≡ self.old.format }
         ensures size { self.old.size ≤ self.new.size }
-        ensures cause { HasCause self.old.faults self.new.faults self.old.capacity part result }
+        ensures cause { HasCause self.old.faults self.new.faults result }
+        ensures space { LacksSpace result ↔ (HasSpace self.old.image self.old.capacity op.now part → ⊥) }
+        ensures known { MayBe self.new.format (disk_in self.new) self.new.image }
         ensures faults { self.old.faults ≤ self.new.faults }
         ensures capacity { self.new.capacity ≡ self.old.capacity }
     {
@@ -200,7 +194,7 @@ impl<D: Device> Medium<D> {
                 load_bytes(bytes.as_slice(), from, buffer);
                 self.write(part, buffer)
             }
-            Op::Zero(_) => self.fill(part, 0, buffer),
+            Op::Zero(_) => self.zero(part, buffer),
             Op::Flush => self.flush(),
             Op::Discard(_) => unreachable!(),
         }
@@ -209,6 +203,7 @@ impl<D: Device> Medium<D> {
     /// Flushes the device, and gives it back with the fault where that failed.
     pub(crate) fn close(self) -> (D, Option<FaultAt>)
         ensures content { D.content result.0 ≡ self.content }
+        ensures sound { (bytes : List ℕ) → D.content result.0 ≡ Some bytes → IsSoundAs self.format bytes }
         ensures capacity { D.capacity result.0 ≡ self.capacity }
         ensures faults { self.faults ≤ D.faults result.0 }
         ensures flushed { MatchOption result.1

@@ -2,6 +2,7 @@
 ghost use Rattle.std.specs.Prelude.{◌≡◌, ◌<◌, ◌≤◌, ℕ, List, IfOk, IfErr};
 ghost use Rattle.qblk.specs.Opened.{OpensAs, StopsAs, stop_by};
 
+use crate::input::block_buffer;
 use crate::medium::{Driver, Medium};
 use crate::status::InputWhy;
 use crate::words::Format;
@@ -65,9 +66,12 @@ fn open_qcow2<D: Device>(alloc: Global, device: D) -> Result<Medium<D>, (MediumS
     if image.has_backing_name() {
         return Err((MediumStop::Refused(InputWhy::NeedsBacking), device));
     }
+    let Ok(cluster) = block_buffer(alloc) else {
+        return Err((MediumStop::NoMemory, device));
+    };
     Ok(Medium {
         device,
-        driver: Driver::Qcow2(image),
+        driver: Driver::Qcow2 { image, cluster },
     })
 }
 

@@ -1,15 +1,16 @@
 //! One piece on a device.
-ghost use Rattle.std.specs.Prelude.{◌≡◌, ◌+◌, ◌<◌, ◌≤◌, ◌||◌, List, ℕ, [], true, is_ok, MatchOption, length, take, Option, Some, option_map, IsTrue};
+ghost use Rattle.std.specs.Prelude.{◌≡◌, ◌↔◌, ◌+◌, ◌<◌, ◌≤◌, ◌||◌, List, ℕ, [], true, is_ok, MatchOption, length, take, Option, Some, option_map, IsTrue};
 ghost use Rattle.blk_base.specs.Counts.{Rose};
 ghost use Rattle.blk_base.specs.Pieces.{count_of_pieces, piece_of, end_of};
 ghost use Rattle.q2_image.specs.Reading.{IsWithinCluster};
 ghost use Rattle.trace_codec.specs.Request.{pieces_of};
 ghost use Rattle.blk_base.specs.Content.{bytes_at, with_bytes};
-ghost use Rattle.blk_history.specs.Disk.{span_of, is_write, piece};
+ghost use Rattle.blk_history.specs.Disk.{span_of, piece};
 ghost use Rattle.blk_history.specs.Machine.{done_by};
-ghost use Rattle.qblk.specs.Steps.{HasCause, shown_of, IsPart, IsRead, IsWritten, IsFlush, shows_in};
+ghost use Rattle.qblk.specs.Space.{LacksSpace};
+ghost use Rattle.qblk.specs.Steps.{HasCause, outcome_of, shown_of, IsPart, IsRead, IsWritten, IsFlush, shows_in};
 
-use blk_base::{DevNo, Device, FaultAt, FaultFrom, Outcome, Span, Stop, piece_at};
+use blk_base::{DevNo, Device, FaultAt, FaultFrom, Outcome, Span, Stop, WriteStop, piece_at};
 use trace_codec::Op;
 
 /// The only device of this run.
@@ -22,16 +23,6 @@ pub(crate) fn request_span(op: &Op) -> Span
     match op {
         Op::Read(span) | Op::Write(span, _) | Op::Zero(span) | Op::Discard(span) => *span,
         Op::Flush => Span { start: 0, len: 0 },
-    }
-}
-
-/// Whether only a guest that may write can ask for it.
-pub(crate) fn is_write(op: &Op) -> bool
-    ensures { result ≡ is_write op.now }
-{
-    match op {
-        Op::Read(_) | Op::Flush => false,
-        Op::Write(..) | Op::Zero(_) | Op::Discard(_) => true,
     }
 }
 
@@ -102,10 +93,11 @@ pub(crate) fn load_bytes(bytes: &[u8], from: u64, buffer: &mut [u8])
 pub(crate) fn read_part<D: Device>(device: &mut D, part: Span, buffer: &mut [u8]) -> Outcome
     requires { length buffer.old ≡ part.len }
     ensures read { (disk : List ℕ) → D.content device.old ≡ Some disk → IsRead result disk part buffer.new }
+    ensures space { LacksSpace result → ⊥ }
     ensures content { D.content device.new ≡ D.content device.old }
     ensures flushed { D.is_flushed device.new ≡ D.is_flushed device.old }
     ensures size { D.size device.new ≡ D.size device.old }
-    ensures cause { HasCause (D.faults device.old) (D.faults device.new) (D.capacity device.old) part result }
+    ensures cause { HasCause (D.faults device.old) (D.faults device.new) result }
     ensures faults { D.faults device.old ≤ D.faults device.new }
     ensures capacity { D.capacity device.new ≡ D.capacity device.old }
 {
@@ -124,14 +116,21 @@ pub(crate) fn write_part<D: Device>(device: &mut D, part: Span, bytes: &[u8]) ->
     ensures written { IsWritten result part }
     ensures size { D.size device.old ≤ D.size device.new }
     ensures content { D.content device.new ≡ option_map (λ disk. with_bytes disk part.start (take (done_by result part) bytes.now)) (D.content device.old) }
-    ensures cause { HasCause (D.faults device.old) (D.faults device.new) (D.capacity device.old) part result }
+    ensures space { LacksSpace result ↔ (end_of part ≤ D.capacity device.old → ⊥) }
+    ensures cause { HasCause (D.faults device.old) (D.faults device.new) result }
     ensures faults { D.faults device.old ≤ D.faults device.new }
     ensures capacity { D.capacity device.new ≡ D.capacity device.old }
 {
-    let Err(stop) = device.write_at(part.start, bytes) else {
-        return Outcome::Good;
-    };
-    let count = device.faults();
+    match device.write_at(part.start, bytes) {
+        Ok(()) => Outcome::Good,
+        Err(stop) => write_outcome(stop, device.faults()),
+    }
+}
+
+/// How a write in place went that was stopped, with the device's count of faults behind it.
+pub(crate) fn write_outcome(stop: WriteStop, count: u64) -> Outcome
+    ensures { result ≡ outcome_of stop count }
+{
     match stop.why {
         Stop::NoSpace => Outcome::NoSpace { dev: DEVICE },
         Stop::Failed if stop.done == 0 => Outcome::Io { dev: DEVICE, count },
@@ -145,6 +144,7 @@ pub(crate) fn write_part<D: Device>(device: &mut D, part: Span, bytes: &[u8]) ->
 
 /// Flushes a device for a guest.
 pub(crate) fn flush_device<D: Device>(device: &mut D) -> Outcome
+    ensures space { LacksSpace result → ⊥ }
     ensures flushed { IsFlush (D.is_flushed device.old) (D.is_flushed device.new) (D.faults device.old) (D.faults device.new) result }
     ensures content { D.content device.new ≡ D.content device.old }
     ensures size { D.size device.new ≡ D.size device.old }

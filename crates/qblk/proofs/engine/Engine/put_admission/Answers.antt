@@ -13,10 +13,7 @@ invariant_of-self-2 g c =
       admitted = (
         c.args.op,
         rw c.note_admission-place.ensures.noted placed,
-        record {
-          allowed = sym c.forbids.ensures ∙ c.if-forbids.false;
-          inside = (let end : c.span.inside.start + c.span.inside.len ≡ end_of (span_of c.args.op) = ap end_of (is ∙ span) in omega arith);
-        },
+        (let end : c.span.inside.start + c.span.inside.len ≡ end_of (span_of c.args.op) = ap end_of (is ∙ span) in omega arith),
       );
       whole = c.self.invariant.whole;
       block = c.self.invariant.block;

@@ -1,7 +1,7 @@
 use Rattle.std.proofs.Common.{◌≡◌, ℕ, [], sym, ap, arith}
 use Rattle.blk_base.specs.Pieces.{Extent}
 use Rattle.q2_image.proofs.Mapped.{disk_read, disk_zero, disk_unmapped}
-use Rattle.qblk.proofs.medium.read_image.Goals as goal
+use Rattle.qblk.proofs.qcow2.read_image.Goals as goal
 
 pub read_own-requires-clause-cluster : goal.read_own-requires-clause-cluster
 read_own-requires-clause-cluster g c = let bits = c.cluster_size.ensures.bits in rw bits c.requires.block

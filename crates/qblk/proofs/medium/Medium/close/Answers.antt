@@ -1,0 +1,12 @@
+use Rattle.std.proofs.Common.{◌≡◌, List, ℕ, Some, sym, ap, subst, ◌∙◌}
+use Rattle.qblk.specs.Format.{IsSoundAs}
+use Rattle.qblk.specs.Medium.{Medium}
+use Rattle.qblk.specs.declared.words.Format.{Format}
+use Rattle.qblk.proofs.Disks.{sound-by}
+use Rattle.qblk.proofs.medium.Medium.close.Goals as goal
+
+pub returns-clause-sound : goal.returns-clause-sound
+returns-clause-sound g c = λ bytes told.
+    let P : Format → Type 0 = λ f. IsSoundAs f bytes in
+    subst P (ap (λ (m : Medium). m.format) c.self.view_is)
+    (sound-by c.self.inside.driver _ c.self.invariant bytes (sym c.last_flush-fault.ensures.content ∙ told))

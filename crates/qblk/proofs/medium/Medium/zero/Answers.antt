@@ -1,0 +1,19 @@
+use Rattle.std.proofs.Common.{◌≡◌, List, ℕ, Some, subst, arith}
+use Rattle.std.proofs.lemmas.List.{with_items_is}
+use Rattle.qblk.specs.Medium.{IsReadBy, HasBuffer}
+use Rattle.qblk.specs.declared.medium.Driver.{Driver}
+use Rattle.qblk.proofs.Disks.{known-image}
+use Rattle.qblk.proofs.medium.Medium.zero.Goals as goal
+
+pub zero_image-requires-clause-image : goal.zero_image-requires-clause-image
+zero_image-requires-clause-image g c = λ file told. let P : Driver → Type 0 = λ d. IsReadBy d file in subst P c.in-Qcow2.is (c.self.invariant.read file told)
+
+pub invariant_of-self-in-Qcow2 : goal.invariant_of-self-in-Qcow2
+invariant_of-self-in-Qcow2 g c =
+    let long = subst HasBuffer c.in-Qcow2.is c.self.invariant.buffer in
+    let new = c.zero_image.ensures.buffer in
+    let same = with_items_is c.in-Qcow2.cluster c.zero_image.new.cluster (omega (arith, long, new)) in
+    record { buffer = rw same new; read = c.zero_image.ensures.image.image }
+
+pub returns-in-Qcow2-clause-known : goal.returns-in-Qcow2-clause-known
+returns-in-Qcow2-clause-known g c = known-image _ c.zero_image.new.image c.zero_image.ensures.image.image
