@@ -8,7 +8,7 @@ ghost use Rattle.q2_format.specs.Entry.{host_of};
 ghost use Rattle.q2_format.specs.declared.entries.L2Entry.TheVariants.{Zero, Host};
 ghost use Rattle.q2_image.specs.Image.{IsImageOf, IsOpen, clusters_in, cluster_size_in, entry_in};
 ghost use Rattle.q2_image.specs.Reading.{IsHost, IsWithinCluster};
-ghost use Rattle.q2_image.specs.Writing.{IsDiskWith, IsSameDisk, HasEntriesBut, AreClusterZeros, PutFits, ZeroFits, HasWriteCause, IsFault, IsOwnStop, IsFailedOwn, own_end, autoclear_end, autocleared, HasHeaderOf};
+ghost use Rattle.q2_image.specs.Writing.{IsDiskWith, IsSameDisk, HasEntriesBut, IsSpelled, AreClusterZeros, PutFits, ZeroFits, HasWriteCause, IsFault, IsOwnStop, IsFailedOwn, own_end, autoclear_end, autocleared, HasHeaderOf};
 
 use crate::header::cluster_size;
 use crate::image::Image;
@@ -36,6 +36,7 @@ impl Image {
 
         // the image
         ensures mapped { OnOk result (IsHost (entry_in self.new cluster)) }
+        ensures spelled { OnOk result (IsSpelled self.new cluster) }
         ensures unmapped { OnErr result (entry_in self.new cluster ≡ entry_in self.old cluster) }
         ensures others { HasEntriesBut self.old self.new cluster }
         ensures header { HasHeaderOf self.old self.new }
@@ -69,6 +70,7 @@ impl Image {
 
         // the image
         ensures mapped { OnOk result (entry_in self.new cluster ≡ Zero (host_of (entry_in self.old cluster))) }
+        ensures spelled { OnOk result (IsSpelled self.new cluster) }
         ensures unmapped { OnErr result (entry_in self.new cluster ≡ entry_in self.old cluster) }
         ensures others { HasEntriesBut self.old self.new cluster }
         ensures header { HasHeaderOf self.old self.new }
@@ -167,6 +169,7 @@ impl Image {
         requires fits { PutFits self.old cluster (D.capacity dev.old) }
         requires image { (file : List ℕ) → D.content dev.old ≡ Some file → IsImageOf file self.old }
         ensures mapped { OnOk result (IsHost (entry_in self.new cluster)) }
+        ensures spelled { OnOk result (IsSpelled self.new cluster) }
         ensures unmapped { OnErr result (entry_in self.new cluster ≡ entry_in self.old cluster) }
         ensures others { HasEntriesBut self.old self.new cluster }
         ensures header { HasHeaderOf self.old self.new }
@@ -190,6 +193,7 @@ impl Image {
         requires fits { ZeroFits self.old cluster (D.capacity dev.old) }
         requires image { (file : List ℕ) → D.content dev.old ≡ Some file → IsImageOf file self.old }
         ensures mapped { OnOk result (entry_in self.new cluster ≡ Zero (host_of (entry_in self.old cluster))) }
+        ensures spelled { OnOk result (IsSpelled self.new cluster) }
         ensures unmapped { OnErr result (entry_in self.new cluster ≡ entry_in self.old cluster) }
         ensures others { HasEntriesBut self.old self.new cluster }
         ensures header { HasHeaderOf self.old self.new }
