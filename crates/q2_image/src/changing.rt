@@ -1,14 +1,14 @@
 //! The calls that change an image: each looks first whether there is room for all that it writes.
 
-ghost use Rattle.std.specs.Prelude.{◌≡◌, ◌↔◌, ◌⊎◌, ◌+◌, ◌*◌, ◌/◌, ◌%◌, ◌<◌, ◌≤◌, max, ℕ, Bool, true, ◌||◌, List, length, Option, Some, is_some, is_ok, option_map, Err, IfErr, OnOk, OnErr};
+ghost use Rattle.std.specs.Prelude.{◌≡◌, ◌↔◌, ◌⊎◌, ◌+◌, ◌*◌, ◌/◌, ◌%◌, ◌<◌, ◌≤◌, max, ℕ, Bool, true, ◌||◌, List, length, slice_index, Option, Some, is_some, is_ok, option_map, Err, IfErr, OnOk, OnErr};
 ghost use Rattle.blk_base.specs.Counts.{taken, Rose};
 ghost use Rattle.blk_base.specs.declared.device.Stop.TheVariants as why;
 ghost use Rattle.blk_base.specs.declared.fault.DevStop.TheVariants.{NoSpace};
-ghost use Rattle.q2_format.specs.Entry.{host_of};
+ghost use Rattle.q2_format.specs.Entry.{host_of, is_single};
 ghost use Rattle.q2_format.specs.declared.entries.L2Entry.TheVariants.{Zero, Host};
 ghost use Rattle.q2_image.specs.Image.{IsImageOf, IsOpen, clusters_in, cluster_size_in, entry_in};
 ghost use Rattle.q2_image.specs.Reading.{IsHost, IsWithinCluster};
-ghost use Rattle.q2_image.specs.Writing.{IsDiskWith, IsSameDisk, HasEntriesBut, IsSpelled, AreClusterZeros, PutFits, ZeroFits, HasWriteCause, IsFault, IsOwnStop, IsFailedOwn, own_end, autoclear_end, autocleared, HasHeaderOf};
+ghost use Rattle.q2_image.specs.Writing.{IsDiskWith, IsSameDisk, HasEntriesBut, IsSpelled, AreClusterZeros, PutFits, ZeroFits, needs_host, HasWriteCause, IsFault, IsOwnStop, IsFailedOwn, own_end, autoclear_end, autocleared, HasHeaderOf};
 
 use crate::header::cluster_size;
 use crate::image::Image;
@@ -20,6 +20,7 @@ impl Image {
     /// clusters that nothing names, for an L2 table where the guest cluster has none and for the data; the data; and the
     /// entry, which alone makes them visible. Behind an entry that reads as zeros and has a host cluster the data go
     /// there. A cluster that was mapped before gets another host cluster, and the old one is left, counted and unused.
+    /// Bit 63 of the entry is set exactly where the refcount of its host cluster is one, as that of a taken one is.
     ///
     /// `NoSpace` comes exactly where a write would end above the capacity, or a cluster that is needed isn't below the
     /// reach. After each refusal the image is sound and no byte of its disk has changed; clusters that were taken stay
@@ -37,6 +38,7 @@ impl Image {
         // the image
         ensures mapped { OnOk result (IsHost (entry_in self.new cluster)) }
         ensures spelled { OnOk result (IsSpelled self.new cluster) }
+        ensures single { OnOk result (needs_host self.old cluster ≡ true → is_single (slice_index self.new.tables.words cluster) ≡ true) }
         ensures unmapped { OnErr result (entry_in self.new cluster ≡ entry_in self.old cluster) }
         ensures others { HasEntriesBut self.old self.new cluster }
         ensures header { HasHeaderOf self.old self.new }
@@ -170,6 +172,7 @@ impl Image {
         requires image { (file : List ℕ) → D.content dev.old ≡ Some file → IsImageOf file self.old }
         ensures mapped { OnOk result (IsHost (entry_in self.new cluster)) }
         ensures spelled { OnOk result (IsSpelled self.new cluster) }
+        ensures single { OnOk result (needs_host self.old cluster ≡ true → is_single (slice_index self.new.tables.words cluster) ≡ true) }
         ensures unmapped { OnErr result (entry_in self.new cluster ≡ entry_in self.old cluster) }
         ensures others { HasEntriesBut self.old self.new cluster }
         ensures header { HasHeaderOf self.old self.new }

@@ -1,6 +1,6 @@
 //! Writing an image: taking clusters, writing what they hold, and mapping guest clusters to them.
 
-ghost use Rattle.std.specs.Prelude.{◌≡◌, ◌≢◌, ◌↔◌, ◌⊎◌, ◌+◌, ◌*◌, ◌/◌, ◌%◌, ◌<◌, ◌≤◌, ℕ, List, [], length, Some, is_some, IsTrue, true, IfOk, IfErr, OnOk, OnErr};
+ghost use Rattle.std.specs.Prelude.{◌≡◌, ◌≢◌, ◌↔◌, ◌⊎◌, ◌+◌, ◌*◌, ◌/◌, ◌%◌, ◌<◌, ◌≤◌, ℕ, List, [], length, slice_index, Some, is_some, IsTrue, true, IfOk, IfErr, OnOk, OnErr};
 ghost use Rattle.blk_base.specs.Counts.{taken};
 ghost use Rattle.q2_format.specs.Bytes.{bytes_at};
 ghost use Rattle.q2_format.specs.declared.entries.L2Entry.TheVariants.{Zero};
@@ -8,7 +8,7 @@ ghost use Rattle.q2_format.specs.Header.{header_of};
 ghost use Rattle.q2_format.specs.Tables.{refcount_of};
 ghost use Rattle.q2_refs.specs.Allocating.{with_block_for};
 ghost use Rattle.q2_refs.specs.Free.{free_cluster};
-ghost use Rattle.q2_format.specs.Entry.{IsWritable, host_of};
+ghost use Rattle.q2_format.specs.Entry.{IsWritable, host_of, is_single};
 ghost use Rattle.q2_tables.specs.Entries.{entry_of};
 ghost use Rattle.q2_tables.specs.Linking.{stop_of, CanLink, link_end};
 ghost use Rattle.q2_image.specs.Image.{IsImageOf, IsOpen, clusters_in, cluster_size_in, entry_in};
@@ -212,6 +212,7 @@ impl Image {
         requires image { (file : List ℕ) → D.content dev.old ≡ Some file → IsImageOf file self.old }
         ensures mapped { OnOk result (IsHost (entry_in self.new cluster)) }
         ensures spelled { OnOk result (IsSpelled self.new cluster) }
+        ensures single { OnOk result (needs_host self.old cluster ≡ true → is_single (slice_index self.new.tables.words cluster) ≡ true) }
         ensures unmapped { OnErr result (entry_in self.new cluster ≡ entry_in self.old cluster) }
         ensures others { HasEntriesBut self.old self.new cluster }
         ensures header { self.new.header ≡ self.old.header }
