@@ -123,7 +123,7 @@ module _ (image : Known) (cluster table single_word : ℕ) (entry : L2Entry) (si
       → HasEntriesBut image (record image { tables = next }) cluster
   others_after next (Ok t) linked kept =
       let P : tables.Kept → Type 0 = λ k. HasEntriesBut image (record image { tables = k }) cluster in
-      subst P (sym linked) (λ q other. ap l2_entry (get_or-set_other image.tables.words cluster q single_word 0 other))
+      subst P (sym linked) (λ q other. get_or-set_other image.tables.words cluster q single_word 0 other)
   others_after next (Err stop) linked kept =
       let P : tables.Kept → Type 0 = λ k. HasEntriesBut image (record image { tables = k }) cluster in
       subst P (sym kept) (λ q other. refl)

@@ -18,7 +18,7 @@ use Rattle.q2_refs.specs.Allocating.{end_of_allocation, with_one, with_block_for
 use Rattle.q2_refs.specs.Free.{free_cluster}
 use Rattle.q2_refs.specs.Kept as refs
 use Rattle.q2_tables.specs.Linking.{table_of, link_end}
-use Rattle.q2_image.specs.Image.{Known, cluster_size_in, entry_in}
+use Rattle.q2_image.specs.Image.{Known, cluster_size_in, word_in, entry_in}
 
 -- What changes of a disk.
 
@@ -39,9 +39,9 @@ IsSameDisk old new = IsDiskWith old new 0 []
 abbrev pub autocleared : Known → Known
 autocleared image = record image { header = record image.header { autoclear = 0 } }
 
--- all guest clusters but one have the entries that they had
+-- all guest clusters but one have the entries that they had, bit for bit
 abbrev pub HasEntriesBut : Known → Known → ℕ → Type 0
-HasEntriesBut old new but = (cluster : ℕ) → cluster ≢ but → entry_in new cluster ≡ entry_in old cluster
+HasEntriesBut old new but = (cluster : ℕ) → cluster ≢ but → word_in new cluster ≡ word_in old cluster
 
 -- there is a host cluster at an offset, and its refcount is exactly one
 abbrev pub counts_once : Known → ℕ → Bool
@@ -52,7 +52,7 @@ counts_once image host = not (host == 0) && slice_index image.refs.counts (host 
 abbrev pub IsSpelled : Known → ℕ → Type 0
 IsSpelled image cluster =
     let entry = entry_in image cluster in
-    slice_index image.tables.words cluster ≡ l2_spelling entry (counts_once image (host_of entry))
+    word_in image cluster ≡ l2_spelling entry (counts_once image (host_of entry))
 
 -- a cluster that counts, and that nothing names
 pub record IsSpare (file : List ℕ) (cluster : ℕ) : Type 0 where

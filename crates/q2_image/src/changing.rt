@@ -1,12 +1,12 @@
 //! The calls that change an image: each looks first whether there is room for all that it writes.
 
-ghost use Rattle.std.specs.Prelude.{◌≡◌, ◌↔◌, ◌⊎◌, ◌+◌, ◌*◌, ◌/◌, ◌%◌, ◌<◌, ◌≤◌, max, ℕ, Bool, true, ◌||◌, List, length, slice_index, Option, Some, is_some, is_ok, option_map, Err, IfErr, OnOk, OnErr};
+ghost use Rattle.std.specs.Prelude.{◌≡◌, ◌↔◌, ◌⊎◌, ◌+◌, ◌*◌, ◌/◌, ◌%◌, ◌<◌, ◌≤◌, max, ℕ, Bool, true, ◌||◌, List, length, Option, Some, is_some, is_ok, option_map, Err, IfErr, OnOk, OnErr};
 ghost use Rattle.blk_base.specs.Counts.{taken, Rose};
 ghost use Rattle.blk_base.specs.declared.device.Stop.TheVariants as why;
 ghost use Rattle.blk_base.specs.declared.fault.DevStop.TheVariants.{NoSpace};
 ghost use Rattle.q2_format.specs.Entry.{host_of, is_single};
 ghost use Rattle.q2_format.specs.declared.entries.L2Entry.TheVariants.{Zero, Host};
-ghost use Rattle.q2_image.specs.Image.{IsImageOf, IsOpen, clusters_in, cluster_size_in, entry_in};
+ghost use Rattle.q2_image.specs.Image.{IsImageOf, IsOpen, clusters_in, cluster_size_in, word_in, entry_in};
 ghost use Rattle.q2_image.specs.Reading.{IsHost, IsWithinCluster};
 ghost use Rattle.q2_image.specs.Writing.{IsDiskWith, IsSameDisk, HasEntriesBut, IsSpelled, AreClusterZeros, PutFits, ZeroFits, needs_host, HasWriteCause, IsFault, IsOwnStop, IsFailedOwn, own_end, autoclear_end, autocleared, HasHeaderOf};
 
@@ -38,8 +38,8 @@ impl Image {
         // the image
         ensures mapped { OnOk result (IsHost (entry_in self.new cluster)) }
         ensures spelled { OnOk result (IsSpelled self.new cluster) }
-        ensures single { OnOk result (needs_host self.old cluster ≡ true → is_single (slice_index self.new.tables.words cluster) ≡ true) }
-        ensures unmapped { OnErr result (entry_in self.new cluster ≡ entry_in self.old cluster) }
+        ensures single { OnOk result (needs_host self.old cluster ≡ true → is_single (word_in self.new cluster) ≡ true) }
+        ensures unmapped { OnErr result (word_in self.new cluster ≡ word_in self.old cluster) }
         ensures others { HasEntriesBut self.old self.new cluster }
         ensures header { HasHeaderOf self.old self.new }
         ensures image { (file : List ℕ) → D.content dev.new ≡ Some file → IsImageOf file self.new }
@@ -73,7 +73,7 @@ impl Image {
         // the image
         ensures mapped { OnOk result (entry_in self.new cluster ≡ Zero (host_of (entry_in self.old cluster))) }
         ensures spelled { OnOk result (IsSpelled self.new cluster) }
-        ensures unmapped { OnErr result (entry_in self.new cluster ≡ entry_in self.old cluster) }
+        ensures unmapped { OnErr result (word_in self.new cluster ≡ word_in self.old cluster) }
         ensures others { HasEntriesBut self.old self.new cluster }
         ensures header { HasHeaderOf self.old self.new }
         ensures image { (file : List ℕ) → D.content dev.new ≡ Some file → IsImageOf file self.new }
@@ -172,8 +172,8 @@ impl Image {
         requires image { (file : List ℕ) → D.content dev.old ≡ Some file → IsImageOf file self.old }
         ensures mapped { OnOk result (IsHost (entry_in self.new cluster)) }
         ensures spelled { OnOk result (IsSpelled self.new cluster) }
-        ensures single { OnOk result (needs_host self.old cluster ≡ true → is_single (slice_index self.new.tables.words cluster) ≡ true) }
-        ensures unmapped { OnErr result (entry_in self.new cluster ≡ entry_in self.old cluster) }
+        ensures single { OnOk result (needs_host self.old cluster ≡ true → is_single (word_in self.new cluster) ≡ true) }
+        ensures unmapped { OnErr result (word_in self.new cluster ≡ word_in self.old cluster) }
         ensures others { HasEntriesBut self.old self.new cluster }
         ensures header { HasHeaderOf self.old self.new }
         ensures image { (file : List ℕ) → D.content dev.new ≡ Some file → IsImageOf file self.new }
@@ -197,7 +197,7 @@ impl Image {
         requires image { (file : List ℕ) → D.content dev.old ≡ Some file → IsImageOf file self.old }
         ensures mapped { OnOk result (entry_in self.new cluster ≡ Zero (host_of (entry_in self.old cluster))) }
         ensures spelled { OnOk result (IsSpelled self.new cluster) }
-        ensures unmapped { OnErr result (entry_in self.new cluster ≡ entry_in self.old cluster) }
+        ensures unmapped { OnErr result (word_in self.new cluster ≡ word_in self.old cluster) }
         ensures others { HasEntriesBut self.old self.new cluster }
         ensures header { HasHeaderOf self.old self.new }
         ensures image { (file : List ℕ) → D.content dev.new ≡ Some file → IsImageOf file self.new }

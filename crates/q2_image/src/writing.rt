@@ -1,6 +1,6 @@
 //! Writing an image: taking clusters, writing what they hold, and mapping guest clusters to them.
 
-ghost use Rattle.std.specs.Prelude.{◌≡◌, ◌≢◌, ◌↔◌, ◌⊎◌, ◌+◌, ◌*◌, ◌/◌, ◌%◌, ◌<◌, ◌≤◌, ℕ, List, [], length, slice_index, Some, is_some, IsTrue, true, IfOk, IfErr, OnOk, OnErr};
+ghost use Rattle.std.specs.Prelude.{◌≡◌, ◌≢◌, ◌↔◌, ◌⊎◌, ◌+◌, ◌*◌, ◌/◌, ◌%◌, ◌<◌, ◌≤◌, ℕ, List, [], length, Some, is_some, IsTrue, true, IfOk, IfErr, OnOk, OnErr};
 ghost use Rattle.blk_base.specs.Counts.{taken};
 ghost use Rattle.q2_format.specs.Bytes.{bytes_at};
 ghost use Rattle.q2_format.specs.declared.entries.L2Entry.TheVariants.{Zero};
@@ -11,7 +11,7 @@ ghost use Rattle.q2_refs.specs.Free.{free_cluster};
 ghost use Rattle.q2_format.specs.Entry.{IsWritable, host_of, is_single};
 ghost use Rattle.q2_tables.specs.Entries.{entry_of};
 ghost use Rattle.q2_tables.specs.Linking.{stop_of, CanLink, link_end};
-ghost use Rattle.q2_image.specs.Image.{IsImageOf, IsOpen, clusters_in, cluster_size_in, entry_in};
+ghost use Rattle.q2_image.specs.Image.{IsImageOf, IsOpen, clusters_in, cluster_size_in, word_in, entry_in};
 ghost use Rattle.q2_image.specs.Reading.{IsHost, IsWithinCluster};
 ghost use Rattle.q2_image.specs.Writing.{IsDiskWith, IsSameDisk, HasEntriesBut, IsSpelled, counts_once, IsSpare, IsIdle, MayName, Shows, PutFits, ZeroFits, AreClusterZeros, CanTake, IsFault, HasSameEntries, taken_at, after_take, needs_table, needs_host, idle_host, next_host, table_for, with_table, with_host};
 
@@ -212,8 +212,8 @@ impl Image {
         requires image { (file : List ℕ) → D.content dev.old ≡ Some file → IsImageOf file self.old }
         ensures mapped { OnOk result (IsHost (entry_in self.new cluster)) }
         ensures spelled { OnOk result (IsSpelled self.new cluster) }
-        ensures single { OnOk result (needs_host self.old cluster ≡ true → is_single (slice_index self.new.tables.words cluster) ≡ true) }
-        ensures unmapped { OnErr result (entry_in self.new cluster ≡ entry_in self.old cluster) }
+        ensures single { OnOk result (needs_host self.old cluster ≡ true → is_single (word_in self.new cluster) ≡ true) }
+        ensures unmapped { OnErr result (word_in self.new cluster ≡ word_in self.old cluster) }
         ensures others { HasEntriesBut self.old self.new cluster }
         ensures header { self.new.header ≡ self.old.header }
         ensures image { (file : List ℕ) → D.content dev.new ≡ Some file → IsImageOf file self.new }
@@ -238,7 +238,7 @@ impl Image {
         requires image { (file : List ℕ) → D.content dev.old ≡ Some file → IsImageOf file self.old }
         ensures mapped { OnOk result (entry_in self.new cluster ≡ Zero (host_of (entry_in self.old cluster))) }
         ensures spelled { OnOk result (IsSpelled self.new cluster) }
-        ensures unmapped { OnErr result (entry_in self.new cluster ≡ entry_in self.old cluster) }
+        ensures unmapped { OnErr result (word_in self.new cluster ≡ word_in self.old cluster) }
         ensures others { HasEntriesBut self.old self.new cluster }
         ensures header { self.new.header ≡ self.old.header }
         ensures image { (file : List ℕ) → D.content dev.new ≡ Some file → IsImageOf file self.new }
