@@ -34,10 +34,11 @@ pub record IsImageOf (file : List ℕ) (image : Known) : Type 0 where
   pub tables : IsTreeOf (cluster_size_in image) image.tables (active_tree file image.header)
   pub refs : IsCountsOf file image.header image.refs
 
--- the L2 entry of a guest cluster, as it is known, and its word
+-- the word of a guest cluster's L2 entry, as it is known
 abbrev pub word_in : Known → ℕ → ℕ
 word_in image cluster = slice_index image.tables.words cluster
 
+-- what the entry says
 abbrev pub entry_in : Known → ℕ → L2Entry
 entry_in image cluster = l2_entry (word_in image cluster)
 
