@@ -14,9 +14,9 @@ use Rattle.q2_format.proofs.Words.{entry_of_spelling}
 use Rattle.q2_tables.specs.Kept.{IsTreeOf, is_plain}
 use Rattle.q2_tables.specs.Kept as tables
 use Rattle.q2_tables.specs.Linking.{CanLink, FileAfter, entry_at, l1_index, link_end, table_len, with_entry}
-use Rattle.std.proofs.lemmas.List.{get_or-set_same}
+use Rattle.std.proofs.lemmas.List.{get_or-set_same, get_or-set_other}
 use Rattle.q2_image.specs.Image.{Known, IsImageOf, IsOpen, cluster_size_in, entry_in}
-use Rattle.q2_image.specs.Writing.{IsDiskWith, IsSameDisk, IsSpare, MayName, Shows}
+use Rattle.q2_image.specs.Writing.{IsDiskWith, IsSameDisk, HasEntriesBut, IsSpelled, counts_once, IsSpare, MayName, Shows}
 use Rattle.q2_image.proofs.EntryWrites.{entry_place, short}
 use Rattle.q2_image.proofs.HostUses.{host_entry, zero_entry, size_in}
 use Rattle.q2_image.proofs.LinkedImage.{open_linked}
@@ -109,6 +109,24 @@ module _ (image : Known) (cluster table single_word : ℕ) (entry : L2Entry) (si
       let P : tables.Kept → Type 0 = λ k. entry_in (record image { tables = k }) cluster ≡ entry in
       subst P (sym linked) (ap l2_entry (get_or-set_same image.tables.words cluster single_word 0 below) ∙ is_entry)
   entry_after next (Err stop) linked = tt
+
+  pub spelled_after : (next : tables.Kept) (result : Result (Unit {0}) DevStop) → single ≡ counts_once image (host_of entry)
+      → OnOk result (next ≡ with_entry image.tables cluster single_word table) → OnOk result (IsSpelled (record image { tables = next }) cluster)
+  spelled_after next (Ok t) counted linked =
+      let P : tables.Kept → Type 0 = λ k. IsSpelled (record image { tables = k }) cluster in
+      let word = get_or-set_same image.tables.words cluster single_word 0 below in
+      let same = ap l2_entry word ∙ is_entry in
+      subst P (sym linked) (word ∙ is_word ∙ ap (l2_spelling entry) counted ∙ ap (λ (e : L2Entry). l2_spelling e (counts_once image (host_of e))) (sym same))
+  spelled_after next (Err stop) counted linked = tt
+
+  pub others_after : (next : tables.Kept) (result : Result (Unit {0}) DevStop) → OnOk result (next ≡ with_entry image.tables cluster single_word table) → OnErr result (next ≡ image.tables)
+      → HasEntriesBut image (record image { tables = next }) cluster
+  others_after next (Ok t) linked kept =
+      let P : tables.Kept → Type 0 = λ k. HasEntriesBut image (record image { tables = k }) cluster in
+      subst P (sym linked) (λ q other. get_or-set_other image.tables.words cluster q single_word 0 other)
+  others_after next (Err stop) linked kept =
+      let P : tables.Kept → Type 0 = λ k. HasEntriesBut image (record image { tables = k }) cluster in
+      subst P (sym kept) (λ q other. refl)
 
   -- The file.
   module _ (old new : List ℕ) (is : IsImageOf old image) (spare : table ≢ 0 → IsSpare old (table / 65536)) (whole : table % 65536 ≡ 0) (near : table + 65536 ≤ 549755813888)

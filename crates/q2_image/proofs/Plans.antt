@@ -1,11 +1,15 @@
 -- What a put needs of each of its steps, where there is room for it.
-use Rattle.std.proofs.Common.{◌≡◌, ◌≢◌, ℕ, ◌+◌, ◌*◌, ◌%◌, ◌^◌, ◌<◌, ◌≤◌, Bool, true, false, cond, List, length, get_or, slice_index_or, refl, sym, ap, subst, ◌∙◌, arith}
-use Rattle.std.proofs.lemmas.Bool.{eqb-true, eqb-false}
-use Rattle.q2_format.specs.Entry.{l2_entry, host_of, IsWritable, host_offset, is_compressed}
+use Rattle.std.proofs.Common.{◌≡◌, ◌≢◌, ℕ, ◌+◌, ◌*◌, ◌/◌, ◌%◌, ◌^◌, ◌<◌, ◌≤◌, Bool, true, false, cond, List, length, get_or, slice_index_or, Result, Ok, Err, OnOk, refl, sym, ap, subst, ◌∙◌, arith}
+use Rattle.std.proofs.lemmas.Bool.{eqb-true, eqb-false, ne_eqb}
+use Rattle.std.proofs.lemmas.List.{get_or-set_same}
+use Rattle.blk_base.specs.declared.fault.DevStop.{DevStop}
+use Rattle.q2_format.specs.Entry.{l2_entry, l2_spelling, is_single, host_of, IsWritable, host_offset, is_compressed}
 use Rattle.q2_format.specs.References.{own_offset}
 use Rattle.q2_format.specs.declared.entries.L2Entry.{L2Entry}
 use Rattle.q2_format.specs.declared.entries.L2Entry.TheVariants.{Unallocated, Zero, Host, Compressed, Reserved}
-use Rattle.q2_refs.specs.Allocating.{end_of_allocation}
+use Rattle.q2_format.specs.declared.header.Header.{Header}
+use Rattle.q2_format.proofs.Words.{single_of_spelling}
+use Rattle.q2_refs.specs.Allocating.{end_of_allocation, with_block_for}
 use Rattle.q2_refs.specs.Free.{free_cluster}
 use Rattle.q2_refs.specs.Kept.{per_block}
 use Rattle.q2_refs.specs.Kept as refs
@@ -14,10 +18,10 @@ use Rattle.q2_refs.proofs.FreeClusters.{first_free_cluster, given_count, free_ta
 use Rattle.q2_tables.specs.Kept as tables
 use Rattle.q2_tables.specs.Linking.{CanLink, link_end, table_of}
 use Rattle.q2_image.specs.Image.{Known, IsOpen, HasRoom, cluster_size_in, entry_in}
-use Rattle.q2_image.specs.Writing.{CanTake, PutFits, ZeroFits, needs_table, needs_host, idle_host, taken_at, table_for, host_for, next_host, after_take, with_taken, with_table, with_host}
+use Rattle.q2_image.specs.Writing.{IsSpelled, counts_once, CanTake, PutFits, ZeroFits, needs_table, needs_host, idle_host, taken_at, table_for, host_for, next_host, after_take, with_taken, with_table, with_host}
 use Rattle.q2_image.proofs.HostUses.{size_in, zero_entry}
 use Rattle.q2_image.proofs.LinkTold.{own_of_plain}
-use Rattle.q2_image.proofs.Taken.{open_with_refs, ready_taken}
+use Rattle.q2_image.proofs.Taken.{open_with_refs, ready_block_for, ready_taken}
 
 -- The clusters that are taken.
 
@@ -62,6 +66,23 @@ not_first image ready below =
     let n : ℕ = free_cluster image.refs 0 in
     let first = first_free_cluster image.refs n refl (λ e. omega (arith, e, below)) in
     λ zero_there. ready.first (ap (λ (m : ℕ). get_or image.refs.counts m 0) (sym zero_there) ∙ given_count image.refs n first.2)
+
+-- The refcount of a cluster that was taken is one.
+
+count_taken : (image : Known) → cluster_size_in image ≡ 65536 → free_cluster image.refs 0 < length image.refs.counts
+    → get_or (after_take image.refs).counts (taken_at image 0 / cluster_size_in image) 0 ≡ 1
+count_taken image size below =
+    let n : ℕ = free_cluster image.refs 0 in
+    let counts : List ℕ = (with_block_for image.refs n).counts in
+    let len = (ready_block_for image.refs n).reach in
+    ap (λ (k : ℕ). get_or (after_take image.refs).counts k 0) (number n (cluster_size_in image) size)
+    ∙ get_or-set_same counts n 1 0 (omega (arith, len, below))
+  where
+    number : (n size : ℕ) → size ≡ 65536 → n * size / size ≡ n
+    number n size is = rw is (omega arith)
+
+once_by_count : (image : Known) (host : ℕ) → host ≢ 0 → get_or image.refs.counts (host / cluster_size_in image) 0 ≡ 1 → counts_once image host ≡ true
+once_by_count image host some one = let test = ne_eqb host 0 some in rw (test, one) refl
 
 -- Images in between.
 
@@ -326,6 +347,26 @@ module _ (zeroth first second : Known) (cluster table host capacity : ℕ) (put 
       let own : host ≡ taken_at first 0 = put.host_is ∙ ap (λ (b : Bool). cond b (taken_at first 0) (idle_host (entry_in first cluster))) test in
       let at = offset_of first capacity open_first (can_first test) in
       ap (λ (n : ℕ). n % 65536) own ∙ at.whole
+
+  -- and counts once
+  taken_once : needs_host first cluster ≡ true → counts_once second host ≡ true
+  taken_once test =
+      let own : host ≡ taken_at first 0 = put.host_is ∙ ap (λ (b : Bool). cond b (taken_at first 0) (idle_host (entry_in first cluster))) test in
+      let is : second ≡ with_taken first = put.second_is ∙ ap (λ (b : Bool). cond b (with_taken first) first) test in
+      let one = count_taken first (size_in first open_first) (can_first test).below in
+      let once = once_by_count (with_taken first) (taken_at first 0) (offset_of first capacity open_first (can_first test)).some one in
+      ap (λ (k : Known). counts_once k host) is ∙ ap (counts_once (with_taken first)) own ∙ once
+
+  pub single_after : (next : Known) (result : Result (Unit {0}) DevStop) → next.header ≡ second.header → next.refs ≡ second.refs
+      → OnOk result (entry_in next cluster ≡ Host host) → OnOk result (IsSpelled next cluster)
+      → OnOk result (needs_host zeroth cluster ≡ true → is_single (get_or next.tables.words cluster 0) ≡ true)
+  single_after next (Ok t) header counts entry spelled = λ needs.
+      let test = ap (λ (k : Known). needs_host k cluster) put.first_is ∙ needs_if (needs_table zeroth cluster) zeroth cluster ∙ needs in
+      let C : Header → refs.Kept → Bool = λ h r. counts_once (record { header = h; tables = next.tables; refs = r }) host in
+      let once : counts_once next host ≡ true = ap (λ (h : Header). C h next.refs) header ∙ ap (C second.header) counts ∙ taken_once test in
+      let word = spelled ∙ ap (λ (e : L2Entry). l2_spelling e (counts_once next (host_of e))) entry ∙ ap (l2_spelling (Host host)) once in
+      ap is_single word ∙ single_of_spelling (Host host) true host_facts.writable
+  single_after next (Err stop) header counts entry spelled = tt
 
 -- The host cluster that a guest cluster keeps when it is made to read as zeros.
 pub record IsKeptHost (image : Known) (cluster host : ℕ) : Type 0 where

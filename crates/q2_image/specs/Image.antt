@@ -34,9 +34,13 @@ pub record IsImageOf (file : List ℕ) (image : Known) : Type 0 where
   pub tables : IsTreeOf (cluster_size_in image) image.tables (active_tree file image.header)
   pub refs : IsCountsOf file image.header image.refs
 
--- the L2 entry of a guest cluster, as it is known
+-- the word of a guest cluster's L2 entry, as it is known
+abbrev pub word_in : Known → ℕ → ℕ
+word_in image cluster = slice_index image.tables.words cluster
+
+-- what the entry says
 abbrev pub entry_in : Known → ℕ → L2Entry
-entry_in image cluster = l2_entry (slice_index image.tables.words cluster)
+entry_in image cluster = l2_entry (word_in image cluster)
 
 -- refcounts in the shape that is supported: the table has an entry for each
 pub record HasRoom (kept : refs.Kept) : Type 0 where

@@ -1,12 +1,12 @@
 -- Writing an image: what changes of its disk, and when there is room for it.
-use Rattle.std.specs.Prelude.{◌≡◌, ◌≢◌, ◌⊎◌, ℕ, ◌+◌, ◌*◌, ◌/◌, ◌%◌, ◌<◌, ◌≤◌, max, ◌==◌, Bool, true, if◌then◌else◌, ⊤, List, [], length, slice_index}
+use Rattle.std.specs.Prelude.{◌≡◌, ◌≢◌, ◌⊎◌, ℕ, ◌+◌, ◌*◌, ◌/◌, ◌%◌, ◌<◌, ◌≤◌, max, ◌==◌, Bool, true, not, ◌&&◌, if◌then◌else◌, ⊤, List, [], length, slice_index}
 use Rattle.blk_base.specs.Counts.{Rose}
 use Rattle.blk_base.specs.Pieces.{Extent}
 use Rattle.blk_base.specs.declared.device.WriteStop.{WriteStop}
 use Rattle.blk_base.specs.declared.device.Stop.TheVariants as why
 use Rattle.blk_base.specs.declared.fault.DevStop.{DevStop}
 use Rattle.blk_base.specs.declared.fault.DevStop.TheVariants.{Io, NoSpace}
-use Rattle.q2_format.specs.Entry.{host_of}
+use Rattle.q2_format.specs.Entry.{host_of, l2_spelling}
 use Rattle.q2_format.specs.Header.{header_of}
 use Rattle.q2_format.specs.Contents.{guest_byte}
 use Rattle.q2_format.specs.Bytes.{bytes_at}
@@ -18,7 +18,7 @@ use Rattle.q2_refs.specs.Allocating.{end_of_allocation, with_one, with_block_for
 use Rattle.q2_refs.specs.Free.{free_cluster}
 use Rattle.q2_refs.specs.Kept as refs
 use Rattle.q2_tables.specs.Linking.{table_of, link_end}
-use Rattle.q2_image.specs.Image.{Known, cluster_size_in, entry_in}
+use Rattle.q2_image.specs.Image.{Known, cluster_size_in, word_in, entry_in}
 
 -- What changes of a disk.
 
@@ -39,9 +39,20 @@ IsSameDisk old new = IsDiskWith old new 0 []
 abbrev pub autocleared : Known → Known
 autocleared image = record image { header = record image.header { autoclear = 0 } }
 
--- all guest clusters but one have the entries that they had
+-- all guest clusters but one have the entries that they had, bit for bit
 abbrev pub HasEntriesBut : Known → Known → ℕ → Type 0
-HasEntriesBut old new but = (cluster : ℕ) → cluster ≢ but → entry_in new cluster ≡ entry_in old cluster
+HasEntriesBut old new but = (cluster : ℕ) → cluster ≢ but → word_in new cluster ≡ word_in old cluster
+
+-- there is a host cluster at an offset, and its refcount is exactly one
+abbrev pub counts_once : Known → ℕ → Bool
+counts_once image host = not (host == 0) && slice_index image.refs.counts (host / cluster_size_in image) == 1
+
+-- The kept word of a guest cluster spells its entry, with bit 63 set exactly where there is a host cluster that
+-- counts once.
+abbrev pub IsSpelled : Known → ℕ → Type 0
+IsSpelled image cluster =
+    let entry = entry_in image cluster in
+    word_in image cluster ≡ l2_spelling entry (counts_once image (host_of entry))
 
 -- a cluster that counts, and that nothing names
 pub record IsSpare (file : List ℕ) (cluster : ℕ) : Type 0 where

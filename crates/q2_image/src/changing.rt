@@ -4,11 +4,11 @@ ghost use Rattle.std.specs.Prelude.{◌≡◌, ◌↔◌, ◌⊎◌, ◌+◌, �
 ghost use Rattle.blk_base.specs.Counts.{taken, Rose};
 ghost use Rattle.blk_base.specs.declared.device.Stop.TheVariants as why;
 ghost use Rattle.blk_base.specs.declared.fault.DevStop.TheVariants.{NoSpace};
-ghost use Rattle.q2_format.specs.Entry.{host_of};
+ghost use Rattle.q2_format.specs.Entry.{host_of, is_single};
 ghost use Rattle.q2_format.specs.declared.entries.L2Entry.TheVariants.{Zero, Host};
-ghost use Rattle.q2_image.specs.Image.{IsImageOf, IsOpen, clusters_in, cluster_size_in, entry_in};
+ghost use Rattle.q2_image.specs.Image.{IsImageOf, IsOpen, clusters_in, cluster_size_in, word_in, entry_in};
 ghost use Rattle.q2_image.specs.Reading.{IsHost, IsWithinCluster};
-ghost use Rattle.q2_image.specs.Writing.{IsDiskWith, IsSameDisk, HasEntriesBut, AreClusterZeros, PutFits, ZeroFits, HasWriteCause, IsFault, IsOwnStop, IsFailedOwn, own_end, autoclear_end, autocleared, HasHeaderOf};
+ghost use Rattle.q2_image.specs.Writing.{IsDiskWith, IsSameDisk, HasEntriesBut, IsSpelled, AreClusterZeros, PutFits, ZeroFits, needs_host, HasWriteCause, IsFault, IsOwnStop, IsFailedOwn, own_end, autoclear_end, autocleared, HasHeaderOf};
 
 use crate::header::cluster_size;
 use crate::image::Image;
@@ -20,6 +20,7 @@ impl Image {
     /// clusters that nothing names, for an L2 table where the guest cluster has none and for the data; the data; and the
     /// entry, which alone makes them visible. Behind an entry that reads as zeros and has a host cluster the data go
     /// there. A cluster that was mapped before gets another host cluster, and the old one is left, counted and unused.
+    /// Bit 63 of the entry is set exactly where the refcount of its host cluster is one, as that of a taken one is.
     ///
     /// `NoSpace` comes exactly where a write would end above the capacity, or a cluster that is needed isn't below the
     /// reach. After each refusal the image is sound and no byte of its disk has changed; clusters that were taken stay
@@ -36,7 +37,9 @@ impl Image {
 
         // the image
         ensures mapped { OnOk result (IsHost (entry_in self.new cluster)) }
-        ensures unmapped { OnErr result (entry_in self.new cluster ≡ entry_in self.old cluster) }
+        ensures spelled { OnOk result (IsSpelled self.new cluster) }
+        ensures single { OnOk result (needs_host self.old cluster ≡ true → is_single (word_in self.new cluster) ≡ true) }
+        ensures unmapped { OnErr result (word_in self.new cluster ≡ word_in self.old cluster) }
         ensures others { HasEntriesBut self.old self.new cluster }
         ensures header { HasHeaderOf self.old self.new }
         ensures image { (file : List ℕ) → D.content dev.new ≡ Some file → IsImageOf file self.new }
@@ -69,7 +72,8 @@ impl Image {
 
         // the image
         ensures mapped { OnOk result (entry_in self.new cluster ≡ Zero (host_of (entry_in self.old cluster))) }
-        ensures unmapped { OnErr result (entry_in self.new cluster ≡ entry_in self.old cluster) }
+        ensures spelled { OnOk result (IsSpelled self.new cluster) }
+        ensures unmapped { OnErr result (word_in self.new cluster ≡ word_in self.old cluster) }
         ensures others { HasEntriesBut self.old self.new cluster }
         ensures header { HasHeaderOf self.old self.new }
         ensures image { (file : List ℕ) → D.content dev.new ≡ Some file → IsImageOf file self.new }
@@ -170,7 +174,9 @@ impl Image {
         requires fits { PutFits self.old cluster (D.capacity dev.old) }
         requires image { (file : List ℕ) → D.content dev.old ≡ Some file → IsImageOf file self.old }
         ensures mapped { OnOk result (IsHost (entry_in self.new cluster)) }
-        ensures unmapped { OnErr result (entry_in self.new cluster ≡ entry_in self.old cluster) }
+        ensures spelled { OnOk result (IsSpelled self.new cluster) }
+        ensures single { OnOk result (needs_host self.old cluster ≡ true → is_single (word_in self.new cluster) ≡ true) }
+        ensures unmapped { OnErr result (word_in self.new cluster ≡ word_in self.old cluster) }
         ensures others { HasEntriesBut self.old self.new cluster }
         ensures header { HasHeaderOf self.old self.new }
         ensures image { (file : List ℕ) → D.content dev.new ≡ Some file → IsImageOf file self.new }
@@ -193,7 +199,8 @@ impl Image {
         requires fits { ZeroFits self.old cluster (D.capacity dev.old) }
         requires image { (file : List ℕ) → D.content dev.old ≡ Some file → IsImageOf file self.old }
         ensures mapped { OnOk result (entry_in self.new cluster ≡ Zero (host_of (entry_in self.old cluster))) }
-        ensures unmapped { OnErr result (entry_in self.new cluster ≡ entry_in self.old cluster) }
+        ensures spelled { OnOk result (IsSpelled self.new cluster) }
+        ensures unmapped { OnErr result (word_in self.new cluster ≡ word_in self.old cluster) }
         ensures others { HasEntriesBut self.old self.new cluster }
         ensures header { HasHeaderOf self.old self.new }
         ensures image { (file : List ℕ) → D.content dev.new ≡ Some file → IsImageOf file self.new }

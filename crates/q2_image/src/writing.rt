@@ -8,12 +8,12 @@ ghost use Rattle.q2_format.specs.Header.{header_of};
 ghost use Rattle.q2_format.specs.Tables.{refcount_of};
 ghost use Rattle.q2_refs.specs.Allocating.{with_block_for};
 ghost use Rattle.q2_refs.specs.Free.{free_cluster};
-ghost use Rattle.q2_format.specs.Entry.{IsWritable, host_of};
+ghost use Rattle.q2_format.specs.Entry.{IsWritable, host_of, is_single};
 ghost use Rattle.q2_tables.specs.Entries.{entry_of};
 ghost use Rattle.q2_tables.specs.Linking.{stop_of, CanLink, link_end};
-ghost use Rattle.q2_image.specs.Image.{IsImageOf, IsOpen, clusters_in, cluster_size_in, entry_in};
+ghost use Rattle.q2_image.specs.Image.{IsImageOf, IsOpen, clusters_in, cluster_size_in, word_in, entry_in};
 ghost use Rattle.q2_image.specs.Reading.{IsHost, IsWithinCluster};
-ghost use Rattle.q2_image.specs.Writing.{IsDiskWith, IsSameDisk, HasEntriesBut, IsSpare, IsIdle, MayName, Shows, PutFits, ZeroFits, AreClusterZeros, CanTake, IsFault, HasSameEntries, taken_at, after_take, needs_table, needs_host, idle_host, next_host, table_for, with_table, with_host};
+ghost use Rattle.q2_image.specs.Writing.{IsDiskWith, IsSameDisk, HasEntriesBut, IsSpelled, counts_once, IsSpare, IsIdle, MayName, Shows, PutFits, ZeroFits, AreClusterZeros, CanTake, IsFault, HasSameEntries, taken_at, after_take, needs_table, needs_host, idle_host, next_host, table_for, with_table, with_host};
 
 use crate::header::cluster_size;
 use crate::image::Image;
@@ -122,6 +122,7 @@ impl Image {
         requires spare { (file : List ℕ) → D.content dev.old ≡ Some file → table ≢ 0 → IsSpare file (table / 65536) }
         requires may { (file : List ℕ) → D.content dev.old ≡ Some file → MayName file self.old cluster table (host_of (entry_of to)) }
         ensures entry { OnOk result (entry_in self.new cluster ≡ entry_of to) }
+        ensures spelled { OnOk result (IsSpelled self.new cluster) }
         ensures others { HasEntriesBut self.old self.new cluster }
         ensures unmapped { OnErr result (self.new ≡ self.old) }
         ensures header { self.new.header ≡ self.old.header }
@@ -142,7 +143,7 @@ impl Image {
     /// Whether there is a host cluster at an offset, and its refcount is exactly one.
     fn is_single(&self, host: u64) -> bool
         requires { host < length self.now.refs.counts * cluster_size_in self.now }
-        ensures { IsTrue result → 0 < host }
+        ensures { result ≡ counts_once self.now host }
     {
         host != 0 && self.refs.count_of(host / cluster_size(&self.header)) == 1
     }
@@ -210,7 +211,9 @@ impl Image {
         requires fits { PutFits self.old cluster (D.capacity dev.old) }
         requires image { (file : List ℕ) → D.content dev.old ≡ Some file → IsImageOf file self.old }
         ensures mapped { OnOk result (IsHost (entry_in self.new cluster)) }
-        ensures unmapped { OnErr result (entry_in self.new cluster ≡ entry_in self.old cluster) }
+        ensures spelled { OnOk result (IsSpelled self.new cluster) }
+        ensures single { OnOk result (needs_host self.old cluster ≡ true → is_single (word_in self.new cluster) ≡ true) }
+        ensures unmapped { OnErr result (word_in self.new cluster ≡ word_in self.old cluster) }
         ensures others { HasEntriesBut self.old self.new cluster }
         ensures header { self.new.header ≡ self.old.header }
         ensures image { (file : List ℕ) → D.content dev.new ≡ Some file → IsImageOf file self.new }
@@ -234,7 +237,8 @@ impl Image {
         requires fits { ZeroFits self.old cluster (D.capacity dev.old) }
         requires image { (file : List ℕ) → D.content dev.old ≡ Some file → IsImageOf file self.old }
         ensures mapped { OnOk result (entry_in self.new cluster ≡ Zero (host_of (entry_in self.old cluster))) }
-        ensures unmapped { OnErr result (entry_in self.new cluster ≡ entry_in self.old cluster) }
+        ensures spelled { OnOk result (IsSpelled self.new cluster) }
+        ensures unmapped { OnErr result (word_in self.new cluster ≡ word_in self.old cluster) }
         ensures others { HasEntriesBut self.old self.new cluster }
         ensures header { self.new.header ≡ self.old.header }
         ensures image { (file : List ℕ) → D.content dev.new ≡ Some file → IsImageOf file self.new }

@@ -1,12 +1,12 @@
-use Rattle.std.proofs.Common.{◌≡◌, ℕ, ◌+◌, ◌*◌, ◌<◌, ◌≤◌, max, length, Result, Ok, Err, OnOk, OnErr, is_ok, cond, refl, sym, subst, arith}
+use Rattle.std.proofs.Common.{◌≡◌, ℕ, ◌+◌, ◌*◌, ◌<◌, ◌≤◌, max, length, Result, Ok, Err, OnOk, OnErr, is_ok, cond, refl, sym, ap, subst, ◌∙◌, arith}
 use Rattle.blk_base.specs.declared.fault.DevStop.{DevStop}
 use Rattle.q2_format.specs.Entry.{host_of, l2_spelling}
 use Rattle.q2_tables.specs.Entries.{entry_of}
 use Rattle.q2_tables.specs.Linking.{CanLink, FileAfter, entry_at, link_end, table_len, with_entry}
 use Rattle.q2_image.specs.Image.{Known, IsImageOf, cluster_size_in}
-use Rattle.q2_image.specs.Writing.{MayName}
+use Rattle.q2_image.specs.Writing.{HasEntriesBut, counts_once, MayName}
 use Rattle.q2_image.proofs.EntryWrites.{lies_apart}
-use Rattle.q2_image.proofs.LinkTold.{open_after, entry_after, image_after, disk_after, disk_kept, tree_by_kept}
+use Rattle.q2_image.proofs.LinkTold.{open_after, entry_after, spelled_after, others_after, image_after, disk_after, disk_kept, tree_by_kept}
 use Rattle.q2_image.proofs.Taken.{told_too}
 use Rattle.q2_image.proofs.image.Image.map_cluster.Goals as goal
 
@@ -33,6 +33,32 @@ returns-clause-entry g c =
     let R : Known → Type 0 = λ k. host_of (entry_of c.args.to) < length k.refs.counts * cluster_size_in k in
     let reached : R seen = subst R (sym c.self.view_is) c.requires.reached in
     entry_after seen c.args.cluster c.args.table word (entry_of c.args.to) c.is_single-single.result c.self.invariant below can c.requires.entry refl reached c.link.new.self c.link.result c.link.ensures.linked
+
+pub returns-clause-spelled : goal.returns-clause-spelled
+returns-clause-spelled g c =
+    let seen : Known = record { header = c.self.inside.header; tables = c.self.inside.tables; refs = c.self.inside.refs } in
+    let word : ℕ = l2_spelling (entry_of c.args.to) c.is_single-single.result in
+    let B : Known → Type 0 = λ k. c.args.cluster < length k.tables.words in
+    let below : B seen = subst B (sym c.self.view_is) c.requires.below in
+    let C : Known → Type 0 = λ k. CanLink k.tables c.args.cluster c.args.table in
+    let can : C seen = subst C (sym c.self.view_is) c.requires.can in
+    let R : Known → Type 0 = λ k. host_of (entry_of c.args.to) < length k.refs.counts * cluster_size_in k in
+    let reached : R seen = subst R (sym c.self.view_is) c.requires.reached in
+    let counted : c.is_single-single.result ≡ counts_once seen (host_of (entry_of c.args.to)) = c.is_single-single.ensures ∙ ap (λ (k : Known). counts_once k c.host_of.result) (sym c.self.view_is) ∙ ap (counts_once seen) c.host_of.ensures in
+    spelled_after seen c.args.cluster c.args.table word (entry_of c.args.to) c.is_single-single.result c.self.invariant below can c.requires.entry refl reached c.link.new.self c.link.result counted c.link.ensures.linked
+
+pub returns-clause-others : goal.returns-clause-others
+returns-clause-others g c =
+    let seen : Known = record { header = c.self.inside.header; tables = c.self.inside.tables; refs = c.self.inside.refs } in
+    let word : ℕ = l2_spelling (entry_of c.args.to) c.is_single-single.result in
+    let B : Known → Type 0 = λ k. c.args.cluster < length k.tables.words in
+    let below : B seen = subst B (sym c.self.view_is) c.requires.below in
+    let C : Known → Type 0 = λ k. CanLink k.tables c.args.cluster c.args.table in
+    let can : C seen = subst C (sym c.self.view_is) c.requires.can in
+    let R : Known → Type 0 = λ k. host_of (entry_of c.args.to) < length k.refs.counts * cluster_size_in k in
+    let reached : R seen = subst R (sym c.self.view_is) c.requires.reached in
+    let O : Known → Type 0 = λ k. HasEntriesBut k (record seen { tables = c.link.new.self }) c.args.cluster in
+    subst O c.self.view_is (others_after seen c.args.cluster c.args.table word (entry_of c.args.to) c.is_single-single.result c.self.invariant below can c.requires.entry refl reached c.link.new.self c.link.result c.link.ensures.linked c.link.ensures.kept)
 
 -- what the device tells behind a link that was made reaches behind the new table
 long_by : (result : Result (Unit {0}) DevStop) (end size len : ℕ) → size ≡ len → OnOk result (end ≤ size) → OnOk result (end ≤ len)

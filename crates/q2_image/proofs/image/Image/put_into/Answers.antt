@@ -6,7 +6,7 @@ use Rattle.q2_image.specs.Image.{Known}
 use Rattle.q2_image.specs.Writing.{CanTake, needs_host, with_table}
 use Rattle.q2_image.proofs.HostUses.{held_by, zero_entry}
 use Rattle.q2_image.proofs.OwnWrites.{disk_then}
-use Rattle.q2_image.proofs.Plans.{IsPut, can_host, open_second, below_second, host_facts, reached_second, table_facts, idle_host_there, taken_whole}
+use Rattle.q2_image.proofs.Plans.{IsPut, can_host, open_second, below_second, host_facts, reached_second, table_facts, idle_host_there, taken_whole, single_after}
 use Rattle.q2_image.proofs.Taken.{told_too}
 use Rattle.q2_image.proofs.image.Image.put_into.Goals as goal
 
@@ -212,6 +212,19 @@ map_cluster-requires-clause-may g c = λ file told.
           let there = idle_host_there c.args.self.now c.new_table.new.self c.new_host.new.self c.args.cluster c.in_ok-table.table c.in_ok-host.host (g.D.Device.capacity c.args.dev.now) put idle in
           inr (inl (sym (zero_entry (get_or c.new_host.new.self.tables.words c.args.cluster 0) c.in_ok-host.host there.0)))
     ]
+
+pub returns-clause-single : goal.returns-clause-single
+returns-clause-single g c =
+    let put : IsPut c.args.self.now c.new_table.new.self c.new_host.new.self c.args.cluster c.in_ok-table.table c.in_ok-host.host (g.D.Device.capacity c.args.dev.now) = record {
+      ready = c.requires.open;
+      below = c.requires.below;
+      fits = c.requires.fits;
+      table_is = c.in_ok-table.ensures.table;
+      first_is = c.in_ok-table.ensures.ok;
+      host_is = c.in_ok-host.ensures.host;
+      second_is = c.in_ok-host.ensures.ok;
+    } in
+    single_after c.args.self.now c.new_table.new.self c.new_host.new.self c.args.cluster c.in_ok-table.table c.in_ok-host.host (g.D.Device.capacity c.args.dev.now) put c.map_cluster.new.self c.map_cluster.result c.map_cluster.ensures.header c.map_cluster.ensures.refs c.map_cluster.ensures.entry c.map_cluster.ensures.spelled
 
 pub returns-clause-disk : goal.returns-clause-disk
 returns-clause-disk g c = on_ok_weaker c.map_cluster.result (λ made. λ old new told_old told_new.

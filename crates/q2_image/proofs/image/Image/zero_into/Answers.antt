@@ -1,6 +1,5 @@
 use Rattle.std.proofs.Common.{ℕ, ◌*◌, inl, inr, [], get_or, Result, Ok, Err, OnErr, ap, ◌∙◌}
 use Rattle.std.proofs.lemmas.Result.{on_ok_weaker}
-use Rattle.q2_format.specs.Entry.{l2_entry}
 use Rattle.q2_tables.specs.Entries.{entry_of}
 use Rattle.q2_tables.specs.Kept as tables
 use Rattle.q2_image.specs.Image.{Known, entry_in}
@@ -27,7 +26,7 @@ map_cluster-requires-clause-may g c = λ file told. inr (inl (kept_host c.new_ta
 
 pub returns-clause-others : goal.returns-clause-others
 returns-clause-others g c = λ q other.
-    c.map_cluster.ensures.others q other ∙ ap (λ (t : tables.Kept). l2_entry (get_or t.words q 0)) (zero_tables c.args.self.now c.new_table.new.self c.args.cluster c.in_ok-table.table (g.D.Device.capacity c.args.dev.now) c.requires.open c.requires.below c.requires.fits c.in_ok-table.ensures.table c.in_ok-table.ensures.ok)
+    c.map_cluster.ensures.others q other ∙ ap (λ (t : tables.Kept). get_or t.words q 0) (zero_tables c.args.self.now c.new_table.new.self c.args.cluster c.in_ok-table.table (g.D.Device.capacity c.args.dev.now) c.requires.open c.requires.below c.requires.fits c.in_ok-table.ensures.table c.in_ok-table.ensures.ok)
 
 pub returns-clause-disk : goal.returns-clause-disk
 returns-clause-disk g c = on_ok_weaker c.map_cluster.result (λ made. λ old new zeros told_old told_new are.
