@@ -37,6 +37,7 @@ pub IsSound-edges : (g : Graph) (edges : List Edge) → IsSound g → length edg
     → IsAcyclic edges → IsSound (record g { edges = edges })
 IsSound-edges g edges sound few ends acyclic = record {
   different_nodes = sound.different_nodes;
+  different_names = sound.different_names;
   few_nodes = sound.few_nodes;
   few_edges = few;
   parents = ends.parents;

@@ -1,5 +1,5 @@
 -- Nodes are named, added and removed.
-use Rattle.std.proofs.Common.{◌≡◌, ◌≢◌, ◌⊎◌, ℕ, ◌+◌, ◌≤◌, List, [], ◌∷◌, ◌++◌, length, map, refl, sym, ◌∙◌, ap, inl, inr, arith, Bool, true, false, cond, Option, Some, None, length-append}
+use Rattle.std.proofs.Common.{◌≡◌, ◌≢◌, ◌⊎◌, ℕ, ◌+◌, ◌≤◌, List, [], ◌∷◌, ◌++◌, length, map, refl, sym, ◌∙◌, ap, subst, inl, inr, arith, Bool, true, false, cond, Option, Some, None, length-append}
 use Rattle.std.specs.Prelude.{not, ◌==◌, nat_eq, IfSome, IfNone, is_some}
 use Rattle.std.specs.List.{Contains, filter, find, IsDistinct, AllByRecursion, list_any}
 use Rattle.std.specs.Option.{option_map}
@@ -16,7 +16,7 @@ use Rattle.blk_graph.specs.declared.edge.Parent.{Parent}
 use Rattle.blk_graph.specs.declared.edge.Parent.TheVariants.{Node, Guest, Job}
 use Rattle.blk_graph.specs.Edges.{same_parent}
 use Rattle.blk_graph.specs.Edits.{without_parent}
-use Rattle.blk_graph.specs.Graph.{NodeRow, Graph, HasNode, HasParent, HasName}
+use Rattle.blk_graph.specs.Graph.{NodeRow, Graph, HasNode, HasParent, HasName, DifferentNames}
 use Rattle.blk_graph.specs.Judged.{first_parent, without_node}
 use Rattle.blk_graph.specs.Layout.{name_of, row_of, graph_of, HasNames, IsKept}
 use Rattle.blk_graph.proofs.Members.{Contains-here, Contains-there, Contains-cases, Contains-nil, Contains-map, map-Contains, Contains-filter}
@@ -40,6 +40,7 @@ IsKept-empty names a b c empty room a_fits b_fits c_fits = record {
   staged_fit = c_fits;
   sound = record {
     different_nodes = distinct-nil;
+    different_names = λ a b h. absurd (Contains-nil a h);
     few_nodes = omega arith;
     few_edges = omega arith;
     parents = λ e h. absurd (Contains-nil e h);
@@ -136,10 +137,34 @@ HasParent-kept g h kept (Node n) is = kept n is
 HasParent-kept g h kept (Guest n) is = tt
 HasParent-kept g h kept (Job n) is = tt
 
+-- the names differ where a node with a new one is added
+names-added : (rows : List NodeRow) (new : NodeRow) → DifferentNames rows
+    → (Contains (map (λ (row : NodeRow). row.name) rows) new.name → ⊥) → DifferentNames (rows ++ new ∷ [])
+names-added rows new differ free a b at_a at_b same = by_cases (Contains-push_cases rows new a at_a) (Contains-push_cases rows new b at_b)
+  where
+    taken : (old other : NodeRow) → Contains rows old → new ≡ other → other.name ≡ old.name → ⊥
+    taken old other there is equal =
+        let P : List ℕ → Type 0 = λ name. Contains (map (λ (row : NodeRow). row.name) rows) name in
+        let e : new.name ≡ old.name = ap (λ (row : NodeRow). row.name) is ∙ equal in
+        free (subst P (sym e) (map-Contains (λ (row : NodeRow). row.name) rows old there))
+
+    by_cases : Contains rows a ⊎ (new ≡ a) → Contains rows b ⊎ (new ≡ b) → a.id ≡ b.id
+    by_cases (inl was_a) (inl was_b) = differ a b was_a was_b same
+    by_cases (inl was_a) (inr is_b) = absurd (taken a b was_a is_b (sym same))
+    by_cases (inr is_a) (inl was_b) = absurd (taken b a was_b is_a same)
+    by_cases (inr is_a) (inr is_b) = ap (λ (row : NodeRow). row.id) (sym is_a ∙ is_b)
+
+-- and where one is removed
+names-removed : (node : ℕ) (rows : List NodeRow) → DifferentNames rows → DifferentNames (without_node node rows)
+names-removed node rows differ a b at_a at_b same =
+    let test : NodeRow → Bool = λ row. not (row.id == node) in
+    differ a b (Contains-filter test rows a at_a).0 (Contains-filter test rows b at_b).0 same
+
 pub IsKept-added : (old new : Slab Written) (order : List ℕ) (edges : List Edge) (key : ℕ) (text : Written) (a b c : ℕ)
-    → IsKept old order edges a b c → length order ≢ 64 → get old key ≡ None → Updates old new key (Some text)
+    → IsKept old order edges a b c → length order ≢ 64 → (HasName (graph_of old order edges) text.bytes → ⊥)
+    → get old key ≡ None → Updates old new key (Some text)
     → slab_len new ≡ slab_len old + 1 → new.capacity ≡ old.capacity → IsKept new (order ++ key ∷ []) edges a b c
-IsKept-added old new order edges key text a b c kept few vacant updates count room =
+IsKept-added old new order edges key text a b c kept few free vacant updates count room =
     let before : Graph = graph_of old order edges in
     let after : Graph = graph_of new (order ++ key ∷ []) edges in
     let at_most : length order ≤ 64 = omega (arith, kept.sound.few_nodes, length-map order (row_of old)) in
@@ -162,6 +187,10 @@ IsKept-added old new order edges key text a b c kept few vacant updates count ro
         different_nodes = rw (ids-graph_of new (order ++ key ∷ []) edges)
             (IsDistinct-push nat_eq_equiv order key (rw (ids-graph_of old order edges) at kept.sound.different_nodes)
             (not_member order key apart));
+        different_names =
+            let P : List NodeRow → Type 0 = λ rows. DifferentNames rows in
+            subst P (sym (rows_added old new order key text kept.named vacant updates))
+            (names-added (map (row_of old) order) (record { id = key; name = text.bytes }) kept.sound.different_names free);
         few_nodes = omega (arith, at_most, longer, length-map (order ++ key ∷ []) (row_of new));
         few_edges = kept.sound.few_edges;
         parents = λ e h. HasParent-kept before after stays e.parent (kept.sound.parents e h);
@@ -294,6 +323,9 @@ IsKept-removed old new order edges node a b c kept there no_child no_parent upda
       staged_fit = kept.staged_fit;
       sound = record {
         different_nodes = rw (ids-graph_of new (filter (is_other node) order) edges) (distinct_filtered (is_other node) order distinct);
+        different_names =
+            let P : List NodeRow → Type 0 = λ rows. DifferentNames rows in
+            subst P (sym (rows_removed old new node order updates.others)) (names-removed node (map (row_of old) order) kept.sound.different_names);
         few_nodes = omega (arith, fewer, at_most, length-map (filter (is_other node) order) (row_of new));
         few_edges = kept.sound.few_edges;
         parents = λ e h. HasParent-unless before after node stays e.parent (no_parent e h) (kept.sound.parents e h);

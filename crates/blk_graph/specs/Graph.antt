@@ -1,5 +1,5 @@
 -- What a contract sees of a graph.
-use Rattle.std.specs.Prelude.{ℕ, ◌-◌, ◌≤◌, List, length, map, AllPairs, Contains, nat_eq}
+use Rattle.std.specs.Prelude.{◌≡◌, ℕ, ◌-◌, ◌≤◌, List, length, map, AllPairs, Contains, nat_eq}
 use Rattle.std.specs.List.{IsDistinct}
 use Rattle.blk_graph.specs.declared.edge.Edge.{Edge}
 use Rattle.blk_graph.specs.declared.edge.Parent.{Parent}
@@ -34,9 +34,14 @@ HasParent graph (Job _) = Unit {0}
 abbrev pub HasName : Graph → List ℕ → Type 0
 HasName graph name = Contains (map (λ row. row.name) graph.nodes) name
 
+-- no two nodes have the same name
+abbrev pub DifferentNames : List NodeRow → Type 0
+DifferentNames nodes = (a b : NodeRow) → Contains nodes a → Contains nodes b → a.name ≡ b.name → a.id ≡ b.id
+
 -- what is true of every graph
 pub record IsSound (graph : Graph) : Type 0 where
   pub different_nodes : IsDistinct nat_eq (ids graph)
+  pub different_names : DifferentNames graph.nodes
   pub few_nodes : length graph.nodes ≤ 64
   pub few_edges : length graph.edges ≤ 2048
   pub parents : (edge : Edge) → Contains graph.edges edge → HasParent graph edge.parent

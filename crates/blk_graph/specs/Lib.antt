@@ -6,3 +6,4 @@ pub mod Graph
 pub mod Walk
 pub mod Layout
 pub mod Judged
+pub mod Stop

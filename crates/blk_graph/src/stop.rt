@@ -22,14 +22,19 @@ pub enum GraphStop {
 }
 
 impl fmt::Display for GraphStop {
+    ghost use Rattle.std.specs.Prelude.{Some};
+    ghost use Rattle.blk_graph.specs.Stop.{stop_text};
+
+    ghost output = { λ stop. Some (stop_text stop) };
+
     fn fmt<W: fmt::Write>(&self, f: &mut fmt::Formatter<W>) -> fmt::Result {
-        f.write_str(match self {
-            GraphStop::NameTaken => "the name is taken",
-            GraphStop::Cycle => "a node would reach itself",
-            GraphStop::InUse(_) => "the node is in use",
-            GraphStop::Conflict(_) => "the permissions are in conflict",
-            GraphStop::TooManyNodes => "there are too many nodes",
-            GraphStop::NoMemory => "out of memory",
-        })
+        match self {
+            GraphStop::NameTaken => f.write_str("the name is taken"),
+            GraphStop::Cycle => f.write_str("a node would reach itself"),
+            GraphStop::InUse(_) => f.write_str("the node is in use"),
+            GraphStop::Conflict(_) => f.write_str("the permissions are in conflict"),
+            GraphStop::TooManyNodes => f.write_str("there are too many nodes"),
+            GraphStop::NoMemory => f.write_str("out of memory"),
+        }
     }
 }

@@ -1,6 +1,6 @@
 use Rattle.std.proofs.Common.{◌≡◌, ◌≢◌, ap, sym, ◌∙◌, length, List, refl, ◌++◌, ◌∷◌, []}
 use Rattle.blk_graph.specs.Graph.{Graph, HasName, NodeRow}
-use Rattle.blk_graph.specs.Layout.{row_of}
+use Rattle.blk_graph.specs.Layout.{row_of, graph_of}
 use Rattle.std.proofs.lemmas.List.{length-map}
 use Rattle.std.proofs.lemmas.List.Elements.{Contains-push}
 use Rattle.blk_graph.proofs.GraphLemmas.{ids-graph_of}
@@ -49,9 +49,13 @@ invariant_of-self c =
     let few : length c.self.inside.order.items ≢ 64 = λ e. c.if-len-eq-MOST_NODES.false (c.len.ensures ∙ sym c.as_slice.ensures.len ∙ ap length c.as_slice.ensures.value ∙ e) in
     let items : c.push_reserved.new.self.items ≡ c.self.inside.order.items ++ c.insert_reserved.result ∷ []
     = c.push_reserved.ensures.items ∙ ap (λ id. c.self.inside.order.items ++ id ∷ []) c.new-node.ensures in
+    let free : HasName (graph_of c.self.inside.names c.self.inside.order.items c.self.inside.edges.items) c.args.name.bytes → ⊥
+    = rw c.as_str.ensures at (free_name c.self.inside.names c.self.inside.order.items c.self.inside.edges.items c.as_slice.result.now
+    c.as_str.result.now c.node_named.result (sym c.is_some.ensures ∙ c.if-is_some.false) c.as_slice.ensures.value
+    c.node_named.ensures.none) in
     rw (items, c.push_reserved.ensures.capacity)
     (IsKept-added c.self.inside.names c.insert_reserved.new.self c.self.inside.order.items c.self.inside.edges.items
-    c.insert_reserved.result _ _ _ _ c.self.invariant few c.insert_reserved.ensures.was_vacant c.insert_reserved.ensures.updates
+    c.insert_reserved.result _ _ _ _ c.self.invariant few free c.insert_reserved.ensures.was_vacant c.insert_reserved.ensures.updates
     c.insert_reserved.ensures.len c.insert_reserved.ensures.capacity)
 
 pub returns-clause-taken : goal.returns-clause-taken
