@@ -1,8 +1,11 @@
 -- Devices that are out, and one that comes back.
-use Rattle.std.proofs.Common.{◌≡◌, ℕ, zero, suc, ◌<◌, Bool, true, false, List, [], ◌∷◌, length, map, get_or, set, refl, ap, ◌∙◌, arith, Some}
-use Rattle.std.specs.Prelude.{◌||◌}
+use Rattle.std.proofs.Common.{◌≡◌, ℕ, zero, suc, ◌<◌, Bool, true, false, List, [], ◌∷◌, ◌++◌, length, map, get_or, set, refl, sym, ap, ◌∙◌, arith, Some, None}
+use Rattle.std.specs.Prelude.{◌||◌, ◌&&◌, bytes_eq}
+use Rattle.blk_base.proofs.Openings.{back-opened}
 use Rattle.blk_base.specs.Files.{is_out_as, is_out, given_back}
 use Rattle.qblk.specs.Openings.{opened_of, IsFirstOut}
+use Rattle.blk_base.specs.declared.file.Opened.{Opened}
+use Rattle.qblk.specs.Session.{NoneOut}
 use Rattle.qblk.specs.declared.store.Opening.{Opening}
 
 pub none-out : (name : List ℕ) (os : List Opening) → ((k : ℕ) (d : Opening) → k < length os → is_out_as name (opened_of (get_or os k d)) ≡ false) → is_out name (map opened_of os) ≡ false
@@ -33,3 +36,18 @@ one-back name count (o ∷ os) (suc place) x y first read is =
     let here : is_out_as name (opened_of o) ≡ false = first.before 0 o (omega arith) in
     let rest = one-back name count os place x y (record { within = omega arith; here = first.here; before = λ k d below. first.before (suc k) d (omega arith) }) read is in
     rw here (ap (λ vs. opened_of o ∷ vs) rest)
+
+-- a device that is back is out under no name
+and-false : (b : Bool) → (b && false) ≡ false
+and-false true = refl
+and-false false = refl
+
+same-out : (name image : List ℕ) (faults count : ℕ) (os : List Opened) → is_out name (os ++ record { name = image; faults = faults; returned = Some count } ∷ []) ≡ is_out name os
+same-out name image faults count [] = rw (and-false (bytes_eq name image)) refl
+same-out name image faults count (o ∷ os) = rw (same-out name image faults count os) refl
+
+pub none-out-back : (image : List ℕ) (faults count : ℕ) (os new : List Opened) → NoneOut os
+    → new ≡ given_back image count (os ++ record { name = image; faults = faults; returned = None } ∷ []) → NoneOut new
+none-out-back image faults count os new none is =
+    let same : new ≡ os ++ record { name = image; faults = faults; returned = Some count } ∷ [] = is ∙ back-opened image os faults count (none image) in
+    λ name out. none name (sym (ap (is_out name) same ∙ same-out name image faults count os) ∙ out)

@@ -20,9 +20,10 @@ pub fn run_io<S: Store, K: Sink>(
 ) -> (Status, S)
     requires form { (format : Format) × (image : List ℕ) × (trace : List ℕ) × IsIo (texts_of words.now) format image trace }
     requires none_out { NoneOut (S.opened store) }
-    ensures { (format : Format) (image trace : List ℕ) → IsIo (texts_of words.now) format image trace → Answers format image trace
+    ensures ended { (format : Format) (image trace : List ℕ) → IsIo (texts_of words.now) format image trace → Answers format image trace
         (record { files = S.files store; opened = S.opened store; store_faults = S.faults store; sent = K.sent out.old; sink_faults = K.faults out.old })
         (record { files = S.files result.1; opened = S.opened result.1; store_faults = S.faults result.1; sent = K.sent out.new; sink_faults = K.faults out.new }) result.0 }
+    ensures back { NoneOut (S.opened result.1) }
 {
     let mut store = store;
     let status = match io_words(words) {
@@ -43,6 +44,9 @@ pub fn qblk<S: Store, K: Sink>(alloc: Global, words: &[Text], store: S, out: &mu
 
     // all other words: nothing is done
     ensures usage { ((format : Format) (image trace : List ℕ) → IsIo (texts_of words.now) format image trace → ⊥) → (result.0 ≡ Status.Usage) × (result.1 ≡ store) × (out.new ≡ out.old) }
+
+    // whatever the words: no device is left out
+    ensures back { NoneOut (S.opened result.1) }
 {
     if io_words(words).is_none() {
         return (Status::Usage, store);

@@ -194,9 +194,10 @@ pub(crate) fn run_on<S: Store, K: Sink>(
     out: &mut K,
 ) -> Status
     requires { NoneOut (S.opened store.old) }
-    ensures { Answers format image.now trace.now
+    ensures ended { Answers format image.now trace.now
         (record { files = S.files store.old; opened = S.opened store.old; store_faults = S.faults store.old; sent = K.sent out.old; sink_faults = K.faults out.old })
         (record { files = S.files store.new; opened = S.opened store.new; store_faults = S.faults store.new; sent = K.sent out.new; sink_faults = K.faults out.new }) result }
+    ensures back { NoneOut (S.opened store.new) }
 {
     let read = match read_trace_file(store, trace) {
         Ok(read) => read,

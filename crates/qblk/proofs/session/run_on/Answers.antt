@@ -9,14 +9,15 @@ use Rattle.blk_history.specs.Transcript.{transcript}
 use Rattle.blk_history.specs.declared.event.Event.{Event}
 use Rattle.qblk.specs.Run.{Outside, guest_names}
 use Rattle.qblk.specs.Session.{Seen, EndsAs}
+use Rattle.qblk.proofs.Returned.{none-out-back}
 use Rattle.qblk.proofs.Whole.{ends, stops}
 use Rattle.qblk.proofs.session.run_on.Goals as goal
 
 pub give_back-requires : goal.give_back-requires
 give_back-requires g c = rw c.in-Ok-open_image.ensures.opened (out-opened c.args.image.now _ _)
 
-pub returns-in-Ok-made : goal.returns-in-Ok-made
-returns-in-Ok-made g c =
+pub returns-in-Ok-made-clause-ended : goal.returns-in-Ok-made-clause-ended
+returns-in-Ok-made-clause-ended g c =
     let S = g.S.Store in
     let D = g.S.Dev.Device in
     let K = g.K.Sink in
@@ -42,8 +43,8 @@ returns-in-Ok-made g c =
     let opened = c.give_back.ensures.opened ∙ ap (given_back c.args.image.now n.faults) opened1 in
     ends c.args.format c.args.image.now c.args.trace.now made.0 c.in-Ok.read d n w c.in-Ok-made.made.fault old new c.write_out.result sized none device c.in-Ok.ensures.read made.2 made.3 files opened end
 
-pub returns-in-Err-made : goal.returns-in-Err-made
-returns-in-Err-made g c =
+pub returns-in-Err-made-clause-ended : goal.returns-in-Err-made-clause-ended
+returns-in-Err-made-clause-ended g c =
     let S = g.S.Store in
     let D = g.S.Dev.Device in
     let K = g.K.Sink in
@@ -66,3 +67,21 @@ returns-in-Err-made g c =
     let files = c.give_back.ensures.files ∙ ap (files_with_returned c.args.image.now n.content n.capacity n.is_flushed) files2 in
     let opened = c.give_back.ensures.opened ∙ ap (given_back c.args.image.now n.faults) opened1 in
     stops c.args.format c.args.image.now c.args.trace.now c.in-Ok.read d n old new c.in-Err-made.status sized none device c.in-Ok.ensures.read stop same files opened refl
+
+pub returns-in-Ok-made-clause-back : goal.returns-in-Ok-made-clause-back
+returns-in-Ok-made-clause-back g c =
+    let S = g.S.Store in
+    let D = g.S.Dev.Device in
+    let faults = D.faults c.in-Ok-open_image.device in
+    let count = D.faults c.make_run-made.result.1 in
+    let opened1 = c.in-Ok-open_image.ensures.opened ∙ ap (λ (os : List Opened). os ++ record { name = c.args.image.now; faults = faults; returned = None } ∷ []) c.in-Ok.ensures.opened in
+    none-out-back c.args.image.now faults count (S.opened c.args.store.now) (S.opened c.give_back.new.self) c.requires (c.give_back.ensures.opened ∙ ap (given_back c.args.image.now count) opened1)
+
+pub returns-in-Err-made-clause-back : goal.returns-in-Err-made-clause-back
+returns-in-Err-made-clause-back g c =
+    let S = g.S.Store in
+    let D = g.S.Dev.Device in
+    let faults = D.faults c.in-Ok-open_image.device in
+    let count = D.faults c.make_run-made.result.1 in
+    let opened1 = c.in-Ok-open_image.ensures.opened ∙ ap (λ (os : List Opened). os ++ record { name = c.args.image.now; faults = faults; returned = None } ∷ []) c.in-Ok.ensures.opened in
+    none-out-back c.args.image.now faults count (S.opened c.args.store.now) (S.opened c.give_back.new.self) c.requires (c.give_back.ensures.opened ∙ ap (given_back c.args.image.now count) opened1)
