@@ -19,6 +19,8 @@ mod store;
 mod tests;
 mod transfer;
 mod words;
+#[cfg(test)]
+mod writing_tests;
 
 use blk_base::{NoMemory, Text};
 pub use run::{qblk, run_io};

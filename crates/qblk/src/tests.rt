@@ -11,13 +11,13 @@ const USAGE: &str =
 
 // How a run ended, what went out, and the files.
 #[derive(Drop)]
-struct Ran {
-    status: Status,
-    out: MemSink,
-    store: MemStore,
+pub(crate) struct Ran {
+    pub(crate) status: Status,
+    pub(crate) out: MemSink,
+    pub(crate) store: MemStore,
 }
 
-fn failing(call: u64, done: u64) -> [FailAt; 1] {
+pub(crate) fn failing(call: u64, done: u64) -> [FailAt; 1] {
     [FailAt { call, done }]
 }
 
@@ -31,7 +31,7 @@ fn zeros(rt: &HostRuntime, len: u32, fails: &[FailAt]) -> Result<MemDevice, Fail
     Ok(dev)
 }
 
-fn sink(rt: &HostRuntime, fails: &[FailAt]) -> Result<MemSink, Fail> {
+pub(crate) fn sink(rt: &HostRuntime, fails: &[FailAt]) -> Result<MemSink, Fail> {
     let out = MemSink::new(rt.alloc(), 65_536, fails)?;
     Ok(out)
 }
@@ -60,10 +60,10 @@ const REFCOUNTS: [(usize, &[u8]); 2] = [
     (0x20000, &[0, 1, 0, 1, 0, 1, 0, 1]),
 ];
 
-const CREATED: usize = 262_144;
+pub(crate) const CREATED: usize = 262_144;
 
 /// What a write of four bytes 9 at 0 makes of it.
-const WRITTEN: [(usize, &[u8]); 4] = [
+pub(crate) const WRITTEN: [(usize, &[u8]); 4] = [
     (0x20008, &[0, 1, 0, 1]),
     (0x30000, &[0x80, 0, 0, 0, 0, 4, 0, 0]),
     (0x40000, &[0x80, 0, 0, 0, 0, 5, 0, 0]),
@@ -71,7 +71,7 @@ const WRITTEN: [(usize, &[u8]); 4] = [
 ];
 
 /// The same, where guest cluster 2 reads as zeros by itself and cluster 0 ends with 1, 2, 3.
-const MAPPED: [(usize, &[u8]); 6] = [
+pub(crate) const MAPPED: [(usize, &[u8]); 6] = [
     (0x20008, &[0, 1, 0, 1]),
     (0x30000, &[0x80, 0, 0, 0, 0, 4, 0, 0]),
     (0x40000, &[0x80, 0, 0, 0, 0, 5, 0, 0]),
@@ -81,7 +81,7 @@ const MAPPED: [(usize, &[u8]); 6] = [
 ];
 
 /// Bytes that are put at places of a file.
-type Edits<'a> = &'a [(usize, &'a [u8])];
+pub(crate) type Edits<'a> = &'a [(usize, &'a [u8])];
 
 fn put(bytes: &mut [u8], edits: Edits) {
     for (at, edit) in edits {
@@ -91,18 +91,24 @@ fn put(bytes: &mut [u8], edits: Edits) {
     }
 }
 
-// A device of a created image with these edits, in a file of so many bytes, whose calls of these numbers fail.
-fn qcow2(rt: &HostRuntime, len: usize, edits: Edits, fails: &[FailAt]) -> Result<MemDevice, Fail> {
+// A created image with these edits, in a file of so many bytes.
+pub(crate) fn image(rt: &HostRuntime, len: usize, edits: Edits) -> Result<Vec<u8>, Fail> {
     let mut bytes = vec![in rt.alloc(); 0; len]?;
     put(&mut bytes, &[(0, &HEADER)]);
     put(&mut bytes, &REFCOUNTS);
     put(&mut bytes, edits);
+    Ok(bytes)
+}
+
+// A device of such an image, whose calls of these numbers fail.
+fn qcow2(rt: &HostRuntime, len: usize, edits: Edits, fails: &[FailAt]) -> Result<MemDevice, Fail> {
+    let bytes = image(rt, len, edits)?;
     let dev = MemDevice::new(rt.alloc(), &bytes, bytes.len() as u64, fails, 0, 0)?;
     Ok(dev)
 }
 
 // The words on a store whose files are `disk.img` and `t`, and whose calls of these numbers fail.
-fn run(
+pub(crate) fn run(
     rt: &HostRuntime,
     text: &str,
     fails: &[FailAt],
@@ -139,7 +145,12 @@ fn io(rt: &HostRuntime, len: u32, fails: &[FailAt], trace: &[u8]) -> Result<Ran,
 }
 
 // Whether a run ended so, and its transcript is this.
-fn is_so(rt: &HostRuntime, ran: &Ran, status: &str, transcript: &str) -> Result<bool, Fail> {
+pub(crate) fn is_so(
+    rt: &HostRuntime,
+    ran: &Ran,
+    status: &str,
+    transcript: &str,
+) -> Result<bool, Fail> {
     let text = format!(in rt.alloc(); "{}", ran.status)?;
     Ok(text.as_str() == status && ran.out.bytes() == transcript.as_bytes())
 }
@@ -483,23 +494,22 @@ fn a_qcow2_image_is_read(rt: HostRuntime) -> Result<(), Fail> {
     // The feature name table of `qemu-img create`, whose file ends behind the L1 table's one entry.
     let names: Edits = &[(112, b"\x68\x03\xf8\x57\x00\x00\x01\x80\x00\x00dirty bit")];
     assert!(rt; is_read(&rt, 196_616, names, b"read 0 4\n", zeros)?);
-    let trace = b"read 2 4\nwrite -P 1 0 1\nread 65533 5\nread 1048575 2\n\
-        write -z 0 1\nbytes 0 00\ndiscard 0 1\nflush\n";
+    let trace = b"read 2 4\nread 65533 5\nread 1048575 2\nread 131070 4\nread 131072 4\n";
     let transcript = "admit disk 0 read 2 4\n\
         piece disk 0 0 ok 09*2 00*2\n\
         retire disk 0\n\
-        refuse disk 1 write 0 1 readonly\n\
-        admit disk 2 read 65533 5\n\
-        piece disk 2 0 ok 01*1 02*1 03*1\n\
-        piece disk 2 1 ok 00*2\n\
-        retire disk 2\n\
-        refuse disk 3 read 1048575 2 range\n\
-        refuse disk 4 zero 0 1 readonly\n\
-        refuse disk 5 write 0 1 readonly\n\
-        refuse disk 6 discard 0 1 readonly\n\
-        admit disk 7 flush\n\
-        piece disk 7 0 ok\n\
-        retire disk 7\n";
+        admit disk 1 read 65533 5\n\
+        piece disk 1 0 ok 01*1 02*1 03*1\n\
+        piece disk 1 1 ok 00*2\n\
+        retire disk 1\n\
+        refuse disk 2 read 1048575 2 range\n\
+        admit disk 3 read 131070 4\n\
+        piece disk 3 0 ok 00*2\n\
+        piece disk 3 1 ok 00*2\n\
+        retire disk 3\n\
+        admit disk 4 read 131072 4\n\
+        piece disk 4 0 ok 00*4\n\
+        retire disk 4\n";
     assert!(rt; is_read(&rt, 393_216, &MAPPED, trace, transcript)?);
     Ok(())
 }
