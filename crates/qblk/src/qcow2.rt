@@ -96,6 +96,7 @@ fn write_mapped<D: Device>(
     ensures written { IsWritten result part }
     ensures image { WritesImage (D.content device.old) (D.content device.new) image.new part.start (take (done_by result part) bytes.now) }
     ensures size { image.new.header.size ≡ image.old.header.size }
+    ensures name { image.new.header.name ≡ image.old.header.name }
     ensures space { LacksSpace result ↔ (own_end image.old part ≤ D.capacity device.old → ⊥) }
     ensures cause { HasCause (D.faults device.old) (D.faults device.new) result }
     ensures faults { D.faults device.old ≤ D.faults device.new }
@@ -125,6 +126,7 @@ fn put_part<D: Device>(
     ensures written { IsWritten result part }
     ensures image { WritesImage (D.content device.old) (D.content device.new) image.new part.start (take (done_by result part) bytes.now) }
     ensures size { image.new.header.size ≡ image.old.header.size }
+    ensures name { image.new.header.name ≡ image.old.header.name }
     ensures space { LacksSpace result ↔ (PutFits image.old (cluster_of image.old part) (D.capacity device.old) → ⊥) }
     ensures cause { HasCause (D.faults device.old) (D.faults device.new) result }
     ensures faults { D.faults device.old ≤ D.faults device.new }
@@ -153,6 +155,7 @@ pub(crate) fn write_image<D: Device>(
     ensures written { IsWritten result part }
     ensures image { WritesImage (D.content device.old) (D.content device.new) image.new part.start (take (done_by result part) bytes.now) }
     ensures size { image.new.header.size ≡ image.old.header.size }
+    ensures name { image.new.header.name ≡ image.old.header.name }
     ensures space { LacksSpace result ↔ (WriteFits image.old part (D.capacity device.old) → ⊥) }
     ensures cause { HasCause (D.faults device.old) (D.faults device.new) result }
     ensures faults { D.faults device.old ≤ D.faults device.new }
@@ -194,6 +197,7 @@ pub(crate) fn zero_image<D: Device>(
     ensures written { IsWritten result part }
     ensures image { WritesImage (D.content device.old) (D.content device.new) image.new part.start (take (done_by result part) (replicate part.len 0)) }
     ensures size { image.new.header.size ≡ image.old.header.size }
+    ensures name { image.new.header.name ≡ image.old.header.name }
     ensures space { LacksSpace result ↔ (ZerosFit image.old part (D.capacity device.old) → ⊥) }
     ensures cause { HasCause (D.faults device.old) (D.faults device.new) result }
     ensures faults { D.faults device.old ≤ D.faults device.new }
