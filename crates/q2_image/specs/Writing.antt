@@ -1,5 +1,5 @@
 -- Writing an image: what changes of its disk, and when there is room for it.
-use Rattle.std.specs.Prelude.{◌≡◌, ◌≢◌, ◌⊎◌, ℕ, ◌+◌, ◌*◌, ◌/◌, ◌%◌, ◌<◌, ◌≤◌, max, ◌==◌, Bool, true, not, ◌&&◌, if◌then◌else◌, ⊤, List, [], length, slice_index}
+use Rattle.std.specs.Prelude.{◌≡◌, ◌≢◌, ◌⊎◌, ℕ, ◌+◌, ◌*◌, ◌/◌, ◌%◌, ◌<◌, ◌≤◌, max, ◌==◌, Bool, true, not, ◌&&◌, if◌then◌else◌, ⊤, List, [], length, slice_index, Option}
 use Rattle.blk_base.specs.Counts.{Rose}
 use Rattle.blk_base.specs.Pieces.{Extent}
 use Rattle.blk_base.specs.declared.device.WriteStop.{WriteStop}
@@ -38,6 +38,10 @@ IsSameDisk old new = IsDiskWith old new 0 []
 -- the same image with its autoclear field 0, which is written before anything else is
 abbrev pub autocleared : Known → Known
 autocleared image = record image { header = record image.header { autoclear = 0 } }
+
+-- the autoclear field is 0, or nothing of the file was written
+abbrev pub ClearsFirst : Option (List ℕ) → Option (List ℕ) → Known → Type 0
+ClearsFirst old new image = (image.header.autoclear ≡ 0) ⊎ (new ≡ old)
 
 -- all guest clusters but one have the entries that they had, bit for bit
 abbrev pub HasEntriesBut : Known → Known → ℕ → Type 0

@@ -17,6 +17,7 @@ impl Image {
         requires image { (file : List ℕ) → D.content dev.old ≡ Some file → IsImageOf file self.old }
         ensures cleared { OnOk result (self.new ≡ autocleared self.old) }
         ensures kept { OnErr result (self.new ≡ self.old) }
+        ensures untouched { OnErr result (D.content dev.new ≡ D.content dev.old) }
         ensures image { (file : List ℕ) → D.content dev.new ≡ Some file → IsImageOf file self.new }
         ensures disk { (old new : List ℕ) → D.content dev.old ≡ Some old → D.content dev.new ≡ Some new → IsSameDisk old new }
         ensures cause { IfErr result (IsFault (D.faults dev.old) (D.faults dev.new)) }

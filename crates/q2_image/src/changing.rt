@@ -8,7 +8,7 @@ ghost use Rattle.q2_format.specs.Entry.{host_of, is_single};
 ghost use Rattle.q2_format.specs.declared.entries.L2Entry.TheVariants.{Zero, Host};
 ghost use Rattle.q2_image.specs.Image.{IsImageOf, IsOpen, clusters_in, cluster_size_in, word_in, entry_in};
 ghost use Rattle.q2_image.specs.Reading.{IsHost, IsWithinCluster};
-ghost use Rattle.q2_image.specs.Writing.{IsDiskWith, IsSameDisk, HasEntriesBut, IsSpelled, AreClusterZeros, PutFits, ZeroFits, needs_host, HasWriteCause, IsFault, IsOwnStop, IsFailedOwn, own_end, autoclear_end, autocleared, HasHeaderOf};
+ghost use Rattle.q2_image.specs.Writing.{IsDiskWith, IsSameDisk, HasEntriesBut, IsSpelled, AreClusterZeros, PutFits, ZeroFits, needs_host, HasWriteCause, IsFault, IsOwnStop, IsFailedOwn, own_end, autoclear_end, autocleared, ClearsFirst, HasHeaderOf};
 
 use crate::header::cluster_size;
 use crate::image::Image;
@@ -42,6 +42,7 @@ impl Image {
         ensures unmapped { OnErr result (word_in self.new cluster ≡ word_in self.old cluster) }
         ensures others { HasEntriesBut self.old self.new cluster }
         ensures header { HasHeaderOf self.old self.new }
+        ensures cleared { ClearsFirst (D.content dev.old) (D.content dev.new) self.new }
         ensures image { (file : List ℕ) → D.content dev.new ≡ Some file → IsImageOf file self.new }
         ensures disk { OnOk result ((old new : List ℕ) → D.content dev.old ≡ Some old → D.content dev.new ≡ Some new
             → IsDiskWith old new (cluster * 65536) bytes.now) }
@@ -76,6 +77,7 @@ impl Image {
         ensures unmapped { OnErr result (word_in self.new cluster ≡ word_in self.old cluster) }
         ensures others { HasEntriesBut self.old self.new cluster }
         ensures header { HasHeaderOf self.old self.new }
+        ensures cleared { ClearsFirst (D.content dev.old) (D.content dev.new) self.new }
         ensures image { (file : List ℕ) → D.content dev.new ≡ Some file → IsImageOf file self.new }
         ensures disk { OnOk result ((old new zeros : List ℕ) → D.content dev.old ≡ Some old → D.content dev.new ≡ Some new
             → AreClusterZeros zeros → IsDiskWith old new (cluster * 65536) zeros) }
@@ -113,6 +115,7 @@ impl Image {
 
         // the image
         ensures known { (self.new ≡ self.old) ⊎ (self.new ≡ autocleared self.old) }
+        ensures cleared { ClearsFirst (D.content dev.old) (D.content dev.new) self.new }
         ensures image { (file : List ℕ) → D.content dev.new ≡ Some file → IsImageOf file self.new }
         ensures disk { (old new : List ℕ) → D.content dev.old ≡ Some old → D.content dev.new ≡ Some new → IsDiskWith old new span.start (taken result bytes.now) }
 
@@ -179,6 +182,7 @@ impl Image {
         ensures unmapped { OnErr result (word_in self.new cluster ≡ word_in self.old cluster) }
         ensures others { HasEntriesBut self.old self.new cluster }
         ensures header { HasHeaderOf self.old self.new }
+        ensures cleared { ClearsFirst (D.content dev.old) (D.content dev.new) self.new }
         ensures image { (file : List ℕ) → D.content dev.new ≡ Some file → IsImageOf file self.new }
         ensures disk { OnOk result ((old new : List ℕ) → D.content dev.old ≡ Some old → D.content dev.new ≡ Some new
             → IsDiskWith old new (cluster * 65536) bytes.now) }
@@ -203,6 +207,7 @@ impl Image {
         ensures unmapped { OnErr result (word_in self.new cluster ≡ word_in self.old cluster) }
         ensures others { HasEntriesBut self.old self.new cluster }
         ensures header { HasHeaderOf self.old self.new }
+        ensures cleared { ClearsFirst (D.content dev.old) (D.content dev.new) self.new }
         ensures image { (file : List ℕ) → D.content dev.new ≡ Some file → IsImageOf file self.new }
         ensures disk { OnOk result ((old new zeros : List ℕ) → D.content dev.old ≡ Some old → D.content dev.new ≡ Some new
             → AreClusterZeros zeros → IsDiskWith old new (cluster * 65536) zeros) }
@@ -232,6 +237,7 @@ impl Image {
         requires fits { place + length bytes.now ≤ D.capacity dev.old }
         requires image { (file : List ℕ) → D.content dev.old ≡ Some file → IsImageOf file self.old }
         ensures known { (self.new ≡ self.old) ⊎ (self.new ≡ autocleared self.old) }
+        ensures cleared { ClearsFirst (D.content dev.old) (D.content dev.new) self.new }
         ensures image { (file : List ℕ) → D.content dev.new ≡ Some file → IsImageOf file self.new }
         ensures disk { (old new : List ℕ) → D.content dev.old ≡ Some old → D.content dev.new ≡ Some new → IsDiskWith old new span.start (taken result bytes.now) }
         ensures stop { IfErr result (IsFailedOwn (length bytes.now) (D.faults dev.old) (D.faults dev.new)) }

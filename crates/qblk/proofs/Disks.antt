@@ -1,8 +1,9 @@
 -- The disk that a device's bytes are.
-use Rattle.std.proofs.Common.{◌≡◌, ℕ, List, [], Option, Some, None, refl, sym, ap, subst}
+use Rattle.std.proofs.Common.{◌≡◌, ℕ, List, [], Option, Some, None, refl, sym, ap, subst, ◌∙◌}
 use Rattle.std.specs.Prelude.{option_map, is_some}
 use Rattle.q2_format.specs.Contents.{image_disk}
 use Rattle.qblk.specs.Format.{disk_of, IsSoundAs}
+use Rattle.q2_format.specs.declared.header.Header.{Header}
 use Rattle.q2_image.specs.Image.{Known, IsImageOf}
 use Rattle.qblk.specs.Medium.{Medium, disk_in, format_by, image_by, IsMedium}
 use Rattle.qblk.specs.Space.{MayBe}
@@ -44,7 +45,9 @@ pub known-image : (content : Option (List ℕ)) (image : Known) → ((bytes : Li
     → MayBe formats.Qcow2 (option_map (disk_of formats.Qcow2) content) (Some image)
 known-image content image of = λ bytes told. let found = told_bytes formats.Qcow2 content bytes told in (found.0, of found.0 found.1, sym found.2)
 
--- a sound image stays sound
+-- a sound image stays sound, and names no backing file
 pub sound-by : (driver : Driver) (content : Option (List ℕ)) → IsMedium driver content → (bytes : List ℕ) → content ≡ Some bytes → IsSoundAs (format_by driver) bytes
 sound-by Raw content is bytes told = tt
-sound-by (Qcow2 image cluster) content is bytes told = (is.read bytes told).sound
+sound-by (Qcow2 image cluster) content is bytes told =
+    let read = is.read bytes told in
+    (read.sound, ap (λ (h : Header). h.name) read.header ∙ is.unnamed)

@@ -163,12 +163,12 @@ licensed-piece before now (Torn done dev count) cause = (cause.0, cause.1, omega
 licensed-piece before now (Io dev count) cause = (cause.0, cause.1, omega arith)
 licensed-piece before now (NoSpace dev) cause = tt
 
-space-piece : (w : Face) (f : Flight) (outcome : Outcome) (r : ℕ) (got : List ℕ) → w.guest.flight ≡ Some f → w.guest.node ≡ 1 → MayBe w.format w.disk w.image
+space-piece : (w : Face) (f : Flight) (outcome : Outcome) (r before now : ℕ) (got : List ℕ) → w.guest.flight ≡ Some f → w.guest.node ≡ 1 → MayBe w.format w.disk w.image → HasCause before now outcome
     → LacksSpace outcome ↔ (HasSpace w.image w.capacity f.op (piece f.op f.next) → ⊥) → HadNoSpace w.format w.capacity (state_of w) (Piece 0 r f.next outcome got)
-space-piece w f Good r got is node known space = tt
-space-piece w f (Torn done dev count) r got is node known space = tt
-space-piece w f (Io dev count) r got is node known space = tt
-space-piece w f (NoSpace dev) r got is node known space = rw (is, node) (w.image, known, space.0 tt)
+space-piece w f Good r before now got is node known cause space = tt
+space-piece w f (Torn done dev count) r before now got is node known cause space = tt
+space-piece w f (Io dev count) r before now got is node known cause space = tt
+space-piece w f (NoSpace dev) r before now got is node known cause space = (cause, rw (is, node) (w.image, known, space.0 tt))
 
 some-map : {A : Type 0} (f : A → A) (a : Option A) → IsSome a → IsSome (option_map f a)
 some-map f None is = is
@@ -190,7 +190,7 @@ adds-piece o w v f outcome got comes is can puts = record {
   known = puts.known;
   faults = puts.made.faults;
   licensed = licensed-piece w.faults v.faults outcome puts.made.cause;
-  space = space-piece w f outcome w.guest.done got is comes.on_image comes.known puts.made.space;
+  space = space-piece w f outcome w.guest.done w.faults v.faults got is comes.on_image comes.known puts.made.cause puts.made.space;
   state = rw (puts.size, puts.guest, puts.made.disk, is, comes.on_image) refl;
   told = λ h. rw puts.made.disk (some-map _ w.disk h);
   fits = λ h. let d = some-of w.disk h in rw is (

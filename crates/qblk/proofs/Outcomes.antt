@@ -1,5 +1,5 @@
 -- What an outcome says of the call that it stands for.
-use Rattle.std.proofs.Common.{◌≡◌, ℕ, ◌<◌, ◌≤◌, ◌⊎◌, List, [], ◌∷◌, take, length, refl, sym, ap, ◌∙◌, arith, inl, inr}
+use Rattle.std.proofs.Common.{◌≡◌, ℕ, ◌<◌, ◌≤◌, ◌⊎◌, List, [], ◌∷◌, take, length, refl, sym, ap, ◌∙◌, arith, inl, inr, Option, Some, None}
 use Rattle.std.specs.Prelude.{◌↔◌, Result, Ok, Err, IfErr}
 use Rattle.std.proofs.lemmas.Bool.{cases_eq, eq-eqb, ne_eqb}
 use Rattle.std.proofs.lemmas.List.{take_all}
@@ -10,9 +10,13 @@ use Rattle.blk_base.specs.declared.device.Stop.{Stop}
 use Rattle.blk_base.specs.declared.device.Stop.TheVariants.{Failed, NoSpace}
 use Rattle.blk_base.specs.declared.fault.DevStop.{DevStop}
 use Rattle.blk_base.specs.declared.fault.DevStop.TheVariants as stops
+use Rattle.blk_base.specs.declared.fault.Outcome.{Outcome}
+use Rattle.blk_base.specs.declared.fault.Outcome.TheVariants as outcomes
 use Rattle.blk_history.specs.Machine.{done_by}
 use Rattle.q2_image.specs.Writing.{HasWriteCause}
-use Rattle.qblk.specs.Space.{LacksSpace}
+use Rattle.q2_image.specs.Image.{Known}
+use Rattle.q2_image.specs.Reading.{IsHost}
+use Rattle.qblk.specs.Space.{LacksSpace, TearsInPlace, entry_for}
 use Rattle.qblk.specs.Steps.{HasCause, IsWritten, outcome_by, cluster_outcome_of}
 
 -- of a write in place that was stopped
@@ -73,3 +77,22 @@ all-done disk bytes at n len = ap (with_bytes disk at) (take_all n bytes (omega 
 pub none-done : (stop : DevStop) (disk : List ℕ) (part : Extent) (bytes : List ℕ) → with_bytes disk part.start (take (done_by (cluster_outcome_of (Err stop)) part) bytes) ≡ disk
 none-done (stops.Io count) disk part bytes = nothing-done disk part.start bytes
 none-done stops.NoSpace disk part bytes = nothing-done disk part.start bytes
+
+-- where a write is torn
+
+pub raw-in-place : (outcome : Outcome) (part : Extent) → TearsInPlace outcome None part
+raw-in-place outcomes.Good part = tt
+raw-in-place (outcomes.Torn done dev count) part = tt
+raw-in-place (outcomes.Io dev count) part = tt
+raw-in-place (outcomes.NoSpace dev) part = tt
+
+pub host-in-place : (outcome : Outcome) (image : Known) (part : Extent) → IsHost (entry_for image part) → TearsInPlace outcome (Some image) part
+host-in-place outcomes.Good image part host = tt
+host-in-place (outcomes.Torn done dev count) image part host = host
+host-in-place (outcomes.Io dev count) image part host = tt
+host-in-place (outcomes.NoSpace dev) image part host = tt
+
+pub cluster-in-place : (written : Result (Unit {0}) DevStop) (image : Option Known) (part : Extent) → TearsInPlace (cluster_outcome_of written) image part
+cluster-in-place (Ok done) image part = tt
+cluster-in-place (Err (stops.Io count)) image part = tt
+cluster-in-place (Err stops.NoSpace) image part = tt

@@ -25,7 +25,7 @@ pub record Opening : Type 0 where
 abbrev pub opening_state : Opening → State
 opening_state o = state_with o.size new_guest o.disk
 
--- a piece was stopped for want of space only where there was no room for it
+-- a piece was stopped for want of space only where there was no room for it, and names the only device
 abbrev pub HadNoSpace : Format → ℕ → State → Event → Type 0
 HadNoSpace format capacity s (Admit g r op) = Unit {0}
 HadNoSpace format capacity s (Refuse g r op why) = Unit {0}
@@ -33,7 +33,7 @@ HadNoSpace format capacity s (Retire g r) = Unit {0}
 HadNoSpace format capacity s (Piece g r k Good got) = Unit {0}
 HadNoSpace format capacity s (Piece g r k (Torn done dev count) got) = Unit {0}
 HadNoSpace format capacity s (Piece g r k (Io dev count) got) = Unit {0}
-HadNoSpace format capacity s (Piece g r k (NoSpace dev) got) = With (guest_at s g) (λ row. With row.flight (λ f. WasFull format capacity (disk_in s.disks row.node) f.op (piece f.op k)))
+HadNoSpace format capacity s (Piece g r k (NoSpace dev) got) = (dev.0 ≡ 0) × With (guest_at s g) (λ row. With row.flight (λ f. WasFull format capacity (disk_in s.disks row.node) f.op (piece f.op k)))
 
 -- the faults that the history names are rises of the device's count, each named once
 pub record AreLicensed (o : Opening) (w : Face) : Type 0 where

@@ -16,7 +16,7 @@ abbrev pub IsGoodImage : Format → List ℕ → Type 0
 IsGoodImage Raw bytes = length bytes ≤ 274877906944
 IsGoodImage Qcow2 bytes = IsSound bytes × ((header_of bytes).name ≡ None)
 
--- what is left of it after a run: a sound image stays sound
+-- what is left of it after a run: a sound image stays sound, and names no backing file
 abbrev pub IsSoundAs : Format → List ℕ → Type 0
 IsSoundAs Raw bytes = ⊤
-IsSoundAs Qcow2 bytes = IsSound bytes
+IsSoundAs Qcow2 bytes = IsSound bytes × ((header_of bytes).name ≡ None)

@@ -48,9 +48,15 @@ abbrev pub HasBuffer : Driver → Type 0
 HasBuffer Raw = Unit {0}
 HasBuffer (Qcow2 image cluster) = length cluster.items ≡ 65536
 
+-- it reads without a backing disk, since its image names no backing file
+abbrev pub NamesNoBacking : Driver → Type 0
+NamesNoBacking Raw = Unit {0}
+NamesNoBacking (Qcow2 image cluster) = image.header.name ≡ None
+
 -- a driver with its device, where that tells its bytes
 pub record IsMedium (driver : Driver) (content : Option (List ℕ)) : Type 0 where
   pub buffer : HasBuffer driver
+  pub unnamed : NamesNoBacking driver
   pub read : (bytes : List ℕ) → content ≡ Some bytes → IsReadBy driver bytes
 
 -- the disk is as long as it is said to be, where the device tells its bytes

@@ -9,6 +9,7 @@ use Rattle.q2_format.specs.Contents.{image_disk}
 use Rattle.q2_format.specs.declared.entries.L2Entry.{L2Entry}
 use Rattle.q2_format.specs.declared.entries.L2Entry.TheVariants as entries
 use Rattle.q2_image.specs.Image.{Known, IsImageOf, cluster_size_in, entry_in}
+use Rattle.q2_image.specs.Reading.{IsHost}
 use Rattle.q2_image.specs.Writing.{PutFits, ZeroFits, own_end}
 use Rattle.qblk.specs.declared.words.Format.{Format}
 use Rattle.qblk.specs.declared.words.Format.TheVariants.{Raw, Qcow2}
@@ -68,6 +69,14 @@ LacksSpace Good = ⊥
 LacksSpace (Torn done dev count) = ⊥
 LacksSpace (Io dev count) = ⊥
 LacksSpace (NoSpace dev) = ⊤
+
+-- a write is torn only in place: on a raw disk, or on a cluster that is mapped
+abbrev pub TearsInPlace : Outcome → Option Known → Extent → Type 0
+TearsInPlace Good image part = ⊤
+TearsInPlace (Torn done dev count) None part = ⊤
+TearsInPlace (Torn done dev count) (Some image) part = IsHost (entry_for image part)
+TearsInPlace (Io dev count) image part = ⊤
+TearsInPlace (NoSpace dev) image part = ⊤
 
 -- What may be known of the image whose disk this is: it is that of a sound file that reads as the disk. Of a raw disk
 -- nothing is.

@@ -21,7 +21,7 @@ use Rattle.blk_history.specs.declared.entry.Refused.{Refused}
 use Rattle.blk_history.specs.declared.event.Event.{Event}
 use Rattle.blk_history.specs.declared.event.Event.TheVariants as events
 use Rattle.q2_image.specs.Image.{Known}
-use Rattle.qblk.specs.Space.{HasSpace, LacksSpace, MayBe}
+use Rattle.qblk.specs.Space.{HasSpace, LacksSpace, TearsInPlace, MayBe}
 use Rattle.qblk.specs.Face.{Face, node_of}
 
 -- the history with one more entry, and with bytes that it shows
@@ -112,6 +112,7 @@ pub record MakesPiece (old new : Side) (before now : Recorded) (request : ℕ) (
   pub cause : HasCause old.faults new.faults outcome
   -- want of space comes exactly where there is no room for what the piece writes
   pub space : LacksSpace outcome ↔ (HasSpace old.image old.capacity f.op (piece f.op f.next) → ⊥)
+  pub place : TearsInPlace outcome old.image (piece f.op f.next)
   pub faults : old.faults ≤ new.faults
   pub capacity : new.capacity ≡ old.capacity
   pub bound : length got ≤ shows_in f.op (piece f.op f.next).len

@@ -50,7 +50,7 @@ impl<D: Device> Medium<D> {
     ghost use Rattle.blk_history.specs.Legal.{Tells};
     ghost use Rattle.q2_image.specs.Reading.{IsWithinCluster};
     ghost use Rattle.qblk.specs.Format.{IsSoundAs};
-    ghost use Rattle.qblk.specs.Space.{HasSpace, LacksSpace, MayBe};
+    ghost use Rattle.qblk.specs.Space.{HasSpace, LacksSpace, TearsInPlace, MayBe};
     ghost use Rattle.qblk.specs.Medium.{disk_in};
     ghost use Rattle.qblk.specs.Steps.{HasCause, IsPart, IsRead, IsWritten, IsFlush, KeepsAll, shown_of};
     ghost use Rattle.trace_codec.specs.declared.op.Op.{Op};
@@ -75,6 +75,7 @@ impl<D: Device> Medium<D> {
         requires inside { end_of part ≤ self.old.size }
         ensures read { (disk : List ℕ) → disk_in self.old ≡ Some disk → IsRead result disk part buffer.new }
         ensures space { LacksSpace result → ⊥ }
+        ensures place { TearsInPlace result self.old.image part }
         ensures known { MayBe self.new.format (disk_in self.new) self.new.image }
         ensures kept { self.new ≡ record self.old { faults = self.new.faults } }
         ensures cause { HasCause self.old.faults self.new.faults result }
@@ -98,6 +99,7 @@ impl<D: Device> Medium<D> {
         ensures size { self.old.size ≤ self.new.size }
         ensures cause { HasCause self.old.faults self.new.faults result }
         ensures space { (span : Extent) (payload : Payload) → LacksSpace result ↔ (HasSpace self.old.image self.old.capacity (Op.Write span payload) part → ⊥) }
+        ensures place { TearsInPlace result self.old.image part }
         ensures known { MayBe self.new.format (disk_in self.new) self.new.image }
         ensures faults { self.old.faults ≤ self.new.faults }
         ensures capacity { self.new.capacity ≡ self.old.capacity }
@@ -122,6 +124,7 @@ impl<D: Device> Medium<D> {
         ensures size { self.old.size ≤ self.new.size }
         ensures cause { HasCause self.old.faults self.new.faults result }
         ensures space { (span : Extent) (payload : Payload) → LacksSpace result ↔ (HasSpace self.old.image self.old.capacity (Op.Write span payload) part → ⊥) }
+        ensures place { TearsInPlace result self.old.image part }
         ensures known { MayBe self.new.format (disk_in self.new) self.new.image }
         ensures faults { self.old.faults ≤ self.new.faults }
         ensures capacity { self.new.capacity ≡ self.old.capacity }
@@ -142,6 +145,7 @@ impl<D: Device> Medium<D> {
         ensures size { self.old.size ≤ self.new.size }
         ensures cause { HasCause self.old.faults self.new.faults result }
         ensures space { (span : Extent) → LacksSpace result ↔ (HasSpace self.old.image self.old.capacity (Op.Zero span) part → ⊥) }
+        ensures place { TearsInPlace result self.old.image part }
         ensures known { MayBe self.new.format (disk_in self.new) self.new.image }
         ensures faults { self.old.faults ≤ self.new.faults }
         ensures capacity { self.new.capacity ≡ self.old.capacity }
@@ -160,6 +164,7 @@ impl<D: Device> Medium<D> {
     /// Flushes the device for the guest.
     fn flush(&mut self) -> Outcome
         ensures space { LacksSpace result → ⊥ }
+        ensures place { (part : Extent) → TearsInPlace result self.old.image part }
         ensures known { MayBe self.new.format (disk_in self.new) self.new.image }
         ensures flushed { IsFlush self.old.is_flushed self.new.is_flushed self.old.faults self.new.faults result }
         ensures told { KeepsAll Op.Flush result (disk_in self.new) self.new.is_flushed }
@@ -182,6 +187,7 @@ impl<D: Device> Medium<D> {
         ensures size { self.old.size ≤ self.new.size }
         ensures cause { HasCause self.old.faults self.new.faults result }
         ensures space { LacksSpace result ↔ (HasSpace self.old.image self.old.capacity op.now part → ⊥) }
+        ensures place { TearsInPlace result self.old.image part }
         ensures known { MayBe self.new.format (disk_in self.new) self.new.image }
         ensures faults { self.old.faults ≤ self.new.faults }
         ensures capacity { self.new.capacity ≡ self.old.capacity }

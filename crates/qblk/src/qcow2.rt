@@ -8,7 +8,7 @@ ghost use Rattle.q2_image.specs.Image.{IsImageOf};
 ghost use Rattle.q2_image.specs.Reading.{IsHost, IsWithinCluster};
 ghost use Rattle.q2_image.specs.Writing.{PutFits, own_end};
 ghost use Rattle.qblk.specs.Medium.{WritesImage};
-ghost use Rattle.qblk.specs.Space.{WriteFits, ZerosFit, LacksSpace, IsBlank, cluster_of, entry_for, is_whole};
+ghost use Rattle.qblk.specs.Space.{WriteFits, ZerosFit, LacksSpace, TearsInPlace, IsBlank, cluster_of, entry_for, is_whole};
 ghost use Rattle.qblk.specs.Steps.{HasCause, cluster_outcome_of, IsRead, IsWritten};
 
 use crate::transfer::{DEVICE, write_outcome};
@@ -38,6 +38,7 @@ pub(crate) fn read_image<D: Device>(
     requires inside { end_of part ≤ image.now.header.size }
     ensures read { (file : List ℕ) → D.content device.old ≡ Some file → IsImageOf file image.now → IsRead result (image_disk file []) part buffer.new }
     ensures space { LacksSpace result → ⊥ }
+    ensures place { TearsInPlace result (Some image.now) part }
     ensures content { D.content device.new ≡ D.content device.old }
     ensures flushed { D.is_flushed device.new ≡ D.is_flushed device.old }
     ensures size { D.size device.new ≡ D.size device.old }
@@ -96,7 +97,9 @@ fn write_mapped<D: Device>(
     ensures written { IsWritten result part }
     ensures image { WritesImage (D.content device.old) (D.content device.new) image.new part.start (take (done_by result part) bytes.now) }
     ensures size { image.new.header.size ≡ image.old.header.size }
+    ensures name { image.new.header.name ≡ image.old.header.name }
     ensures space { LacksSpace result ↔ (own_end image.old part ≤ D.capacity device.old → ⊥) }
+    ensures place { TearsInPlace result (Some image.old) part }
     ensures cause { HasCause (D.faults device.old) (D.faults device.new) result }
     ensures faults { D.faults device.old ≤ D.faults device.new }
     ensures capacity { D.capacity device.new ≡ D.capacity device.old }
@@ -125,7 +128,9 @@ fn put_part<D: Device>(
     ensures written { IsWritten result part }
     ensures image { WritesImage (D.content device.old) (D.content device.new) image.new part.start (take (done_by result part) bytes.now) }
     ensures size { image.new.header.size ≡ image.old.header.size }
+    ensures name { image.new.header.name ≡ image.old.header.name }
     ensures space { LacksSpace result ↔ (PutFits image.old (cluster_of image.old part) (D.capacity device.old) → ⊥) }
+    ensures place { TearsInPlace result (Some image.old) part }
     ensures cause { HasCause (D.faults device.old) (D.faults device.new) result }
     ensures faults { D.faults device.old ≤ D.faults device.new }
     ensures capacity { D.capacity device.new ≡ D.capacity device.old }
@@ -153,7 +158,9 @@ pub(crate) fn write_image<D: Device>(
     ensures written { IsWritten result part }
     ensures image { WritesImage (D.content device.old) (D.content device.new) image.new part.start (take (done_by result part) bytes.now) }
     ensures size { image.new.header.size ≡ image.old.header.size }
+    ensures name { image.new.header.name ≡ image.old.header.name }
     ensures space { LacksSpace result ↔ (WriteFits image.old part (D.capacity device.old) → ⊥) }
+    ensures place { TearsInPlace result (Some image.old) part }
     ensures cause { HasCause (D.faults device.old) (D.faults device.new) result }
     ensures faults { D.faults device.old ≤ D.faults device.new }
     ensures capacity { D.capacity device.new ≡ D.capacity device.old }
@@ -194,7 +201,9 @@ pub(crate) fn zero_image<D: Device>(
     ensures written { IsWritten result part }
     ensures image { WritesImage (D.content device.old) (D.content device.new) image.new part.start (take (done_by result part) (replicate part.len 0)) }
     ensures size { image.new.header.size ≡ image.old.header.size }
+    ensures name { image.new.header.name ≡ image.old.header.name }
     ensures space { LacksSpace result ↔ (ZerosFit image.old part (D.capacity device.old) → ⊥) }
+    ensures place { TearsInPlace result (Some image.old) part }
     ensures cause { HasCause (D.faults device.old) (D.faults device.new) result }
     ensures faults { D.faults device.old ≤ D.faults device.new }
     ensures capacity { D.capacity device.new ≡ D.capacity device.old }

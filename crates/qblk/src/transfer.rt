@@ -1,13 +1,14 @@
 //! One piece on a device.
-ghost use Rattle.std.specs.Prelude.{◌≡◌, ◌↔◌, ◌+◌, ◌<◌, ◌≤◌, ◌||◌, List, ℕ, [], true, is_ok, MatchOption, length, take, Option, Some, option_map, IsTrue};
+ghost use Rattle.std.specs.Prelude.{◌≡◌, ◌↔◌, ◌+◌, ◌<◌, ◌≤◌, ◌||◌, List, ℕ, [], true, is_ok, MatchOption, length, take, Option, Some, None, option_map, IsTrue};
 ghost use Rattle.blk_base.specs.Counts.{Rose};
-ghost use Rattle.blk_base.specs.Pieces.{count_of_pieces, piece_of, end_of};
+ghost use Rattle.blk_base.specs.Pieces.{Extent, count_of_pieces, piece_of, end_of};
+ghost use Rattle.q2_image.specs.Image.{Known};
 ghost use Rattle.q2_image.specs.Reading.{IsWithinCluster};
 ghost use Rattle.trace_codec.specs.Request.{pieces_of};
 ghost use Rattle.blk_base.specs.Content.{bytes_at, with_bytes};
 ghost use Rattle.blk_history.specs.Disk.{span_of, piece};
 ghost use Rattle.blk_history.specs.Machine.{done_by};
-ghost use Rattle.qblk.specs.Space.{LacksSpace};
+ghost use Rattle.qblk.specs.Space.{LacksSpace, TearsInPlace};
 ghost use Rattle.qblk.specs.Steps.{HasCause, outcome_of, shown_of, IsPart, IsRead, IsWritten, IsFlush, shows_in};
 
 use blk_base::{DevNo, Device, FaultAt, FaultFrom, Outcome, Span, Stop, WriteStop, piece_at};
@@ -94,6 +95,7 @@ pub(crate) fn read_part<D: Device>(device: &mut D, part: Span, buffer: &mut [u8]
     requires { length buffer.old ≡ part.len }
     ensures read { (disk : List ℕ) → D.content device.old ≡ Some disk → IsRead result disk part buffer.new }
     ensures space { LacksSpace result → ⊥ }
+    ensures place { TearsInPlace result None part }
     ensures content { D.content device.new ≡ D.content device.old }
     ensures flushed { D.is_flushed device.new ≡ D.is_flushed device.old }
     ensures size { D.size device.new ≡ D.size device.old }
@@ -117,6 +119,7 @@ pub(crate) fn write_part<D: Device>(device: &mut D, part: Span, bytes: &[u8]) ->
     ensures size { D.size device.old ≤ D.size device.new }
     ensures content { D.content device.new ≡ option_map (λ disk. with_bytes disk part.start (take (done_by result part) bytes.now)) (D.content device.old) }
     ensures space { LacksSpace result ↔ (end_of part ≤ D.capacity device.old → ⊥) }
+    ensures place { TearsInPlace result None part }
     ensures cause { HasCause (D.faults device.old) (D.faults device.new) result }
     ensures faults { D.faults device.old ≤ D.faults device.new }
     ensures capacity { D.capacity device.new ≡ D.capacity device.old }
@@ -145,6 +148,7 @@ pub(crate) fn write_outcome(stop: WriteStop, count: u64) -> Outcome
 /// Flushes a device for a guest.
 pub(crate) fn flush_device<D: Device>(device: &mut D) -> Outcome
     ensures space { LacksSpace result → ⊥ }
+    ensures place { (image : Option Known) (part : Extent) → TearsInPlace result image part }
     ensures flushed { IsFlush (D.is_flushed device.old) (D.is_flushed device.new) (D.faults device.old) (D.faults device.new) result }
     ensures content { D.content device.new ≡ D.content device.old }
     ensures size { D.size device.new ≡ D.size device.old }
