@@ -1,5 +1,7 @@
 """Times requests through `qblk io` and through `qemu-io`, in turn."""
 
+import os
+import resource
 import statistics
 import subprocess
 import sys
@@ -26,16 +28,23 @@ def created(image, size):
     return image
 
 
+def used():
+    """The processor time of the processes that have ended, in seconds."""
+    ended = resource.getrusage(resource.RUSAGE_CHILDREN)
+    return ended.ru_utime + ended.ru_stime
+
+
 def timed(words, source):
-    """How long a process takes, in seconds."""
+    """How long a process takes, and how much processor time, in seconds. What was written before is on the disk then."""
+    os.sync()
     with open(source, "rb") as lines:
-        before = time.perf_counter()
+        before, used_before = time.perf_counter(), used()
         subprocess.run(words, stdin=lines, stdout=subprocess.DEVNULL, stderr=subprocess.DEVNULL, check=True)
-        return time.perf_counter() - before
+        return time.perf_counter() - before, used() - used_before
 
 
 def compare(title, form, image_of, requests, folder):
-    """Runs the requests through both, in turn, each on the image that `image_of` gives, and prints the ratio of the medians."""
+    """Runs the requests through both, in turn, each on the image that `image_of` gives, and prints the ratios of the medians."""
     trace = Path(folder, "trace")
     quiet = Path(folder, "quiet")
     trace.write_text("".join(line + "\n" for line in requests))
@@ -44,7 +53,10 @@ def compare(title, form, image_of, requests, folder):
     for _ in range(ROUNDS):
         ours.append(timed([program(), "io", form, image_of(), trace], "/dev/null"))
         theirs.append(timed(["qemu-io", "-t", "writeback", "-f", form, image_of()], quiet))
-    print(f"{title}: qblk {spread(ours)}, qemu-io {spread(theirs)}, ratio {statistics.median(ours) / statistics.median(theirs):.2f}", flush=True)
+    print(title)
+    for name, our, their in zip(("time", "processor"), zip(*ours), zip(*theirs)):
+        ratio = statistics.median(our) / statistics.median(their)
+        print(f"  {name}: qblk {spread(our)}, qemu-io {spread(their)}, ratio {ratio:.2f}", flush=True)
 
 
 def spread(times):

@@ -438,7 +438,7 @@ fn fails_well(rt: &HostRuntime, row: &Allocating, write: u64, done: u64) -> Resu
     let trace = format!(in rt.alloc();
         "{line}\nread 65536 8\nwrite -P 8 196600 8\nread 196600 8\n"
     )?;
-    let fails = failing(row.opening + write, done);
+    let fails = failing(row.opening.saturating_add(write), done);
     let ran = io(rt, &before, MIB, &fails, trace.as_str().as_bytes())?;
     let told = [
         (row.request, "io dev0 1"),
@@ -544,13 +544,13 @@ fn a_write_in_place_is_torn(rt: HostRuntime) -> Result<(), Fail> {
 fn a_call_fails_on_a_written_image(rt: HostRuntime) -> Result<(), Fail> {
     let before = image(&rt, PUT_BEFORE.0, PUT_BEFORE.1)?;
     let rows = [
-        ("", ["io dev0 1", "ok", "ok 09*4"]),
-        ("", ["ok", "io dev0 1", "ok 01*2 09*2"]),
-        ("", ["ok", "ok", "io dev0 1"]),
-        ("fault dev0 1", ["ok", "ok", "ok 01*2 09*2"]),
+        (5, "", ["io dev0 1", "ok", "ok 09*4"]),
+        (6, "", ["ok", "io dev0 1", "ok 01*2 09*2"]),
+        (7, "", ["ok", "ok", "io dev0 1"]),
+        (8, "fault dev0 1", ["ok", "ok", "ok 01*2 09*2"]),
     ];
-    for (call, (status, [write, flush, read])) in (0..).zip(rows) {
-        let fails = failing(OPENING + 1 + call, 0);
+    for (call, status, [write, flush, read]) in rows {
+        let fails = failing(call, 0);
         let ran = io(
             &rt,
             &before,
