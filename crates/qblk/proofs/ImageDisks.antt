@@ -126,9 +126,9 @@ disk-put old new start bytes whole is zeros filled block within =
     let whole_len : length whole ≡ 65536 = ap length filled ∙ padded-length at rest bytes ∙ omega arith in
     disk-changed old new start bytes is.size within
     (λ i below.
-      let place : base + (at + i) ≡ start + i = omega arith in
-      ap (guest_byte new []) (sym place) ∙ is.inside [] (at + i) (omega arith) (omega arith)
-      ∙ ap (λ (b : List ℕ). get_or b (at + i) 0) filled ∙ padded-inside at rest bytes i below)
+    let place : base + (at + i) ≡ start + i = omega arith in
+    ap (guest_byte new []) (sym place) ∙ is.inside [] (at + i) (omega arith) (omega arith)
+    ∙ ap (λ (b : List ℕ). get_or b (at + i) 0) filled ∙ padded-inside at rest bytes i below)
     (λ place below side. elim (cases_lt place base) [
       | inl before ↦ is.outside [] place below (inl before)
       | inr low ↦ elim (cases_lt place (base + 65536)) [
@@ -179,8 +179,8 @@ own-writes old new was now at bytes done told image before_image disk same withi
   told = told;
   image = image;
   disk = λ before after is_before is_after.
-    let size = ap (λ (h : Header). h.size) (before_image before is_before).header in
-    disk-written before after at bytes (disk before after is_before is_after) (omega (arith, size, within)) ∙ ap (with_bytes (image_disk before []) at) (sym same);
+      let size = ap (λ (h : Header). h.size) (before_image before is_before).header in
+      disk-written before after at bytes (disk before after is_before is_after) (omega (arith, size, within)) ∙ ap (with_bytes (image_disk before []) at) (sym same);
 }
 
 -- of a whole cluster
@@ -196,11 +196,11 @@ put-writes old new was now part bytes whole (Ok done) told image before_image ok
   told = told;
   image = image;
   disk = λ before after is_before is_after.
-    let header = (before_image before is_before).header in
-    let size = ap (λ (h : Header). h.size) header in
-    let zeros = blank-zeros before (part.start / 65536) (ap (λ (h : Header). h.cluster_bits) header ∙ bits) (blank before is_before) in
-    disk-put before after part.start bytes whole (ok before after is_before is_after) zeros filled (omega arith) (omega (arith, size, len, within))
-    ∙ sym (all-done (image_disk before []) bytes part.start part.len len);
+      let header = (before_image before is_before).header in
+      let size = ap (λ (h : Header). h.size) header in
+      let zeros = blank-zeros before (part.start / 65536) (ap (λ (h : Header). h.cluster_bits) header ∙ bits) (blank before is_before) in
+      disk-put before after part.start bytes whole (ok before after is_before is_after) zeros filled (omega arith) (omega (arith, size, len, within))
+      ∙ sym (all-done (image_disk before []) bytes part.start part.len len);
 }
 put-writes old new was now part bytes whole (Err stop) told image before_image ok err bits blank filled len block within = record {
   told = told;
@@ -219,10 +219,10 @@ zero-writes old new was now part (Ok done) told image before_image ok err whole 
   told = told;
   image = image;
   disk = λ before after is_before is_after.
-    let size = ap (λ (h : Header). h.size) (before_image before is_before).header in
-    let last : (part.len ≡ 65536) ⊎ (part.start + part.len ≡ (header_of before).size) = elim end [ inl full ↦ inl full | inr last ↦ inr (omega (arith, size, last)) ] in
-    disk-zeroed before after part.start part.len (λ zeros are. ok before after zeros is_before is_after are) whole small (omega (arith, size, within)) last
-    ∙ sym (all-done (image_disk before []) (replicate part.len 0) part.start part.len (length-replicate part.len 0));
+      let size = ap (λ (h : Header). h.size) (before_image before is_before).header in
+      let last : (part.len ≡ 65536) ⊎ (part.start + part.len ≡ (header_of before).size) = elim end [ inl full ↦ inl full | inr last ↦ inr (omega (arith, size, last)) ] in
+      disk-zeroed before after part.start part.len (λ zeros are. ok before after zeros is_before is_after are) whole small (omega (arith, size, within)) last
+      ∙ sym (all-done (image_disk before []) (replicate part.len 0) part.start part.len (length-replicate part.len 0));
 }
 zero-writes old new was now part (Err stop) told image before_image ok err whole end small within = record {
   told = told;
@@ -239,10 +239,10 @@ zeros-left content image part is bits blank block within = record {
   told = refl;
   image = is;
   disk = λ before after is_before is_after.
-    let header = (is before is_before).header in
-    let size = ap (λ (h : Header). h.size) header in
-    let zeros = blank-zeros before (part.start / 65536) (ap (λ (h : Header). h.cluster_bits) header ∙ bits) (blank before is_before) in
-    let same : after ≡ before = cc in
-    ap (λ (f : List ℕ). image_disk f []) same ∙ disk-left before part.start part.len zeros block (omega (arith, size, within))
-    ∙ sym (all-done (image_disk before []) (replicate part.len 0) part.start part.len (length-replicate part.len 0));
+      let header = (is before is_before).header in
+      let size = ap (λ (h : Header). h.size) header in
+      let zeros = blank-zeros before (part.start / 65536) (ap (λ (h : Header). h.cluster_bits) header ∙ bits) (blank before is_before) in
+      let same : after ≡ before = cc in
+      ap (λ (f : List ℕ). image_disk f []) same ∙ disk-left before part.start part.len zeros block (omega (arith, size, within))
+      ∙ sym (all-done (image_disk before []) (replicate part.len 0) part.start part.len (length-replicate part.len 0));
 }

@@ -81,12 +81,7 @@ fn fill_cluster(cluster: &mut [u8], at: u64, bytes: &[u8])
 }
 
 /// Writes a part of a mapped cluster in place.
-fn write_mapped<D: Device>(
-    device: &mut D,
-    image: &mut Image,
-    part: Span,
-    bytes: &[u8],
-) -> Outcome
+fn write_mapped<D: Device>(device: &mut D, image: &mut Image, part: Span, bytes: &[u8]) -> Outcome
     requires whole { length bytes.now ≡ part.len }
     requires some { 0 < part.len }
     requires block { IsWithinCluster 65536 part }

@@ -33,6 +33,6 @@ returns-in-Zero-clause-image g c =
     let number : c.cluster_size-2.result ≡ 65536 = rw bits at c.cluster_size-2.ensures.size in
     let at : c.part.inside.start ≡ part.start = ap (λ (s : Extent). s.start) c.part.view_is in
     let blank : (file : List ℕ) → g.D.Device.content c.args.device.now ≡ Some file → IsBlank (file_entry file (part.start / 65536)) = λ file told.
-      let entry = rw (at, number) at (c.in-Zero.ensures.file file (c.requires.image file told)) in
-      subst IsBlank entry tt in
+    let entry = rw (at, number) at (c.in-Zero.ensures.file file (c.requires.image file told)) in
+    subst IsBlank entry tt in
     zeros-left (g.D.Device.content c.args.device.now) c.args.image.now part c.requires.image bits blank c.requires.block c.requires.inside
