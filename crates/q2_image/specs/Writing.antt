@@ -51,6 +51,10 @@ HasEntriesBut old new but = (cluster : ℕ) → cluster ≢ but → word_in new 
 abbrev pub counts_once : Known → ℕ → Bool
 counts_once image host = not (host == 0) && slice_index image.refs.counts (host / cluster_size_in image) == 1
 
+-- what counts stays counted
+abbrev pub StaysTaken : Known → Known → Type 0
+StaysTaken old new = (n : ℕ) → slice_index old.refs.counts n ≢ 0 → slice_index new.refs.counts n ≢ 0
+
 -- The kept word of a guest cluster spells its entry, with bit 63 set exactly where there is a host cluster that
 -- counts once.
 abbrev pub IsSpelled : Known → ℕ → Type 0

@@ -8,7 +8,7 @@ ghost use Rattle.q2_format.specs.Entry.{host_of, is_single};
 ghost use Rattle.q2_format.specs.declared.entries.L2Entry.TheVariants.{Zero, Host};
 ghost use Rattle.q2_image.specs.Image.{IsImageOf, IsOpen, clusters_in, cluster_size_in, word_in, entry_in};
 ghost use Rattle.q2_image.specs.Reading.{IsHost, IsWithinCluster};
-ghost use Rattle.q2_image.specs.Writing.{IsDiskWith, IsSameDisk, HasEntriesBut, IsSpelled, AreClusterZeros, PutFits, ZeroFits, needs_host, HasWriteCause, IsFault, IsOwnStop, IsFailedOwn, own_end, autoclear_end, autocleared, ClearsFirst, HasHeaderOf};
+ghost use Rattle.q2_image.specs.Writing.{IsDiskWith, IsSameDisk, HasEntriesBut, StaysTaken, IsSpelled, AreClusterZeros, PutFits, ZeroFits, needs_host, HasWriteCause, IsFault, IsOwnStop, IsFailedOwn, own_end, autoclear_end, autocleared, ClearsFirst, HasHeaderOf};
 
 use crate::header::cluster_size;
 use crate::image::Image;
@@ -41,6 +41,7 @@ impl Image {
         ensures single { OnOk result (needs_host self.old cluster ≡ true → is_single (word_in self.new cluster) ≡ true) }
         ensures unmapped { OnErr result (word_in self.new cluster ≡ word_in self.old cluster) }
         ensures others { HasEntriesBut self.old self.new cluster }
+        ensures taken { StaysTaken self.old self.new }
         ensures header { HasHeaderOf self.old self.new }
         ensures cleared { ClearsFirst (D.content dev.old) (D.content dev.new) self.new }
         ensures image { (file : List ℕ) → D.content dev.new ≡ Some file → IsImageOf file self.new }
@@ -76,6 +77,7 @@ impl Image {
         ensures spelled { OnOk result (IsSpelled self.new cluster) }
         ensures unmapped { OnErr result (word_in self.new cluster ≡ word_in self.old cluster) }
         ensures others { HasEntriesBut self.old self.new cluster }
+        ensures taken { StaysTaken self.old self.new }
         ensures header { HasHeaderOf self.old self.new }
         ensures cleared { ClearsFirst (D.content dev.old) (D.content dev.new) self.new }
         ensures image { (file : List ℕ) → D.content dev.new ≡ Some file → IsImageOf file self.new }
@@ -115,6 +117,7 @@ impl Image {
 
         // the image
         ensures known { (self.new ≡ self.old) ⊎ (self.new ≡ autocleared self.old) }
+        ensures taken { StaysTaken self.old self.new }
         ensures cleared { ClearsFirst (D.content dev.old) (D.content dev.new) self.new }
         ensures image { (file : List ℕ) → D.content dev.new ≡ Some file → IsImageOf file self.new }
         ensures disk { (old new : List ℕ) → D.content dev.old ≡ Some old → D.content dev.new ≡ Some new → IsDiskWith old new span.start (taken result bytes.now) }
@@ -181,6 +184,7 @@ impl Image {
         ensures single { OnOk result (needs_host self.old cluster ≡ true → is_single (word_in self.new cluster) ≡ true) }
         ensures unmapped { OnErr result (word_in self.new cluster ≡ word_in self.old cluster) }
         ensures others { HasEntriesBut self.old self.new cluster }
+        ensures taken { StaysTaken self.old self.new }
         ensures header { HasHeaderOf self.old self.new }
         ensures cleared { ClearsFirst (D.content dev.old) (D.content dev.new) self.new }
         ensures image { (file : List ℕ) → D.content dev.new ≡ Some file → IsImageOf file self.new }
@@ -206,6 +210,7 @@ impl Image {
         ensures spelled { OnOk result (IsSpelled self.new cluster) }
         ensures unmapped { OnErr result (word_in self.new cluster ≡ word_in self.old cluster) }
         ensures others { HasEntriesBut self.old self.new cluster }
+        ensures taken { StaysTaken self.old self.new }
         ensures header { HasHeaderOf self.old self.new }
         ensures cleared { ClearsFirst (D.content dev.old) (D.content dev.new) self.new }
         ensures image { (file : List ℕ) → D.content dev.new ≡ Some file → IsImageOf file self.new }

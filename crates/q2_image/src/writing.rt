@@ -13,7 +13,7 @@ ghost use Rattle.q2_tables.specs.Entries.{entry_of};
 ghost use Rattle.q2_tables.specs.Linking.{stop_of, CanLink, link_end};
 ghost use Rattle.q2_image.specs.Image.{IsImageOf, IsOpen, clusters_in, cluster_size_in, word_in, entry_in};
 ghost use Rattle.q2_image.specs.Reading.{IsHost, IsWithinCluster};
-ghost use Rattle.q2_image.specs.Writing.{IsDiskWith, IsSameDisk, HasEntriesBut, IsSpelled, counts_once, IsSpare, IsIdle, MayName, Shows, PutFits, ZeroFits, AreClusterZeros, CanTake, IsFault, HasSameEntries, taken_at, after_take, needs_table, needs_host, idle_host, next_host, table_for, with_table, with_host};
+ghost use Rattle.q2_image.specs.Writing.{IsDiskWith, IsSameDisk, HasEntriesBut, StaysTaken, IsSpelled, counts_once, IsSpare, IsIdle, MayName, Shows, PutFits, ZeroFits, AreClusterZeros, CanTake, IsFault, HasSameEntries, taken_at, after_take, needs_table, needs_host, idle_host, next_host, table_for, with_table, with_host};
 
 use crate::header::cluster_size;
 use crate::image::Image;
@@ -59,6 +59,7 @@ impl Image {
         ensures offset { IfOk result (λ offset. offset ≡ taken_at self.old 0) }
         ensures ok { OnOk result (self.new ≡ record self.old { refs = after_take self.old.refs }) }
         ensures err { OnErr result ((self.new ≡ self.old) ⊎ (self.new ≡ record self.old { refs = with_block_for self.old.refs (free_cluster self.old.refs 0) })) }
+        ensures taken { StaysTaken self.old self.new }
         ensures spare { IfOk result (λ offset. (file : List ℕ) → D.content dev.new ≡ Some file → IsSpare file (offset / 65536)) }
         ensures fresh { IfOk result (λ offset. (file : List ℕ) → D.content dev.old ≡ Some file → refcount_of file (header_of file) (offset / 65536) ≡ 0) }
         ensures spare_stay { (old new : List ℕ) (n : ℕ) → D.content dev.old ≡ Some old → D.content dev.new ≡ Some new → IsSpare old n → IsSpare new n }
@@ -156,6 +157,7 @@ impl Image {
         ensures table { IfOk result (λ table. table ≡ table_for self.old cluster) }
         ensures ok { OnOk result (self.new ≡ with_table self.old cluster) }
         ensures same { HasSameEntries self.old self.new }
+        ensures taken { StaysTaken self.old self.new }
         ensures spare { IfOk result (λ table. (file : List ℕ) → D.content dev.new ≡ Some file → table ≢ 0 → IsSpare file (table / 65536)) }
         ensures image { (file : List ℕ) → D.content dev.new ≡ Some file → IsImageOf file self.new }
         ensures disk { (old new : List ℕ) → D.content dev.old ≡ Some old → D.content dev.new ≡ Some new → IsSameDisk old new }
@@ -179,6 +181,7 @@ impl Image {
         ensures host { IfOk result (λ host. host ≡ next_host self.old cluster) }
         ensures ok { OnOk result (self.new ≡ with_host self.old cluster) }
         ensures same { HasSameEntries self.old self.new }
+        ensures taken { StaysTaken self.old self.new }
         ensures spare { IfOk result (λ host. needs_host self.old cluster ≡ true → (file : List ℕ) → D.content dev.new ≡ Some file → IsSpare file (host / 65536)) }
         ensures fresh { IfOk result (λ host. needs_host self.old cluster ≡ true → (file : List ℕ) → D.content dev.old ≡ Some file
             → refcount_of file (header_of file) (host / 65536) ≡ 0) }
@@ -215,6 +218,7 @@ impl Image {
         ensures single { OnOk result (needs_host self.old cluster ≡ true → is_single (word_in self.new cluster) ≡ true) }
         ensures unmapped { OnErr result (word_in self.new cluster ≡ word_in self.old cluster) }
         ensures others { HasEntriesBut self.old self.new cluster }
+        ensures taken { StaysTaken self.old self.new }
         ensures header { self.new.header ≡ self.old.header }
         ensures image { (file : List ℕ) → D.content dev.new ≡ Some file → IsImageOf file self.new }
         ensures disk { OnOk result ((old new : List ℕ) → D.content dev.old ≡ Some old → D.content dev.new ≡ Some new → IsDiskWith old new (cluster * 65536) bytes.now) }
@@ -240,6 +244,7 @@ impl Image {
         ensures spelled { OnOk result (IsSpelled self.new cluster) }
         ensures unmapped { OnErr result (word_in self.new cluster ≡ word_in self.old cluster) }
         ensures others { HasEntriesBut self.old self.new cluster }
+        ensures taken { StaysTaken self.old self.new }
         ensures header { self.new.header ≡ self.old.header }
         ensures image { (file : List ℕ) → D.content dev.new ≡ Some file → IsImageOf file self.new }
         ensures disk { OnOk result ((old new zeros : List ℕ) → D.content dev.old ≡ Some old → D.content dev.new ≡ Some new
