@@ -1,12 +1,11 @@
 -- The disk that a device's bytes are.
-use Rattle.std.proofs.Common.{◌≡◌, ℕ, List, [], Option, Some, None, refl, sym, ap, subst, ◌∙◌}
-use Rattle.std.specs.Prelude.{option_map, is_some}
+use Rattle.std.proofs.Common.{◌≡◌, ℕ, List, [], Option, Some, None, refl, ap, subst, ◌∙◌}
+use Rattle.std.specs.Prelude.{option_map}
 use Rattle.q2_format.specs.Contents.{image_disk}
 use Rattle.qblk.specs.Format.{disk_of, IsSoundAs}
 use Rattle.q2_format.specs.declared.header.Header.{Header}
-use Rattle.q2_image.specs.Image.{Known, IsImageOf}
 use Rattle.qblk.specs.Medium.{Medium, disk_in, format_by, image_by, IsMedium}
-use Rattle.qblk.specs.Space.{MayBe}
+use Rattle.qblk.specs.Images.{IsKnownOf}
 use Rattle.qblk.specs.declared.medium.Driver.{Driver}
 use Rattle.qblk.specs.declared.medium.Driver.TheVariants.{Raw, Qcow2}
 use Rattle.qblk.specs.declared.words.Format.{Format}
@@ -24,26 +23,10 @@ told_image m disk is told =
     let P : Format → Type 0 = λ f. option_map (disk_of f) m.content ≡ Some disk in
     told_bytes formats.Qcow2 m.content disk (subst P is told)
 
--- a disk that is changed where it is told
-pub mapped-disk : (format : Format) (old new : Option (List ℕ)) (f : List ℕ → List ℕ) → is_some new ≡ is_some old
-    → ((before after : List ℕ) → old ≡ Some before → new ≡ Some after → disk_of format after ≡ f (disk_of format before))
-    → option_map (disk_of format) new ≡ option_map f (option_map (disk_of format) old)
-mapped-disk format None None f told changed = refl
-mapped-disk format None (Some after) f told changed = absurd (cc)
-mapped-disk format (Some before) None f told changed = absurd (cc)
-mapped-disk format (Some before) (Some after) f told changed = ap (λ (d : List ℕ). Some d) (changed before after refl refl)
-
--- what is known of the image is that of a file with that disk
-pub known-by : (driver : Driver) (content : Option (List ℕ)) → IsMedium driver content
-    → MayBe (format_by driver) (option_map (disk_of (format_by driver)) content) (image_by driver)
-known-by Raw content is = tt
-known-by (Qcow2 image cluster) content is = λ bytes told.
-    let found = told_bytes formats.Qcow2 content bytes told in
-    (found.0, is.read found.0 found.1, sym found.2)
-
-pub known-image : (content : Option (List ℕ)) (image : Known) → ((bytes : List ℕ) → content ≡ Some bytes → IsImageOf bytes image)
-    → MayBe formats.Qcow2 (option_map (disk_of formats.Qcow2) content) (Some image)
-known-image content image of = λ bytes told. let found = told_bytes formats.Qcow2 content bytes told in (found.0, of found.0 found.1, sym found.2)
+-- what is known of the image is its file's
+pub known-by : (driver : Driver) (content : Option (List ℕ)) → IsMedium driver content → (bytes : List ℕ) → content ≡ Some bytes → IsKnownOf (format_by driver) bytes (image_by driver)
+known-by Raw content is bytes told = tt
+known-by (Qcow2 image cluster) content is bytes told = is.read bytes told
 
 -- a sound image stays sound, and names no backing file
 pub sound-by : (driver : Driver) (content : Option (List ℕ)) → IsMedium driver content → (bytes : List ℕ) → content ≡ Some bytes → IsSoundAs (format_by driver) bytes

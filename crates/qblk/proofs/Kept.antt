@@ -1,14 +1,13 @@
 -- Each step of a run leaves a history from the same opening.
-use Rattle.std.proofs.Common.{◌≡◌, ℕ, ◌≤◌, Bool, List, [], ◌∷◌, ◌++◌, refl, sym, ◌∙◌, ap, arith, Option, Some, None, IsSome}
-use Rattle.std.specs.Prelude.{◌↔◌, option_map}
+use Rattle.std.proofs.Common.{◌≡◌, ℕ, ◌≤◌, Bool, List, [], ◌∷◌, ◌++◌, refl, ◌∙◌, ap, subst, arith, Option, Some, None, IsSome}
+use Rattle.std.specs.Prelude.{option_map}
 use Rattle.std.proofs.lemmas.Bool.{false≢true}
 use Rattle.blk_base.specs.Counts.{Rose}
-use Rattle.blk_history.specs.Disk.{piece}
 use Rattle.blk_history.specs.Recorded.{Recorded}
 use Rattle.blk_base.specs.declared.fault.Outcome.{Outcome}
 use Rattle.blk_base.specs.declared.fault.Outcome.TheVariants.{Good, Torn, Io, NoSpace}
 use Rattle.trace_codec.specs.declared.op.Op.{Op}
-use Rattle.blk_history.specs.Machine.{Guest, Flight, after}
+use Rattle.blk_history.specs.Machine.{State, Guest, Flight, after, replay}
 use Rattle.blk_history.specs.Legal.{Fits, IsOver}
 use Rattle.blk_history.specs.Fold.{With}
 use Rattle.blk_history.specs.Licence.{Named, named_in, named_by, last_named, RoseSince}
@@ -17,10 +16,10 @@ use Rattle.blk_history.specs.declared.event.Event.{Event}
 use Rattle.blk_history.specs.declared.event.Event.TheVariants.{Admit, Refuse, Piece, Retire}
 use Rattle.blk_history.proofs.Folds.{run-push, each-push}
 use Rattle.q2_image.specs.Image.{Known}
-use Rattle.qblk.specs.Space.{HasSpace, LacksSpace, MayBe}
+use Rattle.qblk.specs.Images.{IsStepOf, HasImages}
 use Rattle.qblk.specs.Face.{Face, new_guest, state_of}
 use Rattle.qblk.specs.Steps.{after_admission, IsJudged, after_retirement, CanPiece, PutsPiece, HasCause}
-use Rattle.qblk.specs.Comes.{Opening, opening_state, HadNoSpace, AreLicensed, HasLine, HaveLines, Comes}
+use Rattle.qblk.specs.Comes.{Opening, opening_state, AreLicensed, HasLine, HaveLines, Comes}
 
 -- a fault that an entry names is one of the only device, and rose
 abbrev IsLicensed : ℕ → ℕ → Option Named → Type 0
@@ -39,6 +38,12 @@ rose-next : (counts : List ℕ) (before now : ℕ) (named : Option Named) → La
 rose-next counts before now None last licensed = tt
 rose-next counts before now (Some n) last licensed = rw (last.1, licensed.0) (omega arith, omega arith)
 
+-- one entry more
+images-push : (capacity : ℕ) (s : State) (old mid new : Option Known) (es : List Event) (e : Event) → HasImages capacity s old es mid → IsStepOf capacity (replay s es) e mid new
+    → HasImages capacity s old (es ++ e ∷ []) new
+images-push capacity s old mid new [] e is step = let same : mid ≡ old = is in (new, subst (λ (m : Option Known). IsStepOf capacity s e m new) same step, refl)
+images-push capacity s old mid new (x ∷ es) e is step = (is.0, is.1, images-push capacity (after s x) is.0 mid new es e is.2 step)
+
 -- what one entry more has to be
 record Adds (w v : Face) (e : Event) : Type 0 where
   events : v.log.events ≡ w.log.events ++ e ∷ []
@@ -48,10 +53,9 @@ record Adds (w v : Face) (e : Event) : Type 0 where
   capacity : v.capacity ≡ w.capacity
   on_image : v.guest.node ≡ w.guest.node
   access : v.guest.is_read_only ≡ w.guest.is_read_only
-  known : MayBe v.format v.disk v.image
   faults : w.faults ≤ v.faults
   licensed : IsLicensed w.faults v.faults (named_in e)
-  space : HadNoSpace w.format w.capacity (state_of w) e
+  step : IsStepOf w.capacity (state_of w) e w.image v.image
   state : after (state_of w) e ≡ state_of v
   told : IsSome w.disk → IsSome v.disk
   fits : IsSome w.disk → Fits (state_of w) e
@@ -63,7 +67,6 @@ licensed-push o w v e comes adds =
     record {
       risen = rw adds.events (each-push step (λ counts x. RoseSince counts (named_in x)) (o.faults ∷ []) w.log.events e was.risen (rose-next _ w.faults v.faults (named_in e) was.last adds.licensed));
       last = rw (adds.events, run-push step (o.faults ∷ []) w.log.events e) (last-next _ w.faults v.faults (named_in e) was.last adds.faults adds.licensed);
-      space = rw adds.events (each-push after (HadNoSpace o.format o.capacity) (opening_state o) w.log.events e was.space (rw (comes.replay, ← comes.capacity, ← comes.format) adds.space));
     }
 
 lines-push : (es : List Event) (e : Event) → HaveLines es → HasLine e → HaveLines (es ++ e ∷ [])
@@ -78,7 +81,7 @@ comes-push o w v e comes adds = record {
   faults = let before = comes.faults in let more = adds.faults in omega arith;
   on_image = adds.on_image ∙ comes.on_image;
   access = adds.access ∙ comes.access;
-  known = adds.known;
+  images = rw adds.events (images-push o.capacity (opening_state o) o.image w.image v.image w.log.events e comes.images (rw (comes.replay, ← comes.capacity) adds.step));
   licensed = licensed-push o w v e comes adds;
   lines = rw adds.events (lines-push w.log.events e comes.lines adds.line);
   replay = rw (adds.events, run-push after (opening_state o) w.log.events e, comes.replay) adds.state;
@@ -95,10 +98,9 @@ adds-admission o w op comes idle judged = record {
   capacity = refl;
   on_image = refl;
   access = refl;
-  known = comes.known;
   faults = omega arith;
   licensed = tt;
-  space = tt;
+  step = refl;
   state = refl;
   told = λ is. is;
   fits = λ is. rw comes.on_image (
@@ -116,10 +118,9 @@ adds-refusal o w op why comes idle judged = record {
   capacity = refl;
   on_image = refl;
   access = refl;
-  known = comes.known;
   faults = omega arith;
   licensed = tt;
-  space = tt;
+  step = refl;
   state = refl;
   told = λ is. is;
   fits = λ is. rw comes.on_image (record { idle = idle; number = refl }, judged);
@@ -134,8 +135,8 @@ over : (flight : Option Flight) → With flight IsOver → (f : Flight) × (flig
 over None is = absurd is
 over (Some f) is = (f, refl, is)
 
-adds-retirement : (w : Face) → MayBe w.format w.disk w.image → With w.guest.flight IsOver → Adds w (after_retirement w) (Retire 0 w.guest.done)
-adds-retirement w known is =
+adds-retirement : (w : Face) → With w.guest.flight IsOver → Adds w (after_retirement w) (Retire 0 w.guest.done)
+adds-retirement w is =
     let found = over w.guest.flight is in
     record {
       events = refl;
@@ -145,30 +146,22 @@ adds-retirement w known is =
       capacity = refl;
       on_image = refl;
       access = refl;
-      known = known;
       faults = omega arith;
       licensed = tt;
-      space = tt;
+      step = refl;
       state = refl;
       told = λ h. h;
       fits = λ h. rw found.1 (refl, found.2);
     }
 
 pub retirement-kept : (w : Face) → With w.guest.flight IsOver → (o : Opening) → Comes o w → Comes o (after_retirement w)
-retirement-kept w is o comes = comes-push o w _ _ comes (adds-retirement w comes.known is)
+retirement-kept w is o comes = comes-push o w _ _ comes (adds-retirement w is)
 
 licensed-piece : (before now : ℕ) (outcome : Outcome) → HasCause before now outcome → IsLicensed before now (named_by outcome)
 licensed-piece before now Good cause = tt
 licensed-piece before now (Torn done dev count) cause = (cause.0, cause.1, omega arith)
 licensed-piece before now (Io dev count) cause = (cause.0, cause.1, omega arith)
 licensed-piece before now (NoSpace dev) cause = tt
-
-space-piece : (w : Face) (f : Flight) (outcome : Outcome) (r before now : ℕ) (got : List ℕ) → w.guest.flight ≡ Some f → w.guest.node ≡ 1 → MayBe w.format w.disk w.image → HasCause before now outcome
-    → LacksSpace outcome ↔ (HasSpace w.image w.capacity f.op (piece f.op f.next) → ⊥) → HadNoSpace w.format w.capacity (state_of w) (Piece 0 r f.next outcome got)
-space-piece w f Good r before now got is node known cause space = tt
-space-piece w f (Torn done dev count) r before now got is node known cause space = tt
-space-piece w f (Io dev count) r before now got is node known cause space = tt
-space-piece w f (NoSpace dev) r before now got is node known cause space = (cause, rw (is, node) (w.image, known, space.0 tt))
 
 some-map : {A : Type 0} (f : A → A) (a : Option A) → IsSome a → IsSome (option_map f a)
 some-map f None is = is
@@ -187,10 +180,9 @@ adds-piece o w v f outcome got comes is can puts = record {
   capacity = puts.made.capacity;
   on_image = ap (λ (g : Guest). g.node) puts.guest;
   access = ap (λ (g : Guest). g.is_read_only) puts.guest;
-  known = puts.known;
   faults = puts.made.faults;
   licensed = licensed-piece w.faults v.faults outcome puts.made.cause;
-  space = space-piece w f outcome w.guest.done w.faults v.faults got is comes.on_image comes.known puts.made.cause puts.made.space;
+  step = rw is puts.made.image;
   state = rw (puts.size, puts.guest, puts.made.disk, is, comes.on_image) refl;
   told = λ h. rw puts.made.disk (some-map _ w.disk h);
   fits = λ h. let d = some-of w.disk h in rw is (
@@ -215,17 +207,17 @@ pub piece-made : (w v : Face) (outcome : Outcome) → With w.guest.flight (CanPi
 piece-made w v outcome can puts = piece-of w v outcome w.guest.flight refl can puts
 
 -- a run begins at its opening
-pub comes-start : (o : Opening) (image : Option Known) (is_flushed : Option Bool) (faults : ℕ) (log : Recorded) → MayBe o.format o.disk image → o.faults ≤ faults → log.events ≡ []
-    → Comes o (record { format = o.format; image = image; disk = o.disk; is_flushed = is_flushed; faults = faults; capacity = o.capacity; size = o.size; guest = new_guest; log = log })
-comes-start o image is_flushed faults log known later empty = record {
+pub comes-start : (o : Opening) (is_flushed : Option Bool) (faults : ℕ) (log : Recorded) → o.faults ≤ faults → log.events ≡ []
+    → Comes o (record { format = o.format; image = o.image; disk = o.disk; is_flushed = is_flushed; faults = faults; capacity = o.capacity; size = o.size; guest = new_guest; log = log })
+comes-start o is_flushed faults log later empty = record {
   format = refl;
   size = refl;
   capacity = refl;
   faults = later;
   on_image = refl;
   access = refl;
-  known = known;
-  licensed = record { risen = rw empty tt; last = (o.faults, rw empty refl, later); space = rw empty tt };
+  images = rw empty refl;
+  licensed = record { risen = rw empty tt; last = (o.faults, rw empty refl, later) };
   lines = rw empty tt;
   replay = rw empty refl;
   told = λ bytes is. rw is refl;

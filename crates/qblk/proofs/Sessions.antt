@@ -10,7 +10,7 @@ use Rattle.blk_history.specs.Owned.{asked_by}
 use Rattle.blk_history.specs.Recorded.{Recorded}
 use Rattle.q2_image.specs.Image.{Known}
 use Rattle.qblk.specs.Format.{disk_of, IsSoundAs}
-use Rattle.qblk.specs.Space.{MayBe}
+use Rattle.qblk.specs.Images.{IsKnownOf}
 use Rattle.qblk.specs.declared.words.Format.{Format}
 use Rattle.qblk.specs.Face.{Face, new_guest}
 use Rattle.qblk.specs.Requests.{RequestsDone}
@@ -25,22 +25,26 @@ asked-all : (e w : Face) (ops : List Op) → e.log.events ≡ [] → RequestsDon
 asked-all e w ops empty made = made.asked ∙ ap (λ es. asked_by 0 es ++ ops) empty
 
 pub made-run : (format : Format) (image : Option Known) (size faults : ℕ) (d n : Seen) (w : Face) (log : Recorded) (ops : List Op) (bytes : List ℕ) (fault : Option FaultAt)
-    → IsGood format size d.content → MayBe format (option_map (disk_of format) d.content) image → d.faults ≤ faults → IsUtf8 bytes → ops_of bytes ≡ Ok ops → log.events ≡ [] → RequestsDone (begun format image size faults d log) w ops
-    → option_map (disk_of w.format) n.content ≡ w.disk → ((bytes : List ℕ) → n.content ≡ Some bytes → IsSoundAs w.format bytes) → n.capacity ≡ w.capacity → w.faults ≤ n.faults → ((bytes : List ℕ) → n.content ≡ Some bytes → is_some n.is_flushed ≡ true) → IsFlushed n w.faults fault
+    → IsGood format size d.content → ((bytes : List ℕ) → d.content ≡ Some bytes → IsKnownOf format bytes image) → d.faults ≤ faults → IsUtf8 bytes → ops_of bytes ≡ Ok ops → log.events ≡ [] → RequestsDone (begun format image size faults d log) w ops
+    → option_map (disk_of w.format) n.content ≡ w.disk → ((bytes : List ℕ) → n.content ≡ Some bytes → IsSoundAs w.format bytes) → ((bytes : List ℕ) → n.content ≡ Some bytes → IsKnownOf w.format bytes w.image) → n.capacity ≡ w.capacity → w.faults ≤ n.faults → ((bytes : List ℕ) → n.content ≡ Some bytes → is_some n.is_flushed ≡ true) → IsFlushed n w.faults fault
     → IsMade format bytes d n w fault
-made-run format image size start d n w log ops bytes fault good known later text is empty made content sound capacity faults tells flushed =
-    let comes = made.comes (opening_of format size d) (comes-start (opening_of format size d) image d.is_flushed start log known later empty) in
+made-run format image size start d n w log ops bytes fault good known later text is empty made content sound ended capacity faults tells flushed =
+    let comes = made.comes (opening_of format image size d) (comes-start (opening_of format image size d) d.is_flushed start log later empty) in
     let C : Format → Type 0 = λ f. option_map (disk_of f) n.content ≡ w.disk in
     let S : Format → Type 0 = λ f. (bytes : List ℕ) → n.content ≡ Some bytes → IsSoundAs f bytes in
+    let E : Format → Type 0 = λ f. (bytes : List ℕ) → n.content ≡ Some bytes → IsKnownOf f bytes w.image in
     record {
+      image = image;
       size = size;
       good = good;
+      known = known;
       text = text;
       ops = is ∙ ap (λ asked. Ok asked) (sym (asked-all (begun format image size start d log) w ops empty made));
       comes = comes;
       idle = made.idle;
       content = subst C comes.format content;
       sound = subst S comes.format sound;
+      ended = subst E comes.format ended;
       capacity = capacity;
       faults = faults;
       tells = tells;

@@ -13,8 +13,7 @@ use Rattle.blk_base.specs.declared.fault.FaultFrom.{FaultFrom}
 use Rattle.blk_base.specs.declared.fault.FaultFrom.TheVariants.{Store, Dev, Sink}
 use Rattle.blk_base.proofs.Openings.{back-opened, put-same}
 use Rattle.trace_codec.specs.Trace.{ops_of}
-use Rattle.blk_history.specs.Fold.{Each}
-use Rattle.blk_history.specs.Machine.{State, Guest, after, replay}
+use Rattle.blk_history.specs.Machine.{State, Guest, replay}
 use Rattle.blk_history.specs.Legal.{Legal}
 use Rattle.blk_history.specs.Owned.{asked_by}
 use Rattle.blk_history.specs.Licence.{RoseSince}
@@ -24,7 +23,9 @@ use Rattle.qblk.proofs.Quiet.{quiet}
 use Rattle.qblk.specs.Format.{disk_of, IsGoodImage}
 use Rattle.qblk.specs.declared.words.Format.{Format}
 use Rattle.qblk.specs.Face.{Face, state_of}
-use Rattle.qblk.specs.Comes.{opening_state, HadNoSpace}
+use Rattle.q2_image.specs.Image.{Known}
+use Rattle.qblk.specs.Images.{HasImages}
+use Rattle.qblk.specs.Comes.{opening_state}
 use Rattle.qblk.specs.Run.{Outside, machine_of, guest_names, TellsDisk, HasImage, HasTrace, IsBadTrace, IsBadBytes, IsBadImage, IsRefusedTrace, IsRefusedInput, WasRun, FailsToOpen, FailsToFlush, IsFaulty, Answers}
 use Rattle.qblk.specs.Session.{IsReadOf, IsStoreStop, IsOpenStop, Seen, opening_of, IsGood, IsFlushed, IsMade, IsRefusedRead, IsRefusedImage, IsRunStop, IsUntouched, EndsAs}
 use Rattle.qblk.specs.declared.input.TraceRead.{TraceRead}
@@ -84,15 +85,15 @@ flag-good n faults None disk b flushed content is none = let good = flushed disk
 flag-good n faults (Some fault) disk b flushed content is none = absurd (false≢true none)
 
 -- the machine of the image's file is that of the opening
-same-machine : (format : Format) (image : List ℕ) (size : ℕ) (d : Seen) (files : List File) (f : File) → IsToldAs image d files f → IsGood format size d.content
-    → opening_state (opening_of format size d) ≡ machine_of format f.bytes
-same-machine format image size d files f told good = let sized = good.sized f.bytes told.content in let content = told.content in rw (sized, content) refl
+same-machine : (format : Format) (image : List ℕ) (known : Option Known) (size : ℕ) (d : Seen) (files : List File) (f : File) → IsToldAs image d files f → IsGood format size d.content
+    → opening_state (opening_of format known size d) ≡ machine_of format f.bytes
+same-machine format image known size d files f told good = let sized = good.sized f.bytes told.content in let content = told.content in rw (sized, content) refl
 
 tells-disk : (format : Format) (image : List ℕ) (bytes : List ℕ) (d n : Seen) (w : Face) (fault : Option FaultAt) (files : List File) (new : Option (List File)) (f : File)
     → IsToldAs image d files f → IsMade format bytes d n w fault → new ≡ files_with_returned image n.content n.capacity n.is_flushed (Some files)
     → TellsDisk format image w.log.events (is_none fault) files new f
 tells-disk format image bytes d n w fault files new f told made returned =
-    let machine = same-machine format image made.size d files f told made.good in
+    let machine = same-machine format image made.image made.size d files f told made.good in
     let opened : option_map (disk_of format) d.content ≡ Some (disk_of format f.bytes) = ap (option_map (disk_of format)) told.content in
     let disk = told-disk w.disk (made.comes.told (disk_of format f.bytes) opened) in
     let held = told_bytes format n.content disk.0 (made.content ∙ disk.1) in
@@ -101,16 +102,25 @@ tells-disk format image bytes d n w fault files new f told made returned =
     let flag = told-flag n.is_flushed (made.tells held.0 content) in
     let capacity : n.capacity ≡ f.capacity = made.capacity ∙ made.comes.capacity ∙ told.capacity in
     let L : State → Type 0 = λ s. Legal s w.log.events in
-    let N : State → Type 0 = λ s. Each after (HadNoSpace format d.capacity) s w.log.events in
-    let C : ℕ → Type 0 = λ c. Each after (HadNoSpace format c) (machine_of format f.bytes) w.log.events in
+    let N : State → Type 0 = λ s. HasImages d.capacity s made.image w.log.events w.image in
+    let C : ℕ → Type 0 = λ c. HasImages c (machine_of format f.bytes) made.image w.log.events w.image in
     let R : State → Type 0 = λ s. replay s w.log.events ≡ state_of w in
     let replayed : replay (machine_of format f.bytes) w.log.events ≡ state_of w = subst R machine made.comes.replay in
     record {
       file = told.file;
       legal = subst L machine (made.comes.legal (disk_of format f.bytes) opened);
       retired = rw replayed (idle-all w.guest made.idle);
-      space = subst C told.capacity (subst N machine made.comes.licensed.space);
-      disk = (held.0, rw replayed read, made.sound held.0 content, flag.0, flag-good n w.faults fault held.0 flag.0 made.flushed content flag.1, returned ∙ returned-told image n.content n.capacity n.is_flushed files held.0 f.capacity flag.0 content capacity flag.1);
+      bytes = held.0;
+      is_flushed = flag.0;
+      disk = rw replayed read;
+      sound = made.sound held.0 content;
+      flushed = flag-good n w.faults fault held.0 flag.0 made.flushed content flag.1;
+      files = returned ∙ returned-told image n.content n.capacity n.is_flushed files held.0 f.capacity flag.0 content capacity flag.1;
+      was = made.image;
+      now = w.image;
+      opened = made.known f.bytes told.content;
+      ended = made.ended held.0 content;
+      images = subst C told.capacity (subst N machine made.comes.images);
     }
 
 -- the inputs were as they have to be

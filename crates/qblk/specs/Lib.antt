@@ -1,5 +1,6 @@
 pub mod Format
 pub mod Space
+pub mod Images
 pub mod Medium
 pub mod Face
 pub mod Steps

@@ -1,11 +1,11 @@
 -- Opening the image of a run.
-use Rattle.std.specs.Prelude.{◌≡◌, ℕ, ◌≤◌, Bool, List, Option}
+use Rattle.std.specs.Prelude.{◌≡◌, ℕ, ◌≤◌, Bool, List, Option, Some}
 use Rattle.blk_base.specs.Counts.{Rose}
 use Rattle.blk_base.specs.declared.fault.FaultFrom.TheVariants.{Dev}
 use Rattle.q2_image.specs.declared.stop.ImageStop.{ImageStop}
 use Rattle.q2_image.specs.declared.stop.ImageStop.TheVariants as stops
-use Rattle.qblk.specs.Medium.{Medium, disk_in}
-use Rattle.qblk.specs.Space.{MayBe}
+use Rattle.qblk.specs.Medium.{Medium}
+use Rattle.qblk.specs.Images.{IsKnownOf}
 use Rattle.qblk.specs.Session.{IsGood, IsRefusedImage}
 use Rattle.qblk.specs.declared.words.Format.{Format}
 use Rattle.qblk.specs.declared.words.Format.TheVariants.{Qcow2}
@@ -19,7 +19,7 @@ use Rattle.qblk.specs.declared.status.Status.TheVariants as status
 pub record OpensAs (format : Format) (content : Option (List ℕ)) (is_flushed : Option Bool) (faults capacity : ℕ) (medium : Medium) : Type 0 where
   pub read : medium.format ≡ format
   pub bytes : medium.content ≡ content
-  pub known : MayBe format (disk_in medium) medium.image
+  pub known : (file : List ℕ) → content ≡ Some file → IsKnownOf format file medium.image
   pub flush : medium.is_flushed ≡ is_flushed
   pub later : faults ≤ medium.faults
   pub room : medium.capacity ≡ capacity

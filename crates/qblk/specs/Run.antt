@@ -10,7 +10,7 @@ use Rattle.blk_base.specs.declared.fault.FaultFrom.TheVariants.{Store, Dev, Sink
 use Rattle.trace_codec.specs.Trace.{ops_of}
 use Rattle.trace_codec.specs.declared.op.Op.{Op}
 use Rattle.trace_codec.specs.declared.stop.TraceStop.TheVariants as stops
-use Rattle.blk_history.specs.Fold.{Each, With}
+use Rattle.blk_history.specs.Fold.{With}
 use Rattle.blk_history.specs.Machine.{State, disk_in, after, replay}
 use Rattle.blk_history.specs.Legal.{Legal}
 use Rattle.blk_history.specs.Owned.{asked_by, IsIdle}
@@ -24,7 +24,8 @@ use Rattle.qblk.specs.Format.{disk_of, IsGoodImage, IsSoundAs}
 use Rattle.qblk.specs.declared.words.Format.{Format}
 use Rattle.qblk.specs.declared.words.Format.TheVariants.{Raw, Qcow2}
 use Rattle.qblk.specs.Face.{state_with, new_guest}
-use Rattle.qblk.specs.Comes.{HadNoSpace}
+use Rattle.q2_image.specs.Image.{Known}
+use Rattle.qblk.specs.Images.{IsKnownOf, HasImages}
 use Rattle.qblk.specs.declared.status.InputWhy.{InputWhy}
 use Rattle.qblk.specs.declared.status.InputWhy.TheVariants.{Absent, NotUtf8, TooLong, BadLine, TooMany, TooLarge, NeedsBacking, Image}
 use Rattle.qblk.specs.declared.status.Status.{Status}
@@ -47,14 +48,23 @@ abbrev pub guest_names : RowNames
 guest_names = record { guests = (100 ∷ 105 ∷ 115 ∷ 107 ∷ []) ∷ [] }
 
 -- the image's file at the end reads as the flat disk of a legal history, and all else is as it was
-pub record TellsDisk (format : Format) (image : List ℕ) (h : List Event) (flushed : Bool) (files : List File) (new : Option (List File)) (f : File) : Type 0 where
-  pub file : file_at image files ≡ Some f
+pub record TellsDisk (format : Format) (image : List ℕ) (h : List Event) (kept : Bool) (old : List File) (new : Option (List File)) (f : File) : Type 0 where
+  pub file : file_at image old ≡ Some f
   pub legal : Legal (machine_of format f.bytes) h
   pub retired : IsIdle (replay (machine_of format f.bytes) h)
-  -- a piece was stopped for want of space only where the file's capacity, or the image's reach, left no room for it
-  pub space : Each after (HadNoSpace format f.capacity) (machine_of format f.bytes) h
-  pub disk : (bytes : List ℕ) × (disk_in (replay (machine_of format f.bytes) h).disks 1 ≡ Some (disk_of format bytes)) × IsSoundAs format bytes
-      × (fl : Bool) × (flushed ≡ true → fl ≡ true) × (new ≡ Some (put_file (record { name = image; bytes = bytes; capacity = f.capacity; is_flushed = fl }) files))
+  -- the file's bytes at the end, and whether they are flushed
+  pub bytes : List ℕ
+  pub is_flushed : Bool
+  pub disk : disk_in (replay (machine_of format f.bytes) h).disks 1 ≡ Some (disk_of format bytes)
+  pub sound : IsSoundAs format bytes
+  pub flushed : kept ≡ true → is_flushed ≡ true
+  pub files : new ≡ Some (put_file (record { name = image; bytes = bytes; capacity = f.capacity; is_flushed = is_flushed }) old)
+  -- what was known of the image, from the file as it was opened to the file at the end
+  pub was : Option Known
+  pub now : Option Known
+  pub opened : IsKnownOf format f.bytes was
+  pub ended : IsKnownOf format bytes now
+  pub images : HasImages f.capacity (machine_of format f.bytes) was h now
 
 -- A history of these requests on that image: each stands once, in order, and the faults it names are rises of the
 -- device's count, each named once.

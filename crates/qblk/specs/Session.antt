@@ -9,6 +9,8 @@ use Rattle.blk_base.specs.declared.fault.FaultAt.{FaultAt}
 use Rattle.blk_base.specs.declared.fault.FaultFrom.TheVariants.{Store, Dev, Sink}
 use Rattle.trace_codec.specs.Trace.{ops_of}
 use Rattle.blk_history.specs.Owned.{asked_by}
+use Rattle.q2_image.specs.Image.{Known}
+use Rattle.qblk.specs.Images.{IsKnownOf}
 use Rattle.qblk.specs.Face.{Face}
 use Rattle.qblk.specs.Comes.{Opening, Comes}
 use Rattle.qblk.specs.Format.{disk_of, IsGoodImage, IsSoundAs}
@@ -61,9 +63,9 @@ pub record Seen : Type 0 where
   pub capacity : ℕ
   pub size : ℕ
 
--- the opening of an image in that format, whose disk has so many bytes
-abbrev pub opening_of : Format → ℕ → Seen → Opening
-opening_of format size d = record { format = format; disk = option_map (disk_of format) d.content; faults = d.faults; capacity = d.capacity; size = size }
+-- the opening of an image in that format, of which this is known, and whose disk has so many bytes
+abbrev pub opening_of : Format → Option Known → ℕ → Seen → Opening
+opening_of format image size d = record { format = format; image = image; disk = option_map (disk_of format) d.content; faults = d.faults; capacity = d.capacity; size = size }
 
 -- where a device tells its bytes, they are a good image whose disk has so many bytes
 pub record IsGood (format : Format) (size : ℕ) (content : Option (List ℕ)) : Type 0 where
@@ -76,15 +78,18 @@ IsFlushed now faults None = (bytes : List ℕ) → now.content ≡ Some bytes �
 IsFlushed now faults (Some fault) = (fault.from ≡ Dev (record { 0 = 0 })) × Rose faults fault.count × (fault.count ≡ now.faults)
 
 -- the requests of a trace were made on a device
-pub record IsMade (format : Format) (bytes : List ℕ) (before now : Seen) (w : Face) (fault : Option FaultAt) : Type 0 where
+pub record IsMade (format : Format) (trace : List ℕ) (before now : Seen) (w : Face) (fault : Option FaultAt) : Type 0 where
+  pub image : Option Known
   pub size : ℕ
   pub good : IsGood format size before.content
-  pub text : IsUtf8 bytes
-  pub ops : ops_of bytes ≡ Ok (asked_by 0 w.log.events)
-  pub comes : Comes (opening_of format size before) w
+  pub known : (bytes : List ℕ) → before.content ≡ Some bytes → IsKnownOf format bytes image
+  pub text : IsUtf8 trace
+  pub ops : ops_of trace ≡ Ok (asked_by 0 w.log.events)
+  pub comes : Comes (opening_of format image size before) w
   pub idle : w.guest.flight ≡ None
   pub content : option_map (disk_of format) now.content ≡ w.disk
   pub sound : (bytes : List ℕ) → now.content ≡ Some bytes → IsSoundAs format bytes
+  pub ended : (bytes : List ℕ) → now.content ≡ Some bytes → IsKnownOf format bytes w.image
   pub capacity : now.capacity ≡ w.capacity
   pub faults : w.faults ≤ now.faults
   pub tells : (bytes : List ℕ) → now.content ≡ Some bytes → is_some now.is_flushed ≡ true

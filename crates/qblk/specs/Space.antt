@@ -1,18 +1,15 @@
 -- Whether there is room for what a piece writes: on a raw disk, and on an image with what is known of it.
-use Rattle.std.specs.Prelude.{◌≡◌, ℕ, ◌+◌, ◌/◌, ◌%◌, ◌≤◌, ◌==◌, ◌&&◌, ◌||◌, Bool, true, false, ⊤, List, [], Option, Some, None}
+use Rattle.std.specs.Prelude.{◌≡◌, ◌↔◌, ℕ, ◌/◌, ◌%◌, ◌≤◌, ◌==◌, ◌&&◌, ◌||◌, Bool, true, false, ⊤, Option, Some, None}
 use Rattle.blk_base.specs.Pieces.{Extent, end_of}
 use Rattle.blk_base.specs.declared.fault.Outcome.{Outcome}
 use Rattle.blk_base.specs.declared.fault.Outcome.TheVariants.{Good, Torn, Io, NoSpace}
 use Rattle.trace_codec.specs.declared.op.Op.{Op}
 use Rattle.trace_codec.specs.declared.op.Op.TheVariants.{Read, Write, Zero, Flush, Discard}
-use Rattle.q2_format.specs.Contents.{image_disk}
 use Rattle.q2_format.specs.declared.entries.L2Entry.{L2Entry}
 use Rattle.q2_format.specs.declared.entries.L2Entry.TheVariants as entries
-use Rattle.q2_image.specs.Image.{Known, IsImageOf, cluster_size_in, entry_in}
+use Rattle.q2_image.specs.Image.{Known, cluster_size_in, entry_in}
 use Rattle.q2_image.specs.Reading.{IsHost}
-use Rattle.q2_image.specs.Writing.{PutFits, ZeroFits, own_end}
-use Rattle.qblk.specs.declared.words.Format.{Format}
-use Rattle.qblk.specs.declared.words.Format.TheVariants.{Raw, Qcow2}
+use Rattle.q2_image.specs.Writing.{PutFits, ZeroFits, HasHeaderOf, HasEntriesBut, StaysTaken, own_end}
 
 -- the guest cluster in which a part lies
 abbrev pub cluster_of : Known → Extent → ℕ
@@ -70,6 +67,11 @@ LacksSpace (Torn done dev count) = ⊥
 LacksSpace (Io dev count) = ⊥
 LacksSpace (NoSpace dev) = ⊤
 
+-- want of space is the only device's
+abbrev pub NamesDevice : Outcome → Type 0
+NamesDevice (NoSpace dev) = dev.0 ≡ 0
+NamesDevice outcome = ⊤
+
 -- a write is torn only in place: on a raw disk, or on a cluster that is mapped
 abbrev pub TearsInPlace : Outcome → Option Known → Extent → Type 0
 TearsInPlace Good image part = ⊤
@@ -78,15 +80,21 @@ TearsInPlace (Torn done dev count) (Some image) part = IsHost (entry_for image p
 TearsInPlace (Io dev count) image part = ⊤
 TearsInPlace (NoSpace dev) image part = ⊤
 
--- What may be known of the image whose disk this is: it is that of a sound file that reads as the disk. Of a raw disk
--- nothing is.
-abbrev pub MayBe : Format → Option (List ℕ) → Option Known → Type 0
-MayBe Raw disk None = ⊤
-MayBe Raw disk (Some image) = ⊥
-MayBe Qcow2 disk None = ⊥
-MayBe Qcow2 disk (Some image) = (bytes : List ℕ) → disk ≡ Some bytes → (file : List ℕ) × IsImageOf file image × (image_disk file [] ≡ bytes)
+-- what a piece may change of an image: its own cluster's entry, and clusters that are taken; none is given back
+pub record ChangesAt (cluster : ℕ) (old new : Known) : Type 0 where
+  pub header : HasHeaderOf old new
+  pub others : HasEntriesBut old new cluster
+  pub taken : StaysTaken old new
 
--- there was no room for a piece: one of its writes would have ended above the capacity, or wanted a cluster that isn't
--- below the reach of the image
-abbrev pub WasFull : Format → ℕ → Option (List ℕ) → Op → Extent → Type 0
-WasFull format capacity disk op part = (image : Option Known) × MayBe format disk image × (HasSpace image capacity op part → ⊥)
+abbrev pub KeepsOthers : Option Known → Option Known → Extent → Type 0
+KeepsOthers None None part = ⊤
+KeepsOthers (Some old) (Some new) part = ChangesAt (cluster_of old part) old new
+KeepsOthers old new part = ⊥
+
+-- a piece on an image: it is stopped for want of space exactly where there is no room for it, and the image is then as it was
+pub record IsPieceOn (capacity : ℕ) (op : Op) (part : Extent) (outcome : Outcome) (old new : Option Known) : Type 0 where
+  pub space : LacksSpace outcome ↔ (HasSpace old capacity op part → ⊥)
+  pub device : NamesDevice outcome
+  pub untouched : LacksSpace outcome → new ≡ old
+  pub place : TearsInPlace outcome old part
+  pub others : KeepsOthers old new part

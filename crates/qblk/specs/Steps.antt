@@ -1,6 +1,6 @@
 -- What each step of a run leaves.
-use Rattle.std.specs.Prelude.{◌≡◌, ◌↔◌, ℕ, ◌-◌, ◌^◌, ◌<◌, ◌≤◌, ◌==◌, if◌then◌else◌, Bool, List, [], ◌∷◌, ◌++◌, length, Option, Some, None, option_map, Result, Ok, Err, true, false}
-use Rattle.blk_base.specs.Pieces.{Extent, end_of}
+use Rattle.std.specs.Prelude.{◌≡◌, ℕ, ◌-◌, ◌^◌, ◌<◌, ◌≤◌, ◌==◌, if◌then◌else◌, Bool, List, [], ◌∷◌, ◌++◌, length, Option, Some, None, option_map, Result, Ok, Err, true, false}
+use Rattle.blk_base.specs.Pieces.{Extent}
 use Rattle.blk_base.specs.Counts.{Rose}
 use Rattle.blk_base.specs.declared.device.Stop.{Stop}
 use Rattle.blk_base.specs.declared.device.Stop.TheVariants as why
@@ -21,7 +21,7 @@ use Rattle.blk_history.specs.declared.entry.Refused.{Refused}
 use Rattle.blk_history.specs.declared.event.Event.{Event}
 use Rattle.blk_history.specs.declared.event.Event.TheVariants as events
 use Rattle.q2_image.specs.Image.{Known}
-use Rattle.qblk.specs.Space.{HasSpace, LacksSpace, TearsInPlace, MayBe}
+use Rattle.qblk.specs.Space.{IsPieceOn}
 use Rattle.qblk.specs.Face.{Face, node_of}
 
 -- the history with one more entry, and with bytes that it shows
@@ -110,9 +110,7 @@ pub record MakesPiece (old new : Side) (before now : Recorded) (request : ℕ) (
   pub disk : new.disk ≡ option_map (done_in f.op (piece f.op f.next) (done_by outcome (piece f.op f.next))) old.disk
   pub flushed : KeepsAll f.op outcome new.disk new.is_flushed
   pub cause : HasCause old.faults new.faults outcome
-  -- want of space comes exactly where there is no room for what the piece writes
-  pub space : LacksSpace outcome ↔ (HasSpace old.image old.capacity f.op (piece f.op f.next) → ⊥)
-  pub place : TearsInPlace outcome old.image (piece f.op f.next)
+  pub image : IsPieceOn old.capacity f.op (piece f.op f.next) outcome old.image new.image
   pub faults : old.faults ≤ new.faults
   pub capacity : new.capacity ≡ old.capacity
   pub bound : length got ≤ shows_in f.op (piece f.op f.next).len
@@ -128,7 +126,6 @@ pub record PutsPiece (old new : Face) (f : Flight) (outcome : Outcome) (got : Li
   pub guest : new.guest ≡ past_piece outcome old.guest
   pub size : new.size ≡ old.size
   pub format : new.format ≡ old.format
-  pub known : MayBe new.format new.disk new.image
 
 -- a read was good and left the disk's bytes in the buffer, or it was none
 abbrev pub IsRead : Outcome → List ℕ → Extent → List ℕ → Type 0

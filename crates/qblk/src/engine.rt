@@ -2,9 +2,7 @@
 ghost use Rattle.std.specs.Prelude.{◌≡◌, ◌<◌, ◌≤◌, length, List, ℕ, Some};
 ghost use Rattle.qblk.specs.Steps.{log_of, log_with, CanPiece, MakesPiece};
 ghost use Rattle.qblk.specs.Face.{request_at, flight_of, WasAdmitted};
-ghost use Rattle.qblk.specs.Medium.{disk_in};
 ghost use Rattle.qblk.specs.Running.{side_in};
-ghost use Rattle.qblk.specs.Space.{MayBe};
 ghost use Rattle.trace_codec.specs.declared.op.Op.{Op};
 ghost use Rattle.blk_history.specs.Fold.{With};
 ghost use Rattle.blk_history.specs.declared.event.Event.{Event};
@@ -127,7 +125,6 @@ fn make_piece<D: Device>(
     ensures made { With (flight_of history.old.events flight.now) (λ f. (got : List ℕ)
         × MakesPiece (side_in medium.old) (side_in medium.new) history.old history.new request f result got) }
     ensures format { medium.new.format ≡ medium.old.format }
-    ensures known { MayBe medium.new.format (disk_in medium.new) medium.new.image }
     ensures size { medium.old.size ≤ medium.new.size }
 {
     let op = flying(history, flight);
@@ -146,6 +143,7 @@ impl<D: Device> Engine<D> {
     ghost use Rattle.std.specs.Prelude.{option_map};
     ghost use Rattle.qblk.specs.Face.{new_guest};
     ghost use Rattle.qblk.specs.Format.{disk_of, IsSoundAs};
+    ghost use Rattle.qblk.specs.Images.{IsKnownOf};
     ghost use Rattle.qblk.specs.Medium.{disk_in};
     ghost use Rattle.std.specs.Prelude.{◌≡◌, ◌+◌, ◌<◌, ◌≤◌, ◌^◌, ℕ, List, None};
     ghost use Rattle.qblk.specs.Face.{Face};
@@ -184,6 +182,7 @@ impl<D: Device> Engine<D> {
     pub(crate) fn finish(self) -> (D, History, Option<FaultAt>)
         ensures disk { option_map (disk_of self.format) (D.content result.0) ≡ self.disk }
         ensures sound { (bytes : List ℕ) → D.content result.0 ≡ Some bytes → IsSoundAs self.format bytes }
+        ensures known { (bytes : List ℕ) → D.content result.0 ≡ Some bytes → IsKnownOf self.format bytes self.image }
         ensures capacity { D.capacity result.0 ≡ self.capacity }
         ensures faults { self.faults ≤ D.faults result.0 }
         ensures history { result.1 ≡ self.log }

@@ -50,7 +50,8 @@ impl<D: Device> Medium<D> {
     ghost use Rattle.blk_history.specs.Legal.{Tells};
     ghost use Rattle.q2_image.specs.Reading.{IsWithinCluster};
     ghost use Rattle.qblk.specs.Format.{IsSoundAs};
-    ghost use Rattle.qblk.specs.Space.{HasSpace, LacksSpace, TearsInPlace, MayBe};
+    ghost use Rattle.qblk.specs.Images.{IsKnownOf};
+    ghost use Rattle.qblk.specs.Space.{LacksSpace, TearsInPlace, IsPieceOn};
     ghost use Rattle.qblk.specs.Medium.{disk_in};
     ghost use Rattle.qblk.specs.Steps.{HasCause, IsPart, IsRead, IsWritten, IsFlush, KeepsAll, shown_of};
     ghost use Rattle.trace_codec.specs.declared.op.Op.{Op};
@@ -76,7 +77,6 @@ impl<D: Device> Medium<D> {
         ensures read { (disk : List ℕ) → disk_in self.old ≡ Some disk → IsRead result disk part buffer.new }
         ensures space { LacksSpace result → ⊥ }
         ensures place { TearsInPlace result self.old.image part }
-        ensures known { MayBe self.new.format (disk_in self.new) self.new.image }
         ensures kept { self.new ≡ record self.old { faults = self.new.faults } }
         ensures cause { HasCause self.old.faults self.new.faults result }
         ensures faults { self.old.faults ≤ self.new.faults }
@@ -98,9 +98,7 @@ impl<D: Device> Medium<D> {
         ensures format { self.new.format ≡ self.old.format }
         ensures size { self.old.size ≤ self.new.size }
         ensures cause { HasCause self.old.faults self.new.faults result }
-        ensures space { (span : Extent) (payload : Payload) → LacksSpace result ↔ (HasSpace self.old.image self.old.capacity (Op.Write span payload) part → ⊥) }
-        ensures place { TearsInPlace result self.old.image part }
-        ensures known { MayBe self.new.format (disk_in self.new) self.new.image }
+        ensures image { (span : Extent) (payload : Payload) → IsPieceOn self.old.capacity (Op.Write span payload) part result self.old.image self.new.image }
         ensures faults { self.old.faults ≤ self.new.faults }
         ensures capacity { self.new.capacity ≡ self.old.capacity }
     {
@@ -123,9 +121,7 @@ impl<D: Device> Medium<D> {
         ensures format { self.new.format ≡ self.old.format }
         ensures size { self.old.size ≤ self.new.size }
         ensures cause { HasCause self.old.faults self.new.faults result }
-        ensures space { (span : Extent) (payload : Payload) → LacksSpace result ↔ (HasSpace self.old.image self.old.capacity (Op.Write span payload) part → ⊥) }
-        ensures place { TearsInPlace result self.old.image part }
-        ensures known { MayBe self.new.format (disk_in self.new) self.new.image }
+        ensures image { (span : Extent) (payload : Payload) → IsPieceOn self.old.capacity (Op.Write span payload) part result self.old.image self.new.image }
         ensures faults { self.old.faults ≤ self.new.faults }
         ensures capacity { self.new.capacity ≡ self.old.capacity }
     {
@@ -144,9 +140,7 @@ impl<D: Device> Medium<D> {
         ensures format { self.new.format ≡ self.old.format }
         ensures size { self.old.size ≤ self.new.size }
         ensures cause { HasCause self.old.faults self.new.faults result }
-        ensures space { (span : Extent) → LacksSpace result ↔ (HasSpace self.old.image self.old.capacity (Op.Zero span) part → ⊥) }
-        ensures place { TearsInPlace result self.old.image part }
-        ensures known { MayBe self.new.format (disk_in self.new) self.new.image }
+        ensures image { (span : Extent) → IsPieceOn self.old.capacity (Op.Zero span) part result self.old.image self.new.image }
         ensures faults { self.old.faults ≤ self.new.faults }
         ensures capacity { self.new.capacity ≡ self.old.capacity }
     {
@@ -165,7 +159,6 @@ impl<D: Device> Medium<D> {
     fn flush(&mut self) -> Outcome
         ensures space { LacksSpace result → ⊥ }
         ensures place { (part : Extent) → TearsInPlace result self.old.image part }
-        ensures known { MayBe self.new.format (disk_in self.new) self.new.image }
         ensures flushed { IsFlush self.old.is_flushed self.new.is_flushed self.old.faults self.new.faults result }
         ensures told { KeepsAll Op.Flush result (disk_in self.new) self.new.is_flushed }
         ensures kept { self.new ≡ record self.old { is_flushed = self.new.is_flushed; faults = self.new.faults } }
@@ -186,9 +179,7 @@ impl<D: Device> Medium<D> {
         ensures format { self.new.format ≡ self.old.format }
         ensures size { self.old.size ≤ self.new.size }
         ensures cause { HasCause self.old.faults self.new.faults result }
-        ensures space { LacksSpace result ↔ (HasSpace self.old.image self.old.capacity op.now part → ⊥) }
-        ensures place { TearsInPlace result self.old.image part }
-        ensures known { MayBe self.new.format (disk_in self.new) self.new.image }
+        ensures image { IsPieceOn self.old.capacity op.now part result self.old.image self.new.image }
         ensures faults { self.old.faults ≤ self.new.faults }
         ensures capacity { self.new.capacity ≡ self.old.capacity }
     {
@@ -210,6 +201,7 @@ impl<D: Device> Medium<D> {
     pub(crate) fn close(self) -> (D, Option<FaultAt>)
         ensures content { D.content result.0 ≡ self.content }
         ensures sound { (bytes : List ℕ) → D.content result.0 ≡ Some bytes → IsSoundAs self.format bytes }
+        ensures known { (bytes : List ℕ) → D.content result.0 ≡ Some bytes → IsKnownOf self.format bytes self.image }
         ensures capacity { D.capacity result.0 ≡ self.capacity }
         ensures faults { self.faults ≤ D.faults result.0 }
         ensures flushed { MatchOption result.1

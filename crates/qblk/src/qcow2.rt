@@ -8,7 +8,7 @@ ghost use Rattle.q2_image.specs.Image.{IsImageOf};
 ghost use Rattle.q2_image.specs.Reading.{IsHost, IsWithinCluster};
 ghost use Rattle.q2_image.specs.Writing.{PutFits, own_end};
 ghost use Rattle.qblk.specs.Medium.{WritesImage};
-ghost use Rattle.qblk.specs.Space.{WriteFits, ZerosFit, LacksSpace, TearsInPlace, IsBlank, cluster_of, entry_for, is_whole};
+ghost use Rattle.qblk.specs.Space.{WriteFits, ZerosFit, LacksSpace, TearsInPlace, ChangesAt, IsBlank, cluster_of, entry_for, is_whole};
 ghost use Rattle.qblk.specs.Steps.{HasCause, cluster_outcome_of, IsRead, IsWritten};
 
 use crate::transfer::{DEVICE, write_outcome};
@@ -95,6 +95,8 @@ fn write_mapped<D: Device>(device: &mut D, image: &mut Image, part: Span, bytes:
     ensures name { image.new.header.name ≡ image.old.header.name }
     ensures space { LacksSpace result ↔ (own_end image.old part ≤ D.capacity device.old → ⊥) }
     ensures place { TearsInPlace result (Some image.old) part }
+    ensures untouched { LacksSpace result → image.new ≡ image.old }
+    ensures others { ChangesAt (cluster_of image.old part) image.old image.new }
     ensures cause { HasCause (D.faults device.old) (D.faults device.new) result }
     ensures faults { D.faults device.old ≤ D.faults device.new }
     ensures capacity { D.capacity device.new ≡ D.capacity device.old }
@@ -126,6 +128,8 @@ fn put_part<D: Device>(
     ensures name { image.new.header.name ≡ image.old.header.name }
     ensures space { LacksSpace result ↔ (PutFits image.old (cluster_of image.old part) (D.capacity device.old) → ⊥) }
     ensures place { TearsInPlace result (Some image.old) part }
+    ensures untouched { LacksSpace result → image.new ≡ image.old }
+    ensures others { ChangesAt (cluster_of image.old part) image.old image.new }
     ensures cause { HasCause (D.faults device.old) (D.faults device.new) result }
     ensures faults { D.faults device.old ≤ D.faults device.new }
     ensures capacity { D.capacity device.new ≡ D.capacity device.old }
@@ -156,6 +160,8 @@ pub(crate) fn write_image<D: Device>(
     ensures name { image.new.header.name ≡ image.old.header.name }
     ensures space { LacksSpace result ↔ (WriteFits image.old part (D.capacity device.old) → ⊥) }
     ensures place { TearsInPlace result (Some image.old) part }
+    ensures untouched { LacksSpace result → image.new ≡ image.old }
+    ensures others { ChangesAt (cluster_of image.old part) image.old image.new }
     ensures cause { HasCause (D.faults device.old) (D.faults device.new) result }
     ensures faults { D.faults device.old ≤ D.faults device.new }
     ensures capacity { D.capacity device.new ≡ D.capacity device.old }
@@ -199,6 +205,8 @@ pub(crate) fn zero_image<D: Device>(
     ensures name { image.new.header.name ≡ image.old.header.name }
     ensures space { LacksSpace result ↔ (ZerosFit image.old part (D.capacity device.old) → ⊥) }
     ensures place { TearsInPlace result (Some image.old) part }
+    ensures untouched { LacksSpace result → image.new ≡ image.old }
+    ensures others { ChangesAt (cluster_of image.old part) image.old image.new }
     ensures cause { HasCause (D.faults device.old) (D.faults device.new) result }
     ensures faults { D.faults device.old ≤ D.faults device.new }
     ensures capacity { D.capacity device.new ≡ D.capacity device.old }

@@ -2,7 +2,6 @@ use Rattle.std.proofs.Common.{◌≡◌, [], false, Option, Some, None, refl, sy
 use Rattle.std.specs.Prelude.{is_some}
 use Rattle.q2_format.specs.declared.header.Header.{Header}
 use Rattle.q2_image.proofs.Guests.{length-image_disk}
-use Rattle.qblk.proofs.Disks.{known-image}
 use Rattle.qblk.proofs.opening.open_qcow2.Goals as goal
 
 none_there : {A : Type 0} (o : Option A) → is_some o ≡ false → o ≡ None
@@ -15,7 +14,7 @@ returns-clause-opened g c =
     record {
       read = refl;
       bytes = c.in-Ok.ensures.content;
-      known = known-image (g.D.Device.content c.open_image.new.dev) c.in-Ok.image (λ file told. c.in-Ok.ensures.image file (sym c.in-Ok.ensures.content ∙ told));
+      known = λ file told. c.in-Ok.ensures.image file told;
       flush = c.in-Ok.ensures.flushed;
       later = c.in-Ok.ensures.faults;
       room = c.in-Ok.ensures.capacity;

@@ -1,4 +1,4 @@
-use Rattle.std.proofs.Common.{◌≡◌, ◌≤◌, length, take, sym, ap, ◌∙◌, arith, refl}
+use Rattle.std.proofs.Common.{◌≡◌, take, ap, ◌∙◌, arith}
 use Rattle.std.proofs.lemmas.List.{take_all, length-take}
 use Rattle.blk_history.specs.Machine.{done_by}
 use Rattle.blk_base.specs.declared.fault.Outcome.{Outcome}

@@ -1,9 +1,8 @@
-use Rattle.std.proofs.Common.{◌≡◌, ℕ, ◌⊎◌, ◌/◌, ◌%◌, true, length, replicate, take, sym, ap, subst, ◌∙◌, arith, refl, inl, inr, List, Some, eqb-true}
+use Rattle.std.proofs.Common.{◌≡◌, ℕ, ◌⊎◌, ◌/◌, ◌%◌, true, replicate, take, sym, ap, subst, ◌∙◌, arith, inl, inr, List, Some, eqb-true}
 use Rattle.std.proofs.lemmas.Bool.{and_parts, or_cases}
 use Rattle.blk_base.specs.Pieces.{Extent, end_of}
 use Rattle.blk_base.specs.declared.fault.Outcome.{Outcome}
 use Rattle.blk_history.specs.Machine.{done_by}
-use Rattle.q2_format.specs.declared.entries.L2Entry.{L2Entry}
 use Rattle.q2_image.specs.Guest.{file_entry}
 use Rattle.qblk.specs.Medium.{WritesImage}
 use Rattle.qblk.specs.Space.{IsBlank}

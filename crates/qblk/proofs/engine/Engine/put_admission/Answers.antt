@@ -1,4 +1,4 @@
-use Rattle.std.proofs.Common.{◌≡◌, ◌+◌, ◌∙◌, refl, sym, ap, arith}
+use Rattle.std.proofs.Common.{◌≡◌, ◌+◌, ◌∙◌, refl, ap, arith}
 use Rattle.blk_base.specs.Pieces.{end_of}
 use Rattle.blk_history.specs.Disk.{span_of}
 use Rattle.qblk.proofs.Flights.{request-push}

@@ -3,7 +3,7 @@ use Rattle.qblk.specs.Steps.{IsRead}
 use Rattle.qblk.specs.Medium.{Medium, IsReadBy, format_by}
 use Rattle.qblk.specs.declared.medium.Driver.{Driver}
 use Rattle.qblk.specs.declared.words.Format.TheVariants.{Qcow2}
-use Rattle.qblk.proofs.Disks.{told_image, known-by}
+use Rattle.qblk.proofs.Disks.{told_image}
 use Rattle.qblk.proofs.medium.Medium.read.Goals as goal
 
 pub returns-in-Qcow2-clause-read : goal.returns-in-Qcow2-clause-read
@@ -15,6 +15,3 @@ returns-in-Qcow2-clause-read g c = λ disk told.
     let P : Driver → Type 0 = λ d. IsReadBy d found.0 in
     let R : List ℕ → Type 0 = λ d. IsRead c.read_image.result d c.args.part c.read_image.new.buffer in
     subst R (sym found.2) (c.read_image.ensures.read found.0 content (subst P c.in-Qcow2.is (c.self.invariant.read found.0 content)))
-
-pub returns-in-Qcow2-clause-known : goal.returns-in-Qcow2-clause-known
-returns-in-Qcow2-clause-known g c = let same = c.read_image.ensures.content in known-by c.self.inside.driver (g.D.Device.content c.read_image.new.device) (rw same c.self.invariant)

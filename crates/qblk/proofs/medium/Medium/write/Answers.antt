@@ -1,8 +1,7 @@
-use Rattle.std.proofs.Common.{◌≡◌, List, ℕ, Some, subst, ◌∙◌, arith}
+use Rattle.std.proofs.Common.{subst, ◌∙◌, arith}
 use Rattle.std.proofs.lemmas.List.{with_items_is}
 use Rattle.qblk.specs.Medium.{IsReadBy, HasBuffer, NamesNoBacking}
 use Rattle.qblk.specs.declared.medium.Driver.{Driver}
-use Rattle.qblk.proofs.Disks.{known-image}
 use Rattle.qblk.proofs.medium.Medium.write.Goals as goal
 
 pub write_image-requires-clause-image : goal.write_image-requires-clause-image
@@ -15,6 +14,3 @@ invariant_of-self-in-Qcow2 g c =
     let none = subst NamesNoBacking c.in-Qcow2.is c.self.invariant.unnamed in
     let same = with_items_is c.in-Qcow2.cluster c.write_image.new.cluster (omega (arith, long, new)) in
     record { buffer = rw same new; unnamed = c.write_image.ensures.name ∙ none; read = c.write_image.ensures.image.image }
-
-pub returns-in-Qcow2-clause-known : goal.returns-in-Qcow2-clause-known
-returns-in-Qcow2-clause-known g c = known-image _ c.write_image.new.image c.write_image.ensures.image.image
