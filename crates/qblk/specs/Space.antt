@@ -5,6 +5,7 @@ use Rattle.blk_base.specs.declared.fault.Outcome.{Outcome}
 use Rattle.blk_base.specs.declared.fault.Outcome.TheVariants.{Good, Torn, Io, NoSpace}
 use Rattle.trace_codec.specs.declared.op.Op.{Op}
 use Rattle.trace_codec.specs.declared.op.Op.TheVariants.{Read, Write, Zero, Flush, Discard}
+use Rattle.blk_history.specs.Disk.{is_write}
 use Rattle.q2_format.specs.declared.entries.L2Entry.{L2Entry}
 use Rattle.q2_format.specs.declared.entries.L2Entry.TheVariants as entries
 use Rattle.q2_image.specs.Image.{Known, cluster_size_in, entry_in}
@@ -96,5 +97,7 @@ pub record IsPieceOn (capacity : ℕ) (op : Op) (part : Extent) (outcome : Outco
   pub space : LacksSpace outcome ↔ (HasSpace old capacity op part → ⊥)
   pub device : NamesDevice outcome
   pub untouched : LacksSpace outcome → new ≡ old
+  -- a read and a flush leave it
+  pub still : is_write op ≡ false → new ≡ old
   pub place : TearsInPlace outcome old part
   pub others : KeepsOthers old new part
