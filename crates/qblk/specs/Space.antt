@@ -1,6 +1,7 @@
 -- Whether there is room for what a piece writes: on a raw disk, and on an image with what is known of it.
 use Rattle.std.specs.Prelude.{◌≡◌, ◌↔◌, ℕ, ◌/◌, ◌%◌, ◌≤◌, ◌==◌, ◌&&◌, ◌||◌, Bool, true, false, ⊤, Option, Some, None}
 use Rattle.blk_base.specs.Pieces.{Extent, end_of}
+use Rattle.blk_base.specs.Outcomes.{is_good}
 use Rattle.blk_base.specs.declared.fault.Outcome.{Outcome}
 use Rattle.blk_base.specs.declared.fault.Outcome.TheVariants.{Good, Torn, Io, NoSpace}
 use Rattle.trace_codec.specs.declared.op.Op.{Op}
@@ -8,7 +9,7 @@ use Rattle.trace_codec.specs.declared.op.Op.TheVariants.{Read, Write, Zero, Flus
 use Rattle.blk_history.specs.Disk.{is_write}
 use Rattle.q2_format.specs.declared.entries.L2Entry.{L2Entry}
 use Rattle.q2_format.specs.declared.entries.L2Entry.TheVariants as entries
-use Rattle.q2_image.specs.Image.{Known, cluster_size_in, entry_in}
+use Rattle.q2_image.specs.Image.{Known, cluster_size_in, word_in, entry_in}
 use Rattle.q2_image.specs.Reading.{IsHost}
 use Rattle.q2_image.specs.Writing.{PutFits, ZeroFits, HasHeaderOf, HasEntriesBut, StaysTaken, own_end}
 
@@ -87,6 +88,21 @@ pub record ChangesAt (cluster : ℕ) (old new : Known) : Type 0 where
   pub others : HasEntriesBut old new cluster
   pub taken : StaysTaken old new
 
+-- a write that was good leaves its cluster mapped
+abbrev pub MapsBy : Op → L2Entry → Type 0
+MapsBy (Write span payload) entry = IsHost entry
+MapsBy op entry = ⊤
+
+-- the entry of its cluster, which a piece that wasn't good leaves bit for bit
+pub record LeavesEntry (op : Op) (outcome : Outcome) (cluster : ℕ) (old new : Known) : Type 0 where
+  pub mapped : is_good outcome ≡ true → MapsBy op (entry_in new cluster)
+  pub kept : is_good outcome ≡ false → word_in new cluster ≡ word_in old cluster
+
+abbrev pub LeavesOwn : Op → Outcome → Option Known → Option Known → Extent → Type 0
+LeavesOwn op outcome None None part = ⊤
+LeavesOwn op outcome (Some old) (Some new) part = LeavesEntry op outcome (cluster_of old part) old new
+LeavesOwn op outcome old new part = ⊥
+
 abbrev pub KeepsOthers : Option Known → Option Known → Extent → Type 0
 KeepsOthers None None part = ⊤
 KeepsOthers (Some old) (Some new) part = ChangesAt (cluster_of old part) old new
@@ -101,3 +117,4 @@ pub record IsPieceOn (capacity : ℕ) (op : Op) (part : Extent) (outcome : Outco
   pub still : is_write op ≡ false → new ≡ old
   pub place : TearsInPlace outcome old part
   pub others : KeepsOthers old new part
+  pub own : is_write op ≡ true → LeavesOwn op outcome old new part

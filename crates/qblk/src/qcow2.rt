@@ -1,10 +1,11 @@
 //! One piece on a qcow2 image that names no backing file.
-ghost use Rattle.std.specs.Prelude.{◌≡◌, ◌↔◌, ◌+◌, ◌-◌, ◌/◌, ◌<◌, ◌≤◌, ℕ, List, [], ◌++◌, length, take, replicate, Some};
+ghost use Rattle.std.specs.Prelude.{◌≡◌, ◌↔◌, ◌+◌, ◌-◌, ◌/◌, ◌<◌, ◌≤◌, ℕ, List, [], ◌++◌, length, take, replicate, true, false, Some};
+ghost use Rattle.blk_base.specs.Outcomes.{is_good};
 ghost use Rattle.blk_base.specs.Pieces.{end_of};
 ghost use Rattle.blk_history.specs.Machine.{done_by};
 ghost use Rattle.q2_format.specs.Contents.{image_disk};
 ghost use Rattle.q2_image.specs.Guest.{file_entry};
-ghost use Rattle.q2_image.specs.Image.{IsImageOf};
+ghost use Rattle.q2_image.specs.Image.{IsImageOf, word_in, entry_in};
 ghost use Rattle.q2_image.specs.Reading.{IsHost, IsWithinCluster};
 ghost use Rattle.q2_image.specs.Writing.{PutFits, own_end};
 ghost use Rattle.qblk.specs.Medium.{WritesImage};
@@ -97,6 +98,8 @@ fn write_mapped<D: Device>(device: &mut D, image: &mut Image, part: Span, bytes:
     ensures place { TearsInPlace result (Some image.old) part }
     ensures untouched { LacksSpace result → image.new ≡ image.old }
     ensures others { ChangesAt (cluster_of image.old part) image.old image.new }
+    ensures mapped { is_good result ≡ true → IsHost (entry_in image.new (cluster_of image.old part)) }
+    ensures kept { is_good result ≡ false → word_in image.new (cluster_of image.old part) ≡ word_in image.old (cluster_of image.old part) }
     ensures cause { HasCause (D.faults device.old) (D.faults device.new) result }
     ensures faults { D.faults device.old ≤ D.faults device.new }
     ensures capacity { D.capacity device.new ≡ D.capacity device.old }
@@ -130,6 +133,8 @@ fn put_part<D: Device>(
     ensures place { TearsInPlace result (Some image.old) part }
     ensures untouched { LacksSpace result → image.new ≡ image.old }
     ensures others { ChangesAt (cluster_of image.old part) image.old image.new }
+    ensures mapped { is_good result ≡ true → IsHost (entry_in image.new (cluster_of image.old part)) }
+    ensures kept { is_good result ≡ false → word_in image.new (cluster_of image.old part) ≡ word_in image.old (cluster_of image.old part) }
     ensures cause { HasCause (D.faults device.old) (D.faults device.new) result }
     ensures faults { D.faults device.old ≤ D.faults device.new }
     ensures capacity { D.capacity device.new ≡ D.capacity device.old }
@@ -162,6 +167,8 @@ pub(crate) fn write_image<D: Device>(
     ensures place { TearsInPlace result (Some image.old) part }
     ensures untouched { LacksSpace result → image.new ≡ image.old }
     ensures others { ChangesAt (cluster_of image.old part) image.old image.new }
+    ensures mapped { is_good result ≡ true → IsHost (entry_in image.new (cluster_of image.old part)) }
+    ensures kept { is_good result ≡ false → word_in image.new (cluster_of image.old part) ≡ word_in image.old (cluster_of image.old part) }
     ensures cause { HasCause (D.faults device.old) (D.faults device.new) result }
     ensures faults { D.faults device.old ≤ D.faults device.new }
     ensures capacity { D.capacity device.new ≡ D.capacity device.old }
@@ -207,6 +214,7 @@ pub(crate) fn zero_image<D: Device>(
     ensures place { TearsInPlace result (Some image.old) part }
     ensures untouched { LacksSpace result → image.new ≡ image.old }
     ensures others { ChangesAt (cluster_of image.old part) image.old image.new }
+    ensures kept { is_good result ≡ false → word_in image.new (cluster_of image.old part) ≡ word_in image.old (cluster_of image.old part) }
     ensures cause { HasCause (D.faults device.old) (D.faults device.new) result }
     ensures faults { D.faults device.old ≤ D.faults device.new }
     ensures capacity { D.capacity device.new ≡ D.capacity device.old }
