@@ -13,7 +13,6 @@ pub mod DataWrites
 pub mod HostUses
 pub mod DiskKept
 pub mod Taken
-pub mod StaysTaken
 pub mod Payload
 pub mod OwnWrites
 pub mod TreeChanged
