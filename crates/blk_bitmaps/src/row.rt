@@ -78,11 +78,18 @@ impl Bitmap {
         empty(&mut self.dirty);
     }
 
+    /// Whether writes to a node are noted here.
+    fn records(&self, node: NodeId) -> bool
+        ensures { result ≡ records node self.now }
+    {
+        self.node == node && self.enabled
+    }
+
     /// A write was made.
     pub(crate) fn note_write(&mut self, node: NodeId, span: Span)
         ensures { self.new ≡ (if records node self.old then written span self.old else self.old) }
     {
-        if self.node == node && self.enabled {
+        if self.records(node) {
             let granularity = self.granularity.bytes();
             mark(&mut self.dirty, granularity, span);
         }
@@ -91,7 +98,7 @@ impl Bitmap {
     pub(crate) fn note_all(&mut self, node: NodeId)
         ensures { self.new ≡ (if records node self.old then filled self.old else self.old) }
     {
-        if self.node == node && self.enabled {
+        if self.records(node) {
             fill(&mut self.dirty);
         }
     }
