@@ -15,6 +15,7 @@ ghost use Rattle.q2_format.specs.declared.header.TheConstants.{MAX_DISK_SIZE, MA
 ghost use Rattle.q2_image.specs.Creating.{CreateAnswers, wrote, IsFailedCall, ChangesWithin, LacksHeader, text_at};
 ghost use Rattle.q2_image.specs.Guest.{file_entry};
 
+use crate::header::cluster_buffer;
 use blk_base::{Device, NoMemory, Stop};
 use q2_format::{
     CREATED_L1_TABLE, CREATED_LENGTH, CREATED_REFCOUNT_BLOCK, CREATED_REFCOUNT_TABLE, write_header,
@@ -61,18 +62,8 @@ impl From<NoMemory> for CreateStop {
     }
 }
 
-/// The bytes of a cluster.
-const CLUSTER: usize = 65_536;
-
 /// The bytes of a sector. A write within one is whole or nothing.
 const SECTOR: usize = 512;
-
-/// A buffer for a cluster.
-fn cluster_buffer(alloc: Global) -> Result<Vec<u8>, NoMemory>
-    ensures { IfOk result (λ buffer. length buffer.items ≡ 65536) }
-{
-    Ok(vec![in alloc; 0; CLUSTER]?)
-}
 
 /// Writes bytes for which the device has room. After a failed write some of the first of them may be written, and
 /// none where all lie in one sector.

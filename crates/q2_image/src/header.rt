@@ -12,14 +12,14 @@ use blk_base::{Device, NoMemory};
 use q2_format::{Header, read_header};
 use std::alloc::Global;
 
-/// The bytes that a header is read from: those of a cluster.
-const HEADER_CLUSTER: usize = 65_536;
+/// The bytes of a cluster.
+const CLUSTER: usize = 65_536;
 
-/// A buffer for a header's cluster.
-fn header_buffer(alloc: Global) -> Result<Vec<u8>, NoMemory>
+/// A buffer for a cluster.
+pub(crate) fn cluster_buffer(alloc: Global) -> Result<Vec<u8>, NoMemory>
     ensures { IfOk result (λ buffer. length buffer.items ≡ 65536) }
 {
-    Ok(vec![in alloc; 0; HEADER_CLUSTER]?)
+    Ok(vec![in alloc; 0; CLUSTER]?)
 }
 
 /// The first cluster of a file, with zeros past the file's end.
@@ -34,7 +34,7 @@ fn read_first_cluster<D: Device>(alloc: Global, dev: &mut D) -> Result<Vec<u8>, 
     ensures log { D.log dev.new ≡ D.log dev.old }
     ensures faults { D.faults dev.old ≤ D.faults dev.new }
 {
-    let mut cluster = header_buffer(alloc)?;
+    let mut cluster = cluster_buffer(alloc)?;
     match dev.read_at(0, &mut cluster) {
         Ok(()) => Ok(cluster),
         Err(_) => Err(ImageStop::Io {
