@@ -14,7 +14,5 @@ pub mod Output
 pub mod Session
 pub mod Opened
 pub mod Words
-pub mod Untold
-pub mod Openings
 pub mod Exit
 pub mod StatusText

@@ -3,7 +3,6 @@
 #![tactic(auto)]
 
 mod engine;
-mod files;
 mod flight;
 mod input;
 mod medium;
@@ -14,7 +13,6 @@ mod requests;
 mod run;
 mod session;
 mod status;
-mod store;
 #[cfg(test)]
 mod tests;
 mod transfer;
@@ -23,13 +21,13 @@ mod words;
 mod writing_tests;
 
 use blk_base::{NoMemory, Text};
+use blk_files::{FileStore, OutSink};
 pub use run::{qblk, run_io};
 pub use status::{InputWhy, Status};
 use std::alloc::Global;
 use std::process::ExitCode;
 use std::rt::Env;
 use std::{env, io};
-use store::{FileStore, OutSink};
 pub use words::Format;
 
 /// The words behind the program's name.

@@ -1,57 +1,23 @@
-//! Real files by name, and standard output.
-ghost use Rattle.std.specs.Prelude.{◌≡◌, ◌⊎◌, ◌≤◌, false, [], map, None, MatchOption};
+//! The files of the system by name.
+ghost use Rattle.std.specs.Prelude.{◌≡◌, ◌⊎◌, ◌<◌, ◌≤◌, [], length, None, IfSome};
+ghost use Rattle.std.specs.List.{position};
 ghost use Rattle.blk_base.specs.Files.{is_out_as, is_out, given_back};
 ghost use Rattle.blk_base.specs.Counts.{Rose};
-ghost use Rattle.qblk.specs.Openings.{opened_of, IsFirstOut};
 
-use crate::files::{CAPACITY, FileDevice};
-use blk_base::{Bytes, Device, Sink, SinkFault, Store, StoreStop, Text};
+use crate::FileDevice;
+use crate::device::CAPACITY;
+use crate::opening::Opening;
+use blk_base::{Bytes, Device, Store, StoreStop};
 use std::alloc::Global;
 use std::fs::{OpenFile, OpenOptions};
 use std::io;
-use std::io::{Read, Write};
+use std::io::Read;
+use std::marker::Model;
 use std::os::unix::fs::FileExt;
 use std::rt::Files;
 
 /// How much is read at once.
 const CHUNK: usize = 65536;
-
-/// One opening: the file's name, the device's count of faults then, and once it was given back.
-#[derive(Drop)]
-struct Opening {
-    name: Text,
-    faults: u64,
-    returned: Option<u64>,
-}
-
-/// Whether that opening's device is out under that name.
-fn is_out_under(opening: &Opening, name: &str) -> bool
-    ensures { result ≡ is_out_as name.now (opened_of opening.now) }
-{
-    opening.name.as_str() == name && opening.returned.is_none()
-}
-
-/// Where the first opening of that name stands whose device is out.
-fn out_at(openings: &[Opening], name: &str) -> Option<usize>
-    ensures { MatchOption result (is_out name.now (map opened_of openings.now) ≡ false) (IsFirstOut name.now openings.now) }
-{
-    for place in 0..openings.len() {
-        if is_out_under(&openings[place], name) {
-            return Some(place);
-        }
-    }
-    None
-}
-
-/// Whether a device of that name is out.
-fn has_out(openings: &[Opening], name: &str) -> bool
-    ensures { result ≡ is_out name.now (map opened_of openings.now) }
-{
-    match out_at(openings, name) {
-        Some(_) => true,
-        None => false,
-    }
-}
 
 /// Reads a file to its end, up to `limit` bytes and one chunk more.
 fn read_up_to<F: Read>(alloc: Global, file: &mut F, limit: u64) -> io::Result<Vec<u8>> {
@@ -80,16 +46,51 @@ pub struct FileStore<'a, R: Files> {
     faults: u64,
 }
 
+impl<'a, R: Files> Model for FileStore<'a, R> {
+    ghost use Rattle.blk_files.specs.Seen.{StoreState};
+
+    ghost Value = { StoreState };
+
+    ghost view = { λ s. record { opened = s.openings.items; faults = s.faults } };
+}
+
 impl<'a, R: Files> FileStore<'a, R> {
     /// The files, none of which is open.
     pub fn new(rt: &'a R, alloc: Global) -> Self
-        ensures { result.openings.items ≡ [] }
+        ensures { result ≡ record { opened = []; faults = 0 } }
     {
         FileStore {
             rt,
             alloc,
             openings: Vec::new(alloc),
             faults: 0,
+        }
+    }
+
+    fn is_out(&self, name: &str) -> bool
+        ensures { result ≡ is_out name.now self.now.opened }
+    {
+        self.openings.iter().any(|o| o.is_out_as(name))
+    }
+
+    /// The opening by which a device is out under that name.
+    fn place_of_opening(&self, name: &str) -> Option<usize>
+        ensures place { result ≡ position (is_out_as name.now) self.now.opened }
+        ensures within { IfSome result (λ at. at < length self.now.opened) }
+    {
+        self.openings.iter().position(|o| o.is_out_as(name))
+    }
+
+    /// Counts in the record of openings that the device of that name is back.
+    fn set_returned(&mut self, name: &str, faults: u64)
+        ensures { self.new ≡ record self.old { opened = given_back name.now faults self.old.opened } }
+    {
+        match self.place_of_opening(name) {
+            Some(at) => {
+                let opening = &mut self.openings[at];
+                opening.set_returned(faults);
+            }
+            None => {}
         }
     }
 
@@ -118,17 +119,17 @@ where
 
     ghost files = { λ _. None };
 
-    ghost opened = { λ s. map opened_of s.openings.items };
+    ghost opened = { λ s. s.opened };
 
     ghost room = { λ _. 9223372036854775807 };
 
     ghost faults = { λ s. s.faults };
 
     fn open_file(&mut self, name: &str) -> Result<Self::Dev, StoreStop> {
-        if has_out(&self.openings, name) {
+        if self.is_out(name) {
             return Err(StoreStop::InUse);
         }
-        let Ok(name) = Text::copied(self.alloc, name) else {
+        let Ok(opening) = Opening::new(self.alloc, name) else {
             return Err(StoreStop::NoMemory);
         };
         if self.openings.reserve(1).is_err() {
@@ -137,7 +138,7 @@ where
         let opened = OpenOptions::new()
             .read(true)
             .write(true)
-            .open(self.rt, name.as_str());
+            .open(self.rt, name);
         let file = match opened {
             Ok(file) => file,
             Err(error) => return Err(self.stopped(&error)),
@@ -146,16 +147,12 @@ where
             Ok(metadata) => metadata.len(),
             Err(error) => return Err(self.stopped(&error)),
         };
-        self.openings.push_reserved(Opening {
-            name,
-            faults: 0,
-            returned: None,
-        });
+        self.openings.push_reserved(opening);
         Ok(FileDevice::new(file, length))
     }
 
     fn create_file(&mut self, name: &str, len: u64) -> Result<(), StoreStop> {
-        if has_out(&self.openings, name) {
+        if self.is_out(name) {
             return Err(StoreStop::InUse);
         }
         if len > CAPACITY {
@@ -178,7 +175,7 @@ where
     }
 
     fn read_all(&mut self, name: &str, limit: u64) -> Result<Bytes, StoreStop> {
-        if has_out(&self.openings, name) {
+        if self.is_out(name) {
             return Err(StoreStop::InUse);
         }
         let mut file = match OpenOptions::new().read(true).open(self.rt, name) {
@@ -193,45 +190,11 @@ where
     }
 
     fn give_back(&mut self, name: &str, dev: Self::Dev) {
-        let count = dev.faults();
-        if let Some(place) = out_at(&self.openings, name) {
-            self.openings[place].returned = Some(count);
-        }
+        self.set_returned(name, dev.faults());
     }
 
     fn room(&self) -> u64 {
         CAPACITY
-    }
-
-    fn faults(&self) -> u64 {
-        self.faults
-    }
-}
-
-/// Standard output, or another writer.
-#[derive(Drop)]
-pub struct OutSink<W: Write> {
-    out: W,
-    faults: u64,
-}
-
-impl<W: Write> OutSink<W> {
-    pub fn new(out: W) -> Self {
-        OutSink { out, faults: 0 }
-    }
-}
-
-impl<W: Write> Sink for OutSink<W> {
-    ghost sent = { λ _. None };
-
-    ghost faults = { λ s. s.faults };
-
-    fn put(&mut self, bytes: &[u8]) -> Result<(), SinkFault> {
-        if self.out.write_all(bytes).is_err() || self.out.flush().is_err() {
-            self.faults = self.faults.saturating_add(1);
-            return Err(SinkFault::Failed);
-        }
-        Ok(())
     }
 
     fn faults(&self) -> u64 {

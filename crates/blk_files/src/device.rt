@@ -1,9 +1,10 @@
-//! Real files and standard output. What they hold is not told: they are the edge that is trusted.
-ghost use Rattle.std.specs.Prelude.{◌≡◌, ◌+◌, ◌<◌, ◌≤◌, ◌⊎◌, ◌%◌, length, IfErr, IfOk};
+//! A file of the system that is open.
+ghost use Rattle.std.specs.Prelude.{◌≡◌, ◌+◌, ◌≤◌, ◌⊎◌, ◌%◌, length};
 
 use blk_base::{DevFault, Device, Stop, WriteStop};
 use std::fs::OpenFile;
 use std::io;
+use std::marker::Model;
 use std::os::unix::fs::FileExt;
 
 /// The highest end that a write may have.
@@ -72,11 +73,18 @@ pub struct FileDevice<F: FileExt + OpenFile + Drop> {
     faults: u64,
 }
 
+impl<F: FileExt + OpenFile + Drop> Model for FileDevice<F> {
+    ghost use Rattle.blk_files.specs.Seen.{FileState};
+
+    ghost Value = { FileState };
+
+    ghost view = { λ d. record { length = d.length; faults = d.faults } };
+}
+
 impl<F: FileExt + OpenFile + Drop> FileDevice<F> {
     /// A file that was opened, with its length.
-    pub fn new(file: F, length: u64) -> Self
-        ensures length { result.length ≡ length }
-        ensures faults { result.faults ≡ 0 }
+    pub(crate) fn new(file: F, length: u64) -> Self
+        ensures { result ≡ record { length = length; faults = 0 } }
     {
         FileDevice {
             file,
@@ -88,7 +96,7 @@ impl<F: FileExt + OpenFile + Drop> FileDevice<F> {
 
 impl<F: FileExt + OpenFile + Drop> Device for FileDevice<F> {
     ghost use Rattle.std.specs.Prelude.{None};
-    ghost use Rattle.qblk.specs.Untold.{untold};
+    ghost use Rattle.blk_files.specs.Untold.{untold};
 
     ghost content = { λ _. None };
 

@@ -1,5 +1,5 @@
 use Rattle.std.proofs.Common.{◌≤◌, length}
-use Rattle.qblk.proofs.files.write_full.Given as goal
+use Rattle.blk_files.proofs.device.write_full.Given as goal
 
 -- no more was written than there is
 abbrev pub invariant-turns : goal.invariant-turns

@@ -1,0 +1,17 @@
+-- What contracts see of real files: counts and lengths, and nothing of what they hold.
+use Rattle.std.specs.Prelude.{ℕ, List}
+use Rattle.blk_base.specs.declared.file.Opened.{Opened}
+
+-- a file that is open: its length, and how often the system has failed on it
+pub record FileState : Type 0 where
+  pub length : ℕ
+  pub faults : ℕ
+
+-- the files by name: their openings, and how often the system has failed on them
+pub record StoreState : Type 0 where
+  pub opened : List Opened
+  pub faults : ℕ
+
+-- where the program writes: how often a put has failed
+pub record SinkState : Type 0 where
+  pub faults : ℕ

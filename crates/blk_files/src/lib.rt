@@ -1,0 +1,12 @@
+//! Real files and standard output as devices, a store and a sink. What they hold is not told: other programs may change
+//! it. They are the edge that is trusted.
+#![tactic(auto)]
+
+mod device;
+mod opening;
+mod sink;
+mod store;
+
+pub use device::FileDevice;
+pub use sink::OutSink;
+pub use store::FileStore;
