@@ -3,6 +3,7 @@ pub mod PathLemmas
 pub mod LengthLemmas
 pub mod EditLemmas
 pub mod CycleLemmas
+pub mod ChildLemmas
 pub mod FilterLemmas
 pub mod RuleLemmas
 pub mod InverseLemmas

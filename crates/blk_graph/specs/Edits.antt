@@ -4,6 +4,8 @@ use Rattle.blk_graph.specs.declared.edge.Edge.{Edge}
 use Rattle.blk_graph.specs.declared.edge.Perms.{Perms}
 use Rattle.blk_graph.specs.declared.edge.Parent.{Parent}
 use Rattle.blk_graph.specs.declared.edge.Parent.TheVariants.{Node}
+use Rattle.std.specs.Option.{option_map}
+use Rattle.blk_graph.specs.declared.edge.Role.{Role}
 use Rattle.blk_graph.specs.declared.edge.Role.TheVariants.{Between, Filtered}
 use Rattle.blk_graph.specs.Edges.{same_parent, same_role, is_job}
 
@@ -18,6 +20,14 @@ abbrev pub with_edge : Edge → List Edge → List Edge
 with_edge new [] = new ∷ []
 with_edge new (old ∷ edges) =
     if takes_place new old then new ∷ edges else old ∷ with_edge new edges
+
+-- whether an edge is that of a parent for a role
+abbrev pub is_edge : Parent → Role → Edge → Bool
+is_edge parent role edge = same_parent edge.parent parent && same_role edge.role role
+
+-- the child of a parent's first edge of that role
+abbrev pub child_of : Parent → Role → List Edge → Option ℕ
+child_of parent role edges = option_map (λ edge. edge.child) (find (is_edge parent role) edges)
 
 -- the edge, to another child
 abbrev pub with_child : ℕ → Edge → Edge

@@ -90,7 +90,8 @@ impl NodeId {
         NodeId { key: key as u8 }
     }
 
-    pub(crate) fn index(self) -> usize
+    /// Its number below 64, to index what a caller keeps for each node.
+    pub fn index(self) -> usize
         ensures value { result ≡ self }
         ensures small { result < 64 }
     {

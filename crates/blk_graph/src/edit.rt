@@ -2,7 +2,7 @@
 ghost use Rattle.std.specs.Prelude.{◌≡◌, ◌↔◌, ◌+◌, ◌≤◌, IsTrue, [], ◌++◌, map, filter, not, length, find, vec_capacity};
 ghost use Rattle.std.specs.Option.{option_map};
 ghost use Rattle.blk_graph.specs.Edges.{same_parent, same_role, is_job};
-ghost use Rattle.blk_graph.specs.Edits.{takes_place, with_edge, with_child, stays, replaced, with_replaced, moved, is_filters, but_filters, with_filter, without_filter, without_parent, IsLone, touches};
+ghost use Rattle.blk_graph.specs.Edits.{takes_place, with_edge, with_child, stays, replaced, with_replaced, moved, is_edge, child_of, is_filters, but_filters, with_filter, without_filter, without_parent, IsLone, touches};
 ghost use Rattle.blk_graph.specs.Judged.{first_parent};
 
 use crate::edge::{Edge, NodeId, Parent, Perms, Role};
@@ -194,6 +194,22 @@ pub(crate) fn drop_parent(edges: &[Edge], parent: &Parent, out: &mut Vec<Edge>)
         if !edge.parent.is(parent) {
             out.push_reserved(*edge);
         }
+    }
+}
+
+fn is_edge(edge: &Edge, parent: &Parent, role: &Role) -> bool
+    ensures { result ≡ is_edge parent.now role.now edge.now }
+{
+    edge.parent.is(parent) && edge.role.is(role)
+}
+
+/// The child of a parent's first edge of that role.
+pub(crate) fn child(edges: &[Edge], parent: &Parent, role: &Role) -> Option<NodeId>
+    ensures { result ≡ child_of parent.now role.now edges.now }
+{
+    match edges.iter().find(|edge| is_edge(edge, parent, role)) {
+        Some(edge) => Some(edge.child),
+        None => None,
     }
 }
 

@@ -2,13 +2,13 @@
 ghost use Rattle.std.specs.Prelude.{◌≡◌, ◌≢◌, ◌↔◌, ℕ, ◌+◌, ◌<◌, ◌≤◌, [], ◌∷◌, ◌++◌, length, AllPairs, Contains, IsTrue, IsNone, IfOk, IfErr, OnOk, OnErr, IfSome, IfNone, Ok, Err, MatchOption};
 ghost use Rattle.blk_graph.specs.declared.edge.Edge.{Edge as Use};
 ghost use Rattle.blk_graph.specs.Edges.{DifferInPlace};
-ghost use Rattle.blk_graph.specs.Edits.{with_edge, with_replaced, with_filter, IsLone, without_filter, without_parent};
+ghost use Rattle.blk_graph.specs.Edits.{with_edge, with_replaced, with_filter, IsLone, child_of, without_filter, without_parent};
 ghost use Rattle.blk_graph.specs.Graph.{ids, HasNode, HasParent, HasName, IsSound, PathsAreShort};
 ghost use Rattle.blk_graph.specs.Judged.{IsAdditionStop, IsJudged, first_parent, without_node};
 ghost use Rattle.blk_graph.specs.Paths.{Reaches, LeadsBack};
 ghost use Rattle.blk_graph.specs.Rule.{KeepsPermissions, GuestsWriteAlone, IsBroken, first_conflict};
 
-use crate::edge::{Conflict, Edge, MOST_NODES, NodeId, Parent, Perms};
+use crate::edge::{Conflict, Edge, MOST_NODES, NodeId, Parent, Perms, Role};
 use crate::judge::settle;
 use crate::stop::GraphStop;
 use crate::{edit, names, rule, walk};
@@ -80,6 +80,14 @@ impl Graph {
         ensures paths { PathsAreShort self.now }
     {
         self.edges.as_slice()
+    }
+
+    /// The child of a parent's edge of that role; of the role Between that of the first one.
+    pub fn child(&self, parent: Parent, role: Role) -> Option<NodeId>
+        ensures child { result ≡ child_of parent role self.now.edges }
+        ensures there { IfSome result (λ node. HasNode self.now node) }
+    {
+        edit::child(self.edges.as_slice(), &parent, &role)
     }
 
     /// Whether a path of one edge or more leads from one node to the other.

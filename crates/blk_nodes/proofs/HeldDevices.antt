@@ -1,0 +1,163 @@
+-- The devices of the nodes in their list, and one that was used.
+use Rattle.std.proofs.Common.{◌≡◌, ℕ, zero, suc, ◌<◌, ◌≤◌, ◌==◌, nat_lt, Bool, true, false, cond, List, [], ◌∷◌, length, get_or, set, refl, sym, ◌∙◌, ap, subst, arith, Option, Some, None}
+use Rattle.std.specs.Prelude.{IsSome, is_some, Contains}
+use Rattle.std.specs.List.{position, position_or_len}
+use Rattle.std.proofs.lemmas.List.{get_or_default}
+use Rattle.std.proofs.lemmas.List.Quantifiers.{position-Some}
+use Rattle.std.proofs.lemmas.List.Sums.{fails_before_first}
+use Rattle.std.proofs.lemmas.Bool.Decides.{nat_tests}
+use Rattle.blk_base.specs.Content.{bytes_at}
+use Rattle.blk_base.specs.declared.fault.Outcome.{Outcome}
+use Rattle.blk_base.specs.declared.fault.Outcome.TheVariants.{Good, Torn, Io, NoSpace}
+use Rattle.blk_nodes.specs.Contents.{told, bytes_by}
+use Rattle.blk_nodes.specs.Nodes.{DeviceState, AreTold, is_of, device_in}
+use Rattle.blk_nodes.specs.Reading.{HasRisen, HaveRisen, IsReadOf, IsReadOver, StoppedByOne}
+
+-- that is the first place at which the test passes
+record IsFirst {A : Type 0} (test : A → Bool) (xs : List A) (at : ℕ) (x : A) : Type 0 where
+  pub within : at < length xs
+  pub passes : test (get_or xs at x) ≡ true
+  pub before : (k : ℕ) → k < at → test (get_or xs k x) ≡ false
+
+first : {A : Type 0} (test : A → Bool) (xs : List A) (at : ℕ) (x : A) → position test xs ≡ Some at → IsFirst test xs at x
+first test xs at x is = let p = position-Some test xs at x is in record { within = p.0; passes = p.1; before = p.2 }
+
+later : {A : Type 0} (test : A → Bool) (y : A) (xs : List A) (at : ℕ) (x : A) → IsFirst test (y ∷ xs) (suc at) x → IsFirst test xs at x
+later test y xs at x is = record { within = omega (arith, is.within); passes = is.passes; before = λ k below. is.before (suc k) (omega arith) }
+
+past : (n at : ℕ) → cond (nat_lt at n) (Some at) None ≡ None → n ≤ at
+past n at is = grind (arith, nat_tests)
+
+nowhere : {A : Type 0} (test : A → Bool) (xs : List A) (x : A) → position test xs ≡ None → (k : ℕ) → k < length xs → test (get_or xs k x) ≡ false
+nowhere test xs x is k below = fails_before_first test xs k x (omega (arith, past (length xs) (position_or_len test xs) is))
+
+found : (file : ℕ) (devices : List DeviceState) (at : ℕ) (d : DeviceState) → IsFirst (is_of file) devices at d → device_in devices file ≡ Some (get_or devices at d)
+found file [] at d is = absurd (omega (arith, is.within))
+found file (device ∷ devices) zero d is = rw is.passes refl
+found file (device ∷ devices) (suc at) d is = rw (is.before 0 (omega arith)) (found file devices at d (later _ device devices at d is))
+
+missing : (file : ℕ) (devices : List DeviceState) → ((k : ℕ) (d : DeviceState) → k < length devices → is_of file (get_or devices k d) ≡ false) → device_in devices file ≡ None
+missing file [] none = refl
+missing file (device ∷ devices) none = rw (none 0 device (omega arith)) (missing file devices (λ k d below. none (suc k) d (omega arith)))
+
+-- a device has a place in the list
+pub is_placed : (file : ℕ) (devices : List DeviceState) → position (is_of file) devices ≡ None → IsSome (device_in devices file) → ⊥
+is_placed file devices is there =
+    let none = missing file devices (λ k d below. nowhere (is_of file) devices d is k below) in
+    let bad : is_some {T = DeviceState} None ≡ true = rw none at there in
+    absurd (cc bad)
+
+pub at_place : (file : ℕ) (devices : List DeviceState) (at : ℕ) (d : DeviceState) → position (is_of file) devices ≡ Some at → device_in devices file ≡ Some (get_or devices at d)
+at_place file devices at d is = found file devices at d (first (is_of file) devices at d is)
+
+-- a device takes the place of itself
+used : (file : ℕ) (devices : List DeviceState) (at : ℕ) (d y : DeviceState) → IsFirst (is_of file) devices at d → HasRisen (get_or devices at d) y
+    → device_in (set devices at y) file ≡ Some y
+used file [] at d y is risen = absurd (omega (arith, is.within))
+used file (device ∷ devices) zero d y is risen =
+    let node : y.node ≡ device.node = ap (λ (d : DeviceState). d.node) (risen.same) in
+    rw (node, is.passes) refl
+used file (device ∷ devices) (suc at) d y is risen =
+    rw (is.before 0 (omega arith)) (used file devices at d y (later _ device devices at d is) risen)
+
+pub HasRisen-refl : (device : DeviceState) → HasRisen device device
+HasRisen-refl device = record { same = refl; faults = omega arith }
+
+pub HaveRisen-refl : (devices : List DeviceState) → HaveRisen devices devices
+HaveRisen-refl [] = tt
+HaveRisen-refl (device ∷ devices) = (HasRisen-refl device, HaveRisen-refl devices)
+
+pub HaveRisen-set : (devices : List DeviceState) (at : ℕ) (d y : DeviceState) → at < length devices → HasRisen (get_or devices at d) y → HaveRisen devices (set devices at y)
+HaveRisen-set [] at d y within risen = absurd (omega (arith, within))
+HaveRisen-set (device ∷ devices) zero d y within risen = (risen, HaveRisen-refl devices)
+HaveRisen-set (device ∷ devices) (suc at) d y within risen = (HasRisen-refl device, HaveRisen-set devices at d y (omega arith) risen)
+
+over : (old new : List DeviceState) (file : ℕ) (x y : DeviceState) (outcome : Outcome) → device_in old file ≡ Some x → device_in new file ≡ Some y → IsReadOf x y outcome → IsReadOver old new outcome
+over old new file x y Good held left is = tt
+over old new file x y (Torn done dev count) held left is = is
+over old new file x y (Io dev count) held left is = record { file = file; before = x; after = y; held = held; left = left; stopped = is }
+over old new file x y (NoSpace dev) held left is = is
+
+-- a read of one of the devices
+pub read_over : (file : ℕ) (devices : List DeviceState) (at : ℕ) (d y : DeviceState) (outcome : Outcome) → position (is_of file) devices ≡ Some at
+    → HasRisen (get_or devices at d) y → IsReadOf (get_or devices at d) y outcome → IsReadOver devices (set devices at y) outcome
+read_over file devices at d y outcome place risen is =
+    over devices (set devices at y) file (get_or devices at d) y outcome (at_place file devices at d place) (used file devices at d y (first (is_of file) devices at d place) risen) is
+
+told_is : (content : Option (List ℕ)) → is_some content ≡ true → content ≡ Some (told content)
+told_is None is = absurd (cc is)
+told_is (Some bytes) is = refl
+
+Contains-at : (devices : List DeviceState) (at : ℕ) (d : DeviceState) → at < length devices → Contains devices (get_or devices at d)
+Contains-at devices at d within = (at, within, get_or_default devices at (get_or devices at d) d within)
+
+-- the device at a place tells its bytes, where all do
+pub told_at : (file : ℕ) (devices : List DeviceState) (at : ℕ) (d : DeviceState) → position (is_of file) devices ≡ Some at → AreTold devices
+    → (get_or devices at d).content ≡ Some (bytes_by (device_in devices file))
+told_at file devices at d place all =
+    let is = first (is_of file) devices at d place in
+    rw (at_place file devices at d place) (told_is (get_or devices at d).content (all (get_or devices at d) (Contains-at devices at d is.within)))
+
+-- which devices there are stays
+back_or : (file : ℕ) (a b : DeviceState) (old new : List DeviceState) (y : DeviceState) (here : Bool) → HasRisen a b
+    → (device_in new file ≡ Some y → (x : DeviceState) × (device_in old file ≡ Some x) × HasRisen x y)
+    → cond here (Some b) (device_in new file) ≡ Some y → (x : DeviceState) × (cond here (Some a) (device_in old file) ≡ Some x) × HasRisen x y
+back_or file a b old new y true risen rest is = let same : b ≡ y = cc in (a, refl, subst (λ (d : DeviceState). HasRisen a d) same risen)
+back_or file a b old new y false risen rest is = rest is
+
+pub before_rise : (file : ℕ) (old new : List DeviceState) (y : DeviceState) → HaveRisen old new → device_in new file ≡ Some y
+    → (x : DeviceState) × (device_in old file ≡ Some x) × HasRisen x y
+before_rise file [] [] y risen is = absurd cc
+before_rise file (a ∷ old) (b ∷ new) y risen is =
+    let node : b.node ≡ a.node = ap (λ (d : DeviceState). d.node) (risen.0.same) in
+    let P : Bool → Type 0 = λ here. cond here (Some b) (device_in new file) ≡ Some y in
+    back_or file a b old new y (a.node == file) risen.0 (before_rise file old new y risen.1) (subst P (ap (λ (n : ℕ). n == file) node) is)
+before_rise file [] (b ∷ new) y risen is = absurd risen
+before_rise file (a ∷ old) [] y risen is = absurd risen
+
+forth_or : (file : ℕ) (a b : DeviceState) (old new : List DeviceState) (here : Bool)
+    → (IsSome (device_in old file) → IsSome (device_in new file)) → IsSome (cond here (Some a) (device_in old file)) → IsSome (cond here (Some b) (device_in new file))
+forth_or file a b old new true rest is = refl
+forth_or file a b old new false rest is = rest is
+
+pub held_after : (file : ℕ) (old new : List DeviceState) → HaveRisen old new → IsSome (device_in old file) → IsSome (device_in new file)
+held_after file [] [] risen is = is
+held_after file (a ∷ old) (b ∷ new) risen is =
+    let node : b.node ≡ a.node = ap (λ (d : DeviceState). d.node) (risen.0.same) in
+    let P : Bool → Type 0 = λ here. IsSome (cond here (Some b) (device_in new file)) in
+    subst P (ap (λ (n : ℕ). n == file) (sym node)) (forth_or file a b old new (a.node == file) (held_after file old new risen.1) is)
+held_after file [] (b ∷ new) risen is = absurd risen
+held_after file (a ∷ old) [] risen is = absurd risen
+
+after_or : (file : ℕ) (a b : DeviceState) (old new : List DeviceState) (here : Bool)
+    → (IsSome (device_in new file) → IsSome (device_in old file)) → IsSome (cond here (Some b) (device_in new file)) → IsSome (cond here (Some a) (device_in old file))
+after_or file a b old new true rest is = refl
+after_or file a b old new false rest is = rest is
+
+pub held_before : (file : ℕ) (old new : List DeviceState) → HaveRisen old new → IsSome (device_in new file) → IsSome (device_in old file)
+held_before file [] [] risen is = is
+held_before file (a ∷ old) (b ∷ new) risen is =
+    let node : b.node ≡ a.node = ap (λ (d : DeviceState). d.node) (risen.0.same) in
+    let P : Bool → Type 0 = λ here. IsSome (cond here (Some b) (device_in new file)) in
+    after_or file a b old new (a.node == file) (held_before file old new risen.1) (subst P (ap (λ (n : ℕ). n == file) node) is)
+held_before file [] (b ∷ new) risen is = absurd risen
+held_before file (a ∷ old) [] risen is = absurd risen
+
+-- a device that is held stands in the list
+held_or : (file : ℕ) (device : DeviceState) (devices : List DeviceState) (d : DeviceState) (here : Bool) → (device_in devices file ≡ Some d → Contains devices d)
+    → cond here (Some device) (device_in devices file) ≡ Some d → Contains (device ∷ devices) d
+held_or file device devices d true rest is = let same : d ≡ device = cc in (0, omega arith, sym same)
+held_or file device devices d false rest is = let there = rest is in (suc there.0, omega (arith, there.1), there.2)
+
+held_there : (file : ℕ) (devices : List DeviceState) (d : DeviceState) → device_in devices file ≡ Some d → Contains devices d
+held_there file [] d is = absurd cc
+held_there file (device ∷ devices) d is = held_or file device devices d (is_of file device) (held_there file devices d) is
+
+-- and tells its bytes, where all do
+pub told_held : (file : ℕ) (devices : List DeviceState) → AreTold devices → IsSome (device_in devices file)
+    → (d : DeviceState) × (device_in devices file ≡ Some d) × (d.content ≡ Some (bytes_by (device_in devices file)))
+told_held file devices all some = by_found (device_in devices file) refl some
+  where
+    by_found : (found : Option DeviceState) → device_in devices file ≡ found → IsSome found → (d : DeviceState) × (device_in devices file ≡ Some d) × (d.content ≡ Some (bytes_by (device_in devices file)))
+    by_found None is bad = absurd (cc bad)
+    by_found (Some d) is here = (d, is, rw is (told_is d.content (all d (held_there file devices d is))))

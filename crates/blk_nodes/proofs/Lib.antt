@@ -1,0 +1,3 @@
+mod HeldDevices
+mod Joints
+mod Chains

@@ -1,0 +1,41 @@
+use Rattle.std.proofs.Common.{◌≡◌, List, sym, ◌∙◌, ap, subst, get_or, Some}
+use Rattle.std.specs.List.{position}
+use Rattle.blk_nodes.specs.Nodes.{DeviceState, AreTold, is_of}
+use Rattle.blk_nodes.specs.Reading.{HasRisen, IsReadOf}
+use Rattle.blk_nodes.proofs.HeldDevices.{is_placed, at_place, HaveRisen-set, read_over, told_at}
+use Rattle.blk_nodes.proofs.devices.Devices.read_image.Goals as goal
+
+pub unreachable-requires : goal.unreachable-requires
+unreachable-requires g c = is_placed c.args.file c.args.self.now (sym c.place_of.ensures.place ∙ c.in-None.is) c.requires.held
+
+pub returns-clause-read : goal.returns-clause-read
+returns-clause-read g c =
+    let items : List DeviceState = c.self.inside.list.items in
+    let x : DeviceState = c.index_mut-held.result.now in
+    let place = rw (sym c.self.view_is) at (sym c.in-Some.ensures.place) in
+    let content = ap (λ (d : DeviceState). d.content) c.index_mut-held.ensures.value in
+    let known = rw (sym c.self.view_is) at c.requires.known in
+    rw (sym c.self.view_is)
+    (λ all good.
+    let told = told_at c.args.file items c.in-Some.at x place all in
+    c.read_image.ensures.read _ (content ∙ told) (known (get_or items c.in-Some.at x) _ (at_place c.args.file items c.in-Some.at x place) told) good)
+
+pub returns-clause-outcome : goal.returns-clause-outcome
+returns-clause-outcome g c =
+    let items : List DeviceState = c.self.inside.list.items in
+    let x : DeviceState = c.index_mut-held.result.now in
+    let y : DeviceState = c.read_image.new.self in
+    let place = rw (sym c.self.view_is) at (sym c.in-Some.ensures.place) in
+    rw (sym c.self.view_is)
+    (read_over c.args.file items c.in-Some.at x y c.read_image.result place
+    (subst (λ (d : DeviceState). HasRisen d y) c.index_mut-held.ensures.value c.read_image.ensures.kept)
+    (subst (λ (d : DeviceState). IsReadOf d y c.read_image.result) c.index_mut-held.ensures.value c.read_image.ensures.outcome))
+
+pub returns-clause-devices : goal.returns-clause-devices
+returns-clause-devices g c =
+    let items : List DeviceState = c.self.inside.list.items in
+    let x : DeviceState = c.index_mut-held.result.now in
+    let y : DeviceState = c.read_image.new.self in
+    let within = rw (sym c.self.view_is) at c.in-Some.ensures.within in
+    rw (sym c.self.view_is)
+    (HaveRisen-set items c.in-Some.at x y within (subst (λ (d : DeviceState). HasRisen d y) c.index_mut-held.ensures.value c.read_image.ensures.kept))

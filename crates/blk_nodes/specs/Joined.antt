@@ -1,0 +1,64 @@
+-- How the rows, the edges and the devices of the nodes belong together.
+use Rattle.std.specs.Prelude.{◌≡◌, ℕ, ◌+◌, ◌≤◌, List, length, Some, IsSome}
+use Rattle.blk_graph.specs.Graph.{HasNode}
+use Rattle.q2_image.specs.Image.{Known, IsImageOf, IsOpen}
+use Rattle.blk_nodes.specs.Nodes.{Nodes, DeviceState, row_at, device_in, size_of, file_of, backing_of}
+use Rattle.blk_nodes.specs.declared.row.Driver.{Driver}
+use Rattle.blk_nodes.specs.declared.row.Driver.TheVariants.{File, Raw, Qcow2, CopyOnRead}
+use Rattle.blk_nodes.specs.declared.row.Row.{Row}
+
+-- a node is one over a device
+pub record IsFile (nodes : Nodes) (node : ℕ) : Type 0 where
+  pub row : Row
+  pub there : row_at nodes node ≡ Some row
+  pub driver : row.driver ≡ File
+
+-- a node has a disk of this size
+pub record HasSize (nodes : Nodes) (node size : ℕ) : Type 0 where
+  pub row : Row
+  pub there : row_at nodes node ≡ Some row
+  pub is : row.size ≡ size
+
+pub record IsPart (nodes : Nodes) (node offset size : ℕ) : Type 0 where
+  pub file : ℕ
+  pub edge : file_of nodes node ≡ Some file
+  pub is_file : IsFile nodes file
+  pub within : offset + size ≤ size_of nodes file
+
+pub record IsOverlay (nodes : Nodes) (node : ℕ) (image : Known) : Type 0 where
+  pub file : ℕ
+  pub edge : file_of nodes node ≡ Some file
+  pub is_file : IsFile nodes file
+  pub opened : IsOpen image
+  -- what is known of the image is so of the file, where that is told
+  pub known : (device : DeviceState) (bytes : List ℕ) → device_in nodes.devices file ≡ Some device → device.content ≡ Some bytes → IsImageOf bytes image
+  -- the backing node's disk has the same size
+  pub backing : (node' : ℕ) → backing_of nodes node ≡ Some node' → HasSize nodes node' image.header.size
+
+pub record IsCopying (nodes : Nodes) (node size : ℕ) : Type 0 where
+  pub child : ℕ
+  pub edge : file_of nodes node ≡ Some child
+  pub same : HasSize nodes child size
+
+-- what a node needs below it
+abbrev pub HasBelow : Nodes → ℕ → ℕ → Driver → Type 0
+HasBelow nodes node size File = IsSome (device_in nodes.devices node)
+HasBelow nodes node size (Raw part) = IsPart nodes node part.offset part.size
+HasBelow nodes node size (Qcow2 image) = IsOverlay nodes node image
+HasBelow nodes node size CopyOnRead = IsCopying nodes node size
+
+-- a node's size is what its driver says, and all sums of places fit
+abbrev pub IsSized : ℕ → Driver → Type 0
+IsSized size File = Unit {0}
+IsSized size (Raw part) = (part.size ≡ size) × (part.offset + size ≤ 9223372036854775808)
+IsSized size (Qcow2 image) = image.header.size ≡ size
+IsSized size CopyOnRead = Unit {0}
+
+-- what is true of all nodes at each moment
+pub record IsJoined (nodes : Nodes) : Type 0 where
+  pub rows : length nodes.rows ≡ 64
+  pub there : (node : ℕ) → HasNode nodes.graph node → IsSome (row_at nodes node)
+  pub only : (node : ℕ) → IsSome (row_at nodes node) → HasNode nodes.graph node
+  pub sized : (node : ℕ) (row : Row) → row_at nodes node ≡ Some row → IsSized row.size row.driver
+  pub below : (node : ℕ) (row : Row) → row_at nodes node ≡ Some row → HasBelow nodes node row.size row.driver
+  pub devices : (node : ℕ) → IsSome (device_in nodes.devices node) → HasNode nodes.graph node

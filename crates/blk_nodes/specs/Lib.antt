@@ -1,0 +1,6 @@
+pub mod Nodes
+pub mod Contents
+pub mod Sources
+pub mod Walk
+pub mod Joined
+pub mod Reading

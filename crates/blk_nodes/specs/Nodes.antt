@@ -1,0 +1,56 @@
+-- What a contract sees of the nodes: their graph, what each of them is, and the devices that they hold.
+use Rattle.std.specs.Prelude.{◌≡◌, ℕ, Bool, List, [], ◌==◌, slice_index_or, replicate, find, Option, Some, None, is_some, true, Contains}
+use Rattle.blk_base.specs.declared.fault.DevNo.{DevNo}
+use Rattle.blk_graph.specs.Graph.{Graph}
+use Rattle.blk_graph.specs.Edits.{child_of}
+use Rattle.blk_graph.specs.declared.edge.Parent.TheVariants.{Node}
+use Rattle.blk_graph.specs.declared.edge.Role.TheVariants.{File, Backing}
+use Rattle.blk_nodes.specs.declared.row.Row.{Row}
+
+-- the device of a `file` node: its number among the openings of the run, and what is seen of it
+pub record DeviceState : Type 0 where
+  pub node : ℕ
+  pub number : DevNo
+  pub content : Option (List ℕ)
+  pub is_flushed : Option Bool
+  pub size : ℕ
+  pub capacity : ℕ
+  pub faults : ℕ
+
+-- the rows stand by the numbers of their nodes, and the devices in the order in which their nodes were added
+pub record Nodes : Type 0 where
+  pub graph : Graph
+  pub rows : List (Option Row)
+  pub devices : List DeviceState
+
+abbrev pub no_nodes : Nodes
+no_nodes = record { graph = record { nodes = []; edges = [] }; rows = replicate 64 None; devices = [] }
+
+abbrev pub row_at : Nodes → ℕ → Option Row
+row_at nodes node = slice_index_or nodes.rows node None
+
+-- whether a device is that of a node
+abbrev pub is_of : ℕ → DeviceState → Bool
+is_of node device = device.node == node
+
+abbrev pub device_in : List DeviceState → ℕ → Option DeviceState
+device_in devices node = find (is_of node) devices
+
+-- the bytes of a disk, 0 where there is no node
+abbrev pub size_by : Option Row → ℕ
+size_by None = 0
+size_by (Some row) = row.size
+
+abbrev pub size_of : Nodes → ℕ → ℕ
+size_of nodes node = size_by (row_at nodes node)
+
+-- the `file` node under a node, and its backing node
+abbrev pub file_of : Nodes → ℕ → Option ℕ
+file_of nodes node = child_of (Node node) File nodes.graph.edges
+
+abbrev pub backing_of : Nodes → ℕ → Option ℕ
+backing_of nodes node = child_of (Node node) Backing nodes.graph.edges
+
+-- each device tells its bytes
+abbrev pub AreTold : List DeviceState → Type 0
+AreTold devices = (device : DeviceState) → Contains devices device → is_some device.content ≡ true

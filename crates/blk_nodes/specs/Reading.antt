@@ -1,0 +1,52 @@
+-- What a read of a piece leaves and answers.
+use Rattle.std.specs.Prelude.{◌≡◌, ◌⊎◌, ℕ, ◌≤◌, List, [], ◌∷◌, Some}
+use Rattle.blk_base.specs.Content.{bytes_at}
+use Rattle.blk_base.specs.Counts.{Rose}
+use Rattle.blk_base.specs.Pieces.{Extent}
+use Rattle.blk_base.specs.declared.fault.Outcome.{Outcome}
+use Rattle.blk_base.specs.declared.fault.Outcome.TheVariants.{Good, Torn, Io, NoSpace}
+use Rattle.blk_base.specs.declared.fault.DevNo.{DevNo}
+use Rattle.blk_nodes.specs.Nodes.{Nodes, DeviceState, device_in}
+
+-- a device but for its count, which may have risen
+pub record HasRisen (old new : DeviceState) : Type 0 where
+  pub same : new ≡ record old { faults = new.faults }
+  pub faults : old.faults ≤ new.faults
+
+abbrev pub HaveRisen : List DeviceState → List DeviceState → Type 0
+HaveRisen [] [] = Unit {0}
+HaveRisen (a ∷ old) (b ∷ new) = HasRisen a b × HaveRisen old new
+HaveRisen _ _ = ⊥
+
+-- a device stopped the call: it is named with its count, which rose
+pub record StoppedBy (old new : DeviceState) (dev : DevNo) (count : ℕ) : Type 0 where
+  pub named : dev ≡ old.number
+  pub rose : Rose old.faults count
+  pub now : count ≡ new.faults
+
+-- how a read of one device went
+abbrev pub IsReadOf : DeviceState → DeviceState → Outcome → Type 0
+IsReadOf old new Good = Unit {0}
+IsReadOf old new (Torn done dev count) = ⊥
+IsReadOf old new (Io dev count) = StoppedBy old new dev count
+IsReadOf old new (NoSpace dev) = ⊥
+
+-- one of the devices stopped the call
+pub record StoppedByOne (old new : List DeviceState) (dev : DevNo) (count : ℕ) : Type 0 where
+  pub file : ℕ
+  pub before : DeviceState
+  pub after : DeviceState
+  pub held : device_in old file ≡ Some before
+  pub left : device_in new file ≡ Some after
+  pub stopped : StoppedBy before after dev count
+
+abbrev pub IsReadOver : List DeviceState → List DeviceState → Outcome → Type 0
+IsReadOver old new Good = Unit {0}
+IsReadOver old new (Torn done dev count) = ⊥
+IsReadOver old new (Io dev count) = StoppedByOne old new dev count
+IsReadOver old new (NoSpace dev) = ⊥
+
+-- a read that was good left the disk's bytes in the buffer
+abbrev pub ReadsDisk : Outcome → List ℕ → Extent → List ℕ → Type 0
+ReadsDisk Good disk span buffer = buffer ≡ bytes_at disk span.start span.len
+ReadsDisk _ disk span buffer = Unit {0}

@@ -1,0 +1,33 @@
+-- What a walk down a chain keeps and ends with.
+use Rattle.std.specs.Prelude.{◌≡◌, ℕ, ◌/◌, ◌<◌, List, Some, IsSome}
+use Rattle.q2_image.specs.Image.{Known, IsImageOf, entry_in}
+use Rattle.q2_image.specs.Reading.{IsHost}
+use Rattle.blk_nodes.specs.Nodes.{Nodes, DeviceState, row_at, device_in, size_of}
+use Rattle.blk_nodes.specs.declared.row.Driver.TheVariants.{Qcow2}
+use Rattle.blk_nodes.specs.declared.row.Row.{Row}
+use Rattle.blk_nodes.specs.declared.source.Source.{Source}
+use Rattle.blk_nodes.specs.declared.source.Source.TheVariants.{Zeros, File, Image}
+use Rattle.blk_nodes.specs.declared.source.Step.{Step}
+use Rattle.blk_nodes.specs.declared.source.Step.TheVariants.{Found, Below}
+
+-- a place of an image's disk in a cluster of its own, and the device of its file
+pub record IsMapped (nodes : Nodes) (node file place : ℕ) : Type 0 where
+  pub row : Row
+  pub image : Known
+  pub there : row_at nodes node ≡ Some row
+  pub driver : row.driver ≡ Qcow2 image
+  pub inside : place < image.header.size
+  pub host : IsHost (entry_in image (place / 65536))
+  pub held : IsSome (device_in nodes.devices file)
+  pub known : (device : DeviceState) (bytes : List ℕ) → device_in nodes.devices file ≡ Some device → device.content ≡ Some bytes → IsImageOf bytes image
+
+-- what is found can be read
+abbrev pub CanBeRead : Nodes → ℕ → Source → Type 0
+CanBeRead nodes place Zeros = Unit {0}
+CanBeRead nodes place (File file start) = IsSome (device_in nodes.devices file)
+CanBeRead nodes place (Image node file) = IsMapped nodes node file place
+
+-- and the node below has the place too
+abbrev pub GoesOn : Nodes → ℕ → Step → Type 0
+GoesOn nodes place (Found source) = CanBeRead nodes place source
+GoesOn nodes place (Below next) = place < size_of nodes next

@@ -1,0 +1,9 @@
+//! The nodes of the block graph with their devices: what each reads as, down its chain of backing nodes and filters.
+#![tactic(auto)]
+
+mod devices;
+mod nodes;
+mod row;
+mod source;
+
+pub use nodes::Nodes;

@@ -1,0 +1,59 @@
+//! What a node is.
+ghost use Rattle.std.specs.Prelude.{◌≡◌, ◌<◌};
+ghost use Rattle.blk_nodes.specs.Joined.{IsSized};
+ghost use Rattle.blk_nodes.specs.Sources.{step_by};
+
+use crate::source::{Source, Step, in_below, in_file, in_mapped};
+use blk_graph::NodeId;
+use q2_image::Image;
+use raw_image::RawImage;
+
+/// How a node reads what is below it.
+#[derive(Debug, Drop)]
+pub(crate) enum Driver {
+    /// The file of a device that the nodes hold.
+    File,
+    /// A part of the `file` node below.
+    Raw(RawImage),
+    /// The image in the `file` node below, over a backing node or none.
+    Qcow2(Image),
+    /// As the node below, into which it copies what it reads.
+    CopyOnRead,
+}
+
+/// A node but for its name and edges.
+#[derive(Debug, Drop)]
+pub(crate) struct Row {
+    pub driver: Driver,
+    /// The bytes of its disk.
+    pub size: u64,
+    pub is_read_only: bool,
+}
+
+/// One step down the chain of a node with this row: where its bytes stand from a place on.
+pub(crate) fn step(
+    row: &Row,
+    node: NodeId,
+    file: Option<NodeId>,
+    backing: Option<NodeId>,
+    place: u64,
+) -> Step
+    requires sized { IsSized row.now.size row.now.driver }
+    requires inside { place < row.now.size }
+    ensures { result ≡ step_by node file backing place row.now.driver }
+{
+    match &row.driver {
+        Driver::File => Step::Found(Source::File {
+            file: node,
+            start: place,
+        }),
+        Driver::Raw(part) => in_file(file, part.offset + place),
+        Driver::Qcow2(image) => in_mapped(
+            node,
+            file,
+            backing,
+            image.mapping(place / image.cluster_size()),
+        ),
+        Driver::CopyOnRead => in_below(file),
+    }
+}
