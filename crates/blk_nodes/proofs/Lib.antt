@@ -1,3 +1,4 @@
 mod HeldDevices
 mod Joints
 mod Chains
+mod Additions

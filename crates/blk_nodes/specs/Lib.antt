@@ -4,3 +4,4 @@ pub mod Sources
 pub mod Walk
 pub mod Joined
 pub mod Reading
+pub mod Adding

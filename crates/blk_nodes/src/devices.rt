@@ -16,10 +16,10 @@ use std::alloc::Global;
 use std::marker::Model;
 
 /// The device of a `file` node, and its number among the openings of the run.
-struct Held<D: Device> {
-    node: NodeId,
-    number: DevNo,
-    device: D,
+pub(crate) struct Held<D: Device> {
+    pub node: NodeId,
+    pub number: DevNo,
+    pub device: D,
 }
 
 impl<D: Device> Model for Held<D> {
@@ -86,7 +86,7 @@ impl<D: Device> Held<D> {
 
 /// The devices of the `file` nodes, in the order in which their nodes were added.
 pub(crate) struct Devices<D: Device> {
-    list: Vec<Held<D>>,
+    pub list: Vec<Held<D>>,
 }
 
 impl<D: Device> Model for Devices<D> {

@@ -5,5 +5,7 @@ mod devices;
 mod nodes;
 mod row;
 mod source;
+mod stop;
 
 pub use nodes::Nodes;
+pub use stop::AddStop;

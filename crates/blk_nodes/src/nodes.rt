@@ -1,7 +1,8 @@
 //! The nodes.
-ghost use Rattle.std.specs.Prelude.{◌≡◌, ◌<◌, ◌≤◌, [], length, replicate, IfOk};
+ghost use Rattle.std.specs.Prelude.{◌≡◌, ◌↔◌, ◌<◌, ◌≤◌, [], length, replicate, IfOk, IfErr, OnErr, IsErrAnd, IsTrue};
 ghost use Rattle.blk_base.specs.Pieces.{end_of};
-ghost use Rattle.blk_graph.specs.Graph.{HasNode};
+ghost use Rattle.blk_graph.specs.Graph.{HasName, HasNode};
+ghost use Rattle.blk_nodes.specs.Adding.{with_node, with_device, IsFileStop};
 ghost use Rattle.q2_image.specs.Reading.{IsWithinCluster};
 ghost use Rattle.blk_nodes.specs.Nodes.{no_nodes, size_of, AreTold};
 ghost use Rattle.q2_image.specs.Guest.{guest_bytes};
@@ -10,10 +11,11 @@ ghost use Rattle.blk_nodes.specs.Walk.{IsMapped, CanBeRead, GoesOn};
 ghost use Rattle.blk_nodes.specs.Sources.{step_of, source_in, source_of};
 ghost use Rattle.blk_nodes.specs.Reading.{HaveRisen, IsReadOver, ReadsDisk};
 
-use crate::devices::Devices;
+use crate::devices::{Devices, Held};
 use crate::row::{Driver, Row, step};
 use crate::source::{Source, Step};
-use blk_base::{Device, NoMemory, Outcome, Span};
+use crate::stop::AddStop;
+use blk_base::{DevNo, Device, NoMemory, Outcome, Span, Text};
 use blk_graph::{Graph, MOST_NODES, NodeId, Parent, Role};
 use std::alloc::Global;
 use std::marker::Model;
@@ -64,6 +66,64 @@ impl<D: Device> Nodes<D> {
             rows: no_rows(alloc)?,
             devices: Devices::new(alloc)?,
         })
+    }
+
+    fn has_name(&self, name: &str) -> bool
+        ensures { IsTrue result ↔ HasName self.now.graph name.now }
+    {
+        match self.graph.node_named(name) {
+            Some(_) => true,
+            None => false,
+        }
+    }
+
+    fn is_full(&self) -> bool
+        ensures { IsTrue result ↔ (length self.now.graph.nodes ≡ 64) }
+    {
+        self.graph.nodes().len() == MOST_NODES
+    }
+
+    /// Adds a `file` node over a device, whose number among the openings of the run is `number`. A refusal gives the
+    /// device back.
+    pub fn add_file(
+        &mut self,
+        name: Text,
+        device: D,
+        number: DevNo,
+        read_only: bool,
+    ) -> Result<NodeId, (AddStop, D)>
+        ensures taken { IsErrAnd result (λ e. e.0 ≡ AddStop.NameTaken) ↔ HasName self.old.graph name.bytes }
+        ensures full { IsErrAnd result (λ e. e.0 ≡ AddStop.TooManyNodes) ↔ ((length self.old.graph.nodes ≡ 64) × ¬ HasName self.old.graph name.bytes) }
+        ensures only { IfErr result (λ e. IsFileStop e.0) }
+        ensures ok { IfOk result (λ id. self.new ≡ with_device (with_node self.old id name.bytes (record { driver = Driver.File; size = D.size device; is_read_only = read_only }))
+            (record { node = id; number = number; content = D.content device; is_flushed = D.is_flushed device; size = D.size device; capacity = D.capacity device; faults = D.faults device })) }
+        ensures fresh { IfOk result (λ id. ¬ HasNode self.old.graph id) }
+        ensures err { OnErr result (self.new ≡ self.old) }
+        ensures back { IfErr result (λ e. e.1 ≡ device) }
+    {
+        if self.has_name(name.as_str()) {
+            return Err((AddStop::NameTaken, device));
+        }
+        if self.is_full() {
+            return Err((AddStop::TooManyNodes, device));
+        }
+        if self.devices.list.reserve(1).is_err() {
+            return Err((AddStop::NoMemory, device));
+        }
+        let Ok(node) = self.graph.add_node(name) else {
+            unreachable!()
+        };
+        self.rows[node.index()] = Some(Row {
+            driver: Driver::File,
+            size: device.length(),
+            is_read_only: read_only,
+        });
+        self.devices.list.push_reserved(Held {
+            node,
+            number,
+            device,
+        });
+        Ok(node)
     }
 
     /// One step down the chain of a node: where its bytes stand from a place on.

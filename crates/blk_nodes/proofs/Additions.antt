@@ -1,0 +1,187 @@
+-- What an addition leaves of the nodes that were there.
+use Rattle.std.proofs.Common.{◌≡◌, ◌≢◌, ◌⊎◌, ℕ, zero, suc, ◌+◌, ◌<◌, ◌≤◌, ◌==◌, Bool, true, false, cond, List, [], ◌∷◌, ◌++◌, length, map, get_or, set, replicate, Option, Some, None, refl, sym, ◌∙◌, ap, subst, arith, inl, inr}
+use Rattle.std.specs.Prelude.{IsSome, is_some, Contains}
+use Rattle.std.specs.List.{find}
+use Rattle.std.proofs.lemmas.Bool.{eqb-true, eq-eqb}
+use Rattle.std.proofs.lemmas.List.{length-set, get_or-set_same, get_or-set_other, map-append}
+use Rattle.std.proofs.lemmas.Bool.{cases_eq}
+use Rattle.std.proofs.lemmas.List.Elements.{Contains-push, Contains-push_cases, Contains-append_left}
+use Rattle.blk_graph.specs.Graph.{Graph, NodeRow, HasNode, ids}
+use Rattle.q2_image.specs.Image.{Known, IsImageOf}
+use Rattle.blk_nodes.specs.Adding.{with_node, with_device}
+use Rattle.blk_nodes.specs.Contents.{below, disk_by, disk_in, disk_of, bytes_by, bytes_of, file_node_disk}
+use Rattle.blk_nodes.specs.Nodes.{Nodes, DeviceState, is_of, row_at, device_in, size_by, size_of, file_of, backing_of}
+use Rattle.blk_nodes.specs.Joined.{IsFile, HasSize, IsPart, IsOverlay, IsCopying, HasBelow, IsSized, IsJoined}
+use Rattle.blk_nodes.specs.declared.row.Driver.{Driver}
+use Rattle.blk_nodes.specs.declared.row.Driver.TheVariants.{File, Raw, Qcow2, CopyOnRead}
+use Rattle.blk_nodes.specs.declared.row.Row.{Row}
+
+-- all that was there is there, with what it had below it
+pub record Extends (old new : Nodes) : Type 0 where
+  pub rows : (node : ℕ) (row : Row) → row_at old node ≡ Some row → row_at new node ≡ Some row
+  pub devices : (node : ℕ) → IsSome (device_in old.devices node) → device_in new.devices node ≡ device_in old.devices node
+  pub files : (node : ℕ) (row : Row) → row_at old node ≡ Some row → file_of new node ≡ file_of old node
+  pub backings : (node : ℕ) (row : Row) → row_at old node ≡ Some row → backing_of new node ≡ backing_of old node
+
+module _ (old new : Nodes) (e : Extends old new) where
+  file_kept : (file : ℕ) → IsFile old file → IsFile new file
+  file_kept file is = record { row = is.row; there = e.rows file is.row is.there; driver = is.driver }
+
+  size_kept : (node size : ℕ) → HasSize old node size → HasSize new node size
+  size_kept node size has = record { row = has.row; there = e.rows node has.row has.there; is = has.is }
+
+  size_same : (file : ℕ) → IsFile old file → size_of new file ≡ size_of old file
+  size_same file is = ap size_by (e.rows file is.row is.there ∙ sym is.there)
+
+  pub below_kept : (node size : ℕ) (row : Row) (driver : Driver) → IsJoined old → row_at old node ≡ Some row → HasBelow old node size driver → HasBelow new node size driver
+  below_kept node size row File joined there is = rw (e.devices node is) is
+  below_kept node size row (Raw part) joined there is =
+      let same = size_same is.file is.is_file in
+      let within = is.within in
+      record { file = is.file; edge = e.files node row there ∙ is.edge; is_file = file_kept is.file is.is_file; within = omega (arith, same, within) }
+  below_kept node size row (Qcow2 image) joined there is = record {
+    file = is.file;
+    edge = e.files node row there ∙ is.edge;
+    is_file = file_kept is.file is.is_file;
+    opened = is.opened;
+    known = λ device bytes held told. is.known device bytes (sym (e.devices is.file (held_of is.file is.is_file)) ∙ held) told;
+    backing = λ over edge. size_kept over image.header.size (is.backing over (sym (e.backings node row there) ∙ edge));
+  }
+    where
+      held_of : (file : ℕ) → IsFile old file → IsSome (device_in old.devices file)
+      held_of file is = let has = joined.below file is.row is.there in rw is.driver at has
+  below_kept node size row CopyOnRead joined there is = record { child = is.child; edge = e.files node row there ∙ is.edge; same = size_kept is.child size is.same }
+
+-- a device more at the end
+find_or : (node : ℕ) (a b : DeviceState) (devices : List DeviceState) (here : Bool)
+    → (IsSome (device_in devices node) → device_in (devices ++ b ∷ []) node ≡ device_in devices node)
+    → IsSome (cond here (Some a) (device_in devices node)) → ◌≡◌ {A = Option DeviceState} (cond here (Some a) (device_in (devices ++ b ∷ []) node)) (cond here (Some a) (device_in devices node))
+find_or node a b devices true rest is = refl
+find_or node a b devices false rest is = rest is
+
+device_kept : (devices : List DeviceState) (b : DeviceState) (node : ℕ) → IsSome (device_in devices node) → device_in (devices ++ b ∷ []) node ≡ device_in devices node
+device_kept [] b node is = absurd (cc is)
+device_kept (a ∷ devices) b node is = find_or node a b devices (is_of node a) (device_kept devices b node) is
+
+new_or : (node : ℕ) (a b : DeviceState) (devices : List DeviceState) (here : Bool) → (device_in devices node ≡ None → device_in (devices ++ b ∷ []) node ≡ cond (is_of node b) (Some b) None)
+    → cond here (Some a) (device_in devices node) ≡ None → cond here (Some a) (device_in (devices ++ b ∷ []) node) ≡ cond (is_of node b) (Some b) None
+new_or node a b devices true rest is = absurd (cc is)
+new_or node a b devices false rest is = rest is
+
+device_new : (devices : List DeviceState) (b : DeviceState) (node : ℕ) → device_in devices node ≡ None → device_in (devices ++ b ∷ []) node ≡ cond (is_of node b) (Some b) None
+device_new [] b node is = refl
+device_new (a ∷ devices) b node is = new_or node a b devices (is_of node a) (device_new devices b node) is
+
+-- a node that isn't in the graph has no row and no device
+not_some : {A : Type 0} (found : Option A) → (IsSome found → ⊥) → found ≡ None
+not_some None none = refl
+not_some (Some x) none = absurd (none refl)
+
+some_row : (found : Option Row) → IsSome found → (row : Row) × (found ≡ Some row)
+some_row None is = absurd (cc is)
+some_row (Some row) is = (row, refl)
+
+pub no_row : (nodes : Nodes) (id : ℕ) → IsJoined nodes → (HasNode nodes.graph id → ⊥) → row_at nodes id ≡ None
+no_row nodes id joined absent = not_some (row_at nodes id) (λ some. absent (joined.only id some))
+
+pub no_device : (nodes : Nodes) (id : ℕ) → IsJoined nodes → (HasNode nodes.graph id → ⊥) → device_in nodes.devices id ≡ None
+no_device nodes id joined absent = not_some (device_in nodes.devices id) (λ some. absent (joined.devices id some))
+
+-- One more node with its row, where all else is there as before.
+module _ (old new : Nodes) (id : ℕ) (name : List ℕ) (row : Row) (joined : IsJoined old) (absent : HasNode old.graph id → ⊥) (small : id < 64)
+    (nodes : new.graph.nodes ≡ old.graph.nodes ++ record { id = id; name = name } ∷ []) (rows : new.rows ≡ set old.rows id (Some row)) where
+
+  row_new : row_at new id ≡ Some row
+  row_new = let count = joined.rows in ap (λ (rs : List (Option Row)). get_or rs id None) rows ∙ get_or-set_same old.rows id (Some row) None (omega arith)
+
+  row_other : (node : ℕ) → node ≢ id → row_at new node ≡ row_at old node
+  row_other node other = ap (λ (rs : List (Option Row)). get_or rs node None) rows ∙ get_or-set_other old.rows id node (Some row) None other
+
+  differs : (node : ℕ) (other : Row) → row_at old node ≡ Some other → node ≢ id
+  differs node other there = λ same. let bad : Some other ≡ None = sym there ∙ ap (row_at old) same ∙ no_row old id joined absent in absurd (cc bad)
+
+  pub row_stays : (node : ℕ) (other : Row) → row_at old node ≡ Some other → row_at new node ≡ Some other
+  row_stays node other there = row_other node (differs node other there) ∙ there
+
+  names_new : ids new.graph ≡ ids old.graph ++ id ∷ []
+  names_new = ap (map (λ (r : NodeRow). r.id)) nodes ∙ map-append (λ (r : NodeRow). r.id) old.graph.nodes (record { id = id; name = name } ∷ [])
+
+  has_old : (node : ℕ) → HasNode old.graph node → HasNode new.graph node
+  has_old node has = rw names_new (Contains-append_left (ids old.graph) (id ∷ []) node has)
+
+  has_new : HasNode new.graph id
+  has_new = rw names_new (Contains-push (ids old.graph) id)
+
+  there_new : (node : ℕ) → HasNode new.graph node → IsSome (row_at new node)
+  there_new node has =
+      let cases = Contains-push_cases (ids old.graph) id node (rw names_new at has) in
+      elim cases [
+        | inl before ↦ let found = some_row (row_at old node) (joined.there node before) in rw (row_stays node found.0 found.1) refl
+        | inr same ↦ rw (ap (row_at new) (sym same) ∙ row_new) refl
+      ]
+
+  only_new : (node : ℕ) → IsSome (row_at new node) → HasNode new.graph node
+  only_new node some = elim (cases_eq node id) [
+    | inl same ↦ rw same has_new
+    | inr other ↦ let before : IsSome (row_at old node) = rw (row_other node other) at some in has_old node (joined.only node before)
+  ]
+
+  sized_new : IsSized row.size row.driver → (node : ℕ) (r : Row) → row_at new node ≡ Some r → IsSized r.size r.driver
+  sized_new sized node r there = elim (cases_eq node id) [
+    | inl same ↦ let is : r ≡ row = cc (sym there ∙ ap (row_at new) same ∙ row_new) in rw is sized
+    | inr other ↦ joined.sized node r (sym (row_other node other) ∙ there)
+  ]
+
+  below_new : Extends old new → HasBelow new id row.size row.driver → (node : ℕ) (r : Row) → row_at new node ≡ Some r → HasBelow new node r.size r.driver
+  below_new e below node r there = elim (cases_eq node id) [
+    | inl same ↦ let is : r ≡ row = cc (sym there ∙ ap (row_at new) same ∙ row_new) in rw (is, same) below
+    | inr other ↦ let before = sym (row_other node other) ∙ there in below_kept old new e node r.size r r.driver joined before (joined.below node r before)
+  ]
+
+  pub joined_added : Extends old new → IsSized row.size row.driver → HasBelow new id row.size row.driver
+      → ((node : ℕ) → IsSome (device_in new.devices node) → (node ≡ id) ⊎ IsSome (device_in old.devices node)) → IsJoined new
+  joined_added e sized below held = record {
+    rows = ap length rows ∙ length-set old.rows id (Some row) ∙ joined.rows;
+    there = there_new;
+    only = only_new;
+    sized = sized_new sized;
+    below = below_new e below;
+    devices = λ node some. elim (held node some) [
+      | inl same ↦ rw same has_new
+      | inr before ↦ has_old node (joined.devices node before)
+    ];
+  }
+
+-- a `file` node with its device
+module _ (nodes : Nodes) (id size : ℕ) (name : List ℕ) (is_read_only : Bool) (device : DeviceState) (joined : IsJoined nodes) (absent : HasNode nodes.graph id → ⊥)
+    (small : id < 64) (node : device.node ≡ id) where
+
+  abbrev file_row : Row
+  file_row = record { driver = File; size = size; is_read_only = is_read_only }
+
+  abbrev added : Nodes
+  added = with_device (with_node nodes id name file_row) device
+
+  held_or : (n : ℕ) (found : Option DeviceState) → device_in nodes.devices n ≡ found → IsSome (device_in (nodes.devices ++ device ∷ []) n) → (n ≡ id) ⊎ IsSome (device_in nodes.devices n)
+  held_or n (Some d) is some = inr (rw is refl)
+  held_or n None is some = elim (cases_eq n id) [
+    | inl same ↦ inl same
+    | inr other ↦ absurd (other (sym (here (device.node == n) refl (rw (device_new nodes.devices device n is) at some))))
+  ]
+    where
+      here : (b : Bool) → (device.node == n) ≡ b → IsSome (cond b (Some device) None) → id ≡ n
+      here true same some = sym node ∙ eqb-true device.node n same
+      here false same some = absurd (cc some)
+
+  extends_file : Extends nodes added
+  extends_file = record {
+    rows = row_stays nodes added id name file_row joined absent small refl refl;
+    devices = λ n some. device_kept nodes.devices device n some;
+    files = λ n row there. refl;
+    backings = λ n row there. refl;
+  }
+
+  pub joined_file : IsJoined added
+  joined_file = joined_added nodes added id name file_row joined absent small refl refl extends_file tt
+      (rw (device_new nodes.devices device id (no_device nodes id joined absent), node, eq-eqb id id refl) refl)
+      (λ n some. held_or n (device_in nodes.devices n) refl some)
