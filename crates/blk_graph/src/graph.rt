@@ -239,6 +239,7 @@ impl Graph {
         ensures ok { IfOk result (λ id. self.new ≡ record self.old { nodes = self.old.nodes ++ (record { id = id; name = name.bytes }) ∷ [] }) }
         ensures fresh { IfOk result (λ id. ¬ HasNode self.old id) }
         ensures there { IfOk result (λ id. HasNode self.new id) }
+        ensures lone { IfOk result (λ id. IsLone self.new.edges id) }
         ensures err { OnErr result (self.new ≡ self.old) }
     {
         if names::node_named(&self.names, self.order.as_slice(), name.as_str()).is_some() {

@@ -6,9 +6,15 @@ use Rattle.std.proofs.lemmas.Bool.{eqb-true, eq-eqb}
 use Rattle.std.proofs.lemmas.List.{length-set, get_or-set_same, get_or-set_other, map-append}
 use Rattle.std.proofs.lemmas.Bool.{cases_eq}
 use Rattle.std.proofs.lemmas.List.Elements.{Contains-push, Contains-push_cases, Contains-append_left}
+use Rattle.blk_graph.specs.Edits.{IsLone}
 use Rattle.blk_graph.specs.Graph.{Graph, NodeRow, HasNode, ids}
+use Rattle.blk_graph.specs.Judged.{without_node}
+use Rattle.blk_graph.specs.declared.edge.Parent.TheVariants.{Node}
+use Rattle.blk_graph.specs.declared.edge.Role.TheVariants.{File as FileRole, Backing}
+use Rattle.blk_graph.proofs.ChildLemmas.{child-new, child-other}
+use Rattle.blk_graph.proofs.Members.{Contains-here, Contains-there}
 use Rattle.q2_image.specs.Image.{Known, IsImageOf}
-use Rattle.blk_nodes.specs.Adding.{with_node, with_device}
+use Rattle.blk_nodes.specs.Adding.{with_node, with_device, with_below, file_edge}
 use Rattle.blk_nodes.specs.Contents.{below, disk_by, disk_in, disk_of, bytes_by, bytes_of, file_node_disk}
 use Rattle.blk_nodes.specs.Nodes.{Nodes, DeviceState, is_of, row_at, device_in, size_by, size_of, file_of, backing_of}
 use Rattle.blk_nodes.specs.Joined.{IsFile, HasSize, IsPart, IsOverlay, IsCopying, HasBelow, IsSized, IsJoined}
@@ -185,3 +191,57 @@ module _ (nodes : Nodes) (id size : ℕ) (name : List ℕ) (is_read_only : Bool)
   joined_file = joined_added nodes added id name file_row joined absent small refl refl extends_file tt
       (rw (device_new nodes.devices device id (no_device nodes id joined absent), node, eq-eqb id id refl) refl)
       (λ n some. held_or n (device_in nodes.devices n) refl some)
+
+-- a node that was added last is taken away again
+pub added_away : (nodes : List NodeRow) (id : ℕ) (name : List ℕ) → (Contains (map (λ (r : NodeRow). r.id) nodes) id → ⊥) → without_node id (nodes ++ record { id = id; name = name } ∷ []) ≡ nodes
+added_away [] id name absent = rw (eq-eqb id id refl) refl
+added_away (r ∷ nodes) id name absent =
+    rw (not_here (r.id == id) refl)
+    (ap (λ (rs : List NodeRow). r ∷ rs) (added_away nodes id name (λ there. absent (Contains-there r.id (map (λ (r : NodeRow). r.id) nodes) id there))))
+  where
+    not_here : (b : Bool) → (r.id == id) ≡ b → (r.id == id) ≡ false
+    not_here true same = absurd (absent (subst (Contains (r.id ∷ map (λ (r : NodeRow). r.id) nodes)) (eqb-true r.id id same) (Contains-here r.id (map (λ (r : NodeRow). r.id) nodes))))
+    not_here false same = same
+
+pub has_after : (graph : Graph) (id : ℕ) (name : List ℕ) (node : ℕ) → HasNode graph node → HasNode (record graph { nodes = graph.nodes ++ record { id = id; name = name } ∷ [] }) node
+has_after graph id name node has =
+    rw (map-append (λ (r : NodeRow). r.id) graph.nodes (record { id = id; name = name } ∷ [])) (Contains-append_left (ids graph) (id ∷ []) node has)
+
+pub ids_after : (graph : Graph) (id : ℕ) (name : List ℕ) → ids (record graph { nodes = graph.nodes ++ record { id = id; name = name } ∷ [] }) ≡ ids graph ++ id ∷ []
+ids_after graph id name = map-append (λ (r : NodeRow). r.id) graph.nodes (record { id = id; name = name } ∷ [])
+
+pub file_is_node : (nodes : Nodes) (file : ℕ) → IsJoined nodes → IsFile nodes file → HasNode nodes.graph file
+file_is_node nodes file joined is = joined.only file (rw is.there refl)
+
+-- a node over a file, with its edge
+module _ (nodes : Nodes) (id file : ℕ) (name : List ℕ) (is_read_only : Bool) (row : Row) (joined : IsJoined nodes) (absent : HasNode nodes.graph id → ⊥)
+    (small : id < 64) (lone : IsLone nodes.graph.edges id) (is_file : IsFile nodes file) where
+
+  abbrev over_file : Nodes
+  over_file = with_below (with_node nodes id name row) (file_edge id file is_read_only)
+
+  other_parent : (node : ℕ) (r : Row) → row_at nodes node ≡ Some r → Node id ≢ Node node
+  other_parent node r there = λ same.
+      let is : id ≡ node = cc in
+      let bad : Some r ≡ None = sym there ∙ ap (row_at nodes) (sym is) ∙ no_row nodes id joined absent in
+      absurd (cc bad)
+
+  extends_over : Extends nodes over_file
+  extends_over = record {
+    rows = row_stays nodes over_file id name row joined absent small refl refl;
+    devices = λ n some. refl;
+    files = λ n r there. child-other (Node n) FileRole (file_edge id file is_read_only) nodes.graph.edges lone.leaves (other_parent n r there);
+    backings = λ n r there. child-other (Node n) Backing (file_edge id file is_read_only) nodes.graph.edges lone.leaves (other_parent n r there);
+  }
+
+  file_below : file_of over_file id ≡ Some file
+  file_below = child-new (file_edge id file is_read_only) nodes.graph.edges lone.leaves
+
+  pub joined_raw : (offset size : ℕ) → row.driver ≡ Raw (record { offset = offset; size = size }) → row.size ≡ size
+      → offset + size ≤ size_of nodes file → offset + size ≤ 9223372036854775808 → IsJoined over_file
+  joined_raw offset size driver whole within fits =
+      let same = size_same nodes over_file extends_over file is_file in
+      let sized : (size ≡ row.size) × (offset + row.size ≤ 9223372036854775808) = (sym whole, omega (arith, whole, fits)) in
+      let part : IsPart over_file id offset size = record { file = file; edge = file_below; is_file = file_kept nodes over_file extends_over file is_file; within = omega (arith, same, within) } in
+      joined_added nodes over_file id name row joined absent small refl refl extends_over
+      (subst (IsSized row.size) (sym driver) sized) (subst (HasBelow over_file id row.size) (sym driver) part) (λ n some. inr some)

@@ -1,6 +1,13 @@
 -- What an addition makes of the nodes, and why one is refused.
-use Rattle.std.specs.Prelude.{◌≡◌, ℕ, List, [], ◌∷◌, ◌++◌, slice_set, Option, Some}
+use Rattle.std.specs.Prelude.{◌≡◌, ℕ, Bool, true, false, not, List, [], ◌∷◌, ◌++◌, length, slice_set, Some}
 use Rattle.blk_base.specs.declared.fault.DevNo.{DevNo}
+use Rattle.blk_graph.specs.Edits.{with_edge}
+use Rattle.blk_graph.specs.Graph.{Graph, HasName, HasNode, ids}
+use Rattle.blk_graph.specs.Rule.{first_conflict}
+use Rattle.blk_graph.specs.declared.edge.Conflict.{Conflict as Pair}
+use Rattle.blk_graph.specs.declared.edge.Edge.{Edge}
+use Rattle.blk_graph.specs.declared.edge.Parent.TheVariants.{Node}
+use Rattle.blk_graph.specs.declared.edge.Role.TheVariants.{File}
 use Rattle.blk_nodes.specs.Nodes.{Nodes, DeviceState}
 use Rattle.blk_nodes.specs.declared.row.Row.{Row}
 use Rattle.blk_nodes.specs.declared.stop.AddStop.{AddStop}
@@ -16,6 +23,39 @@ with_node nodes id name row = record nodes {
 -- and its device
 abbrev pub with_device : Nodes → DeviceState → Nodes
 with_device nodes device = record nodes { devices = nodes.devices ++ device ∷ [] }
+
+-- no node of this name can be added
+abbrev pub IsNameStop : Graph → List ℕ → AddStop → Type 0
+IsNameStop graph name NameTaken = HasName graph name
+IsNameStop graph name TooManyNodes = (length graph.nodes ≡ 64) × ¬ HasName graph name
+IsNameStop graph name _ = ⊥
+
+-- the edge of a node over a file: it reads, writes where it may, and lets others read
+abbrev pub file_edge : ℕ → ℕ → Bool → Edge
+file_edge node file is_read_only = record {
+  parent = Node node;
+  role = File;
+  child = file;
+  perm = record { read = true; write = not is_read_only; unchanged = false };
+  shared = record { read = true; write = false; unchanged = false };
+}
+
+-- one more edge
+abbrev pub with_below : Nodes → Edge → Nodes
+with_below nodes edge = record nodes { graph = record nodes.graph { edges = with_edge edge nodes.graph.edges } }
+
+-- some id that is free would be the node's, and its edge breaks the permission rule with that pair first
+pub record IsDenied (nodes : Nodes) (edge : ℕ → Edge) (pair : Pair) : Type 0 where
+  pub id : ℕ
+  pub free : ¬ HasNode nodes.graph id
+  pub first : first_conflict (ids nodes.graph ++ id ∷ []) (with_edge (edge id) nodes.graph.edges) ≡ Some pair
+
+-- the addition of a node over a file is refused for these alone
+abbrev pub IsOverStop : AddStop → Type 0
+IsOverStop NameTaken = Unit {0}
+IsOverStop TooManyNodes = Unit {0}
+IsOverStop (Conflict _) = Unit {0}
+IsOverStop _ = ⊥
 
 -- the addition of a `file` node is refused for these alone
 abbrev pub IsFileStop : AddStop → Type 0

@@ -16,6 +16,7 @@ use std::alloc::Global;
 use std::marker::Model;
 
 /// The device of a `file` node, and its number among the openings of the run.
+#[derive(Drop)]
 pub(crate) struct Held<D: Device> {
     pub node: NodeId,
     pub number: DevNo,
@@ -85,6 +86,7 @@ impl<D: Device> Held<D> {
 }
 
 /// The devices of the `file` nodes, in the order in which their nodes were added.
+#[derive(Drop)]
 pub(crate) struct Devices<D: Device> {
     pub list: Vec<Held<D>>,
 }

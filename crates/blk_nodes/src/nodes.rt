@@ -1,8 +1,11 @@
 //! The nodes.
-ghost use Rattle.std.specs.Prelude.{◌≡◌, ◌↔◌, ◌<◌, ◌≤◌, [], length, replicate, IfOk, IfErr, OnErr, IsErrAnd, IsTrue};
+ghost use Rattle.std.specs.Prelude.{◌≡◌, ◌≢◌, ◌↔◌, ◌<◌, ◌≤◌, [], length, replicate, IfOk, IfErr, OnOk, OnErr, IsErrAnd, IsTrue, Err};
 ghost use Rattle.blk_base.specs.Pieces.{end_of};
 ghost use Rattle.blk_graph.specs.Graph.{HasName, HasNode};
-ghost use Rattle.blk_nodes.specs.Adding.{with_node, with_device, IsFileStop};
+ghost use Rattle.blk_nodes.specs.Adding.{with_node, with_device, with_below, file_edge, IsDenied, IsFileStop, IsNameStop, IsOverStop};
+ghost use Rattle.blk_nodes.specs.Joined.{IsFile};
+ghost use Rattle.blk_graph.specs.Rule.{KeepsPermissions};
+ghost use Rattle.blk_graph.specs.declared.edge.Conflict.{Conflict as Pair};
 ghost use Rattle.q2_image.specs.Reading.{IsWithinCluster};
 ghost use Rattle.blk_nodes.specs.Nodes.{no_nodes, size_of, AreTold};
 ghost use Rattle.q2_image.specs.Guest.{guest_bytes};
@@ -11,16 +14,19 @@ ghost use Rattle.blk_nodes.specs.Walk.{IsMapped, CanBeRead, GoesOn};
 ghost use Rattle.blk_nodes.specs.Sources.{step_of, source_in, source_of};
 ghost use Rattle.blk_nodes.specs.Reading.{HaveRisen, IsReadOver, ReadsDisk};
 
+use crate::adding::{denied, file_edge, take_back};
 use crate::devices::{Devices, Held};
 use crate::row::{Driver, Row, step};
 use crate::source::{Source, Step};
 use crate::stop::AddStop;
 use blk_base::{DevNo, Device, NoMemory, Outcome, Span, Text};
 use blk_graph::{Graph, MOST_NODES, NodeId, Parent, Role};
+use raw_image::RawImage;
 use std::alloc::Global;
 use std::marker::Model;
 
 /// Nodes by name, the edges between them, and the devices of the `file` nodes.
+#[derive(Drop)]
 pub struct Nodes<D: Device> {
     graph: Graph,
     // By the numbers of their nodes.
@@ -68,19 +74,28 @@ impl<D: Device> Nodes<D> {
         })
     }
 
-    fn has_name(&self, name: &str) -> bool
-        ensures { IsTrue result ↔ HasName self.now.graph name.now }
+    /// The bytes of a node's disk; of no node, 0.
+    pub fn size(&self, node: NodeId) -> u64
+        ensures { result ≡ size_of self.now node }
     {
-        match self.graph.node_named(name) {
-            Some(_) => true,
-            None => false,
+        match &self.rows[node.index()] {
+            None => 0,
+            Some(row) => row.size,
         }
     }
 
-    fn is_full(&self) -> bool
-        ensures { IsTrue result ↔ (length self.now.graph.nodes ≡ 64) }
+    /// Why no node of this name can be added.
+    fn check_name(&self, name: &str) -> Result<(), AddStop>
+        ensures ok { OnOk result (¬ HasName self.now.graph name.now × (length self.now.graph.nodes ≢ 64)) }
+        ensures stop { IfErr result (IsNameStop self.now.graph name.now) }
     {
-        self.graph.nodes().len() == MOST_NODES
+        if self.graph.node_named(name).is_some() {
+            return Err(AddStop::NameTaken);
+        }
+        if self.graph.nodes().len() == MOST_NODES {
+            return Err(AddStop::TooManyNodes);
+        }
+        Ok(())
     }
 
     /// Adds a `file` node over a device, whose number among the openings of the run is `number`. A refusal gives the
@@ -101,11 +116,8 @@ impl<D: Device> Nodes<D> {
         ensures err { OnErr result (self.new ≡ self.old) }
         ensures back { IfErr result (λ e. e.1 ≡ device) }
     {
-        if self.has_name(name.as_str()) {
-            return Err((AddStop::NameTaken, device));
-        }
-        if self.is_full() {
-            return Err((AddStop::TooManyNodes, device));
+        if let Err(stop) = self.check_name(name.as_str()) {
+            return Err((stop, device));
         }
         if self.devices.list.reserve(1).is_err() {
             return Err((AddStop::NoMemory, device));
@@ -122,6 +134,48 @@ impl<D: Device> Nodes<D> {
             node,
             number,
             device,
+        });
+        Ok(node)
+    }
+
+    /// Adds a `raw` node: a part of a `file` node.
+    pub fn add_raw(
+        &mut self,
+        name: Text,
+        file: NodeId,
+        part: Span,
+        read_only: bool,
+    ) -> Result<NodeId, AddStop>
+        requires file { IsFile self.old file }
+        requires part { end_of part ≤ size_of self.old file }
+        requires room { length self.old.graph.edges < 2048 }
+        ensures taken { (result ≡ Err AddStop.NameTaken) ↔ HasName self.old.graph name.bytes }
+        ensures full { (result ≡ Err AddStop.TooManyNodes) ↔ ((length self.old.graph.nodes ≡ 64) × ¬ HasName self.old.graph name.bytes) }
+        ensures denied { (pair : Pair) → result ≡ Err (AddStop.Conflict pair) → IsDenied self.old (λ id. file_edge id file read_only) pair }
+        ensures rule { OnOk result (KeepsPermissions self.new.graph.edges) }
+        ensures only { IfErr result IsOverStop }
+        ensures ok { IfOk result (λ id. self.new ≡ with_below (with_node self.old id name.bytes
+            (record { driver = Driver.Raw (record { offset = part.start; size = part.len }); size = part.len; is_read_only = read_only })) (file_edge id file read_only)) }
+        ensures fresh { IfOk result (λ id. ¬ HasNode self.old.graph id) }
+        ensures err { OnErr result (self.new ≡ self.old) }
+    {
+        if let Err(stop) = self.check_name(name.as_str()) {
+            return Err(stop);
+        }
+        let Ok(node) = self.graph.add_node(name) else {
+            unreachable!()
+        };
+        if let Err(stop) = self.graph.set_edge(file_edge(node, file, read_only)) {
+            take_back(&mut self.graph, node);
+            return Err(denied(stop));
+        }
+        self.rows[node.index()] = Some(Row {
+            driver: Driver::Raw(RawImage {
+                offset: part.start,
+                size: part.len,
+            }),
+            size: part.len,
+            is_read_only: read_only,
         });
         Ok(node)
     }

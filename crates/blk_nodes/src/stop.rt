@@ -4,7 +4,7 @@ use blk_graph::Conflict;
 use q2_image::ImageStop;
 
 /// Why a node isn't added. The nodes are then as before, and so are the bytes of an image.
-#[derive(Debug)]
+#[derive(Debug, Drop)]
 pub enum AddStop {
     /// A node has that name.
     NameTaken,

@@ -3,6 +3,7 @@ use Rattle.blk_graph.specs.Graph.{Graph, HasName, NodeRow}
 use Rattle.blk_graph.specs.Layout.{row_of, graph_of}
 use Rattle.std.proofs.lemmas.List.{length-map}
 use Rattle.std.proofs.lemmas.List.Elements.{Contains-push}
+use Rattle.blk_graph.proofs.ChildLemmas.{lone-absent}
 use Rattle.blk_graph.proofs.GraphLemmas.{ids-graph_of}
 use Rattle.blk_graph.proofs.NodeLemmas.{taken_name, free_name, rows_added, IsKept-added, vacant_apart, Contains-order}
 use Rattle.blk_graph.proofs.graph.Graph.add_node.Goals as goal
@@ -81,3 +82,11 @@ pub returns-clause-there : goal.returns-clause-there
 returns-clause-there c =
     rw (ids-graph_of c.insert_reserved.new.self c.push_reserved.new.self.items c.self.inside.edges.items, c.push_reserved.ensures.items)
     (Contains-push c.self.inside.order.items c.new-node.result)
+
+pub returns-clause-lone : goal.returns-clause-lone
+returns-clause-lone c =
+    rw c.new-node.ensures
+    (lone-absent (graph_of c.self.inside.names c.self.inside.order.items c.self.inside.edges.items) c.insert_reserved.result c.self.invariant.sound
+    (λ h. vacant_apart c.self.inside.names c.self.inside.order.items c.insert_reserved.result c.self.invariant.named
+    c.insert_reserved.ensures.was_vacant
+    (Contains-order c.self.inside.names c.self.inside.order.items c.self.inside.edges.items c.insert_reserved.result h)))

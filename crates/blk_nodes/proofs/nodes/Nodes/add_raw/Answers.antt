@@ -1,0 +1,64 @@
+use Rattle.std.proofs.Common.{◌≡◌, ◌≢◌, ℕ, ◌+◌, ◌<◌, List, [], ◌∷◌, ◌++◌, length, Some, Err, refl, sym, ◌∙◌, ap, subst, arith}
+use Rattle.blk_graph.specs.Graph.{Graph, NodeRow, HasNode, ids}
+use Rattle.blk_graph.specs.Judged.{without_node}
+use Rattle.blk_graph.specs.declared.stop.GraphStop.{GraphStop}
+use Rattle.blk_graph.specs.declared.stop.GraphStop.TheVariants as graph
+use Rattle.blk_graph.proofs.ChildLemmas.{no-way-back}
+use Rattle.blk_nodes.specs.Nodes.{Nodes}
+use Rattle.blk_nodes.specs.Adding.{file_edge}
+use Rattle.blk_nodes.specs.Joined.{IsJoined}
+use Rattle.blk_nodes.proofs.Additions.{added_away, has_after, ids_after, file_is_node, joined_raw}
+use Rattle.blk_nodes.proofs.nodes.Nodes.add_raw.Given as given
+use Rattle.blk_nodes.proofs.nodes.Nodes.add_raw.Goals as goal
+
+pub set_edge-requires-clause-child : goal.set_edge-requires-clause-child
+set_edge-requires-clause-child g c =
+    let nodes : Nodes = record { graph = c.self.inside.graph; rows = c.self.inside.rows.items; devices = c.self.inside.devices } in
+    let is_file = rw (sym c.self.view_is) at c.requires.file in
+    let has = file_is_node nodes c.args.file c.self.invariant is_file in
+    rw (c.in-Ok.ensures.ok, c.file_edge.ensures) (has_after c.self.inside.graph c.in-Ok.node c.args.name.bytes c.args.file has)
+
+pub denied-requires-clause-cycle : goal.denied-requires-clause-cycle
+denied-requires-clause-cycle g c = λ is.
+    let nodes : Nodes = record { graph = c.self.inside.graph; rows = c.self.inside.rows.items; devices = c.self.inside.devices } in
+    let is_file = rw (sym c.self.view_is) at c.requires.file in
+    let has = file_is_node nodes c.args.file c.self.invariant is_file in
+    let apart : c.args.file ≢ c.in-Ok.node = λ same. c.in-Ok.ensures.fresh (subst (HasNode c.self.inside.graph) same has) in
+    let leads = rw c.file_edge.ensures at (c.set_edge.ensures.cycle.0 (c.in-Err-set_edge.is ∙ ap Err is)) in
+    no-way-back c.add_node.new.self.edges c.in-Ok.node c.args.file c.in-Ok.ensures.lone apart leads
+
+pub graph_back : (g : given.Over) (c : goal.After-denied g) → c.take_back.new.graph ≡ c.self.inside.graph
+graph_back g c =
+    let kept = c.in-Err-set_edge.ensures.err ∙ c.in-Ok.ensures.ok in
+    c.take_back.ensures
+    ∙ ap (λ (gr : Graph). let back : Graph = record { nodes = without_node c.in-Ok.node gr.nodes; edges = gr.edges } in back) kept
+    ∙ ap (λ (rows : List NodeRow). let back : Graph = record { nodes = rows; edges = c.self.inside.graph.edges } in back)
+      (added_away c.self.inside.graph.nodes c.in-Ok.node c.args.name.bytes c.in-Ok.ensures.fresh)
+
+pub invariant_of-self : goal.invariant_of-self
+invariant_of-self g c = rw (graph_back g c) c.self.invariant
+
+pub returns-in-Err-set_edge-clause-denied : goal.returns-in-Err-set_edge-clause-denied
+returns-in-Err-set_edge-clause-denied g c = λ pair is.
+    let named = c.denied.ensures.2 in
+    let same : c.denied.ensures.0 ≡ pair = cc in
+    let stopped = c.in-Err-set_edge.is ∙ ap Err (c.denied.ensures.1 ∙ ap graph.Conflict same) in
+    let first = ((c.set_edge.ensures.judged.conflict pair).0 stopped).1 in
+    let told = rw (c.in-Ok.ensures.ok, c.file_edge.ensures) at first in
+    rw (sym c.self.view_is)
+    (record { id = c.in-Ok.node; free = c.in-Ok.ensures.fresh; first = rw (ids_after c.self.inside.graph c.in-Ok.node c.args.name.bytes) at told })
+
+pub returns-in-Err-set_edge-clause-err : goal.returns-in-Err-set_edge-clause-err
+returns-in-Err-set_edge-clause-err g c = rw (graph_back g c) c.self.view_is
+
+pub invariant_of-self-2 : goal.invariant_of-self-2
+invariant_of-self-2 g c =
+    let nodes : Nodes = record { graph = c.self.inside.graph; rows = c.self.inside.rows.items; devices = c.self.inside.devices } in
+    let is_file = rw (sym c.self.view_is) at c.requires.file in
+    let node = c.index.ensures.value in
+    let small = rw node at c.index.ensures.small in
+    let lone = rw c.in-Ok.ensures.ok at c.in-Ok.ensures.lone in
+    let within = rw (sym c.self.view_is, sym c.part.view_is) at c.requires.part in
+    rw (c.in_default-set_edge.ensures.ok, c.in-Ok.ensures.ok, c.file_edge.ensures, node)
+    (joined_raw nodes c.in-Ok.node c.args.file c.args.name.bytes c.args.read_only _ c.self.invariant c.in-Ok.ensures.fresh small lone is_file
+      c.part.inside.start c.part.inside.len refl refl within c.part.invariant)

@@ -1,0 +1,66 @@
+use crate::Nodes;
+use blk_base::{DevNo, Outcome, Span, Text};
+use blk_fakes::{FailAt, MemDevice};
+use blk_graph::NodeId;
+use std::alloc::Global;
+use std::test::Fail;
+
+/// A `file` node over a device of 70,000 bytes 0x07 whose read number 1 fails.
+fn file_node(
+    alloc: Global,
+    nodes: &mut Nodes<MemDevice>,
+    name: &str,
+) -> Result<Option<NodeId>, Fail> {
+    let fails = [FailAt { call: 1, done: 0 }];
+    let bytes = vec![in alloc; 7u8; 70_000]?;
+    let device = MemDevice::new(alloc, bytes.as_slice(), 70_000, &fails, 0, 0)?;
+    match nodes.add_file(Text::copied(alloc, name)?, device, DevNo(3), false) {
+        Ok(node) => Ok(Some(node)),
+        Err(_) => Ok(None),
+    }
+}
+
+/// Reads a piece, where it lies in the disk and in one block.
+fn read(
+    nodes: &mut Nodes<MemDevice>,
+    node: NodeId,
+    start: u64,
+    buffer: &mut [u8],
+) -> Option<Outcome> {
+    let len = buffer.len() as u64;
+    if len > 65_536 || start > 65_536 * 4 {
+        return None;
+    }
+    if start % 65_536 + len > 65_536 || start + len > nodes.size(node) {
+        return None;
+    }
+    Some(nodes.read_piece(node, Span { start, len }, buffer))
+}
+
+#[test]
+fn a_file_node_reads_as_its_file(rt: HostRuntime) -> Result<(), Fail> {
+    let alloc = rt.alloc();
+    let mut nodes = Nodes::new(alloc)?;
+    let Some(node) = file_node(alloc, &mut nodes, "disk")? else {
+        return Err(Fail::new("no node"));
+    };
+    let mut buffer = [1; 4];
+    assert_eq!(rt; nodes.size(node), 70_000);
+    assert_eq!(rt; read(&mut nodes, node, 69_996, &mut buffer), Some(Outcome::Good));
+    assert_eq!(rt; buffer, [7; 4]);
+    assert_eq!(rt; read(&mut nodes, node, 69_997, &mut buffer), None);
+    let failed = Outcome::Io { dev: DevNo(3), count: 1 };
+    assert_eq!(rt; read(&mut nodes, node, 0, &mut buffer), Some(failed));
+    assert_eq!(rt; read(&mut nodes, node, 65_532, &mut buffer), Some(Outcome::Good));
+    Ok(())
+}
+
+#[test]
+fn a_name_is_taken_once(rt: HostRuntime) -> Result<(), Fail> {
+    let alloc = rt.alloc();
+    let mut nodes = Nodes::new(alloc)?;
+    assert!(rt; file_node(alloc, &mut nodes, "a")?.is_some());
+    assert!(rt; file_node(alloc, &mut nodes, "a")?.is_none());
+    assert!(rt; file_node(alloc, &mut nodes, "b")?.is_some());
+    Ok(())
+}
