@@ -94,7 +94,7 @@ pub child-new : (new : Edge) (edges : List Edge) → ((e : Edge) → Contains ed
 child-new new edges apart =
     ap (child_of new.parent new.role) (with_edge-end new edges apart)
     ∙ ap (option_map (λ (e : Edge). e.child)) (find-push (is_edge new.parent new.role) new (own_edge new) edges
-      (λ e there. rw (same_parent-false e.parent new.parent (apart e there)) refl))
+    (λ e there. rw (same_parent-false e.parent new.parent (apart e there)) refl))
   where
     own_edge : (e : Edge) → is_edge e.parent e.role e ≡ true
     own_edge e = rw (same_parent-refl e.parent, same_role-refl e.role) refl

@@ -96,7 +96,6 @@ no_device nodes id joined absent = not_some (device_in nodes.devices id) (λ som
 -- One more node with its row, where all else is there as before.
 module _ (old new : Nodes) (id : ℕ) (name : List ℕ) (row : Row) (joined : IsJoined old) (absent : HasNode old.graph id → ⊥) (small : id < 64)
     (nodes : new.graph.nodes ≡ old.graph.nodes ++ record { id = id; name = name } ∷ []) (rows : new.rows ≡ set old.rows id (Some row)) where
-
   row_new : row_at new id ≡ Some row
   row_new = let count = joined.rows in ap (λ (rs : List (Option Row)). get_or rs id None) rows ∙ get_or-set_same old.rows id (Some row) None (omega arith)
 
@@ -161,7 +160,6 @@ module _ (old new : Nodes) (id : ℕ) (name : List ℕ) (row : Row) (joined : Is
 -- a `file` node with its device
 module _ (nodes : Nodes) (id size : ℕ) (name : List ℕ) (is_read_only : Bool) (device : DeviceState) (joined : IsJoined nodes) (absent : HasNode nodes.graph id → ⊥)
     (small : id < 64) (node : device.node ≡ id) where
-
   abbrev file_row : Row
   file_row = record { driver = File; size = size; is_read_only = is_read_only }
 
@@ -216,7 +214,6 @@ file_is_node nodes file joined is = joined.only file (rw is.there refl)
 -- a node over a file, with its edge
 module _ (nodes : Nodes) (id file : ℕ) (name : List ℕ) (is_read_only : Bool) (row : Row) (joined : IsJoined nodes) (absent : HasNode nodes.graph id → ⊥)
     (small : id < 64) (lone : IsLone nodes.graph.edges id) (is_file : IsFile nodes file) where
-
   abbrev over_file : Nodes
   over_file = with_below (with_node nodes id name row) (file_edge id file is_read_only)
 

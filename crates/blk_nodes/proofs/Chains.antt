@@ -62,9 +62,8 @@ found_by source place step = elim step as (λ _. Source) [
 -- one more node down the chain, where what is found below it is right
 module _ (turns : ℕ) (nodes : Nodes) (joined : IsJoined nodes) (all : AreTold nodes.devices)
     (rest : (node place i : ℕ) → place + i < size_of nodes node → place % 65536 + i < 65536
-      → get_or (disk_in turns nodes node) (place + i) 0 ≡ byte_at nodes (source_in turns nodes node place) place i)
+    → get_or (disk_in turns nodes node) (place + i) 0 ≡ byte_at nodes (source_in turns nodes node place) place i)
     (place i : ℕ) (block : place % 65536 + i < 65536) where
-
   over_below : (next : Option ℕ) → ((node : ℕ) → next ≡ Some node → place + i < size_of nodes node)
       → get_or (below (disk_in turns nodes) next) (place + i) 0 ≡ byte_at nodes (found_by (source_in turns nodes) place (in_below next)) place i
   over_below None inside = refl
@@ -73,7 +72,7 @@ module _ (turns : ℕ) (nodes : Nodes) (joined : IsJoined nodes) (all : AreTold 
   over_entry : (node file : ℕ) (next : Option ℕ) (entry : L2Entry) → (header_of (bytes_of nodes file)).cluster_bits ≡ 16
       → file_entry (bytes_of nodes file) ((place + i) / 65536) ≡ entry → ((node : ℕ) → next ≡ Some node → place + i < size_of nodes node)
       → guest_byte (bytes_of nodes file) (below (disk_in turns nodes) next) (place + i)
-        ≡ byte_at nodes (found_by (source_in turns nodes) place (step_by_entry node (Some file) next entry)) place i
+      ≡ byte_at nodes (found_by (source_in turns nodes) place (step_by_entry node (Some file) next entry)) place i
   over_entry node file next entries.Unallocated bits entry inside =
       guest_unallocated (bytes_of nodes file) (below (disk_in turns nodes) next) (place + i) bits entry ∙ over_below next inside
   over_entry node file next (entries.Zero host) bits entry inside = guest_zero (bytes_of nodes file) (below (disk_in turns nodes) next) (place + i) host bits entry
@@ -85,7 +84,7 @@ module _ (turns : ℕ) (nodes : Nodes) (joined : IsJoined nodes) (all : AreTold 
 
   over_image : (node : ℕ) (row : Row) (image : Known) → row_at nodes node ≡ Some row → image.header.size ≡ row.size → place + i < row.size → IsOverlay nodes node image
       → get_or (image_disk (below (bytes_of nodes) (file_of nodes node)) (below (disk_in turns nodes) (backing_of nodes node))) (place + i) 0
-        ≡ byte_at nodes (found_by (source_in turns nodes) place (step_by_entry node (file_of nodes node) (backing_of nodes node) (entry_in image (place / 65536)))) place i
+      ≡ byte_at nodes (found_by (source_in turns nodes) place (step_by_entry node (file_of nodes node) (backing_of nodes node) (entry_in image (place / 65536)))) place i
   over_image node row image there size inside is =
       let held = told_held is.file nodes.devices all (held_by nodes is.file joined is.is_file) in
       let known : IsImageOf (bytes_of nodes is.file) image = is.known held.0 (bytes_of nodes is.file) held.1 held.2 in
@@ -97,11 +96,11 @@ module _ (turns : ℕ) (nodes : Nodes) (joined : IsJoined nodes) (all : AreTold 
       rw is.edge
       (get_or-image_disk (bytes_of nodes is.file) (below (disk_in turns nodes) (backing_of nodes node)) (place + i) (omega (arith, whole, size, inside))
       ∙ over_entry node is.file (backing_of nodes node) (entry_in image (place / 65536)) bits entry
-        (λ next edge. let has = is.backing next edge in rw has.there (omega (arith, has.is, size, inside))))
+      (λ next edge. let has = is.backing next edge in rw has.there (omega (arith, has.is, size, inside))))
 
   by_driver : (node : ℕ) (row : Row) (driver : Driver) → row_at nodes node ≡ Some row → row.driver ≡ driver → place + i < row.size
       → get_or (disk_by nodes (disk_in turns nodes) node driver) (place + i) 0
-        ≡ byte_at nodes (found_by (source_in turns nodes) place (step_by node (file_of nodes node) (backing_of nodes node) place driver)) place i
+      ≡ byte_at nodes (found_by (source_in turns nodes) place (step_by node (file_of nodes node) (backing_of nodes node) place driver)) place i
   by_driver node row File there driver inside =
       let size : size_of nodes node ≡ row.size = ap size_by there in
       get_or-bytes_at (bytes_of nodes node) 0 (size_of nodes node) (place + i) (omega (arith, size, inside)) ∙ ap (λ (k : ℕ). get_or (bytes_of nodes node) k 0) (omega arith)
@@ -122,15 +121,15 @@ module _ (turns : ℕ) (nodes : Nodes) (joined : IsJoined nodes) (all : AreTold 
       let is : IsCopying nodes node row.size = rw driver at (joined.below node row there) in
       let has = is.same in
       over_below (file_of nodes node) (λ next edge.
-        let same : next ≡ is.child = cc in
-        rw same (rw has.there (omega (arith, has.is, inside))))
+      let same : next ≡ is.child = cc in
+      rw same (rw has.there (omega (arith, has.is, inside))))
 
   by_row : (node : ℕ) (found : Option Row) → row_at nodes node ≡ found → place + i < size_by found
       → get_or (elim found as (λ _. List ℕ) [ None ↦ [] | Some row ↦ disk_by nodes (disk_in turns nodes) node row.driver ]) (place + i) 0
-        ≡ byte_at nodes (found_by (source_in turns nodes) place (elim found as (λ _. Step) [
-          | None ↦ Found sources.Zeros
-          | Some row ↦ step_by node (file_of nodes node) (backing_of nodes node) place row.driver
-        ])) place i
+      ≡ byte_at nodes (found_by (source_in turns nodes) place (elim found as (λ _. Step) [
+        | None ↦ Found sources.Zeros
+        | Some row ↦ step_by node (file_of nodes node) (backing_of nodes node) place row.driver
+      ])) place i
   by_row node None is inside = refl
   by_row node (Some row) is inside = by_driver node row row.driver is refl inside
 
@@ -151,7 +150,6 @@ walk_goes_on nodes node place next turns left one is = ap (λ (k : ℕ). source_
 -- What was read of a piece, by where it stands.
 module _ (nodes : Nodes) (joined : IsJoined nodes) (all : AreTold nodes.devices) (node start n : ℕ)
     (inside : start + n ≤ size_of nodes node) (block : start % 65536 + n ≤ 65536) (buffer : List ℕ) where
-
   by_place : length buffer ≡ n → ((i : ℕ) → i < n → get_or buffer i 0 ≡ byte_at nodes (source_of nodes node start) start i) → buffer ≡ content.bytes_at (disk_of nodes node) start n
   unfolding source_of disk_of
   by_place whole each = bytes_at-by_place (disk_in 64 nodes node) buffer start n whole

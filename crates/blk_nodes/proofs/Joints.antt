@@ -75,6 +75,7 @@ joined_none = record {
   where
     none : {found : Option Row} → IsSome found → found ≡ None → ⊥
     none some is = let bad = rw is at some in absurd (cc bad)
+
     nowhere : {row : Row} → Some row ≡ None → ⊥
     nowhere is = absurd (cc is)
 

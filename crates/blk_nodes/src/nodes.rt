@@ -20,7 +20,7 @@ use crate::row::{Driver, Row, step};
 use crate::source::{Source, Step};
 use crate::stop::AddStop;
 use blk_base::{DevNo, Device, NoMemory, Outcome, Span, Text};
-use blk_graph::{Graph, MOST_NODES, NodeId, Parent, Role};
+use blk_graph::{Edge, Graph, MOST_NODES, NodeId, Parent, Role};
 use raw_image::RawImage;
 use std::alloc::Global;
 use std::marker::Model;
@@ -82,6 +82,23 @@ impl<D: Device> Nodes<D> {
             None => 0,
             Some(row) => row.size,
         }
+    }
+
+    /// Whether a node is one over a device.
+    pub fn is_file(&self, node: NodeId) -> bool
+        ensures { IsTrue result ↔ IsFile self.now node }
+    {
+        match &self.rows[node.index()] {
+            None => false,
+            Some(row) => matches!(row.driver, Driver::File),
+        }
+    }
+
+    /// The edges of the graph in order of making.
+    pub fn edges(&self) -> &[Edge]
+        ensures { result.now ≡ self.now.graph.edges }
+    {
+        self.graph.edges()
     }
 
     /// Why no node of this name can be added.

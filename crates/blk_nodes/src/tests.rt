@@ -1,7 +1,7 @@
 use crate::Nodes;
 use blk_base::{DevNo, Outcome, Span, Text};
 use blk_fakes::{FailAt, MemDevice};
-use blk_graph::NodeId;
+use blk_graph::{MOST_EDGES, NodeId};
 use std::alloc::Global;
 use std::test::Fail;
 
@@ -46,12 +46,21 @@ fn a_file_node_reads_as_its_file(rt: HostRuntime) -> Result<(), Fail> {
     };
     let mut buffer = [1; 4];
     assert_eq!(rt; nodes.size(node), 70_000);
-    assert_eq!(rt; read(&mut nodes, node, 69_996, &mut buffer), Some(Outcome::Good));
+    assert_eq!(rt;
+        read(&mut nodes, node, 69_996, &mut buffer),
+        Some(Outcome::Good)
+    );
     assert_eq!(rt; buffer, [7; 4]);
     assert_eq!(rt; read(&mut nodes, node, 69_997, &mut buffer), None);
-    let failed = Outcome::Io { dev: DevNo(3), count: 1 };
+    let failed = Outcome::Io {
+        dev: DevNo(3),
+        count: 1,
+    };
     assert_eq!(rt; read(&mut nodes, node, 0, &mut buffer), Some(failed));
-    assert_eq!(rt; read(&mut nodes, node, 65_532, &mut buffer), Some(Outcome::Good));
+    assert_eq!(rt;
+        read(&mut nodes, node, 65_532, &mut buffer),
+        Some(Outcome::Good)
+    );
     Ok(())
 }
 
@@ -62,5 +71,46 @@ fn a_name_is_taken_once(rt: HostRuntime) -> Result<(), Fail> {
     assert!(rt; file_node(alloc, &mut nodes, "a")?.is_some());
     assert!(rt; file_node(alloc, &mut nodes, "a")?.is_none());
     assert!(rt; file_node(alloc, &mut nodes, "b")?.is_some());
+    Ok(())
+}
+
+/// A `raw` node over a part of a file, where there is room; no node where it is refused.
+fn raw_node(
+    alloc: Global,
+    nodes: &mut Nodes<MemDevice>,
+    name: &str,
+    file: NodeId,
+    part: Span,
+) -> Result<Option<NodeId>, Fail> {
+    let end = part.start.saturating_add(part.len);
+    if !nodes.is_file(file) || end > nodes.size(file) || nodes.edges().len() >= MOST_EDGES {
+        return Ok(None);
+    }
+    match nodes.add_raw(Text::copied(alloc, name)?, file, part, false) {
+        Ok(node) => Ok(Some(node)),
+        Err(_) => Ok(None),
+    }
+}
+
+#[test]
+fn a_raw_node_reads_as_its_part_and_is_written_alone(rt: HostRuntime) -> Result<(), Fail> {
+    let alloc = rt.alloc();
+    let mut nodes = Nodes::new(alloc)?;
+    let Some(file) = file_node(alloc, &mut nodes, "file")? else {
+        return Err(Fail::new("no node"));
+    };
+    let part = Span {
+        start: 69_990,
+        len: 10,
+    };
+    let Some(node) = raw_node(alloc, &mut nodes, "raw", file, part)? else {
+        return Err(Fail::new("no node"));
+    };
+    let mut buffer = [1; 10];
+    assert_eq!(rt; nodes.size(node), 10);
+    assert_eq!(rt; read(&mut nodes, node, 0, &mut buffer), Some(Outcome::Good));
+    assert_eq!(rt; buffer, [7; 10]);
+    assert!(rt; raw_node(alloc, &mut nodes, "another", file, part)?.is_none());
+    assert_eq!(rt; nodes.edges().len(), 1);
     Ok(())
 }

@@ -33,7 +33,7 @@ graph_back g c =
     c.take_back.ensures
     ∙ ap (λ (gr : Graph). let back : Graph = record { nodes = without_node c.in-Ok.node gr.nodes; edges = gr.edges } in back) kept
     ∙ ap (λ (rows : List NodeRow). let back : Graph = record { nodes = rows; edges = c.self.inside.graph.edges } in back)
-      (added_away c.self.inside.graph.nodes c.in-Ok.node c.args.name.bytes c.in-Ok.ensures.fresh)
+    (added_away c.self.inside.graph.nodes c.in-Ok.node c.args.name.bytes c.in-Ok.ensures.fresh)
 
 pub invariant_of-self : goal.invariant_of-self
 invariant_of-self g c = rw (graph_back g c) c.self.invariant
@@ -61,4 +61,4 @@ invariant_of-self-2 g c =
     let within = rw (sym c.self.view_is, sym c.part.view_is) at c.requires.part in
     rw (c.in_default-set_edge.ensures.ok, c.in-Ok.ensures.ok, c.file_edge.ensures, node)
     (joined_raw nodes c.in-Ok.node c.args.file c.args.name.bytes c.args.read_only _ c.self.invariant c.in-Ok.ensures.fresh small lone is_file
-      c.part.inside.start c.part.inside.len refl refl within c.part.invariant)
+    c.part.inside.start c.part.inside.len refl refl within c.part.invariant)

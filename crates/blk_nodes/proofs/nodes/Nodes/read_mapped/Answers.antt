@@ -13,7 +13,7 @@ read_image-requires-clause-known g c =
     let count = c.self.invariant.rows in
     let small = c.index.ensures.small in
     let there : row_at nodes c.args.node ≡ Some c.in-Some.row =
-        ap (λ (k : ℕ). get_or rows k None) (sym index) ∙ get_or_default rows c.index.result None c.index-2.result.now (omega (arith, count, small)) ∙ sym c.index-2.ensures ∙ c.in-Some.is in
+    ap (λ (k : ℕ). get_or rows k None) (sym index) ∙ get_or_default rows c.index.result None c.index-2.result.now (omega (arith, count, small)) ∙ sym c.index-2.ensures ∙ c.in-Some.is in
     let mapped = rw (sym c.self.view_is) at c.requires.mapped in
     let same : mapped.image ≡ c.in-Qcow2.image = same_image mapped.row c.in-Some.row mapped.image c.in-Qcow2.image (sym mapped.there ∙ there) mapped.driver c.in-Qcow2.is in
     rw (sym same) mapped.known

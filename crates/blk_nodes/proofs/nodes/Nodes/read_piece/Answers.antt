@@ -43,7 +43,7 @@ returns-in-File-clause-read g c =
     let read = rw whole at c.read_file.ensures.read in
     rw (sym c.self.view_is)
     (λ all. when_good c.read_file.result (disk_of nodes c.args.node) c.args.span c.read_file.new.buffer
-      (λ good. reads_file nodes c.self.invariant all c.args.node c.args.span.start c.args.span.len inside c.requires.block c.read_file.new.buffer c.in-File.file c.in-File.start source (read all good)))
+    (λ good. reads_file nodes c.self.invariant all c.args.node c.args.span.start c.args.span.len inside c.requires.block c.read_file.new.buffer c.in-File.file c.in-File.start source (read all good)))
 
 pub returns-in-Image-clause-read : goal.returns-in-Image-clause-read
 returns-in-Image-clause-read g c =
@@ -51,4 +51,4 @@ returns-in-Image-clause-read g c =
     let source = rw start at (sym c.in-Image.ensures.source) in
     let joined = rw c.self.view_is at c.self.invariant in
     λ all. when_good c.read_mapped.result (disk_of c.args.self.now c.args.node) c.args.span c.read_mapped.new.buffer
-      (λ good. reads_image c.args.self.now joined all c.args.node c.args.span.start c.args.span.len c.requires.inside c.requires.block c.read_mapped.new.buffer c.in-Image.node c.in-Image.file source (c.read_mapped.ensures.read all good))
+    (λ good. reads_image c.args.self.now joined all c.args.node c.args.span.start c.args.span.len c.requires.inside c.requires.block c.read_mapped.new.buffer c.in-Image.node c.in-Image.file source (c.read_mapped.ensures.read all good))

@@ -12,7 +12,7 @@ returns-in-Some-clause-walk g c =
     let count = c.self.invariant.rows in
     let small = c.index.ensures.small in
     let there : row_at nodes c.args.node ≡ Some c.in-Some.row =
-        ap (λ (k : ℕ). get_or rows k None) (sym index) ∙ get_or_default rows c.index.result None c.index-2.result.now (omega (arith, count, small)) ∙ sym c.index-2.ensures ∙ c.in-Some.is in
+    ap (λ (k : ℕ). get_or rows k None) (sym index) ∙ get_or_default rows c.index.result None c.index-2.result.now (omega (arith, count, small)) ∙ sym c.index-2.ensures ∙ c.in-Some.is in
     let size : size_of nodes c.args.node ≡ c.in-Some.row.size = ap size_by there in
     let inside : c.args.place < size_of nodes c.args.node = rw (sym c.self.view_is) at c.requires in
     rw (sym c.self.view_is)
