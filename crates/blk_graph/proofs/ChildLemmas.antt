@@ -10,7 +10,7 @@ use Rattle.blk_graph.specs.declared.edge.Role.{Role}
 use Rattle.blk_graph.specs.declared.edge.Role.TheVariants.{Drive, File, Backing, Filtered, Source, Target, Between, Base}
 use Rattle.blk_graph.specs.Edges.{same_parent, same_role}
 use Rattle.blk_graph.specs.Edits.{is_edge, child_of, takes_place, with_edge, IsLone, without_parent}
-use Rattle.blk_graph.specs.Paths.{IsPath, LeadsBack}
+use Rattle.blk_graph.specs.Paths.{IsPath, IsAcyclic, HasCycle, LeadsBack}
 use Rattle.blk_graph.specs.Judged.{first_parent}
 use Rattle.blk_graph.specs.declared.edge.Parent.TheVariants.{Node}
 use Rattle.blk_graph.specs.Graph.{Graph, HasNode, HasParent, IsSound}
@@ -122,3 +122,37 @@ reached-entered edges from to first (next ∷ rest) path none = reached-entered 
 pub no-way-back : (edges : List Edge) (id child : ℕ) → IsLone edges id → child ≢ id → LeadsBack edges child (Node id) → ⊥
 no-way-back edges id child lone apart (inl same) = apart same
 no-way-back edges id child lone apart (inr reaches) = reached-entered edges child id reaches.first reaches.rest reaches.path lone.enters
+
+-- an edge of one parent leaves another's children, also where it takes an old one's place
+pub child-kept : (parent : Parent) (role : Role) (new : Edge) (edges : List Edge) → new.parent ≢ parent → child_of parent role (with_edge new edges) ≡ child_of parent role edges
+child-kept parent role new edges other = ap (option_map (λ (e : Edge). e.child)) (kept edges)
+  where
+    fails : (e : Edge) → e.parent ≢ parent → is_edge parent role e ≡ false
+    fails e apart = rw (same_parent-false e.parent parent apart) refl
+
+    kept : (es : List Edge) → find (is_edge parent role) (with_edge new es) ≡ find (is_edge parent role) es
+    kept [] = rw (fails new other) refl
+    kept (old ∷ es) = by_place (takes_place new old) refl (kept es)
+      where
+        by_place : (b : Bool) → takes_place new old ≡ b → find (is_edge parent role) (with_edge new es) ≡ find (is_edge parent role) es
+            → find (is_edge parent role) (cond b (new ∷ es) (old ∷ with_edge new es)) ≡ cond (is_edge parent role old) (Some old) (find (is_edge parent role) es)
+        by_place true is rest = rw (fails new other, fails old (λ same. other (takes_place-parent new old is ∙ same))) refl
+        by_place false is rest = ap (λ (found : Option Edge). cond (is_edge parent role old) (Some old) found) rest
+
+-- and so does taking one parent's edges away
+pub child-without : (gone parent : Parent) (role : Role) (edges : List Edge) → gone ≢ parent → child_of parent role (without_parent gone edges) ≡ child_of parent role edges
+child-without gone parent role edges other = ap (option_map (λ (e : Edge). e.child)) (kept edges)
+  where
+    kept : (es : List Edge) → find (is_edge parent role) (without_parent gone es) ≡ find (is_edge parent role) es
+    kept [] = refl
+    kept (e ∷ es) = by_parent (same_parent e.parent gone) refl (kept es)
+      where
+        by_parent : (b : Bool) → same_parent e.parent gone ≡ b → find (is_edge parent role) (without_parent gone es) ≡ find (is_edge parent role) es
+            → find (is_edge parent role) (cond (not b) (e ∷ without_parent gone es) (without_parent gone es)) ≡ cond (is_edge parent role e) (Some e) (find (is_edge parent role) es)
+        by_parent true is rest =
+            let apart : e.parent ≢ parent = λ same. other (sym (same_parent-true e.parent gone is) ∙ same) in
+            rest ∙ rw (same_parent-false e.parent parent apart) refl
+        by_parent false is rest = ap (λ (found : Option Edge). cond (is_edge parent role e) (Some e) found) rest
+
+pub acyclic-unless : (edges : List Edge) → (HasCycle edges → ⊥) → IsAcyclic edges
+acyclic-unless edges none = λ node cycle. none (record { node = node; cycle = cycle })

@@ -6,7 +6,9 @@ use Rattle.std.proofs.lemmas.Bool.{eqb-true, eq-eqb}
 use Rattle.std.proofs.lemmas.List.{length-set, get_or-set_same, get_or-set_other, map-append}
 use Rattle.std.proofs.lemmas.Bool.{cases_eq}
 use Rattle.std.proofs.lemmas.List.Elements.{Contains-push, Contains-push_cases, Contains-append_left}
-use Rattle.blk_graph.specs.Edits.{IsLone}
+use Rattle.blk_graph.specs.Edits.{IsLone, child_of}
+use Rattle.blk_graph.specs.declared.edge.Edge.{Edge}
+use Rattle.blk_graph.specs.declared.edge.Role.{Role}
 use Rattle.blk_graph.specs.Graph.{Graph, NodeRow, HasNode, ids}
 use Rattle.blk_graph.specs.Judged.{without_node}
 use Rattle.blk_graph.specs.declared.edge.Parent.TheVariants.{Node}
@@ -242,3 +244,23 @@ module _ (nodes : Nodes) (id file : ℕ) (name : List ℕ) (is_read_only : Bool)
       let part : IsPart over_file id offset size = record { file = file; edge = file_below; is_file = file_kept nodes over_file extends_over file is_file; within = omega (arith, same, within) } in
       joined_added nodes over_file id name row joined absent small refl refl extends_over
       (subst (IsSized row.size) (sym driver) sized) (subst (HasBelow over_file id row.size) (sym driver) part) (λ n some. inr some)
+
+-- edges of guests, which are no node's
+pub joined_edges : (nodes : Nodes) (edges : List Edge) → IsJoined nodes → ((parent : ℕ) (role : Role) → child_of (Node parent) role edges ≡ child_of (Node parent) role nodes.graph.edges)
+    → IsJoined (record nodes { graph = record nodes.graph { edges = edges } })
+joined_edges nodes edges joined same =
+    let new : Nodes = record nodes { graph = record nodes.graph { edges = edges } } in
+    let e : Extends nodes new = record {
+      rows = λ node row there. there;
+      devices = λ node some. refl;
+      files = λ node row there. same node FileRole;
+      backings = λ node row there. same node Backing;
+    } in
+    record {
+      rows = joined.rows;
+      there = joined.there;
+      only = joined.only;
+      sized = joined.sized;
+      below = λ node row there. below_kept nodes new e node row.size row row.driver joined there (joined.below node row there);
+      devices = joined.devices;
+    }

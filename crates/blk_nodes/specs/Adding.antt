@@ -1,13 +1,13 @@
 -- What an addition makes of the nodes, and why one is refused.
-use Rattle.std.specs.Prelude.{◌≡◌, ℕ, Bool, true, false, not, List, [], ◌∷◌, ◌++◌, length, slice_set, Some}
+use Rattle.std.specs.Prelude.{◌≡◌, ℕ, Bool, true, false, not, List, [], ◌∷◌, ◌++◌, length, slice_set, Option, Some, None}
 use Rattle.blk_base.specs.declared.fault.DevNo.{DevNo}
-use Rattle.blk_graph.specs.Edits.{with_edge}
+use Rattle.blk_graph.specs.Edits.{with_edge, without_parent}
 use Rattle.blk_graph.specs.Graph.{Graph, HasName, HasNode, ids}
 use Rattle.blk_graph.specs.Rule.{first_conflict}
 use Rattle.blk_graph.specs.declared.edge.Conflict.{Conflict as Pair}
 use Rattle.blk_graph.specs.declared.edge.Edge.{Edge}
-use Rattle.blk_graph.specs.declared.edge.Parent.TheVariants.{Node}
-use Rattle.blk_graph.specs.declared.edge.Role.TheVariants.{File}
+use Rattle.blk_graph.specs.declared.edge.Parent.TheVariants.{Node, Guest}
+use Rattle.blk_graph.specs.declared.edge.Role.TheVariants.{File, Drive}
 use Rattle.blk_nodes.specs.Nodes.{Nodes, DeviceState}
 use Rattle.blk_nodes.specs.declared.row.Row.{Row}
 use Rattle.blk_nodes.specs.declared.stop.AddStop.{AddStop}
@@ -63,3 +63,22 @@ IsFileStop NameTaken = Unit {0}
 IsFileStop TooManyNodes = Unit {0}
 IsFileStop NoMemory = Unit {0}
 IsFileStop _ = ⊥
+
+-- the edge of a guest's drive: it reads, writes where it may, and lets others read, and write where that is shared
+abbrev pub drive_edge : ℕ → ℕ → Bool → Bool → Edge
+drive_edge guest node is_read_only share_rw = record {
+  parent = Guest guest;
+  role = Drive;
+  child = node;
+  perm = record { read = true; write = not is_read_only; unchanged = false };
+  shared = record { read = true; write = share_rw; unchanged = true };
+}
+
+-- the nodes without a guest's edges
+abbrev pub without_guest : ℕ → Nodes → Nodes
+without_guest guest nodes = record nodes { graph = record nodes.graph { edges = without_parent (Guest guest) nodes.graph.edges } }
+
+-- whether a node may not be written; of no node, false
+abbrev pub is_read_only_in : Option Row → Bool
+is_read_only_in None = false
+is_read_only_in (Some row) = row.is_read_only

@@ -1,13 +1,11 @@
 //! Edges of a node that is added, and a node that is taken back.
 ghost use Rattle.std.specs.Prelude.{◌≡◌, ◌≢◌};
-ghost use Rattle.blk_graph.specs.declared.edge.Conflict.{Conflict as Pair};
 ghost use Rattle.blk_graph.specs.Edits.{IsLone};
 ghost use Rattle.blk_graph.specs.Graph.{HasNode};
 ghost use Rattle.blk_graph.specs.Judged.{IsEditStop, without_node};
-ghost use Rattle.blk_nodes.specs.Adding.{file_edge};
+ghost use Rattle.blk_nodes.specs.Adding.{file_edge, drive_edge};
 
-use crate::stop::AddStop;
-use blk_graph::{Edge, Graph, GraphStop, NodeId, Parent, Perms, Role};
+use blk_graph::{Conflict, Edge, Graph, GraphStop, NodeId, Parent, Perms, Role};
 
 /// A node over a file: it reads, writes where it may, and lets others read.
 pub(crate) fn file_edge(node: NodeId, file: NodeId, read_only: bool) -> Edge
@@ -30,14 +28,35 @@ pub(crate) fn file_edge(node: NodeId, file: NodeId, read_only: bool) -> Edge
     }
 }
 
-/// Why an edge of a node that is new is refused: there is no cycle through it.
-pub(crate) fn denied(stop: GraphStop) -> AddStop
+/// A guest's drive: it reads, writes where it may, and lets others read, and write where that is shared.
+pub(crate) fn drive_edge(guest: u32, node: NodeId, read_only: bool, share_rw: bool) -> Edge
+    ensures { result ≡ drive_edge guest node read_only share_rw }
+{
+    Edge {
+        parent: Parent::Guest(guest),
+        role: Role::Drive,
+        child: node,
+        perm: Perms {
+            read: true,
+            write: !read_only,
+            unchanged: false,
+        },
+        shared: Perms {
+            read: true,
+            write: share_rw,
+            unchanged: true,
+        },
+    }
+}
+
+/// The pair for which an edge is refused that closes no cycle.
+pub(crate) fn conflict_of(stop: GraphStop) -> Conflict
     requires edit { IsEditStop stop }
     requires cycle { stop ≢ GraphStop.Cycle }
-    ensures { (pair : Pair) × (stop ≡ GraphStop.Conflict pair) × (result ≡ AddStop.Conflict pair) }
+    ensures { stop ≡ GraphStop.Conflict result }
 {
     match stop {
-        GraphStop::Conflict(pair) => AddStop::Conflict(pair),
+        GraphStop::Conflict(pair) => pair,
         _ => unreachable!(),
     }
 }

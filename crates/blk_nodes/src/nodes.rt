@@ -1,26 +1,27 @@
 //! The nodes.
-ghost use Rattle.std.specs.Prelude.{◌≡◌, ◌≢◌, ◌↔◌, ◌<◌, ◌≤◌, [], length, replicate, IfOk, IfErr, OnOk, OnErr, IsErrAnd, IsTrue, Err};
+ghost use Rattle.std.specs.Prelude.{◌≡◌, ◌≢◌, ◌↔◌, ◌<◌, ◌≤◌, [], length, replicate, IfOk, IfErr, OnOk, OnErr, IsErrAnd, IsTrue, Err, Some};
 ghost use Rattle.blk_base.specs.Pieces.{end_of};
-ghost use Rattle.blk_graph.specs.Graph.{HasName, HasNode};
-ghost use Rattle.blk_nodes.specs.Adding.{with_node, with_device, with_below, file_edge, IsDenied, IsFileStop, IsNameStop, IsOverStop};
+ghost use Rattle.blk_graph.specs.Edits.{with_edge};
+ghost use Rattle.blk_graph.specs.Graph.{HasName, HasNode, ids};
+ghost use Rattle.blk_nodes.specs.Adding.{with_node, with_device, with_below, without_guest, file_edge, drive_edge, is_read_only_in, IsDenied, IsFileStop, IsNameStop, IsOverStop};
 ghost use Rattle.blk_nodes.specs.Joined.{IsFile};
-ghost use Rattle.blk_graph.specs.Rule.{KeepsPermissions};
+ghost use Rattle.blk_graph.specs.Rule.{KeepsPermissions, first_conflict};
 ghost use Rattle.blk_graph.specs.declared.edge.Conflict.{Conflict as Pair};
 ghost use Rattle.q2_image.specs.Reading.{IsWithinCluster};
-ghost use Rattle.blk_nodes.specs.Nodes.{no_nodes, size_of, AreTold};
+ghost use Rattle.blk_nodes.specs.Nodes.{no_nodes, row_at, size_of, AreTold};
 ghost use Rattle.q2_image.specs.Guest.{guest_bytes};
 ghost use Rattle.blk_nodes.specs.Contents.{disk_of, bytes_of};
 ghost use Rattle.blk_nodes.specs.Walk.{IsMapped, CanBeRead, GoesOn};
 ghost use Rattle.blk_nodes.specs.Sources.{step_of, source_in, source_of};
 ghost use Rattle.blk_nodes.specs.Reading.{HaveRisen, IsReadOver, ReadsDisk};
 
-use crate::adding::{denied, file_edge, take_back};
+use crate::adding::{conflict_of, drive_edge, file_edge, take_back};
 use crate::devices::{Devices, Held};
 use crate::row::{Driver, Row, step};
 use crate::source::{Source, Step};
 use crate::stop::AddStop;
 use blk_base::{DevNo, Device, NoMemory, Outcome, Span, Text};
-use blk_graph::{Edge, Graph, MOST_NODES, NodeId, Parent, Role};
+use blk_graph::{Conflict, Edge, Graph, MOST_NODES, NodeId, Parent, Role};
 use raw_image::RawImage;
 use std::alloc::Global;
 use std::marker::Model;
@@ -86,7 +87,8 @@ impl<D: Device> Nodes<D> {
 
     /// Whether a node is one over a device.
     pub fn is_file(&self, node: NodeId) -> bool
-        ensures { IsTrue result ↔ IsFile self.now node }
+        ensures file { IsTrue result ↔ IsFile self.now node }
+        ensures node { IsTrue result → HasNode self.now.graph node }
     {
         match &self.rows[node.index()] {
             None => false,
@@ -184,7 +186,7 @@ impl<D: Device> Nodes<D> {
         };
         if let Err(stop) = self.graph.set_edge(file_edge(node, file, read_only)) {
             take_back(&mut self.graph, node);
-            return Err(denied(stop));
+            return Err(AddStop::Conflict(conflict_of(stop)));
         }
         self.rows[node.index()] = Some(Row {
             driver: Driver::Raw(RawImage {
@@ -195,6 +197,40 @@ impl<D: Device> Nodes<D> {
             is_read_only: read_only,
         });
         Ok(node)
+    }
+
+    /// Whether a node may not be written.
+    pub fn is_read_only(&self, node: NodeId) -> bool
+        ensures { result ≡ is_read_only_in (row_at self.now node) }
+    {
+        match &self.rows[node.index()] {
+            None => false,
+            Some(row) => row.is_read_only,
+        }
+    }
+
+    /// Puts a guest's drive on a node, in place of the one that it had. It may write where the node may be written.
+    pub fn attach(&mut self, guest: u32, node: NodeId, share_rw: bool) -> Result<(), Conflict>
+        requires node { HasNode self.old.graph node }
+        requires room { length self.old.graph.edges < 2048 }
+        ensures denied { (pair : Pair) → result ≡ Err pair
+            → first_conflict (ids self.old.graph) (with_edge (drive_edge guest node (is_read_only_in (row_at self.old node)) share_rw) self.old.graph.edges) ≡ Some pair }
+        ensures ok { OnOk result (self.new ≡ with_below self.old (drive_edge guest node (is_read_only_in (row_at self.old node)) share_rw)) }
+        ensures rule { OnOk result (KeepsPermissions self.new.graph.edges) }
+        ensures err { OnErr result (self.new ≡ self.old) }
+    {
+        let edge = drive_edge(guest, node, self.is_read_only(node), share_rw);
+        if let Err(stop) = self.graph.set_edge(edge) {
+            return Err(conflict_of(stop));
+        }
+        Ok(())
+    }
+
+    /// Takes a guest's drive away.
+    pub fn detach(&mut self, guest: u32)
+        ensures { self.new ≡ without_guest guest self.old }
+    {
+        self.graph.clear_edges(Parent::Guest(guest));
     }
 
     /// One step down the chain of a node: where its bytes stand from a place on.

@@ -114,3 +114,27 @@ fn a_raw_node_reads_as_its_part_and_is_written_alone(rt: HostRuntime) -> Result<
     assert_eq!(rt; nodes.edges().len(), 1);
     Ok(())
 }
+
+/// Whether a guest's drive is put on a `file` node.
+fn attached(nodes: &mut Nodes<MemDevice>, guest: u32, node: NodeId, share_rw: bool) -> bool {
+    if !nodes.is_file(node) || nodes.edges().len() >= MOST_EDGES {
+        return false;
+    }
+    nodes.attach(guest, node, share_rw).is_ok()
+}
+
+#[test]
+fn a_guest_that_shares_no_writes_is_alone(rt: HostRuntime) -> Result<(), Fail> {
+    let alloc = rt.alloc();
+    let mut nodes = Nodes::new(alloc)?;
+    let Some(node) = file_node(alloc, &mut nodes, "disk")? else {
+        return Err(Fail::new("no node"));
+    };
+    assert!(rt; attached(&mut nodes, 0, node, false));
+    assert!(rt; !attached(&mut nodes, 1, node, true));
+    nodes.detach(0);
+    assert!(rt; attached(&mut nodes, 1, node, true));
+    assert!(rt; attached(&mut nodes, 0, node, true));
+    assert_eq!(rt; nodes.edges().len(), 2);
+    Ok(())
+}

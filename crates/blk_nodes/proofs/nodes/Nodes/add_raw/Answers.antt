@@ -18,8 +18,8 @@ set_edge-requires-clause-child g c =
     let has = file_is_node nodes c.args.file c.self.invariant is_file in
     rw (c.in-Ok.ensures.ok, c.file_edge.ensures) (has_after c.self.inside.graph c.in-Ok.node c.args.name.bytes c.args.file has)
 
-pub denied-requires-clause-cycle : goal.denied-requires-clause-cycle
-denied-requires-clause-cycle g c = λ is.
+pub conflict_of-requires-clause-cycle : goal.conflict_of-requires-clause-cycle
+conflict_of-requires-clause-cycle g c = λ is.
     let nodes : Nodes = record { graph = c.self.inside.graph; rows = c.self.inside.rows.items; devices = c.self.inside.devices } in
     let is_file = rw (sym c.self.view_is) at c.requires.file in
     let has = file_is_node nodes c.args.file c.self.invariant is_file in
@@ -27,7 +27,7 @@ denied-requires-clause-cycle g c = λ is.
     let leads = rw c.file_edge.ensures at (c.set_edge.ensures.cycle.0 (c.in-Err-set_edge.is ∙ ap Err is)) in
     no-way-back c.add_node.new.self.edges c.in-Ok.node c.args.file c.in-Ok.ensures.lone apart leads
 
-pub graph_back : (g : given.Over) (c : goal.After-denied g) → c.take_back.new.graph ≡ c.self.inside.graph
+pub graph_back : (g : given.Over) (c : goal.After-conflict_of g) → c.take_back.new.graph ≡ c.self.inside.graph
 graph_back g c =
     let kept = c.in-Err-set_edge.ensures.err ∙ c.in-Ok.ensures.ok in
     c.take_back.ensures
@@ -40,9 +40,8 @@ invariant_of-self g c = rw (graph_back g c) c.self.invariant
 
 pub returns-in-Err-set_edge-clause-denied : goal.returns-in-Err-set_edge-clause-denied
 returns-in-Err-set_edge-clause-denied g c = λ pair is.
-    let named = c.denied.ensures.2 in
-    let same : c.denied.ensures.0 ≡ pair = cc in
-    let stopped = c.in-Err-set_edge.is ∙ ap Err (c.denied.ensures.1 ∙ ap graph.Conflict same) in
+    let same : c.conflict_of.result ≡ pair = cc in
+    let stopped = c.in-Err-set_edge.is ∙ ap Err (c.conflict_of.ensures ∙ ap graph.Conflict same) in
     let first = ((c.set_edge.ensures.judged.conflict pair).0 stopped).1 in
     let told = rw (c.in-Ok.ensures.ok, c.file_edge.ensures) at first in
     rw (sym c.self.view_is)
