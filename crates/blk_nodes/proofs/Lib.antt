@@ -1,4 +1,5 @@
 mod HeldDevices
 mod Joints
 mod Chains
+mod Disks
 mod Additions

@@ -1,5 +1,5 @@
 //! The nodes.
-ghost use Rattle.std.specs.Prelude.{◌≡◌, ◌≢◌, ◌↔◌, ◌<◌, ◌≤◌, [], length, replicate, IfOk, IfErr, OnOk, OnErr, IsErrAnd, IsTrue, Err, Some};
+ghost use Rattle.std.specs.Prelude.{◌≡◌, ◌≢◌, ◌↔◌, ℕ, ◌<◌, ◌≤◌, [], length, replicate, IfOk, IfErr, OnOk, OnErr, IsErrAnd, IsTrue, Err, Some};
 ghost use Rattle.blk_base.specs.Pieces.{end_of};
 ghost use Rattle.blk_graph.specs.Edits.{with_edge};
 ghost use Rattle.blk_graph.specs.Graph.{HasName, HasNode, ids};
@@ -218,6 +218,7 @@ impl<D: Device> Nodes<D> {
         ensures ok { OnOk result (self.new ≡ with_below self.old (drive_edge guest node (is_read_only_in (row_at self.old node)) share_rw)) }
         ensures rule { OnOk result (KeepsPermissions self.new.graph.edges) }
         ensures err { OnErr result (self.new ≡ self.old) }
+        ensures disks { (other : ℕ) → disk_of self.new other ≡ disk_of self.old other }
     {
         let edge = drive_edge(guest, node, self.is_read_only(node), share_rw);
         if let Err(stop) = self.graph.set_edge(edge) {
@@ -228,7 +229,8 @@ impl<D: Device> Nodes<D> {
 
     /// Takes a guest's drive away.
     pub fn detach(&mut self, guest: u32)
-        ensures { self.new ≡ without_guest guest self.old }
+        ensures edges { self.new ≡ without_guest guest self.old }
+        ensures disks { (other : ℕ) → disk_of self.new other ≡ disk_of self.old other }
     {
         self.graph.clear_edges(Parent::Guest(guest));
     }
@@ -301,6 +303,7 @@ impl<D: Device> Nodes<D> {
         ensures outcome { IsReadOver self.old.devices self.new.devices result }
         ensures kept { self.new ≡ record self.old { devices = self.new.devices } }
         ensures devices { HaveRisen self.old.devices self.new.devices }
+        ensures disks { (other : ℕ) → disk_of self.new other ≡ disk_of self.old other }
     {
         if span.len == 0 {
             return Outcome::Good;

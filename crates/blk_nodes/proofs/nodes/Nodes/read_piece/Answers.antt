@@ -4,6 +4,7 @@ use Rattle.blk_base.proofs.Contents.{bytes_at-by_place}
 use Rattle.blk_nodes.specs.Contents.{disk_of}
 use Rattle.blk_nodes.specs.Nodes.{Nodes}
 use Rattle.blk_nodes.proofs.Chains.{reads_zeros, reads_file, reads_image, when_good}
+use Rattle.blk_nodes.proofs.Disks.{disks_risen}
 use Rattle.blk_nodes.proofs.HeldDevices.{HaveRisen-refl}
 use Rattle.blk_nodes.proofs.Joints.{joined_after}
 use Rattle.blk_nodes.proofs.nodes.Nodes.read_piece.Goals as goal
@@ -52,3 +53,11 @@ returns-in-Image-clause-read g c =
     let joined = rw c.self.view_is at c.self.invariant in
     λ all. when_good c.read_mapped.result (disk_of c.args.self.now c.args.node) c.args.span c.read_mapped.new.buffer
     (λ good. reads_image c.args.self.now joined all c.args.node c.args.span.start c.args.span.len c.requires.inside c.requires.block c.read_mapped.new.buffer c.in-Image.node c.in-Image.file source (c.read_mapped.ensures.read all good))
+
+pub returns-in-File-clause-disks : goal.returns-in-File-clause-disks
+returns-in-File-clause-disks g c =
+    let nodes : Nodes = record { graph = c.self.inside.graph; rows = c.self.inside.rows.items; devices = c.self.inside.devices } in
+    rw (sym c.self.view_is) (disks_risen nodes c.read_file.new.self c.read_file.ensures.devices)
+
+pub returns-in-Image-clause-disks : goal.returns-in-Image-clause-disks
+returns-in-Image-clause-disks g c = rw c.read_mapped.ensures.kept (disks_risen c.args.self.now c.read_mapped.new.self.devices c.read_mapped.ensures.devices)
