@@ -76,7 +76,7 @@ new_or : (node : ℕ) (a b : DeviceState) (devices : List DeviceState) (here : B
 new_or node a b devices true rest is = absurd (cc is)
 new_or node a b devices false rest is = rest is
 
-device_new : (devices : List DeviceState) (b : DeviceState) (node : ℕ) → device_in devices node ≡ None → device_in (devices ++ b ∷ []) node ≡ cond (is_of node b) (Some b) None
+pub device_new : (devices : List DeviceState) (b : DeviceState) (node : ℕ) → device_in devices node ≡ None → device_in (devices ++ b ∷ []) node ≡ cond (is_of node b) (Some b) None
 device_new [] b node is = refl
 device_new (a ∷ devices) b node is = new_or node a b devices (is_of node a) (device_new devices b node) is
 
@@ -85,7 +85,7 @@ not_some : {A : Type 0} (found : Option A) → (IsSome found → ⊥) → found 
 not_some None none = refl
 not_some (Some x) none = absurd (none refl)
 
-some_row : (found : Option Row) → IsSome found → (row : Row) × (found ≡ Some row)
+pub some_row : (found : Option Row) → IsSome found → (row : Row) × (found ≡ Some row)
 some_row None is = absurd (cc is)
 some_row (Some row) is = (row, refl)
 
@@ -98,7 +98,7 @@ no_device nodes id joined absent = not_some (device_in nodes.devices id) (λ som
 -- One more node with its row, where all else is there as before.
 module _ (old new : Nodes) (id : ℕ) (name : List ℕ) (row : Row) (joined : IsJoined old) (absent : HasNode old.graph id → ⊥) (small : id < 64)
     (nodes : new.graph.nodes ≡ old.graph.nodes ++ record { id = id; name = name } ∷ []) (rows : new.rows ≡ set old.rows id (Some row)) where
-  row_new : row_at new id ≡ Some row
+  pub row_new : row_at new id ≡ Some row
   row_new = let count = joined.rows in ap (λ (rs : List (Option Row)). get_or rs id None) rows ∙ get_or-set_same old.rows id (Some row) None (omega arith)
 
   row_other : (node : ℕ) → node ≢ id → row_at new node ≡ row_at old node
@@ -179,7 +179,7 @@ module _ (nodes : Nodes) (id size : ℕ) (name : List ℕ) (is_read_only : Bool)
       here true same some = sym node ∙ eqb-true device.node n same
       here false same some = absurd (cc some)
 
-  extends_file : Extends nodes added
+  pub extends_file : Extends nodes added
   extends_file = record {
     rows = row_stays nodes added id name file_row joined absent small refl refl;
     devices = λ n some. device_kept nodes.devices device n some;
@@ -225,7 +225,7 @@ module _ (nodes : Nodes) (id file : ℕ) (name : List ℕ) (is_read_only : Bool)
       let bad : Some r ≡ None = sym there ∙ ap (row_at nodes) (sym is) ∙ no_row nodes id joined absent in
       absurd (cc bad)
 
-  extends_over : Extends nodes over_file
+  pub extends_over : Extends nodes over_file
   extends_over = record {
     rows = row_stays nodes over_file id name row joined absent small refl refl;
     devices = λ n some. refl;
@@ -233,7 +233,7 @@ module _ (nodes : Nodes) (id file : ℕ) (name : List ℕ) (is_read_only : Bool)
     backings = λ n r there. child-other (Node n) Backing (file_edge id file is_read_only) nodes.graph.edges lone.leaves (other_parent n r there);
   }
 
-  file_below : file_of over_file id ≡ Some file
+  pub file_below : file_of over_file id ≡ Some file
   file_below = child-new (file_edge id file is_read_only) nodes.graph.edges lone.leaves
 
   pub joined_raw : (offset size : ℕ) → row.driver ≡ Raw (record { offset = offset; size = size }) → row.size ≡ size

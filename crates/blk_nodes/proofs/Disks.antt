@@ -17,7 +17,6 @@ use Rattle.blk_nodes.specs.declared.row.Row.{Row}
 -- where rows, children and bytes are the same
 module _ (a b : Nodes) (rows : (node : ℕ) → row_at b node ≡ row_at a node) (bytes : (node : ℕ) → bytes_of b node ≡ bytes_of a node)
     (files : (node : ℕ) → file_of b node ≡ file_of a node) (backings : (node : ℕ) → backing_of b node ≡ backing_of a node) where
-
   file_same : (file : ℕ) → file_node_disk b file ≡ file_node_disk a file
   file_same file = rw (rows file, bytes file) refl
 

@@ -3,3 +3,4 @@ mod Joints
 mod Chains
 mod Disks
 mod Additions
+mod KeptDisks

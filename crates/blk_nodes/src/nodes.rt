@@ -10,7 +10,8 @@ ghost use Rattle.blk_graph.specs.declared.edge.Conflict.{Conflict as Pair};
 ghost use Rattle.q2_image.specs.Reading.{IsWithinCluster};
 ghost use Rattle.blk_nodes.specs.Nodes.{no_nodes, row_at, size_of, AreTold};
 ghost use Rattle.q2_image.specs.Guest.{guest_bytes};
-ghost use Rattle.blk_nodes.specs.Contents.{disk_of, bytes_of};
+ghost use Rattle.blk_nodes.specs.Contents.{told, disk_of, bytes_of};
+ghost use Rattle.q2_format.specs.Contents.{file_disk, raw_disk};
 ghost use Rattle.blk_nodes.specs.Walk.{IsMapped, CanBeRead, GoesOn};
 ghost use Rattle.blk_nodes.specs.Sources.{step_of, source_in, source_of};
 ghost use Rattle.blk_nodes.specs.Reading.{HaveRisen, IsReadOver, ReadsDisk};
@@ -132,6 +133,8 @@ impl<D: Device> Nodes<D> {
         ensures ok { IfOk result (λ id. self.new ≡ with_device (with_node self.old id name.bytes (record { driver = Driver.File; size = D.size device; is_read_only = read_only }))
             (record { node = id; number = number; content = D.content device; is_flushed = D.is_flushed device; size = D.size device; capacity = D.capacity device; faults = D.faults device })) }
         ensures fresh { IfOk result (λ id. ¬ HasNode self.old.graph id) }
+        ensures disks { OnOk result ((other : ℕ) → HasNode self.old.graph other → disk_of self.new other ≡ disk_of self.old other) }
+        ensures disk { IfOk result (λ id. disk_of self.new id ≡ file_disk (D.size device) (told (D.content device))) }
         ensures err { OnErr result (self.new ≡ self.old) }
         ensures back { IfErr result (λ e. e.1 ≡ device) }
     {
@@ -176,6 +179,8 @@ impl<D: Device> Nodes<D> {
         ensures ok { IfOk result (λ id. self.new ≡ with_below (with_node self.old id name.bytes
             (record { driver = Driver.Raw (record { offset = part.start; size = part.len }); size = part.len; is_read_only = read_only })) (file_edge id file read_only)) }
         ensures fresh { IfOk result (λ id. ¬ HasNode self.old.graph id) }
+        ensures disks { OnOk result ((other : ℕ) → HasNode self.old.graph other → disk_of self.new other ≡ disk_of self.old other) }
+        ensures disk { IfOk result (λ id. disk_of self.new id ≡ raw_disk part.start part.len (disk_of self.old file)) }
         ensures err { OnErr result (self.new ≡ self.old) }
     {
         if let Err(stop) = self.check_name(name.as_str()) {

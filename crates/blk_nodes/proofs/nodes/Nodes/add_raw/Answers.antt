@@ -8,6 +8,7 @@ use Rattle.blk_nodes.specs.Nodes.{Nodes}
 use Rattle.blk_nodes.specs.Adding.{file_edge}
 use Rattle.blk_nodes.specs.Joined.{IsJoined}
 use Rattle.blk_nodes.proofs.Additions.{added_away, has_after, ids_after, file_is_node, joined_raw}
+use Rattle.blk_nodes.proofs.KeptDisks.{raw_disks, raw_disk_new}
 use Rattle.blk_nodes.proofs.nodes.Nodes.add_raw.Given as given
 use Rattle.blk_nodes.proofs.nodes.Nodes.add_raw.Goals as goal
 
@@ -61,3 +62,23 @@ invariant_of-self-2 g c =
     rw (c.in_default-set_edge.ensures.ok, c.in-Ok.ensures.ok, c.file_edge.ensures, node)
     (joined_raw nodes c.in-Ok.node c.args.file c.args.name.bytes c.args.read_only _ c.self.invariant c.in-Ok.ensures.fresh small lone is_file
     c.part.inside.start c.part.inside.len refl refl within c.part.invariant)
+
+pub returns-clause-disks : goal.returns-clause-disks
+returns-clause-disks g c =
+    let nodes : Nodes = record { graph = c.self.inside.graph; rows = c.self.inside.rows.items; devices = c.self.inside.devices } in
+    let is_file = rw (sym c.self.view_is) at c.requires.file in
+    let node = c.index.ensures.value in
+    let small = rw node at c.index.ensures.small in
+    let lone = rw c.in-Ok.ensures.ok at c.in-Ok.ensures.lone in
+    rw (sym c.self.view_is, c.in_default-set_edge.ensures.ok, c.in-Ok.ensures.ok, c.file_edge.ensures, node)
+    (raw_disks nodes c.in-Ok.node c.args.file c.part.inside.start c.part.inside.len c.args.name.bytes c.args.read_only c.self.invariant c.in-Ok.ensures.fresh small lone is_file)
+
+pub returns-clause-disk : goal.returns-clause-disk
+returns-clause-disk g c =
+    let nodes : Nodes = record { graph = c.self.inside.graph; rows = c.self.inside.rows.items; devices = c.self.inside.devices } in
+    let is_file = rw (sym c.self.view_is) at c.requires.file in
+    let node = c.index.ensures.value in
+    let small = rw node at c.index.ensures.small in
+    let lone = rw c.in-Ok.ensures.ok at c.in-Ok.ensures.lone in
+    rw (sym c.self.view_is, sym c.part.view_is, c.in_default-set_edge.ensures.ok, c.in-Ok.ensures.ok, c.file_edge.ensures, node)
+    (raw_disk_new nodes c.in-Ok.node c.args.file c.part.inside.start c.part.inside.len c.args.name.bytes c.args.read_only c.self.invariant c.in-Ok.ensures.fresh small lone is_file)
