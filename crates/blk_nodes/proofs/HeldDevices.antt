@@ -11,7 +11,7 @@ use Rattle.blk_base.specs.declared.fault.Outcome.{Outcome}
 use Rattle.blk_base.specs.declared.fault.Outcome.TheVariants.{Good, Torn, Io, NoSpace}
 use Rattle.blk_nodes.specs.Contents.{told, bytes_by}
 use Rattle.blk_nodes.specs.Nodes.{DeviceState, AreTold, is_of, device_in}
-use Rattle.blk_nodes.specs.Reading.{HasRisen, HaveRisen, IsReadOf, IsReadOver, StoppedByOne}
+use Rattle.blk_nodes.specs.Reading.{HasRisen, HaveRisen, IsReadOf, IsReadAt}
 
 -- that is the first place at which the test passes
 record IsFirst {A : Type 0} (test : A → Bool) (xs : List A) (at : ℕ) (x : A) : Type 0 where
@@ -72,15 +72,15 @@ HaveRisen-set [] at d y within risen = absurd (omega (arith, within))
 HaveRisen-set (device ∷ devices) zero d y within risen = (risen, HaveRisen-refl devices)
 HaveRisen-set (device ∷ devices) (suc at) d y within risen = (HasRisen-refl device, HaveRisen-set devices at d y (omega arith) risen)
 
-over : (old new : List DeviceState) (file : ℕ) (x y : DeviceState) (outcome : Outcome) → device_in old file ≡ Some x → device_in new file ≡ Some y → IsReadOf x y outcome → IsReadOver old new outcome
+over : (old new : List DeviceState) (file : ℕ) (x y : DeviceState) (outcome : Outcome) → device_in old file ≡ Some x → device_in new file ≡ Some y → IsReadOf x y outcome → IsReadAt file old new outcome
 over old new file x y Good held left is = tt
 over old new file x y (Torn done dev count) held left is = is
-over old new file x y (Io dev count) held left is = record { file = file; before = x; after = y; held = held; left = left; stopped = is }
+over old new file x y (Io dev count) held left is = record { before = x; after = y; held = held; left = left; stopped = is }
 over old new file x y (NoSpace dev) held left is = is
 
 -- a read of one of the devices
 pub read_over : (file : ℕ) (devices : List DeviceState) (at : ℕ) (d y : DeviceState) (outcome : Outcome) → position (is_of file) devices ≡ Some at
-    → HasRisen (get_or devices at d) y → IsReadOf (get_or devices at d) y outcome → IsReadOver devices (set devices at y) outcome
+    → HasRisen (get_or devices at d) y → IsReadOf (get_or devices at d) y outcome → IsReadAt file devices (set devices at y) outcome
 read_over file devices at d y outcome place risen is =
     over devices (set devices at y) file (get_or devices at d) y outcome (at_place file devices at d place) (used file devices at d y (first (is_of file) devices at d place) risen) is
 

@@ -1,6 +1,7 @@
 mod HeldDevices
 mod Joints
 mod Chains
+mod Leading
 mod Disks
 mod Additions
 mod KeptDisks

@@ -6,6 +6,8 @@ use Rattle.blk_base.specs.Pieces.{Extent}
 use Rattle.blk_base.specs.declared.fault.Outcome.{Outcome}
 use Rattle.blk_base.specs.declared.fault.Outcome.TheVariants.{Good, Torn, Io, NoSpace}
 use Rattle.blk_base.specs.declared.fault.DevNo.{DevNo}
+use Rattle.blk_graph.specs.Paths.{Reaches}
+use Rattle.blk_graph.specs.declared.edge.Edge.{Edge}
 use Rattle.blk_nodes.specs.Nodes.{Nodes, DeviceState, device_in}
 
 -- a device but for its count, which may have risen
@@ -31,20 +33,37 @@ IsReadOf old new (Torn done dev count) = ⊥
 IsReadOf old new (Io dev count) = StoppedBy old new dev count
 IsReadOf old new (NoSpace dev) = ⊥
 
--- one of the devices stopped the call
-pub record StoppedByOne (old new : List DeviceState) (dev : DevNo) (count : ℕ) : Type 0 where
-  pub file : ℕ
+-- the device of a `file` node stopped the call
+pub record StoppedAt (file : ℕ) (old new : List DeviceState) (dev : DevNo) (count : ℕ) : Type 0 where
   pub before : DeviceState
   pub after : DeviceState
   pub held : device_in old file ≡ Some before
   pub left : device_in new file ≡ Some after
   pub stopped : StoppedBy before after dev count
 
-abbrev pub IsReadOver : List DeviceState → List DeviceState → Outcome → Type 0
-IsReadOver old new Good = Unit {0}
-IsReadOver old new (Torn done dev count) = ⊥
-IsReadOver old new (Io dev count) = StoppedByOne old new dev count
-IsReadOver old new (NoSpace dev) = ⊥
+-- how a read of the device of a `file` node went
+abbrev pub IsReadAt : ℕ → List DeviceState → List DeviceState → Outcome → Type 0
+IsReadAt file old new Good = Unit {0}
+IsReadAt file old new (Torn done dev count) = ⊥
+IsReadAt file old new (Io dev count) = StoppedAt file old new dev count
+IsReadAt file old new (NoSpace dev) = ⊥
+
+-- a node is another, or reaches it
+abbrev pub LeadsTo : List Edge → ℕ → ℕ → Type 0
+LeadsTo edges from to = (from ≡ to) ⊎ Reaches edges from to
+
+-- a device that the node leads to stopped the call
+pub record StoppedBelow (old new : Nodes) (node : ℕ) (dev : DevNo) (count : ℕ) : Type 0 where
+  pub file : ℕ
+  pub leads : LeadsTo old.graph.edges node file
+  pub stopped : StoppedAt file old.devices new.devices dev count
+
+-- how a read of a node went
+abbrev pub IsReadBelow : Nodes → Nodes → ℕ → Outcome → Type 0
+IsReadBelow old new node Good = Unit {0}
+IsReadBelow old new node (Torn done dev count) = ⊥
+IsReadBelow old new node (Io dev count) = StoppedBelow old new node dev count
+IsReadBelow old new node (NoSpace dev) = ⊥
 
 -- a read that was good left the disk's bytes in the buffer
 abbrev pub ReadsDisk : Outcome → List ℕ → Extent → List ℕ → Type 0

@@ -3,6 +3,8 @@ use Rattle.std.specs.Prelude.{◌≡◌, ℕ, ◌/◌, ◌<◌, List, Some, IsSo
 use Rattle.q2_image.specs.Image.{Known, IsImageOf, entry_in}
 use Rattle.q2_image.specs.Reading.{IsHost}
 use Rattle.blk_nodes.specs.Nodes.{Nodes, DeviceState, row_at, device_in, size_of}
+use Rattle.blk_graph.specs.declared.edge.Edge.{Edge}
+use Rattle.blk_nodes.specs.Reading.{LeadsTo}
 use Rattle.blk_nodes.specs.declared.row.Driver.TheVariants.{Qcow2}
 use Rattle.blk_nodes.specs.declared.row.Row.{Row}
 use Rattle.blk_nodes.specs.declared.source.Source.{Source}
@@ -31,3 +33,13 @@ CanBeRead nodes place (Image node file) = IsMapped nodes node file place
 abbrev pub GoesOn : Nodes → ℕ → Step → Type 0
 GoesOn nodes place (Found source) = CanBeRead nodes place source
 GoesOn nodes place (Below next) = place < size_of nodes next
+
+-- the edges lead from the node to what is found, or to the node below
+abbrev pub LeadsToSource : List Edge → ℕ → Source → Type 0
+LeadsToSource edges node Zeros = Unit {0}
+LeadsToSource edges node (File file start) = LeadsTo edges node file
+LeadsToSource edges node (Image at file) = LeadsTo edges node file
+
+abbrev pub LeadsOn : List Edge → ℕ → Step → Type 0
+LeadsOn edges node (Found source) = LeadsToSource edges node source
+LeadsOn edges node (Below next) = LeadsTo edges node next

@@ -7,7 +7,7 @@ ghost use Rattle.q2_image.specs.Image.{Known, IsImageOf, clusters_in, entry_in};
 ghost use Rattle.q2_image.specs.Reading.{IsHost, IsWithinCluster};
 ghost use Rattle.blk_nodes.specs.Contents.{bytes_by};
 ghost use Rattle.blk_nodes.specs.Nodes.{AreTold, DeviceState, is_of, device_in};
-ghost use Rattle.blk_nodes.specs.Reading.{HasRisen, HaveRisen, IsReadOf, IsReadOver};
+ghost use Rattle.blk_nodes.specs.Reading.{HasRisen, HaveRisen, IsReadOf, IsReadAt};
 
 use blk_base::{DevNo, DevStop, Device, NoMemory, Outcome, Span};
 use blk_graph::{MOST_NODES, NodeId};
@@ -122,7 +122,7 @@ impl<D: Device> Devices<D> {
     pub(crate) fn read_file(&mut self, file: NodeId, start: u64, buffer: &mut [u8]) -> Outcome
         requires { IsSome (device_in self.old file) }
         ensures read { AreTold self.old → result ≡ Outcome.Good → buffer.new ≡ bytes_at (bytes_by (device_in self.old file)) start (length buffer.old) }
-        ensures outcome { IsReadOver self.old self.new result }
+        ensures outcome { IsReadAt file self.old self.new result }
         ensures devices { HaveRisen self.old self.new }
     {
         match self.place_of(file) {
@@ -150,7 +150,7 @@ impl<D: Device> Devices<D> {
         requires whole { length buffer.old ≡ span.len }
         requires known { (device : DeviceState) (bytes : List ℕ) → device_in self.old file ≡ Some device → device.content ≡ Some bytes → IsImageOf bytes image.now }
         ensures read { AreTold self.old → result ≡ Outcome.Good → buffer.new ≡ guest_bytes (bytes_by (device_in self.old file)) [] span.start span.len }
-        ensures outcome { IsReadOver self.old self.new result }
+        ensures outcome { IsReadAt file self.old self.new result }
         ensures devices { HaveRisen self.old self.new }
     {
         match self.place_of(file) {

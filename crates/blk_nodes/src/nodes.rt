@@ -12,9 +12,9 @@ ghost use Rattle.blk_nodes.specs.Nodes.{no_nodes, row_at, size_of, AreTold};
 ghost use Rattle.q2_image.specs.Guest.{guest_bytes};
 ghost use Rattle.blk_nodes.specs.Contents.{told, disk_of, bytes_of};
 ghost use Rattle.q2_format.specs.Contents.{file_disk, raw_disk};
-ghost use Rattle.blk_nodes.specs.Walk.{IsMapped, CanBeRead, GoesOn};
+ghost use Rattle.blk_nodes.specs.Walk.{IsMapped, CanBeRead, GoesOn, LeadsToSource, LeadsOn};
 ghost use Rattle.blk_nodes.specs.Sources.{step_of, source_in, source_of};
-ghost use Rattle.blk_nodes.specs.Reading.{HaveRisen, IsReadOver, ReadsDisk};
+ghost use Rattle.blk_nodes.specs.Reading.{HaveRisen, IsReadAt, IsReadBelow, ReadsDisk};
 
 use crate::adding::{conflict_of, drive_edge, file_edge, take_back};
 use crate::devices::{Devices, Held};
@@ -245,6 +245,7 @@ impl<D: Device> Nodes<D> {
         requires { place < size_of self.now node }
         ensures step { result ≡ step_of self.now node place }
         ensures walk { GoesOn self.now place result }
+        ensures leads { LeadsOn self.now.graph.edges node result }
     {
         let file = self.graph.child(Parent::Node(node), Role::File);
         let backing = self.graph.child(Parent::Node(node), Role::Backing);
@@ -259,6 +260,7 @@ impl<D: Device> Nodes<D> {
         requires { place < size_of self.now node }
         ensures source { result ≡ source_in turns self.now node place }
         ensures read { CanBeRead self.now place result }
+        ensures leads { LeadsToSource self.now.graph.edges node result }
     {
         if turns == 0 {
             return Source::Zeros;
@@ -275,6 +277,7 @@ impl<D: Device> Nodes<D> {
         requires { place < size_of self.now node }
         ensures source { result ≡ source_of self.now node place }
         ensures read { CanBeRead self.now place result }
+        ensures leads { LeadsToSource self.now.graph.edges node result }
     {
         self.source_in(64, node, place)
     }
@@ -286,7 +289,7 @@ impl<D: Device> Nodes<D> {
         requires mapped { IsMapped self.old node file span.start }
         requires whole { length buffer.old ≡ span.len }
         ensures read { AreTold self.old.devices → result ≡ Outcome.Good → buffer.new ≡ guest_bytes (bytes_of self.old file) [] span.start span.len }
-        ensures outcome { IsReadOver self.old.devices self.new.devices result }
+        ensures outcome { IsReadAt file self.old.devices self.new.devices result }
         ensures kept { self.new ≡ record self.old { devices = self.new.devices } }
         ensures devices { HaveRisen self.old.devices self.new.devices }
     {
@@ -305,7 +308,7 @@ impl<D: Device> Nodes<D> {
         requires inside { end_of span ≤ size_of self.old node }
         requires whole { length buffer.old ≡ span.len }
         ensures read { AreTold self.old.devices → ReadsDisk result (disk_of self.old node) span buffer.new }
-        ensures outcome { IsReadOver self.old.devices self.new.devices result }
+        ensures outcome { IsReadBelow self.old self.new node result }
         ensures kept { self.new ≡ record self.old { devices = self.new.devices } }
         ensures devices { HaveRisen self.old.devices self.new.devices }
         ensures disks { (other : ℕ) → disk_of self.new other ≡ disk_of self.old other }

@@ -2,6 +2,7 @@ use Rattle.std.proofs.Common.{◌≡◌, ℕ, ◌<◌, Some, None, refl, sym, �
 use Rattle.std.proofs.lemmas.List.{get_or_default}
 use Rattle.blk_nodes.specs.Nodes.{Nodes, row_at, size_by, size_of, file_of, backing_of}
 use Rattle.blk_nodes.proofs.Joints.{goes_by}
+use Rattle.blk_nodes.proofs.Leading.{step_leads}
 use Rattle.blk_nodes.proofs.nodes.Nodes.step.Goals as goal
 
 pub returns-in-Some-clause-walk : goal.returns-in-Some-clause-walk
@@ -18,3 +19,9 @@ returns-in-Some-clause-walk g c =
     rw (sym c.self.view_is)
     (rw (c.step.ensures, c.child-file.ensures.child, c.child-backing.ensures.child)
     (goes_by nodes c.args.node c.args.place c.in-Some.row c.in-Some.row.driver c.self.invariant there refl (omega (arith, size, inside))))
+
+pub returns-in-Some-clause-leads : goal.returns-in-Some-clause-leads
+returns-in-Some-clause-leads g c =
+    rw (sym c.self.view_is)
+    (rw (c.step.ensures, c.child-file.ensures.child, c.child-backing.ensures.child)
+    (step_leads c.self.inside.graph.edges c.args.node c.args.place c.in-Some.row.driver))
