@@ -118,8 +118,9 @@ impl<D: Device> Nodes<D> {
         Ok(())
     }
 
-    /// Adds a `file` node over a device, whose number among the openings of the run is `number`. A refusal gives the
-    /// device back.
+    /// Adds a `file` node over a device, whose number among the openings of the run is `number`. Its disk has the length
+    /// that the device has now. Refused are a name that is taken and a 65th node; a refusal leaves all as it was and gives
+    /// the device back.
     pub fn add_file(
         &mut self,
         name: Text,
@@ -160,7 +161,9 @@ impl<D: Device> Nodes<D> {
         Ok(node)
     }
 
-    /// Adds a `raw` node: a part of a `file` node.
+    /// Adds a `raw` node: a part of a `file` node. Refused are a name that is taken, a 65th node, and an edge to the file
+    /// that would break the permission rule, with the first broken pair; a refusal leaves all as it was. The pair may name
+    /// the node that isn't there then.
     pub fn add_raw(
         &mut self,
         name: Text,
@@ -214,7 +217,9 @@ impl<D: Device> Nodes<D> {
         }
     }
 
-    /// Puts a guest's drive on a node, in place of the one that it had. It may write where the node may be written.
+    /// Puts a guest's drive on a node, in place of the one that it had. It may write where the node may be written, and
+    /// lets others write where `share_rw` says so. Where that would break the permission rule the first broken pair is
+    /// answered, and all is as it was.
     pub fn attach(&mut self, guest: u32, node: NodeId, share_rw: bool) -> Result<(), Conflict>
         requires node { HasNode self.old.graph node }
         requires room { length self.old.graph.edges < 2048 }
@@ -302,7 +307,8 @@ impl<D: Device> Nodes<D> {
         self.devices.read_image(file, image, span, buffer)
     }
 
-    /// Reads a piece of a node's disk, which lies in one block.
+    /// Reads a piece of a node's disk, which lies in one block of 65,536 bytes. It is Good, or Io of a device that the node
+    /// leads to, with that device's count of faults; `buffer` then holds any bytes. Takes no memory.
     pub fn read_piece(&mut self, node: NodeId, span: Span, buffer: &mut [u8]) -> Outcome
         requires block { IsWithinCluster 65536 span }
         requires inside { end_of span ≤ size_of self.old node }
