@@ -1,6 +1,5 @@
 -- What is found down a chain is what the node's disk has there.
 use Rattle.std.proofs.Common.{◌≡◌, ℕ, zero, suc, ◌+◌, ◌*◌, ◌/◌, ◌%◌, ◌<◌, ◌≤◌, List, [], length, get_or, replicate, Option, Some, None, refl, sym, ◌∙◌, ap, arith}
-use Rattle.std.specs.Prelude.{IsSome}
 use Rattle.std.proofs.lemmas.List.{length-replicate, get_or-replicate}
 use Rattle.std.proofs.lemmas.List.FromFn.{get_or-map-range_with_len}
 use Rattle.blk_base.specs.Content as content
@@ -9,7 +8,7 @@ use Rattle.blk_base.specs.declared.fault.Outcome.{Outcome}
 use Rattle.blk_base.specs.declared.fault.Outcome.TheVariants.{Good, Torn, Io, NoSpace}
 use Rattle.blk_nodes.specs.Reading.{ReadsDisk}
 use Rattle.blk_base.proofs.Contents.{bytes_at-by_place, get_or-bytes_at as get_or-device_bytes, length-bytes_at as length-device_bytes}
-use Rattle.q2_format.specs.Contents.{guest_byte, image_disk, file_disk, raw_disk}
+use Rattle.q2_format.specs.Contents.{guest_byte, image_disk}
 use Rattle.q2_format.specs.Header.{header_of}
 use Rattle.q2_format.specs.declared.header.Header.{Header}
 use Rattle.q2_format.specs.declared.entries.L2Entry.{L2Entry}
@@ -19,10 +18,10 @@ use Rattle.q2_image.specs.Guest.{file_entry, guest_bytes}
 use Rattle.q2_image.specs.Image.{Known, IsImageOf, IsOpen, entry_in}
 use Rattle.q2_image.proofs.Guests.{guest_host, guest_zero, guest_unallocated, get_or-guest_bytes, length-guest_bytes}
 use Rattle.q2_image.proofs.Mapped.{entry_of_file, below_words}
-use Rattle.blk_nodes.specs.Contents.{told, bytes_by, bytes_of, file_node_disk, below, disk_by, disk_in, disk_of}
-use Rattle.blk_nodes.specs.Nodes.{Nodes, DeviceState, AreTold, row_at, device_in, size_by, size_of, file_of, backing_of}
-use Rattle.blk_nodes.specs.Joined.{IsFile, HasSize, IsPart, IsOverlay, IsCopying, HasBelow, IsSized, IsJoined}
-use Rattle.blk_nodes.specs.Sources.{in_file, in_image, in_below, step_by_entry, step_by, step_of, source_in, source_of, byte_at}
+use Rattle.blk_nodes.specs.Contents.{bytes_of, file_node_disk, below, disk_by, disk_in, disk_of}
+use Rattle.blk_nodes.specs.Nodes.{Nodes, AreTold, row_at, size_by, size_of, file_of, backing_of}
+use Rattle.blk_nodes.specs.Joined.{IsPart, IsOverlay, IsCopying, IsJoined}
+use Rattle.blk_nodes.specs.Sources.{in_below, step_by_entry, step_by, step_of, source_in, source_of, byte_at}
 use Rattle.blk_nodes.specs.declared.row.Driver.{Driver}
 use Rattle.blk_nodes.specs.declared.row.Driver.TheVariants.{File, Raw, Qcow2, CopyOnRead}
 use Rattle.blk_nodes.specs.declared.row.Row.{Row}

@@ -1,15 +1,14 @@
 -- When the disks of nodes stay.
-use Rattle.std.proofs.Common.{◌≡◌, ℕ, zero, suc, Bool, true, false, cond, List, [], ◌∷◌, Option, Some, None, refl, sym, ◌∙◌, ap, subst, ◌==◌}
-use Rattle.std.specs.Prelude.{IsSome, is_some}
-use Rattle.q2_format.specs.Contents.{file_disk, raw_disk, image_disk}
+use Rattle.std.proofs.Common.{◌≡◌, ℕ, zero, suc, Bool, true, false, cond, List, [], ◌∷◌, Option, Some, None, refl, ◌∙◌, ap, ◌==◌}
+use Rattle.q2_format.specs.Contents.{raw_disk, image_disk}
 use Rattle.blk_graph.specs.Edits.{child_of}
 use Rattle.blk_graph.specs.declared.edge.Edge.{Edge}
 use Rattle.blk_graph.specs.declared.edge.Parent.TheVariants.{Node}
 use Rattle.blk_graph.specs.declared.edge.Role.{Role}
 use Rattle.blk_graph.specs.declared.edge.Role.TheVariants.{File as FileRole, Backing}
 use Rattle.blk_nodes.specs.Contents.{told, below, disk_by, disk_in, disk_of, bytes_by, bytes_of, file_node_disk}
-use Rattle.blk_nodes.specs.Nodes.{Nodes, DeviceState, is_of, row_at, device_in, size_by, size_of, file_of, backing_of}
-use Rattle.blk_nodes.specs.Reading.{HasRisen, HaveRisen}
+use Rattle.blk_nodes.specs.Nodes.{Nodes, DeviceState, row_at, device_in, file_of, backing_of}
+use Rattle.blk_nodes.specs.Reading.{HaveRisen}
 use Rattle.blk_nodes.specs.declared.row.Driver.{Driver}
 use Rattle.blk_nodes.specs.declared.row.Driver.TheVariants.{File, Raw, Qcow2, CopyOnRead}
 use Rattle.blk_nodes.specs.declared.row.Row.{Row}

@@ -1,12 +1,12 @@
 -- The devices of the nodes in their list, and one that was used.
-use Rattle.std.proofs.Common.{◌≡◌, ℕ, zero, suc, ◌<◌, ◌≤◌, ◌==◌, nat_lt, Bool, true, false, cond, List, [], ◌∷◌, length, get_or, set, refl, sym, ◌∙◌, ap, subst, arith, Option, Some, None}
+use Rattle.std.proofs.Common.{◌≡◌, ℕ, zero, suc, ◌<◌, ◌≤◌, ◌==◌, nat_lt, Bool, true, false, cond, List, [], ◌∷◌, length, get_or, set, refl, sym, ap, subst, arith, Option, Some, None}
 use Rattle.std.specs.Prelude.{IsSome, is_some, Contains}
 use Rattle.std.specs.List.{position, position_or_len}
 use Rattle.std.proofs.lemmas.List.{get_or_default}
 use Rattle.std.proofs.lemmas.List.Quantifiers.{position-Some}
 use Rattle.std.proofs.lemmas.List.Sums.{fails_before_first}
 use Rattle.std.proofs.lemmas.Bool.Decides.{nat_tests}
-use Rattle.blk_base.specs.Content.{bytes_at}
+use Rattle.blk_graph.proofs.Members.{find-Some}
 use Rattle.blk_base.specs.declared.fault.Outcome.{Outcome}
 use Rattle.blk_base.specs.declared.fault.Outcome.TheVariants.{Good, Torn, Io, NoSpace}
 use Rattle.blk_nodes.specs.Contents.{told, bytes_by}
@@ -143,21 +143,11 @@ held_before file (a ∷ old) (b ∷ new) risen is =
 held_before file [] (b ∷ new) risen is = absurd risen
 held_before file (a ∷ old) [] risen is = absurd risen
 
--- a device that is held stands in the list
-held_or : (file : ℕ) (device : DeviceState) (devices : List DeviceState) (d : DeviceState) (here : Bool) → (device_in devices file ≡ Some d → Contains devices d)
-    → cond here (Some device) (device_in devices file) ≡ Some d → Contains (device ∷ devices) d
-held_or file device devices d true rest is = let same : d ≡ device = cc in (0, omega arith, sym same)
-held_or file device devices d false rest is = let there = rest is in (suc there.0, omega (arith, there.1), there.2)
-
-held_there : (file : ℕ) (devices : List DeviceState) (d : DeviceState) → device_in devices file ≡ Some d → Contains devices d
-held_there file [] d is = absurd cc
-held_there file (device ∷ devices) d is = held_or file device devices d (is_of file device) (held_there file devices d) is
-
--- and tells its bytes, where all do
+-- a device that is held tells its bytes, where all do
 pub told_held : (file : ℕ) (devices : List DeviceState) → AreTold devices → IsSome (device_in devices file)
     → (d : DeviceState) × (device_in devices file ≡ Some d) × (d.content ≡ Some (bytes_by (device_in devices file)))
 told_held file devices all some = by_found (device_in devices file) refl some
   where
     by_found : (found : Option DeviceState) → device_in devices file ≡ found → IsSome found → (d : DeviceState) × (device_in devices file ≡ Some d) × (d.content ≡ Some (bytes_by (device_in devices file)))
     by_found None is bad = absurd (cc bad)
-    by_found (Some d) is here = (d, is, rw is (told_is d.content (all d (held_there file devices d is))))
+    by_found (Some d) is here = (d, is, rw is (told_is d.content (all d (find-Some (is_of file) devices d is).0)))

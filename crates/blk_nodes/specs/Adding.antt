@@ -1,6 +1,5 @@
 -- What an addition makes of the nodes, and why one is refused.
 use Rattle.std.specs.Prelude.{◌≡◌, ℕ, Bool, true, false, not, List, [], ◌∷◌, ◌++◌, length, slice_set, Option, Some, None}
-use Rattle.blk_base.specs.declared.fault.DevNo.{DevNo}
 use Rattle.blk_graph.specs.Edits.{with_edge, without_parent}
 use Rattle.blk_graph.specs.Graph.{Graph, HasName, HasNode, ids}
 use Rattle.blk_graph.specs.Rule.{first_conflict}
@@ -11,7 +10,7 @@ use Rattle.blk_graph.specs.declared.edge.Role.TheVariants.{File, Drive}
 use Rattle.blk_nodes.specs.Nodes.{Nodes, DeviceState}
 use Rattle.blk_nodes.specs.declared.row.Row.{Row}
 use Rattle.blk_nodes.specs.declared.stop.AddStop.{AddStop}
-use Rattle.blk_nodes.specs.declared.stop.AddStop.TheVariants.{NameTaken, TooManyNodes, Conflict, BackingNeeded, SizeDiffers, Image, NoMemory}
+use Rattle.blk_nodes.specs.declared.stop.AddStop.TheVariants.{NameTaken, TooManyNodes, Conflict, NoMemory}
 
 -- one more node with its row
 abbrev pub with_node : Nodes → ℕ → List ℕ → Row → Nodes

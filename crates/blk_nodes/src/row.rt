@@ -17,7 +17,7 @@ pub(crate) enum Driver {
     Raw(RawImage),
     /// The image in the `file` node below, over a backing node or none.
     Qcow2(Image),
-    /// As the node below, into which it copies what it reads.
+    /// As the node below.
     CopyOnRead,
 }
 

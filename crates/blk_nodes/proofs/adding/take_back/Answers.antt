@@ -1,5 +1,4 @@
-use Rattle.std.proofs.Common.{◌≡◌, sym, ◌∙◌, ap}
-use Rattle.blk_graph.specs.Graph.{Graph}
+use Rattle.std.proofs.Common.{sym, ◌∙◌}
 use Rattle.blk_graph.proofs.ChildLemmas.{lone-unused, lone-removed}
 use Rattle.blk_nodes.proofs.adding.take_back.Goals as goal
 

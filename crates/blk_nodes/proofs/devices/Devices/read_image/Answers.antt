@@ -1,6 +1,5 @@
-use Rattle.std.proofs.Common.{◌≡◌, List, sym, ◌∙◌, ap, subst, get_or, Some}
-use Rattle.std.specs.List.{position}
-use Rattle.blk_nodes.specs.Nodes.{DeviceState, AreTold, is_of}
+use Rattle.std.proofs.Common.{List, sym, ◌∙◌, ap, subst, get_or}
+use Rattle.blk_nodes.specs.Nodes.{DeviceState}
 use Rattle.blk_nodes.specs.Reading.{HasRisen, IsReadOf}
 use Rattle.blk_nodes.proofs.HeldDevices.{is_placed, at_place, HaveRisen-set, read_over, told_at}
 use Rattle.blk_nodes.proofs.devices.Devices.read_image.Goals as goal

@@ -1,5 +1,4 @@
-use Rattle.std.proofs.Common.{◌≡◌, ℕ, ◌<◌, List, length, refl, sym, ◌∙◌, ap, arith}
-use Rattle.blk_nodes.specs.Nodes.{Nodes, DeviceState}
+use Rattle.std.proofs.Common.{refl, sym}
 use Rattle.blk_nodes.proofs.Additions.{joined_file}
 use Rattle.blk_nodes.proofs.KeptDisks.{file_disks, file_disk_new}
 use Rattle.blk_nodes.proofs.nodes.Nodes.add_file.Goals as goal

@@ -1,12 +1,9 @@
-use Rattle.std.proofs.Common.{◌≡◌, ◌≢◌, ℕ, ◌+◌, ◌<◌, List, [], ◌∷◌, ◌++◌, length, Some, Err, refl, sym, ◌∙◌, ap, subst, arith}
-use Rattle.blk_graph.specs.Graph.{Graph, NodeRow, HasNode, ids}
+use Rattle.std.proofs.Common.{◌≡◌, ◌≢◌, List, Err, refl, sym, ◌∙◌, ap, subst}
+use Rattle.blk_graph.specs.Graph.{Graph, NodeRow, HasNode}
 use Rattle.blk_graph.specs.Judged.{without_node}
-use Rattle.blk_graph.specs.declared.stop.GraphStop.{GraphStop}
 use Rattle.blk_graph.specs.declared.stop.GraphStop.TheVariants as graph
 use Rattle.blk_graph.proofs.ChildLemmas.{no-way-back}
 use Rattle.blk_nodes.specs.Nodes.{Nodes}
-use Rattle.blk_nodes.specs.Adding.{file_edge}
-use Rattle.blk_nodes.specs.Joined.{IsJoined}
 use Rattle.blk_nodes.proofs.Additions.{added_away, has_after, ids_after, file_is_node, joined_raw}
 use Rattle.blk_nodes.proofs.KeptDisks.{raw_disks, raw_disk_new}
 use Rattle.blk_nodes.proofs.nodes.Nodes.add_raw.Given as given

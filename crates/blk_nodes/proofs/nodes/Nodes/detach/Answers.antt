@@ -1,4 +1,4 @@
-use Rattle.std.proofs.Common.{◌≡◌, ◌≢◌, ℕ, sym, ◌∙◌, ap}
+use Rattle.std.proofs.Common.{◌≢◌, ℕ, sym}
 use Rattle.blk_graph.specs.Edits.{without_parent}
 use Rattle.blk_graph.specs.declared.edge.Parent.TheVariants.{Node, Guest}
 use Rattle.blk_graph.proofs.ChildLemmas.{child-without}

@@ -1,4 +1,3 @@
-use Rattle.std.proofs.Common.{◌≡◌, sym, ◌∙◌, ap}
 use Rattle.blk_nodes.proofs.Joints.{joined_none}
 use Rattle.blk_nodes.proofs.nodes.Nodes.new.Goals as goal
 

@@ -1,4 +1,4 @@
-use Rattle.std.proofs.Common.{◌≡◌, ℕ, ◌+◌, ◌%◌, ◌<◌, List, [], length, replicate, refl, sym, ◌∙◌, ap, arith}
+use Rattle.std.proofs.Common.{◌≡◌, sym, ◌∙◌, ap, arith}
 use Rattle.blk_base.specs.Pieces.{Extent}
 use Rattle.blk_base.proofs.Contents.{bytes_at-by_place}
 use Rattle.blk_nodes.specs.Contents.{disk_of}

@@ -1,6 +1,6 @@
 use Rattle.std.proofs.Common.{◌≡◌, ℕ, ◌<◌, Some, None, refl, sym, ◌∙◌, ap, arith, get_or}
 use Rattle.std.proofs.lemmas.List.{get_or_default}
-use Rattle.blk_nodes.specs.Nodes.{Nodes, row_at, size_by, size_of, file_of, backing_of}
+use Rattle.blk_nodes.specs.Nodes.{Nodes, row_at, size_by, size_of}
 use Rattle.blk_nodes.proofs.Joints.{goes_by}
 use Rattle.blk_nodes.proofs.Leading.{step_leads}
 use Rattle.blk_nodes.proofs.nodes.Nodes.step.Goals as goal
