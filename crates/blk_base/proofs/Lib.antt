@@ -1,2 +1,4 @@
 pub mod Contents
 pub mod Openings
+pub mod WriteLists
+pub mod DeviceLemmas

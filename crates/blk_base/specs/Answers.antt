@@ -1,5 +1,5 @@
 -- Why the calls of a store answer as they do. Want of memory alone has no cause.
-use Rattle.std.specs.Prelude.{◌≡◌, ℕ, ◌<◌, ◌≤◌, IsTrue, List, length, Option, Some, None, Result, Ok, Err}
+use Rattle.std.specs.Prelude.{◌≡◌, ℕ, ◌<◌, ◌≤◌, IsTrue, List, length, Option, Some, None, Result, Ok, Err, MatchResult}
 use Rattle.blk_base.specs.Counts.{Rose}
 use Rattle.blk_base.specs.Files.{file_at, is_out, IfTold}
 use Rattle.blk_base.specs.declared.file.File.{File}
@@ -44,3 +44,15 @@ ReadAnswers name limit files opened before now (Err InUse) = IsTrue (is_out name
 ReadAnswers name limit files opened before now (Err TooLong) = IsIn name opened × IfTold files (HasFile name (λ f. limit < length f.bytes))
 ReadAnswers name limit files opened before now (Err Failed) = IsIn name opened × IfTold files (HasFile name (λ f. length f.bytes ≤ limit)) × Rose before now
 ReadAnswers name limit files opened before now (Err NoMemory) = Unit {0}
+
+-- the count is as before, but where the store failed
+abbrev pub StandsAt : ℕ → ℕ → StoreStop → Type 0
+StandsAt before now Absent = now ≡ before
+StandsAt before now InUse = now ≡ before
+StandsAt before now TooLong = now ≡ before
+StandsAt before now Failed = Unit {0}
+StandsAt before now NoMemory = now ≡ before
+
+-- a call that is answered without Failed leaves the count
+abbrev pub StandsUnlessFailed : {A : Type 0} → ℕ → ℕ → Result A StoreStop → Type 0
+StandsUnlessFailed before now result = MatchResult result (λ _. now ≡ before) (StandsAt before now)

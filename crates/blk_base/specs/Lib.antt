@@ -2,6 +2,8 @@ pub mod Pieces
 pub mod Written
 pub mod Counts
 pub mod Content
+pub mod Writes
+pub mod Device
 pub mod Files
 pub mod Answers
 pub mod Stored

@@ -25,7 +25,7 @@ pub struct WriteStop {
     pub why: Stop,
 }
 
-/// A disk or file. Offsets and lengths are in bytes.
+/// A disk or file. Offsets and lengths are in bytes. A call that doesn't fail leaves the count of faults.
 pub trait Device {
     /// The bytes, where the device tells them.
     ghost content: { Self → Option (List ℕ) };
@@ -49,6 +49,7 @@ pub trait Device {
     fn read_at(&mut self, off: u64, buf: &mut [u8]) -> Result<(), DevFault>
         ensures read { OnOk result ((b : List ℕ) → content self.old ≡ Some b → buf.new ≡ bytes_at b off (length buf.old)) }
         ensures failed { OnErr result (Rose (faults self.old) (faults self.new)) }
+        ensures quiet { OnOk result (faults self.new ≡ faults self.old) }
         ensures faults { faults self.old ≤ faults self.new }
         ensures content { content self.new ≡ content self.old }
         ensures flushed { is_flushed self.new ≡ is_flushed self.old }
@@ -69,6 +70,7 @@ pub trait Device {
             (capacity self.old < off + length bytes.now) × (stop.done ≡ 0) × (faults self.new ≡ faults self.old)) }
         ensures failed { IfErr result (λ stop. stop.why ≡ Stop.Failed → (off + length bytes.now ≤ capacity self.old)
             × IsFailedWrite off stop.done (length bytes.now) (faults self.old) (faults self.new)) }
+        ensures quiet { OnOk result (faults self.new ≡ faults self.old) }
         ensures faults { faults self.old ≤ faults self.new }
         ensures capacity { capacity self.new ≡ capacity self.old };
 
@@ -76,6 +78,7 @@ pub trait Device {
     fn flush(&mut self) -> Result<(), DevFault>
         ensures flushed { is_flushed self.new ≡ option_map (λ f. is_ok result || f) (is_flushed self.old) }
         ensures failed { OnErr result (Rose (faults self.old) (faults self.new)) }
+        ensures quiet { OnOk result (faults self.new ≡ faults self.old) }
         ensures faults { faults self.old ≤ faults self.new }
         ensures content { content self.new ≡ content self.old }
         ensures log { log self.new ≡ log self.old }

@@ -13,6 +13,7 @@ mod store;
 #[cfg(test)]
 mod tests;
 mod text;
+mod writing;
 
 pub use device::{DevFault, Device, Stop, WriteStop};
 pub use fault::{DevNo, DevStop, Fault, FaultAt, FaultFrom, Outcome};
@@ -23,3 +24,4 @@ pub use sink::{Sink, SinkFault};
 pub use span::{PIECE, Span, piece_at, piece_count};
 pub use store::{Store, StoreStop};
 pub use text::{Bytes, Text};
+pub use writing::write;

@@ -8,7 +8,7 @@ pub enum SinkFault {
     Failed,
 }
 
-/// A place that bytes go out to, in order.
+/// A place that bytes go out to, in order. A put that doesn't fail leaves the count of faults.
 pub trait Sink {
     /// What went out, where the sink tells it.
     ghost sent: { Self → Option (List ℕ) };
@@ -21,6 +21,7 @@ pub trait Sink {
         ensures sent { OnOk result (sent self.new ≡ option_map (λ s. s ++ bytes.now) (sent self.old)) }
         ensures partly { OnErr result ((n : ℕ) × (sent self.new ≡ option_map (λ s. s ++ take n bytes.now) (sent self.old))) }
         ensures failed { OnErr result (Rose (faults self.old) (faults self.new)) }
+        ensures quiet { OnOk result (faults self.new ≡ faults self.old) }
         ensures faults { faults self.old ≤ faults self.new };
 
     /// How many puts have failed. The count never falls; at its last value, 2^64 - 1, it stands.

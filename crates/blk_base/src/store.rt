@@ -3,7 +3,7 @@ ghost use Rattle.std.specs.Prelude.{◌≡◌, ◌≢◌, ℕ, ◌≤◌, true, 
 ghost use Rattle.blk_base.specs.Files.{put_file, is_out, given_back, IfTold};
 ghost use Rattle.blk_base.specs.declared.file.File.{File};
 ghost use Rattle.blk_base.specs.declared.file.Opened.{Opened};
-ghost use Rattle.blk_base.specs.Answers.{OpenAnswers, CreateAnswers, ReadAnswers};
+ghost use Rattle.blk_base.specs.Answers.{OpenAnswers, CreateAnswers, ReadAnswers, StandsUnlessFailed};
 ghost use Rattle.blk_base.specs.Stored.{IsDeviceOf, HoldsBytes, LeavesOthers, files_with_returned};
 
 use crate::{Bytes, Device};
@@ -22,7 +22,8 @@ pub enum StoreStop {
     NoMemory,
 }
 
-/// Files by name. A file is opened into a device, and is out until that is given back.
+/// Files by name. A file is opened into a device, and is out until that is given back. A call that doesn't fail
+/// leaves the count of faults.
 pub trait Store {
     type Dev: Device;
 
@@ -45,6 +46,7 @@ pub trait Store {
             (λ dev. opened self.new ≡ opened self.old ++ record { name = name.now; faults = Self.Dev.faults dev; returned = None } ∷ [])
             (λ _. opened self.new ≡ opened self.old) }
         ensures cause { OpenAnswers name.now (files self.old) (opened self.old) (faults self.old) (faults self.new) result }
+        ensures quiet { StandsUnlessFailed (faults self.old) (faults self.new) result }
         ensures files { files self.new ≡ files self.old }
         ensures room { room self.new ≡ room self.old }
         ensures faults { faults self.old ≤ faults self.new };
@@ -56,6 +58,7 @@ pub trait Store {
         ensures others { OnErr result (LeavesOthers name.now (files self.old) (files self.new)) }
         ensures refused { IfErr result (λ e. e ≢ StoreStop.Failed → files self.new ≡ files self.old) }
         ensures cause { CreateAnswers name.now len (room self.old) (opened self.old) (faults self.old) (faults self.new) result }
+        ensures quiet { StandsUnlessFailed (faults self.old) (faults self.new) result }
         ensures opened { opened self.new ≡ opened self.old }
         ensures room { room self.new ≡ room self.old }
         ensures faults { faults self.old ≤ faults self.new };
@@ -64,6 +67,7 @@ pub trait Store {
     fn read_all(&mut self, name: &str, limit: u64) -> Result<Bytes, StoreStop>
         ensures read { IfOk result (λ bytes. IfTold (files self.old) (HoldsBytes name.now bytes)) }
         ensures cause { ReadAnswers name.now limit (files self.old) (opened self.old) (faults self.old) (faults self.new) result }
+        ensures quiet { StandsUnlessFailed (faults self.old) (faults self.new) result }
         ensures files { files self.new ≡ files self.old }
         ensures opened { opened self.new ≡ opened self.old }
         ensures room { room self.new ≡ room self.old }
@@ -75,7 +79,7 @@ pub trait Store {
         ensures files { files self.new ≡ files_with_returned name.now (Self.Dev.content dev) (Self.Dev.capacity dev) (Self.Dev.is_flushed dev) (files self.old) }
         ensures opened { opened self.new ≡ given_back name.now (Self.Dev.faults dev) (opened self.old) }
         ensures room { room self.new ≡ room self.old }
-        ensures faults { faults self.old ≤ faults self.new };
+        ensures faults { faults self.new ≡ faults self.old };
 
     /// The capacity of a file that `create_file` makes. It never changes.
     fn room(&self) -> u64

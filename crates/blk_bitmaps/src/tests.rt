@@ -1,11 +1,11 @@
 use crate::{BitmapStop, Bitmaps, MOST_BITMAPS, Source, Sources};
 use blk_base::{Span, Text};
-use blk_graph::{Graph, NodeId};
+use blk_graph::{Graph, NO_KIND, NodeId};
 use std::alloc::Global;
 use std::test::Fail;
 
 fn added_node(alloc: Global, graph: &mut Graph, name: &str) -> Result<NodeId, Fail> {
-    match graph.add_node(Text::copied(alloc, name)?) {
+    match graph.add_node(Text::copied(alloc, name)?, NO_KIND) {
         Ok(node) => Ok(node),
         Err(_) => Err("no node")?,
     }

@@ -2,9 +2,11 @@
 #![tactic(auto)]
 
 mod dirty_set;
+mod level;
 mod ratio;
 #[cfg(test)]
 mod tests;
+mod words;
 
 pub use dirty_set::DirtySet;
 pub use ratio::Ratio;

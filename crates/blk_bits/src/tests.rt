@@ -98,3 +98,21 @@ fn merges_by_hand(rt: HostRuntime) -> Result<(), Fail> {
     assert!(rt; has_members(&same, &[0, 1, 2, 3, 4, 6]));
     Ok(())
 }
+
+fn word(set: &DirtySet, k: u32, place: usize) -> Option<u64> {
+    set.level(k)?.get(place).copied()
+}
+
+/// 10,000 granules are 157 words, which are 3 words, which are one.
+#[test]
+fn levels(rt: HostRuntime) -> Result<(), Fail> {
+    let mut set = DirtySet::new(rt.alloc(), 10_000)?;
+    set.set_span(5000, 5001);
+    assert_eq!(rt; word(&set, 0, 78), Some(256));
+    assert_eq!(rt; word(&set, 1, 1), Some(16_384));
+    assert_eq!(rt; word(&set, 2, 0), Some(2));
+    assert_eq!(rt; word(&set, 0, 77), Some(0));
+    assert_eq!(rt; word(&set, 1, 3), None);
+    assert!(rt; set.level(3).is_none());
+    Ok(())
+}

@@ -11,8 +11,6 @@ mod sink;
 mod store;
 mod sure_device;
 mod sure_store;
-#[cfg(test)]
-mod tests;
 
 pub use calls::FailAt;
 pub use device::MemDevice;

@@ -1,8 +1,8 @@
 //! A file of the system that is open.
-ghost use Rattle.std.specs.Prelude.{◌≡◌, ◌+◌, ◌≤◌, ◌⊎◌, ◌%◌, length};
+ghost use Rattle.std.specs.Prelude.{◌≡◌, ◌+◌, ◌<◌, ◌≤◌, ◌⊎◌, ◌%◌, length, IfErr};
 
 use blk_base::{DevFault, Device, Stop, WriteStop};
-use std::fs::OpenFile;
+use std::fs::File;
 use std::io;
 use std::marker::Model;
 use std::os::unix::fs::FileExt;
@@ -11,7 +11,7 @@ use std::os::unix::fs::FileExt;
 pub(crate) const CAPACITY: u64 = 9_223_372_036_854_775_807;
 
 /// Reads a whole buffer, zeros past the end of the file.
-fn read_full<F: FileExt>(file: &F, off: u64, buf: &mut [u8]) -> io::Result<()> {
+fn read_full(file: &File, off: u64, buf: &mut [u8]) -> io::Result<()> {
     let mut at = 0;
     for _ in 0..u64::MAX {
         if at >= buf.len() {
@@ -35,24 +35,41 @@ fn read_full<F: FileExt>(file: &F, off: u64, buf: &mut [u8]) -> io::Result<()> {
     Err(io::Error::from(io::ErrorKind::TimedOut))
 }
 
-/// Writes all the bytes, and says how many were written before the file gave up.
-fn write_full<F: FileExt>(file: &F, off: u64, bytes: &[u8]) -> usize
+/// A write that the file gave up: how many bytes were written before, and what the system said.
+#[derive(Clone, Copy)]
+struct Partly {
+    done: usize,
+    error: io::Error,
+}
+
+/// Writes all the bytes.
+fn write_full(file: &File, off: u64, bytes: &[u8]) -> Result<(), Partly>
     requires { off + length bytes.now ≤ 9223372036854775807 }
-    ensures { result ≤ length bytes.now }
+    ensures { IfErr result (λ stop. stop.done < length bytes.now) }
 {
     let mut done = 0;
+    let mut error = io::Error::from(io::ErrorKind::TimedOut);
     'turns: for _ in 0..u64::MAX {
         if done >= bytes.len() {
-            return done;
+            return Ok(());
         }
         match file.write_at(&bytes[done..], off + done as u64) {
-            Ok(0) => return done,
+            Ok(0) => {
+                error = io::Error::from(io::ErrorKind::WriteZero);
+                break;
+            }
             Ok(n) => done += n,
-            Err(error) if error.kind() == io::ErrorKind::Interrupted => {}
-            Err(_) => return done,
+            Err(stop) if stop.kind() == io::ErrorKind::Interrupted => {}
+            Err(stop) => {
+                error = stop;
+                break;
+            }
         }
     }
-    done
+    if done >= bytes.len() {
+        return Ok(());
+    }
+    Err(Partly { done, error })
 }
 
 /// How many bytes of a write that stopped are said to be done: the last of them ends at a border of a sector.
@@ -65,15 +82,16 @@ fn whole_sectors(off: u64, done: u64) -> u64
     end.saturating_sub(off)
 }
 
-/// A file that is open, its length, and how often the system has failed on it.
+/// A file that is open, its length, how often the system has failed on it, and what it said the last time.
 #[derive(Drop)]
-pub struct FileDevice<F: FileExt + OpenFile + Drop> {
-    file: F,
+pub struct FileDevice {
+    file: File,
     length: u64,
     faults: u64,
+    failure: Option<io::Error>,
 }
 
-impl<F: FileExt + OpenFile + Drop> Model for FileDevice<F> {
+impl Model for FileDevice {
     ghost use Rattle.blk_files.specs.Seen.{FileState};
 
     ghost Value = { FileState };
@@ -81,20 +99,38 @@ impl<F: FileExt + OpenFile + Drop> Model for FileDevice<F> {
     ghost view = { λ d. record { length = d.length; faults = d.faults } };
 }
 
-impl<F: FileExt + OpenFile + Drop> FileDevice<F> {
+impl FileDevice {
+    ghost use Rattle.blk_base.specs.Counts.{Rose};
+
     /// A file that was opened, with its length.
-    pub(crate) fn new(file: F, length: u64) -> Self
+    pub(crate) fn new(file: File, length: u64) -> Self
         ensures { result ≡ record { length = length; faults = 0 } }
     {
         FileDevice {
             file,
             length,
             faults: 0,
+            failure: None,
         }
+    }
+
+    /// Counts a failure, and keeps what the system said.
+    fn failed(&mut self, error: io::Error)
+        ensures rose { Rose self.old.faults self.new.faults }
+        ensures faults { self.old.faults ≤ self.new.faults }
+        ensures kept { self.new ≡ record self.old { faults = self.new.faults } }
+    {
+        self.faults = self.faults.saturating_add(1);
+        self.failure = Some(error);
+    }
+
+    /// What the system said when it failed last.
+    pub fn failure(&self) -> Option<io::Error> {
+        self.failure
     }
 }
 
-impl<F: FileExt + OpenFile + Drop> Device for FileDevice<F> {
+impl Device for FileDevice {
     ghost use Rattle.std.specs.Prelude.{None};
     ghost use Rattle.blk_files.specs.Untold.{untold};
 
@@ -117,11 +153,13 @@ impl<F: FileExt + OpenFile + Drop> Device for FileDevice<F> {
     ghost told_log = { λ d b l is kept. untold b is };
 
     fn read_at(&mut self, off: u64, buf: &mut [u8]) -> Result<(), DevFault> {
-        if read_full(&self.file, off, buf).is_err() {
-            self.faults = self.faults.saturating_add(1);
-            return Err(DevFault::Failed);
+        match read_full(&self.file, off, buf) {
+            Ok(()) => Ok(()),
+            Err(error) => {
+                self.failed(error);
+                Err(DevFault::Failed)
+            }
         }
-        Ok(())
     }
 
     fn write_at(&mut self, off: u64, bytes: &[u8]) -> Result<(), WriteStop> {
@@ -132,18 +170,17 @@ impl<F: FileExt + OpenFile + Drop> Device for FileDevice<F> {
                 why: Stop::NoSpace,
             });
         }
-        let done = write_full(&self.file, off, bytes) as u64;
-        if done == len {
+        let Err(stop) = write_full(&self.file, off, bytes) else {
             if len > 0 {
                 self.length = self.length.max(off + len);
             }
             return Ok(());
-        }
-        let done = whole_sectors(off, done);
+        };
+        let done = whole_sectors(off, stop.done as u64);
         if done > 0 {
             self.length = self.length.max(off + done);
         }
-        self.faults = self.faults.saturating_add(1);
+        self.failed(stop.error);
         Err(WriteStop {
             done,
             why: Stop::Failed,
@@ -151,11 +188,13 @@ impl<F: FileExt + OpenFile + Drop> Device for FileDevice<F> {
     }
 
     fn flush(&mut self) -> Result<(), DevFault> {
-        if self.file.sync_data().is_err() {
-            self.faults = self.faults.saturating_add(1);
-            return Err(DevFault::Failed);
+        match self.file.sync_data() {
+            Ok(()) => Ok(()),
+            Err(error) => {
+                self.failed(error);
+                Err(DevFault::Failed)
+            }
         }
-        Ok(())
     }
 
     fn length(&self) -> u64 {

@@ -2,11 +2,14 @@
 //! it. They are the edge that is trusted.
 #![tactic(auto)]
 
+mod access;
 mod device;
+mod failure;
 mod opening;
 mod sink;
 mod store;
 
 pub use device::FileDevice;
+pub use failure::Failure;
 pub use sink::OutSink;
 pub use store::FileStore;

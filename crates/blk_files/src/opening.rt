@@ -1,14 +1,18 @@
 //! The record of an opening.
 
+use crate::failure::Failure;
 use blk_base::{NoMemory, Text};
 use std::alloc::Global;
+use std::io;
 use std::marker::Model;
 
-/// An opening of a file: the device's count of faults then, and once it was given back.
+/// An opening of a file: the device's count of faults then, and once it was given back, with what the system said when it
+/// failed last.
 #[derive(Debug, Drop)]
 pub(crate) struct Opening {
     name: Text,
     returned: Option<u64>,
+    failure: Option<io::Error>,
 }
 
 impl Model for Opening {
@@ -31,6 +35,7 @@ impl Opening {
         Ok(Opening {
             name: Text::copied(alloc, name)?,
             returned: None,
+            failure: None,
         })
     }
 
@@ -42,9 +47,21 @@ impl Opening {
     }
 
     /// The device is back.
-    pub fn set_returned(&mut self, faults: u64)
+    pub fn set_returned(&mut self, faults: u64, failure: Option<io::Error>)
         ensures { self.new ≡ record self.old { returned = Some faults } }
     {
         self.returned = Some(faults);
+        self.failure = failure;
+    }
+
+    /// What the system said of the device's last failure, once it is back.
+    pub fn failure(&self) -> Option<Failure<'_>> {
+        match self.failure {
+            Some(error) => Some(Failure {
+                name: self.name.as_str(),
+                error,
+            }),
+            None => None,
+        }
     }
 }

@@ -2,6 +2,7 @@
 ghost use Rattle.std.specs.Prelude.{◌≡◌, None};
 
 use blk_base::{Sink, SinkFault};
+use std::io;
 use std::io::Write;
 use std::marker::Model;
 
@@ -10,6 +11,7 @@ use std::marker::Model;
 pub struct OutSink<W: Write> {
     out: W,
     faults: u64,
+    failure: Option<io::Error>,
 }
 
 impl<W: Write> Model for OutSink<W> {
@@ -25,7 +27,23 @@ impl<W: Write> OutSink<W> {
     pub fn new(out: W) -> Self
         ensures { result ≡ record { faults = 0 } }
     {
-        OutSink { out, faults: 0 }
+        OutSink {
+            out,
+            faults: 0,
+            failure: None,
+        }
+    }
+
+    fn write_out(&mut self, bytes: &[u8]) -> io::Result<()>
+        ensures { self.new ≡ self.old }
+    {
+        self.out.write_all(bytes)?;
+        self.out.flush()
+    }
+
+    /// What the system said when a put failed last.
+    pub fn failure(&self) -> Option<io::Error> {
+        self.failure
     }
 }
 
@@ -35,11 +53,14 @@ impl<W: Write> Sink for OutSink<W> {
     ghost faults = { λ s. s.faults };
 
     fn put(&mut self, bytes: &[u8]) -> Result<(), SinkFault> {
-        if self.out.write_all(bytes).is_err() || self.out.flush().is_err() {
-            self.faults = self.faults.saturating_add(1);
-            return Err(SinkFault::Failed);
+        match self.write_out(bytes) {
+            Ok(()) => Ok(()),
+            Err(error) => {
+                self.faults = self.faults.saturating_add(1);
+                self.failure = Some(error);
+                Err(SinkFault::Failed)
+            }
         }
-        Ok(())
     }
 
     fn faults(&self) -> u64 {

@@ -2,25 +2,25 @@
 ghost use Rattle.std.specs.Prelude.{◌≡◌, ◌⊎◌, ◌<◌, ◌≤◌, [], length, None, IfSome};
 ghost use Rattle.std.specs.List.{position};
 ghost use Rattle.blk_base.specs.Files.{is_out_as, is_out, given_back};
+ghost use Rattle.blk_base.specs.Answers.{StandsAt};
 ghost use Rattle.blk_base.specs.Counts.{Rose};
 
-use crate::FileDevice;
 use crate::device::CAPACITY;
 use crate::opening::Opening;
-use blk_base::{Bytes, Device, Store, StoreStop};
+use crate::{Failure, FileDevice, access};
+use blk_base::{Bytes, Device, Store, StoreStop, Text};
 use std::alloc::Global;
-use std::fs::{OpenFile, OpenOptions};
+use std::fs::File;
 use std::io;
 use std::io::Read;
 use std::marker::Model;
-use std::os::unix::fs::FileExt;
 use std::rt::Files;
 
 /// How much is read at once.
 const CHUNK: usize = 65536;
 
 /// Reads a file to its end, up to `limit` bytes and one chunk more.
-fn read_up_to<F: Read>(alloc: Global, file: &mut F, limit: u64) -> io::Result<Vec<u8>> {
+fn read_up_to(alloc: Global, file: &mut File, limit: u64) -> io::Result<Vec<u8>> {
     let mut bytes = Vec::new(alloc);
     let mut chunk = vec![in alloc; 0u8; CHUNK]?;
     for _ in 0..u64::MAX {
@@ -37,6 +37,13 @@ fn read_up_to<F: Read>(alloc: Global, file: &mut F, limit: u64) -> io::Result<Ve
     Err(io::Error::from(io::ErrorKind::TimedOut))
 }
 
+/// A call of the store that failed: the file's name and what the system said.
+#[derive(Debug, Drop)]
+struct Failed {
+    name: Text,
+    error: io::Error,
+}
+
 /// The files of the system.
 #[derive(Drop)]
 pub struct FileStore<'a, R: Files> {
@@ -44,6 +51,7 @@ pub struct FileStore<'a, R: Files> {
     alloc: Global,
     openings: Vec<Opening>,
     faults: u64,
+    failed: Option<Failed>,
 }
 
 impl<'a, R: Files> Model for FileStore<'a, R> {
@@ -64,6 +72,7 @@ impl<'a, R: Files> FileStore<'a, R> {
             alloc,
             openings: Vec::new(alloc),
             faults: 0,
+            failed: None,
         }
     }
 
@@ -82,40 +91,67 @@ impl<'a, R: Files> FileStore<'a, R> {
     }
 
     /// Counts in the record of openings that the device of that name is back.
-    fn set_returned(&mut self, name: &str, faults: u64)
+    fn set_returned(&mut self, name: &str, faults: u64, failure: Option<io::Error>)
         ensures { self.new ≡ record self.old { opened = given_back name.now faults self.old.opened } }
     {
         match self.place_of_opening(name) {
             Some(at) => {
                 let opening = &mut self.openings[at];
-                opening.set_returned(faults);
+                opening.set_returned(faults, failure);
             }
             None => {}
         }
     }
 
+    /// Counts a failure, and keeps what the system said where there is memory for the name.
+    fn count(&mut self, name: &str, error: io::Error)
+        ensures rose { Rose self.old.faults self.new.faults }
+        ensures faults { self.old.faults ≤ self.new.faults }
+        ensures kept { self.new ≡ record self.old { faults = self.new.faults } }
+    {
+        self.faults = self.faults.saturating_add(1);
+        self.failed = match Text::copied(self.alloc, name) {
+            Ok(name) => Some(Failed { name, error }),
+            Err(_) => None,
+        };
+    }
+
     /// What an error of the system is answered as.
-    fn stopped(&mut self, error: &io::Error) -> StoreStop
+    fn stopped(&mut self, name: &str, error: io::Error) -> StoreStop
         ensures stop { (result ≡ StoreStop.Absent) ⊎ (result ≡ StoreStop.NoMemory) ⊎ ((result ≡ StoreStop.Failed) × Rose self.old.faults self.new.faults) }
         ensures kept { self.new ≡ record self.old { faults = self.new.faults } }
+        ensures quiet { StandsAt self.old.faults self.new.faults result }
         ensures faults { self.old.faults ≤ self.new.faults }
     {
         match error.kind() {
             io::ErrorKind::NotFound => StoreStop::Absent,
             io::ErrorKind::OutOfMemory => StoreStop::NoMemory,
             _ => {
-                self.faults = self.faults.saturating_add(1);
+                self.count(name, error);
                 StoreStop::Failed
             }
         }
     }
+
+    /// What the system said of the store's last call that failed.
+    pub fn failure(&self) -> Option<Failure<'_>> {
+        match &self.failed {
+            Some(failed) => Some(Failure {
+                name: failed.name.as_str(),
+                error: failed.error,
+            }),
+            None => None,
+        }
+    }
+
+    /// What the system said of the last failure of an opening's device, once it is given back.
+    pub fn failure_of(&self, opening: usize) -> Option<Failure<'_>> {
+        self.openings.get(opening)?.failure()
+    }
 }
 
-impl<R: Files> Store for FileStore<'_, R>
-where
-    R::File: FileExt,
-{
-    type Dev = FileDevice<R::File>;
+impl<R: Files<File = File>> Store for FileStore<'_, R> {
+    type Dev = FileDevice;
 
     ghost files = { λ _. None };
 
@@ -135,17 +171,9 @@ where
         if self.openings.reserve(1).is_err() {
             return Err(StoreStop::NoMemory);
         }
-        let opened = OpenOptions::new()
-            .read(true)
-            .write(true)
-            .open(self.rt, name);
-        let file = match opened {
-            Ok(file) => file,
-            Err(error) => return Err(self.stopped(&error)),
-        };
-        let length = match file.metadata() {
-            Ok(metadata) => metadata.len(),
-            Err(error) => return Err(self.stopped(&error)),
+        let (file, length) = match access::open(self.rt, name) {
+            Ok(opened) => opened,
+            Err(error) => return Err(self.stopped(name, error)),
         };
         self.openings.push_reserved(opening);
         Ok(FileDevice::new(file, length))
@@ -158,39 +186,32 @@ where
         if len > CAPACITY {
             return Err(StoreStop::TooLong);
         }
-        let made = OpenOptions::new()
-            .write(true)
-            .create(true)
-            .truncate(true)
-            .open(self.rt, name);
-        let grown = match made {
-            Ok(file) => file.set_len(len),
-            Err(error) => Err(error),
-        };
-        if grown.is_err() {
-            self.faults = self.faults.saturating_add(1);
-            return Err(StoreStop::Failed);
+        match access::create(self.rt, name, len) {
+            Ok(()) => Ok(()),
+            Err(error) => {
+                self.count(name, error);
+                Err(StoreStop::Failed)
+            }
         }
-        Ok(())
     }
 
     fn read_all(&mut self, name: &str, limit: u64) -> Result<Bytes, StoreStop> {
         if self.is_out(name) {
             return Err(StoreStop::InUse);
         }
-        let mut file = match OpenOptions::new().read(true).open(self.rt, name) {
+        let mut file = match File::open(self.rt, name) {
             Ok(file) => file,
-            Err(error) => return Err(self.stopped(&error)),
+            Err(error) => return Err(self.stopped(name, error)),
         };
         match read_up_to(self.alloc, &mut file, limit) {
             Ok(bytes) if bytes.len() as u64 > limit => Err(StoreStop::TooLong),
             Ok(bytes) => Ok(Bytes::from_vec(bytes)),
-            Err(error) => Err(self.stopped(&error)),
+            Err(error) => Err(self.stopped(name, error)),
         }
     }
 
     fn give_back(&mut self, name: &str, dev: Self::Dev) {
-        self.set_returned(name, dev.faults());
+        self.set_returned(name, dev.faults(), dev.failure());
     }
 
     fn room(&self) -> u64 {

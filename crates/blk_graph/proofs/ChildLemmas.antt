@@ -46,13 +46,13 @@ pub child-node : (graph : Graph) (parent : Parent) (role : Role) (found : Option
 child-node graph parent role None sound is = tt
 child-node graph parent role (Some child) sound is =
     let e = child-edge parent role graph.edges child (sym is) in
-    rw (← e.to) (sound.children e.edge e.there)
+    rw (← e.to) (sound.fit.children e.edge e.there)
 
 -- what isn't a node has no edges
 pub lone-absent : (graph : Graph) (id : ℕ) → IsSound graph → (HasNode graph id → ⊥) → IsLone graph.edges id
 lone-absent graph id sound absent = record {
-  enters = λ e there at. absent (subst (HasNode graph) at (sound.children e there));
-  leaves = λ e there from. absent (subst (HasParent graph) from (sound.parents e there));
+  enters = λ e there at. absent (subst (HasNode graph) at (sound.fit.children e there));
+  leaves = λ e there from. absent (subst (HasParent graph) from (sound.fit.parents e there));
 }
 
 -- removing it leaves the edges

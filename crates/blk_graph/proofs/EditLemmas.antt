@@ -107,24 +107,31 @@ pub record HasOldEnds (edges : List Edge) (e : Edge) : Type 0 where
   pub from_there : Contains edges from
   pub to_there : Contains edges to
   pub parent : e.parent ≡ from.parent
+  pub role : e.role ≡ from.role
   pub child : e.child ≡ to.child
 
 pub HasOldEnds-without_filter : (node : ℕ) (edges : List Edge) (e : Edge)
     → Contains (without_filter node edges) e → HasOldEnds edges e
 HasOldEnds-without_filter node edges e h = by_found (find (is_filters node) edges) refl h
   where
+    by_child : (b : Bool) (x : Edge) (to : ℕ) → (cond b (with_child to x) x).role ≡ x.role
+    by_child true x to = refl
+    by_child false x to = refl
+
     by_found : (found : Option Edge) → find (is_filters node) edges ≡ found
         → Contains (elim found as (λ _. List Edge) [
           | None ↦ edges
           | Some edge ↦ map (moved node edge.child) (but_filters node edges)
         ]) e → HasOldEnds edges e
-    by_found None is k = record { from = e; to = e; from_there = k; to_there = k; parent = refl; child = refl }
+    by_found None is k = record { from = e; to = e; from_there = k; to_there = k; parent = refl; role = refl; child = refl }
     by_found (Some edge) is k =
         let r = Contains-map (moved node edge.child) (but_filters node edges) e k in
         let was : Contains edges r.0 = (Contains-filter (λ other. not (is_filters node other)) edges r.0 r.1).0 in
         let own : Contains edges edge = (find-Some (is_filters node) edges edge is).0 in
         let from : e.parent ≡ r.0.parent
         = ap (λ (x : Edge). x.parent) r.2 ∙ moved-parent node edge.child r.0 in
+        let role : e.role ≡ r.0.role
+        = ap (λ (x : Edge). x.role) r.2 ∙ by_child (r.0.child == node) r.0 edge.child in
         elim (moved-cases node edge.child r.0) [
           | inl at ↦ record {
             from = r.0;
@@ -132,6 +139,7 @@ HasOldEnds-without_filter node edges e h = by_found (find (is_filters node) edge
             from_there = was;
             to_there = own;
             parent = from;
+            role = role;
             child = ap (λ (x : Edge). x.child) (r.2 ∙ at.1);
           }
           | inr away ↦ record {
@@ -140,6 +148,7 @@ HasOldEnds-without_filter node edges e h = by_found (find (is_filters node) edge
             from_there = was;
             to_there = was;
             parent = from;
+            role = role;
             child = ap (λ (x : Edge). x.child) (r.2 ∙ away.1);
           }
         ]

@@ -1,26 +1,42 @@
 -- The three ways in which an edited list is judged.
-use Rattle.std.proofs.Common.{◌≡◌, ℕ, List, Some, None, Ok, Err, refl, sym, ◌∙◌}
+use Rattle.std.proofs.Common.{◌≡◌, ℕ, List, Result, Some, None, Ok, Err, refl, sym, ◌∙◌, ap}
 use Rattle.std.specs.List.{Contains}
 use Rattle.blk_graph.specs.declared.edge.Edge.{Edge}
 use Rattle.blk_graph.specs.declared.edge.Conflict.{Conflict as Pair}
-use Rattle.blk_graph.specs.declared.stop.GraphStop.TheVariants.{Cycle, Conflict}
-use Rattle.blk_graph.specs.Paths.{Reaches, IsAcyclic}
+use Rattle.blk_graph.specs.declared.kind.NodeKind.{NodeKind}
+use Rattle.blk_graph.specs.declared.stop.GraphStop.{GraphStop}
+use Rattle.blk_graph.specs.declared.stop.GraphStop.TheVariants.{NameTaken, Cycle, InUse, Conflict, TooManyNodes, NoMemory}
+use Rattle.blk_graph.specs.Paths.{HasCycle, IsAcyclic}
+use Rattle.blk_graph.specs.Refreshed.{uses_into, ruled, refreshed}
 use Rattle.blk_graph.specs.Rule.{first_conflict}
-use Rattle.blk_graph.specs.Judged.{IsJudged}
+use Rattle.blk_graph.specs.Judged.{IsJudged, IsRuled}
+use Rattle.blk_graph.proofs.Members.{Contains-map}
+use Rattle.blk_graph.proofs.RefreshLemmas.{ruled-same, refreshed-by}
 use Rattle.blk_graph.proofs.RuleLemmas.{KeepsPermissions-from_None, None-from_KeepsPermissions}
 
-pub IsJudged-cycle : (nodes : List ℕ) (edited : List Edge) (node : ℕ) → Reaches edited node node
-    → IsJudged nodes edited (Err Cycle)
-IsJudged-cycle nodes edited node cycle = record {
-  cycle = (λ _. record { node = node; cycle = cycle }, λ _. refl);
-  conflict = λ pair. (λ e. absurd cc, λ h. absurd (h.0 node cycle));
-  ok = (λ is. absurd cc, λ h. absurd (h.0 node cycle));
+-- the children stay among some nodes
+pub children-refreshed : (nodes : List ℕ) (kinds : List NodeKind) (edges : List Edge)
+    → ((e : Edge) → Contains edges e → Contains nodes e.child)
+    → (e : Edge) → Contains (refreshed kinds edges) e → Contains nodes e.child
+children-refreshed nodes kinds =
+    refreshed-by kinds (λ now. (e : Edge) → Contains now e → Contains nodes e.child)
+    (λ now h e there.
+    let r = Contains-map (ruled kinds (uses_into now)) now e there in
+    let is : e.child ≡ r.0.child = ap (λ (x : Edge). x.child) r.2 ∙ (ruled-same kinds (uses_into now) r.0).child in
+    rw is (h r.0 r.1))
+
+pub IsJudged-cycle : (nodes : List ℕ) (kinds : List NodeKind) (edited : List Edge) → HasCycle edited
+    → IsJudged nodes kinds edited (Err Cycle)
+IsJudged-cycle nodes kinds edited has = record {
+  cycle = (λ _. has, λ _. refl);
+  conflict = λ pair. (λ e. absurd cc, λ h. absurd (h.0 has.node has.cycle));
+  ok = (λ is. absurd cc, λ h. absurd (h.0 has.node has.cycle));
   only = tt;
 }
 
-pub IsJudged-conflict : (nodes : List ℕ) (edited : List Edge) (pair : Pair) → IsAcyclic edited
-    → first_conflict nodes edited ≡ Some pair → IsJudged nodes edited (Err (Conflict pair))
-IsJudged-conflict nodes edited pair acyclic found = record {
+IsJudged-conflict : (nodes : List ℕ) (kinds : List NodeKind) (edited : List Edge) (pair : Pair) → IsAcyclic edited
+    → first_conflict nodes (refreshed kinds edited) ≡ Some pair → IsJudged nodes kinds edited (Err (Conflict pair))
+IsJudged-conflict nodes kinds edited pair acyclic found = record {
   cycle = (λ e. absurd cc, λ has. absurd (acyclic has.node has.cycle));
   conflict = λ other. (
     λ e. (acyclic, let same : pair ≡ other = cc in rw (← same) found),
@@ -28,17 +44,32 @@ IsJudged-conflict nodes edited pair acyclic found = record {
   );
   ok = (
     λ is. absurd cc,
-    λ h. let none : first_conflict nodes edited ≡ None = None-from_KeepsPermissions nodes edited h.1 in absurd cc,
+    λ h. let none : first_conflict nodes (refreshed kinds edited) ≡ None
+        = None-from_KeepsPermissions nodes (refreshed kinds edited) h.1 in absurd cc,
   );
   only = tt;
 }
 
-pub IsJudged-ok : (nodes : List ℕ) (edited : List Edge)
-    → ((edge : Edge) → Contains edited edge → Contains nodes edge.child) → IsAcyclic edited
-    → first_conflict nodes edited ≡ None → IsJudged nodes edited (Ok tt)
-IsJudged-ok nodes edited children acyclic none = record {
+IsJudged-ok : (nodes : List ℕ) (kinds : List NodeKind) (edited : List Edge)
+    → ((e : Edge) → Contains edited e → Contains nodes e.child) → IsAcyclic edited
+    → first_conflict nodes (refreshed kinds edited) ≡ None → IsJudged nodes kinds edited (Ok tt)
+IsJudged-ok nodes kinds edited children acyclic none = record {
   cycle = (λ e. absurd cc, λ has. absurd (acyclic has.node has.cycle));
   conflict = λ pair. (λ e. absurd cc, λ h. absurd cc);
-  ok = (λ _. (acyclic, KeepsPermissions-from_None nodes edited children none), λ _. refl);
+  ok = (
+    λ _. (acyclic, KeepsPermissions-from_None nodes (refreshed kinds edited) (children-refreshed nodes kinds edited children) none),
+    λ _. refl,
+  );
   only = tt;
 }
+
+pub IsJudged-ruled : (nodes : List ℕ) (kinds : List NodeKind) (edited : List Edge)
+    → ((e : Edge) → Contains edited e → Contains nodes e.child) → IsAcyclic edited → (result : Result (Unit {0}) GraphStop)
+    → IsRuled nodes (refreshed kinds edited) result → IsJudged nodes kinds edited result
+IsJudged-ruled nodes kinds edited children acyclic (Ok tt) h = IsJudged-ok nodes kinds edited children acyclic h
+IsJudged-ruled nodes kinds edited children acyclic (Err (Conflict pair)) h = IsJudged-conflict nodes kinds edited pair acyclic h
+IsJudged-ruled nodes kinds edited children acyclic (Err NameTaken) h = absurd h
+IsJudged-ruled nodes kinds edited children acyclic (Err Cycle) h = absurd h
+IsJudged-ruled nodes kinds edited children acyclic (Err (InUse parent)) h = absurd h
+IsJudged-ruled nodes kinds edited children acyclic (Err TooManyNodes) h = absurd h
+IsJudged-ruled nodes kinds edited children acyclic (Err NoMemory) h = absurd h

@@ -13,3 +13,9 @@ pub mod GraphLemmas
 pub mod NodeLemmas
 pub mod ShareLemmas
 pub mod RoleLemmas
+pub mod StillLemmas
+pub mod RefreshLemmas
+pub mod EaseLemmas
+pub mod ListLemmas
+pub mod IdLemmas
+pub mod RoomLemmas

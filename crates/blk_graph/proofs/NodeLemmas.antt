@@ -1,12 +1,13 @@
 -- Nodes are named, added and removed.
-use Rattle.std.proofs.Common.{◌≡◌, ◌≢◌, ◌⊎◌, ℕ, ◌+◌, ◌≤◌, List, [], ◌∷◌, ◌++◌, length, map, refl, sym, ◌∙◌, ap, subst, inl, inr, arith, Bool, true, false, cond, Option, Some, None, length-append}
+use Rattle.std.proofs.Common.{◌≡◌, ◌≢◌, ◌⊎◌, ℕ, zero, suc, get_or, set, replicate, get_or-set_other, get_or-set_same, ◌<◌, ◌+◌, ◌≤◌, List, [], ◌∷◌, ◌++◌, length, map, refl, sym, ◌∙◌, ap, subst, inl, inr, arith, Bool, true, false, cond, Option, Some, None, length-append}
 use Rattle.std.specs.Prelude.{not, ◌==◌, nat_eq, IfSome, IfNone, is_some}
 use Rattle.std.specs.List.{Contains, filter, find, IsDistinct, AllByRecursion, list_any}
 use Rattle.std.specs.Option.{option_map}
 use Rattle.std.specs.Cmp.{nat_eq_equiv, unsigned_Decides}
-use Rattle.std.proofs.lemmas.Bool.{ne_eqb, eqb-true, eqb-false, eq-eqb}
+use Rattle.std.proofs.lemmas.Bool.{ne_eqb, eqb-true, eqb-false, eq-eqb, cases_eq}
 use Rattle.std.proofs.lemmas.List.{map-append, length-map}
-use Rattle.std.proofs.lemmas.List.Elements.{Contains-push_cases, Contains-append_left}
+use Rattle.std.proofs.lemmas.List.{length-set}
+use Rattle.std.proofs.lemmas.List.Elements.{Contains-push, Contains-push_cases, Contains-append_left}
 use Rattle.std.proofs.lemmas.Map.Keys.{IsDistinct-push, IsDistinct-cons, IsDistinct-head, IsDistinct-tail}
 use Rattle.std.proofs.lemmas.Map.Made.{is_member-Decides}
 use Rattle.blk_base.specs.Written.{Written}
@@ -15,114 +16,179 @@ use Rattle.blk_graph.specs.declared.edge.Edge.{Edge}
 use Rattle.blk_graph.specs.declared.edge.Parent.{Parent}
 use Rattle.blk_graph.specs.declared.edge.Parent.TheVariants.{Node, Guest, Job}
 use Rattle.blk_graph.specs.Edges.{same_parent}
-use Rattle.blk_graph.specs.Edits.{without_parent}
-use Rattle.blk_graph.specs.Graph.{NodeRow, Graph, HasNode, HasParent, HasName, DifferentNames}
-use Rattle.blk_graph.specs.Judged.{first_parent, without_node}
-use Rattle.blk_graph.specs.Layout.{name_of, row_of, graph_of, HasNames, IsKept}
+use Rattle.blk_graph.specs.Edits.{without_parent, IsLone}
+use Rattle.blk_graph.specs.Permissions.{uses_by}
+use Rattle.blk_graph.specs.Refreshed.{no_kind, kind_at, uses_into, with_uses, ruled, ruled_from, refreshed}
+use Rattle.blk_graph.specs.declared.edge.Uses.{Uses}
+use Rattle.blk_graph.specs.declared.kind.NodeKind.{NodeKind}
+use Rattle.blk_graph.specs.Graph.{NodeRow, Graph, HasNode, HasParent, HasName, DifferentNames, IsJust, IsSound, no_graph}
+use Rattle.blk_graph.specs.Judged.{first_parent, other_nodes}
+use Rattle.blk_graph.specs.Layout.{name_of, key_of, row_of, graph_of, HasNames, IsKept}
 use Rattle.blk_graph.proofs.Members.{Contains-here, Contains-there, Contains-cases, Contains-nil, Contains-map, map-Contains, Contains-filter}
 use Rattle.blk_graph.proofs.InverseLemmas.{same_parent-refl}
 use Rattle.blk_graph.proofs.RuleLemmas.{find-None}
+use Rattle.blk_graph.proofs.ChildLemmas.{lone-absent}
 use Rattle.blk_graph.proofs.GraphLemmas.{ids-graph_of}
+use Rattle.blk_graph.proofs.RefreshLemmas.{ruled-same, refreshed-by}
+use Rattle.blk_graph.proofs.StillLemmas.{get_or-replicate}
 
 distinct-nil : IsDistinct nat_eq []
 unfolding IsDistinct
 distinct-nil = tt
 
 -- the empty graph
-pub IsKept-empty : (names : Slab Written) (a b c : ℕ) → names.slots ≡ [] → names.capacity ≡ 64
-    → 64 ≤ a → 2048 ≤ b → 2048 ≤ c → IsKept names [] [] a b c
-IsKept-empty names a b c empty room a_fits b_fits c_fits = record {
-  named = λ id h. absurd (Contains-nil id h);
-  count = rw empty refl;
-  names_room = room;
-  nodes_fit = a_fits;
-  edges_fit = b_fits;
-  staged_fit = c_fits;
-  sound = record {
-    different_nodes = distinct-nil;
-    different_names = λ a b h. absurd (Contains-nil a h);
-    few_nodes = omega arith;
-    few_edges = omega arith;
+pub IsSound-none : IsSound no_graph
+IsSound-none = record {
+  different_nodes = distinct-nil;
+  different_names = λ a b h. absurd (Contains-nil a h);
+  few_nodes = omega arith;
+  small = λ id h. absurd (Contains-nil id h);
+  kinds = refl;
+  vacant = λ id h. get_or-replicate 64 id no_kind;
+  few_outside = omega arith;
+  fit = record {
     parents = λ e h. absurd (Contains-nil e h);
     children = λ e h. absurd (Contains-nil e h);
-    acyclic = λ node cycle. absurd (Contains-nil cycle.first cycle.path.0);
+    owners = λ e h. absurd (Contains-nil e h);
     roles = λ i j d below within. absurd (omega (arith, within));
+  };
+  just = record {
+    acyclic = λ node cycle. absurd (Contains-nil cycle.first cycle.path.0);
+    refreshed = λ e h. absurd (Contains-nil e h);
+    rule = λ i j asking other at_i. absurd cc;
   };
 }
 
-module _ (names : Slab Written) (order : List ℕ) (edges : List Edge) where
-  pub Contains-order : (id : ℕ) → HasNode (graph_of names order edges) id → Contains order id
-  Contains-order id h = rw (ids-graph_of names order edges) at h
+pub IsKept-empty : (names : Slab Written) (room : ℕ) → names.slots ≡ [] → names.capacity ≡ 64 → 64 ≤ room
+    → IsKept names (replicate 64 0) [] (replicate 64 no_kind) [] room
+IsKept-empty names room empty names_room fits = record {
+  named = λ id h. absurd (Contains-nil id h);
+  apart = λ a b h. absurd (Contains-nil a h);
+  keys_room = refl;
+  count = rw empty refl;
+  names_room = names_room;
+  nodes_fit = fits;
+  sound = IsSound-none;
+}
+
+set-default : {X : Type 0} (xs : List X) (i : ℕ) (d : X) → get_or (set xs i d) i d ≡ d
+set-default [] i d = refl
+set-default (x ∷ xs) zero d = refl
+set-default (x ∷ xs) (suc i) d = set-default xs i d
+
+-- another kind of a node without edges changes nothing
+kind_at-other : (kinds : List NodeKind) (node other : ℕ) (kind : NodeKind) → other ≢ node
+    → kind_at (set kinds node kind) other ≡ kind_at kinds other
+kind_at-other kinds node other kind differ = get_or-set_other kinds node other kind no_kind differ
+
+ruled-kinds : (kinds : List NodeKind) (node : ℕ) (kind : NodeKind) (above : ℕ → Uses) (e : Edge) → e.parent ≢ Node node
+    → ruled (set kinds node kind) above e ≡ ruled kinds above e
+ruled-kinds kinds node kind above e differ = by_parent e.parent differ
+  where
+    by_parent : (p : Parent) → p ≢ Node node → ruled_from (set kinds node kind) above e p ≡ ruled_from kinds above e p
+    by_parent (Node n) differ =
+        ap (λ k. with_uses e (uses_by k e.role (above n))) (kind_at-other kinds node n kind (λ is. differ (ap Node is)))
+    by_parent (Guest n) differ = refl
+    by_parent (Job n) differ = refl
+
+IsJust-kinds : (kinds : List NodeKind) (node : ℕ) (kind : NodeKind) (edges : List Edge)
+    → ((e : Edge) → Contains edges e → e.parent ≢ Node node) → IsJust kinds edges → IsJust (set kinds node kind) edges
+IsJust-kinds kinds node kind edges apart just = record {
+  acyclic = just.acyclic;
+  refreshed = λ e h. ruled-kinds kinds node kind (uses_into edges) e (apart e h) ∙ just.refreshed e h;
+  rule = just.rule;
+}
+
+module _ (names : Slab Written) (keys order : List ℕ) (kinds : List NodeKind) (edges : List Edge) where
+  pub Contains-order : (id : ℕ) → HasNode (graph_of names keys order kinds edges) id → Contains order id
+  Contains-order id h = rw (ids-graph_of names keys order kinds edges) at h
 
   -- a node stands among the nodes with its name
-  pub Contains-row : (id : ℕ) → Contains order id → Contains (map (row_of names) order) (record { id = id; name = name_of names id })
-  Contains-row id h = map-Contains (row_of names) order id h
+  pub Contains-row : (id : ℕ) → Contains order id → Contains (map (row_of names keys) order) (record { id = id; name = name_of names (key_of keys id) })
+  Contains-row id h = map-Contains (row_of names keys) order id h
 
   -- a node that has a name is one of the keys
-  pub named_node : (name : List ℕ) → HasName (graph_of names order edges) name
-      → (id : ℕ) × Contains order id × (name_of names id ≡ name)
+  pub named_node : (name : List ℕ) → HasName (graph_of names keys order kinds edges) name
+      → (id : ℕ) × Contains order id × (name_of names (key_of keys id) ≡ name)
   named_node name h =
-      let r = Contains-map (λ (row : NodeRow). row.name) (map (row_of names) order) name h in
-      let s = Contains-map (row_of names) order r.0 r.1 in
+      let r = Contains-map (λ (row : NodeRow). row.name) (map (row_of names keys) order) name h in
+      let s = Contains-map (row_of names keys) order r.0 r.1 in
       (s.0, s.1, sym (r.2 ∙ ap (λ (row : NodeRow). row.name) s.2))
 
-  pub has_name : (id : ℕ) → Contains order id → HasName (graph_of names order edges) (name_of names id)
-  has_name id h = map-Contains (λ (row : NodeRow). row.name) (map (row_of names) order) (row_of names id) (Contains-row id h)
+  pub has_name : (id : ℕ) → Contains order id → HasName (graph_of names keys order kinds edges) (name_of names (key_of keys id))
+  has_name id h = map-Contains (λ (row : NodeRow). row.name) (map (row_of names keys) order) (row_of names keys id) (Contains-row id h)
 
   -- what a look for a name finds
   pub found_row : (slice : List ℕ) (name : List ℕ) (result : Option ℕ) → slice ≡ order
-      → IfSome result (λ id. Contains slice id) → IfSome result (λ id. name_of names id ≡ name)
-      → IfSome result (λ id. Contains (map (row_of names) order) (record { id = id; name = name }))
+      → IfSome result (λ id. Contains slice id) → IfSome result (λ id. name_of names (key_of keys id) ≡ name)
+      → IfSome result (λ id. Contains (map (row_of names keys) order) (record { id = id; name = name }))
   found_row slice name None is there named = tt
   found_row slice name (Some id) is there named = rw (← named) (Contains-row id (rw is at there))
 
   pub no_row : (slice : List ℕ) (name : List ℕ) (result : Option ℕ) → slice ≡ order
-      → IfNone result ((id : ℕ) → Contains slice id → name_of names id ≢ name)
-      → IfNone result (HasName (graph_of names order edges) name → ⊥)
+      → IfNone result ((id : ℕ) → Contains slice id → name_of names (key_of keys id) ≢ name)
+      → IfNone result (HasName (graph_of names keys order kinds edges) name → ⊥)
   no_row slice name None is none = λ h. let r = named_node name h in none r.0 (rw is r.1) r.2
   no_row slice name (Some id) is none = tt
 
   -- a look that found a node, and one that found none
   pub taken_name : (slice : List ℕ) (name : List ℕ) (result : Option ℕ) → is_some result ≡ true → slice ≡ order
-      → IfSome result (λ id. Contains slice id) → IfSome result (λ id. name_of names id ≡ name)
-      → HasName (graph_of names order edges) name
+      → IfSome result (λ id. Contains slice id) → IfSome result (λ id. name_of names (key_of keys id) ≡ name)
+      → HasName (graph_of names keys order kinds edges) name
   taken_name slice name None some is there named = absurd cc
   taken_name slice name (Some id) some is there named = rw (← named) (has_name id (rw is at there))
 
   pub free_name : (slice : List ℕ) (name : List ℕ) (result : Option ℕ) → is_some result ≡ false → slice ≡ order
-      → IfNone result ((id : ℕ) → Contains slice id → name_of names id ≢ name)
-      → HasName (graph_of names order edges) name → ⊥
+      → IfNone result ((id : ℕ) → Contains slice id → name_of names (key_of keys id) ≢ name)
+      → HasName (graph_of names keys order kinds edges) name → ⊥
   free_name slice name None some is none h = no_row slice name None is none h
   free_name slice name (Some id) some is none h = cc
 
--- where each key keeps its name, the rows are as they were
-pub rows_kept : (old new : Slab Written) (order : List ℕ)
-    → ((id : ℕ) → Contains order id → get new id ≡ get old id) → map (row_of new) order ≡ map (row_of old) order
-rows_kept old new [] same = refl
-rows_kept old new (id ∷ order) same =
-    let here : row_of new id ≡ row_of old id
-    = ap (λ text. record { id = id; name = elim text as (λ _. List ℕ) [ None ↦ [] | Some t ↦ t.bytes ] })
-    (same id (Contains-here id order)) in
-    ap (λ row. row ∷ map (row_of new) order) here
-    ∙ ap (λ rows. row_of old id ∷ rows) (rows_kept old new order (λ x h. same x (Contains-there id order x h)))
+-- where each node keeps its name, the rows are as they were
+pub rows_kept : (old new : Slab Written) (keys keys' order : List ℕ)
+    → ((id : ℕ) → Contains order id → name_of new (key_of keys' id) ≡ name_of old (key_of keys id))
+    → map (row_of new keys') order ≡ map (row_of old keys) order
+rows_kept old new keys keys' [] same = refl
+rows_kept old new keys keys' (id ∷ order) same =
+    let here : row_of new keys' id ≡ row_of old keys id
+    = ap (λ (name : List ℕ). let row : NodeRow = record { id = id; name = name } in row) (same id (Contains-here id order)) in
+    ap (λ (row : NodeRow). row ∷ map (row_of new keys') order) here
+    ∙ ap (λ (rows : List NodeRow). row_of old keys id ∷ rows)
+    (rows_kept old new keys keys' order (λ x h. same x (Contains-there id order x h)))
 
--- a key without a name is none of those with one
-pub vacant_apart : (names : Slab Written) (order : List ℕ) (key : ℕ) → HasNames names order → get names key ≡ None
-    → Contains order key → ⊥
-vacant_apart names order key named vacant h = let there = named key h in let none : is_some (get names key) ≡ false = rw vacant refl in cc
+-- a vacant key is none of the nodes'
+pub vacant_apart : (names : Slab Written) (keys order : List ℕ) (key : ℕ) → HasNames names keys order → get names key ≡ None
+    → (id : ℕ) → Contains order id → key_of keys id ≢ key
+vacant_apart names keys order key named vacant id h is =
+    let there = named id h in
+    let none : is_some (get names (key_of keys id)) ≡ false = rw (is, vacant) refl in cc
+
+key-other : (keys : List ℕ) (id other key : ℕ) → other ≢ id → key_of (set keys id key) other ≡ key_of keys other
+key-other keys id other key differ = get_or-set_other keys id other key 0 differ
+
+key-own : (keys : List ℕ) (id key : ℕ) → id < length keys → key_of (set keys id key) id ≡ key
+key-own keys id key within = get_or-set_same keys id key 0 within
 
 -- the rows after an addition
-pub rows_added : (old new : Slab Written) (order : List ℕ) (key : ℕ) (text : Written) → HasNames old order
-    → get old key ≡ None → Updates old new key (Some text)
-    → map (row_of new) (order ++ key ∷ []) ≡ map (row_of old) order ++ (record { id = key; name = text.bytes }) ∷ []
-rows_added old new order key text named vacant updates =
-    let same : (id : ℕ) → Contains order id → get new id ≡ get old id
-    = λ id h. updates.others id (λ e. vacant_apart old order key named vacant (rw e at h)) in
-    let last : row_of new key ≡ record { id = key; name = text.bytes }
-    = ap (λ found. record { id = key; name = elim found as (λ _. List ℕ) [ None ↦ [] | Some t ↦ t.bytes ] }) updates.changed in
-    map-append (row_of new) order (key ∷ [])
-    ∙ ap (λ rows. rows ++ row_of new key ∷ []) (rows_kept old new order same)
-    ∙ ap (λ row. map (row_of old) order ++ row ∷ []) last
+pub rows_added : (old new : Slab Written) (keys order : List ℕ) (id key : ℕ) (text : Written) → HasNames old keys order
+    → (Contains order id → ⊥) → id < length keys → get old key ≡ None → Updates old new key (Some text)
+    → map (row_of new (set keys id key)) (order ++ id ∷ []) ≡ map (row_of old keys) order ++ (record { id = id; name = text.bytes }) ∷ []
+rows_added old new keys order id key text named free within vacant updates =
+    let keys' : List ℕ = set keys id key in
+    let same : (x : ℕ) → Contains order x → name_of new (key_of keys' x) ≡ name_of old (key_of keys x)
+    = λ x h.
+    let at : key_of keys' x ≡ key_of keys x = key-other keys id x key (λ e. free (rw e at h)) in
+    let kept : get new (key_of keys x) ≡ get old (key_of keys x)
+    = updates.others (key_of keys x) (vacant_apart old keys order key named vacant x h) in
+    ap (name_of new) at ∙ ap (λ found. elim found as (λ _. List ℕ) [ None ↦ [] | Some t ↦ t.bytes ]) kept in
+    let own : name_of new (key_of keys' id) ≡ text.bytes
+    = ap (name_of new) (key-own keys id key within)
+    ∙ ap (λ found. elim found as (λ _. List ℕ) [ None ↦ [] | Some t ↦ t.bytes ]) updates.changed in
+    let last : row_of new keys' id ≡ record { id = id; name = text.bytes }
+    = ap (λ (name : List ℕ). let row : NodeRow = record { id = id; name = name } in row) own in
+    map-append (row_of new keys') order (id ∷ [])
+    ∙ ap (λ (rows : List NodeRow). rows ++ row_of new keys' id ∷ []) (rows_kept old new keys keys' order same)
+    ∙ ap (λ (row : NodeRow). map (row_of old keys) order ++ row ∷ []) last
 
 not_member : (order : List ℕ) (key : ℕ) → (Contains order key → ⊥) → list_any (nat_eq key) order ≡ false
 not_member order key none = by_test (list_any (nat_eq key) order) refl
@@ -155,48 +221,78 @@ names-added rows new differ free a b at_a at_b same = by_cases (Contains-push_ca
     by_cases (inr is_a) (inr is_b) = ap (λ (row : NodeRow). row.id) (sym is_a ∙ is_b)
 
 -- and where one is removed
-names-removed : (node : ℕ) (rows : List NodeRow) → DifferentNames rows → DifferentNames (without_node node rows)
+names-removed : (node : ℕ) (rows : List NodeRow) → DifferentNames rows → DifferentNames (other_nodes node rows)
 names-removed node rows differ a b at_a at_b same =
     let test : NodeRow → Bool = λ row. not (row.id == node) in
     differ a b (Contains-filter test rows a at_a).0 (Contains-filter test rows b at_b).0 same
 
-pub IsKept-added : (old new : Slab Written) (order : List ℕ) (edges : List Edge) (key : ℕ) (text : Written) (a b c : ℕ)
-    → IsKept old order edges a b c → length order ≢ 64 → (HasName (graph_of old order edges) text.bytes → ⊥)
-    → get old key ≡ None → Updates old new key (Some text)
-    → slab_len new ≡ slab_len old + 1 → new.capacity ≡ old.capacity → IsKept new (order ++ key ∷ []) edges a b c
-IsKept-added old new order edges key text a b c kept few free vacant updates count room =
-    let before : Graph = graph_of old order edges in
-    let after : Graph = graph_of new (order ++ key ∷ []) edges in
-    let at_most : length order ≤ 64 = omega (arith, kept.sound.few_nodes, length-map order (row_of old)) in
-    let longer : length (order ++ key ∷ []) ≡ length order + 1 = omega (arith, length-append order (key ∷ [])) in
+pub IsKept-added : (old new : Slab Written) (keys order : List ℕ) (kinds : List NodeKind) (edges : List Edge) (id key : ℕ)
+    (text : Written) (kind : NodeKind) (room : ℕ)
+    → IsKept old keys order kinds edges room → length order ≢ 64 → (HasName (graph_of old keys order kinds edges) text.bytes → ⊥)
+    → (Contains order id → ⊥) → id < 64 → get old key ≡ None → Updates old new key (Some text)
+    → slab_len new ≡ slab_len old + 1 → new.capacity ≡ old.capacity
+    → IsKept new (set keys id key) (order ++ id ∷ []) (set kinds id kind) edges room
+IsKept-added old new keys order kinds edges id key text kind room kept few free apart small vacant updates count same_room =
+    let keys' : List ℕ = set keys id key in
+    let kinds' : List NodeKind = set kinds id kind in
+    let before : Graph = graph_of old keys order kinds edges in
+    let after : Graph = graph_of new keys' (order ++ id ∷ []) kinds' edges in
+    let within : id < length keys = omega (arith, small, kept.keys_room) in
+    let at_most : length order ≤ 64 = omega (arith, kept.sound.few_nodes, length-map order (row_of old keys)) in
+    let longer : length (order ++ id ∷ []) ≡ length order + 1 = omega (arith, length-append order (id ∷ [])) in
     let stays : (n : ℕ) → HasNode before n → HasNode after n
-    = λ n h. rw (ids-graph_of new (order ++ key ∷ []) edges)
-    (Contains-append_left order (key ∷ []) n (Contains-order old order edges n h)) in
-    let apart : Contains order key → ⊥ = vacant_apart old order key kept.named vacant in
+    = λ n h. rw (ids-graph_of new keys' (order ++ id ∷ []) kinds' edges)
+    (Contains-append_left order (id ∷ []) n (Contains-order old keys order kinds edges n h)) in
+    let lone : IsLone edges id = lone-absent before id kept.sound (λ h. apart (Contains-order old keys order kinds edges id h)) in
+    let new_there : HasNode after id
+    = rw (ids-graph_of new keys' (order ++ id ∷ []) kinds' edges) (Contains-push order id) in
+    let other : (x : ℕ) → Contains order x → key_of keys' x ≡ key_of keys x
+    = λ x h. key-other keys id x key (λ e. apart (rw e at h)) in
+    let own : key_of keys' id ≡ key = key-own keys id key within in
+    let unused : (x : ℕ) → Contains order x → key_of keys x ≢ key = vacant_apart old keys order key kept.named vacant in
     record {
-      named = λ id h. elim (Contains-push_cases order key id h) [
-        | inl was ↦ rw (updates.others id (λ e. apart (rw e at was))) (kept.named id was)
-        | inr is ↦ rw (← is, updates.changed) refl
+      named = λ x h. elim (Contains-push_cases order id x h) [
+        | inl was ↦ rw (other x was, updates.others (key_of keys x) (unused x was)) (kept.named x was)
+        | inr is ↦ rw (← is, own, updates.changed) refl
       ];
+      apart = λ a b h k same. elim (Contains-push_cases order id a h) [
+        | inl was_a ↦ elim (Contains-push_cases order id b k) [
+          | inl was_b ↦ kept.apart a b was_a was_b (sym (other a was_a) ∙ same ∙ other b was_b)
+          | inr is_b ↦ absurd (unused a was_a (sym (other a was_a) ∙ same ∙ ap (key_of keys') (sym is_b) ∙ own))
+        ]
+        | inr is_a ↦ elim (Contains-push_cases order id b k) [
+          | inl was_b ↦ absurd (unused b was_b (sym (other b was_b) ∙ sym same ∙ ap (key_of keys') (sym is_a) ∙ own))
+          | inr is_b ↦ sym is_a ∙ is_b
+        ]
+      ];
+      keys_room = length-set keys id key ∙ kept.keys_room;
       count = omega (arith, longer, kept.count);
-      names_room = room ∙ kept.names_room;
+      names_room = same_room ∙ kept.names_room;
       nodes_fit = kept.nodes_fit;
-      edges_fit = kept.edges_fit;
-      staged_fit = kept.staged_fit;
       sound = record {
-        different_nodes = rw (ids-graph_of new (order ++ key ∷ []) edges)
-            (IsDistinct-push nat_eq_equiv order key (rw (ids-graph_of old order edges) at kept.sound.different_nodes)
-            (not_member order key apart));
+        different_nodes = rw (ids-graph_of new keys' (order ++ id ∷ []) kinds' edges)
+            (IsDistinct-push nat_eq_equiv order id (rw (ids-graph_of old keys order kinds edges) at kept.sound.different_nodes)
+            (not_member order id apart));
         different_names =
             let P : List NodeRow → Type 0 = λ rows. DifferentNames rows in
-            subst P (sym (rows_added old new order key text kept.named vacant updates))
-            (names-added (map (row_of old) order) (record { id = key; name = text.bytes }) kept.sound.different_names free);
-        few_nodes = omega (arith, at_most, longer, length-map (order ++ key ∷ []) (row_of new));
-        few_edges = kept.sound.few_edges;
-        parents = λ e h. HasParent-kept before after stays e.parent (kept.sound.parents e h);
-        children = λ e h. stays e.child (kept.sound.children e h);
-        acyclic = kept.sound.acyclic;
-        roles = kept.sound.roles;
+            subst P (sym (rows_added old new keys order id key text kept.named apart within vacant updates))
+            (names-added (map (row_of old keys) order) (record { id = id; name = text.bytes }) kept.sound.different_names free);
+        few_nodes = omega (arith, at_most, longer, few, length-map (order ++ id ∷ []) (row_of new keys'));
+        small = λ x h. elim (Contains-push_cases order id x (rw (ids-graph_of new keys' (order ++ id ∷ []) kinds' edges) at h)) [
+          | inl was ↦ kept.sound.small x (rw (ids-graph_of old keys order kinds edges) was)
+          | inr is ↦ rw (← is) small
+        ];
+        kinds = length-set kinds id kind ∙ kept.sound.kinds;
+        vacant = λ x none. kind_at-other kinds id x kind (λ same. none (subst (HasNode after) (sym same) new_there))
+            ∙ kept.sound.vacant x (λ h. none (stays x h));
+        few_outside = kept.sound.few_outside;
+        fit = record {
+          parents = λ e h. HasParent-kept before after stays e.parent (kept.sound.fit.parents e h);
+          children = λ e h. stays e.child (kept.sound.fit.children e h);
+          owners = kept.sound.fit.owners;
+          roles = kept.sound.fit.roles;
+        };
+        just = IsJust-kinds kinds id kind edges lone.leaves kept.sound.just;
       };
     }
 
@@ -244,23 +340,34 @@ distinct_filtered p (x ∷ xs) h = by_test (p x) (distinct_filtered p xs (IsDist
     by_test true ih = IsDistinct-cons nat_eq x (filter p xs) (all_filtered _ p xs (IsDistinct-head nat_eq x xs h)) ih
     by_test false ih = ih
 
+other-apart : (node id : ℕ) → is_other node id ≡ true → id ≢ node
+other-apart node id h e = let is : (id == node) ≡ true = eq-eqb id node e in let no : not true ≡ true = rw is at h in cc
+
+apart-other : (node id : ℕ) → id ≢ node → is_other node id ≡ true
+apart-other node id h = rw (ne_eqb id node h) refl
+
 -- the rows after a removal
-pub rows_removed : (old new : Slab Written) (node : ℕ) (order : List ℕ)
-    → ((id : ℕ) → id ≢ node → get new id ≡ get old id)
-    → map (row_of new) (filter (is_other node) order) ≡ without_node node (map (row_of old) order)
-rows_removed old new node [] same = refl
-rows_removed old new node (id ∷ order) same = by_test (id == node) refl (rows_removed old new node order same)
+filtered_rows : (f : ℕ → NodeRow) (node : ℕ) (order : List ℕ) → ((id : ℕ) → (f id).id ≡ id)
+    → map f (filter (is_other node) order) ≡ other_nodes node (map f order)
+filtered_rows f node [] own = refl
+filtered_rows f node (id ∷ order) own =
+    let same : ((f id).id == node) ≡ (id == node) = ap (λ x. x == node) (own id) in
+    rw same (by_test (id == node) (filtered_rows f node order own))
   where
-    by_test : (b : Bool) → (id == node) ≡ b
-        → map (row_of new) (filter (is_other node) order) ≡ without_node node (map (row_of old) order)
-        → map (row_of new) (cond (not b) (id ∷ filter (is_other node) order) (filter (is_other node) order))
-        ≡ cond (not b) (row_of old id ∷ without_node node (map (row_of old) order)) (without_node node (map (row_of old) order))
-    by_test true e ih = ih
-    by_test false e ih =
-        let here : row_of new id ≡ row_of old id
-        = ap (λ text. record { id = id; name = elim text as (λ _. List ℕ) [ None ↦ [] | Some t ↦ t.bytes ] })
-        (same id (eqb-false id node e)) in
-        ap (λ row. row ∷ map (row_of new) (filter (is_other node) order)) here ∙ ap (λ rows. row_of old id ∷ rows) ih
+    by_test : (b : Bool) → map f (filter (is_other node) order) ≡ other_nodes node (map f order)
+        → map f (cond (not b) (id ∷ filter (is_other node) order) (filter (is_other node) order))
+        ≡ cond (not b) (f id ∷ other_nodes node (map f order)) (other_nodes node (map f order))
+    by_test true ih = ih
+    by_test false ih = ap (λ rows. f id ∷ rows) ih
+
+pub rows_removed : (old new : Slab Written) (keys : List ℕ) (node : ℕ) (order : List ℕ)
+    → ((id : ℕ) → Contains order id → id ≢ node → get new (key_of keys id) ≡ get old (key_of keys id))
+    → map (row_of new keys) (filter (is_other node) order) ≡ other_nodes node (map (row_of old keys) order)
+rows_removed old new keys node order same =
+    rows_kept old new keys keys (filter (is_other node) order)
+    (λ id h. let r = Contains-filter (is_other node) order id h in
+    ap (λ found. elim found as (λ _. List ℕ) [ None ↦ [] | Some t ↦ t.bytes ]) (same id r.0 (other-apart node id r.1)))
+    ∙ filtered_rows (row_of old keys) node order (λ id. refl)
 
 option_map-none : {X Y : Type 0} (f : X → Y) (o : Option X) → option_map f o ≡ None → o ≡ None
 option_map-none f None h = refl
@@ -292,46 +399,56 @@ filter-Contains p (y ∷ xs) x h passes =
     by_test false e ih (inl here) = absurd (let is : p x ≡ false = ap p here ∙ e in cc)
     by_test false e ih (inr there) = ih there
 
-other-apart : (node id : ℕ) → is_other node id ≡ true → id ≢ node
-other-apart node id h e = let is : (id == node) ≡ true = eq-eqb id node e in let no : not true ≡ true = rw is at h in cc
-
-apart-other : (node id : ℕ) → id ≢ node → is_other node id ≡ true
-apart-other node id h = rw (ne_eqb id node h) refl
-
-pub IsKept-removed : (old new : Slab Written) (order : List ℕ) (edges : List Edge) (node a b c : ℕ)
-    → IsKept old order edges a b c → Contains order node
+pub IsKept-removed : (old new : Slab Written) (keys order : List ℕ) (kinds : List NodeKind) (edges : List Edge) (node room : ℕ)
+    → IsKept old keys order kinds edges room → Contains order node
     → ((e : Edge) → Contains edges e → e.child ≢ node) → ((e : Edge) → Contains edges e → e.parent ≢ Node node)
-    → Updates old new node None → slab_len new + 1 ≡ slab_len old → new.capacity ≡ old.capacity
-    → IsKept new (filter (is_other node) order) edges a b c
-IsKept-removed old new order edges node a b c kept there no_child no_parent updates count room =
-    let before : Graph = graph_of old order edges in
-    let after : Graph = graph_of new (filter (is_other node) order) edges in
-    let distinct : IsDistinct nat_eq order = rw (ids-graph_of old order edges) at kept.sound.different_nodes in
+    → Updates old new (key_of keys node) None → slab_len new + 1 ≡ slab_len old → new.capacity ≡ old.capacity
+    → IsKept new keys (filter (is_other node) order) (set kinds node no_kind) edges room
+IsKept-removed old new keys order kinds edges node room kept there no_child no_parent updates count same_room =
+    let before : Graph = graph_of old keys order kinds edges in
+    let after : Graph = graph_of new keys (filter (is_other node) order) (set kinds node no_kind) edges in
+    let distinct : IsDistinct nat_eq order = rw (ids-graph_of old keys order kinds edges) at kept.sound.different_nodes in
     let fewer : length (filter (is_other node) order) + 1 ≡ length order = length_removed node order distinct there in
-    let at_most : length order ≤ 64 = omega (arith, kept.sound.few_nodes, length-map order (row_of old)) in
+    let at_most : length order ≤ 64 = omega (arith, kept.sound.few_nodes, length-map order (row_of old keys)) in
     let stays : (n : ℕ) → n ≢ node → HasNode before n → HasNode after n
-    = λ n apart h. rw (ids-graph_of new (filter (is_other node) order) edges)
-    (filter-Contains (is_other node) order n (Contains-order old order edges n h) (apart-other node n apart)) in
+    = λ n apart h. rw (ids-graph_of new keys (filter (is_other node) order) (set kinds node no_kind) edges)
+    (filter-Contains (is_other node) order n (Contains-order old keys order kinds edges n h) (apart-other node n apart)) in
+    let differ : (id : ℕ) → Contains order id → id ≢ node → key_of keys id ≢ key_of keys node
+    = λ id h differs same. differs (kept.apart id node h there same) in
     record {
       named = λ id h.
           let r = Contains-filter (is_other node) order id h in
-          rw (updates.others id (other-apart node id r.1)) (kept.named id r.0);
+          rw (updates.others (key_of keys id) (differ id r.0 (other-apart node id r.1))) (kept.named id r.0);
+      apart = λ a b h k.
+          kept.apart a b (Contains-filter (is_other node) order a h).0 (Contains-filter (is_other node) order b k).0;
+      keys_room = kept.keys_room;
       count = omega (arith, fewer, count, kept.count);
-      names_room = room ∙ kept.names_room;
+      names_room = same_room ∙ kept.names_room;
       nodes_fit = kept.nodes_fit;
-      edges_fit = kept.edges_fit;
-      staged_fit = kept.staged_fit;
       sound = record {
-        different_nodes = rw (ids-graph_of new (filter (is_other node) order) edges) (distinct_filtered (is_other node) order distinct);
+        different_nodes = rw (ids-graph_of new keys (filter (is_other node) order) (set kinds node no_kind) edges)
+            (distinct_filtered (is_other node) order distinct);
         different_names =
             let P : List NodeRow → Type 0 = λ rows. DifferentNames rows in
-            subst P (sym (rows_removed old new node order updates.others)) (names-removed node (map (row_of old) order) kept.sound.different_names);
-        few_nodes = omega (arith, fewer, at_most, length-map (filter (is_other node) order) (row_of new));
-        few_edges = kept.sound.few_edges;
-        parents = λ e h. HasParent-unless before after node stays e.parent (no_parent e h) (kept.sound.parents e h);
-        children = λ e h. stays e.child (no_child e h) (kept.sound.children e h);
-        acyclic = kept.sound.acyclic;
-        roles = kept.sound.roles;
+            subst P (sym (rows_removed old new keys node order (λ id h differs. updates.others (key_of keys id) (differ id h differs)))) (names-removed node (map (row_of old keys) order) kept.sound.different_names);
+        few_nodes = omega (arith, fewer, at_most, length-map (filter (is_other node) order) (row_of new keys));
+        small = λ x h.
+            let there = (Contains-filter (is_other node) order x
+            (rw (ids-graph_of new keys (filter (is_other node) order) (set kinds node no_kind) edges) at h)).0 in
+            kept.sound.small x (rw (ids-graph_of old keys order kinds edges) there);
+        kinds = length-set kinds node no_kind ∙ kept.sound.kinds;
+        vacant = λ x none. elim (cases_eq x node) [
+          | inl same ↦ rw same (set-default kinds node no_kind)
+          | inr other ↦ kind_at-other kinds node x no_kind other ∙ kept.sound.vacant x (λ h. none (stays x other h))
+        ];
+        few_outside = kept.sound.few_outside;
+        fit = record {
+          parents = λ e h. HasParent-unless before after node stays e.parent (no_parent e h) (kept.sound.fit.parents e h);
+          children = λ e h. stays e.child (no_child e h) (kept.sound.fit.children e h);
+          owners = kept.sound.fit.owners;
+          roles = kept.sound.fit.roles;
+        };
+        just = IsJust-kinds kinds node no_kind edges no_parent kept.sound.just;
       };
     }
 
@@ -345,3 +462,17 @@ without_parent-apart parent edges e h =
           let same : same_parent e.parent parent ≡ true = rw is (same_parent-refl parent) in
           let no : not true ≡ true = rw same at r.1 in cc,
     )
+
+-- the edges after a removal neither enter nor leave the node
+pub removed-apart : (kinds : List NodeKind) (node : ℕ) (edges : List Edge) → ((e : Edge) → Contains edges e → e.child ≢ node)
+    → (e : Edge) → Contains (refreshed kinds (without_parent (Node node) edges)) e → (e.child ≢ node) × (e.parent ≢ Node node)
+removed-apart kinds node edges none =
+    refreshed-by kinds (λ now. (e : Edge) → Contains now e → (e.child ≢ node) × (e.parent ≢ Node node))
+    (λ now h e there.
+    let r = Contains-map (ruled kinds (uses_into now)) now e there in
+    let same = ruled-same kinds (uses_into now) r.0 in
+    let child : e.child ≡ r.0.child = ap (λ (x : Edge). x.child) r.2 ∙ same.child in
+    let parent : e.parent ≡ r.0.parent = ap (λ (x : Edge). x.parent) r.2 ∙ same.parent in
+    (λ is. (h r.0 r.1).0 (sym child ∙ is), λ is. (h r.0 r.1).1 (sym parent ∙ is)))
+    (without_parent (Node node) edges)
+    (λ e there. let r = without_parent-apart (Node node) edges e there in (none e r.0, r.1))

@@ -12,7 +12,7 @@ use Rattle.blk_graph.specs.declared.edge.Perms.{Perms}
 use Rattle.blk_graph.specs.declared.edge.Parent.{Parent}
 use Rattle.blk_graph.specs.declared.edge.Role.{Role}
 use Rattle.blk_graph.specs.declared.edge.Role.TheVariants.{Drive, File, Backing, Filtered, Source, Target, Between, Base}
-use Rattle.blk_graph.specs.Edges.{same_parent, same_role, DifferInRole, DifferInPlace}
+use Rattle.blk_graph.specs.Edges.{same_parent, same_role, DifferInRole, DifferInPlace, may_have}
 use Rattle.blk_graph.specs.Edits.{takes_place, with_edge, with_child, IsLone, replaced, with_replaced, moved, filter_edge, with_filter, is_filters, but_filters, without_filter, without_parent, stays}
 use Rattle.blk_graph.proofs.Members.{Contains-map}
 use Rattle.blk_graph.proofs.EditLemmas.{Contains-with_edge, moved-parent, replaced-parent}
@@ -100,17 +100,17 @@ and-right true b h = h
 and-right false b h = absurd cc
 
 module _ {X : Type 0} (R : X → X → Type 0) where
-  tail_pairs : (x : X) (xs : List X) → AllPairs R (x ∷ xs) → AllPairs R xs
+  pub tail_pairs : (x : X) (xs : List X) → AllPairs R (x ∷ xs) → AllPairs R xs
   tail_pairs x xs h = λ i j d below within. h (suc i) (suc j) d (omega (arith, below)) (omega (arith, within))
 
-  head_pairs : (x : X) (xs : List X) → AllPairs R (x ∷ xs) → (y : X) → Contains xs y → R x y
+  pub head_pairs : (x : X) (xs : List X) → AllPairs R (x ∷ xs) → (y : X) → Contains xs y → R x y
   head_pairs x xs h y there = rw there.2 at (h 0 (suc there.0) y (omega arith) (omega (arith, there.1)))
 
-  more_pairs : (x : X) (xs : List X) → ((y : X) → Contains xs y → R x y) → AllPairs R xs → AllPairs R (x ∷ xs)
+  pub more_pairs : (x : X) (xs : List X) → ((y : X) → Contains xs y → R x y) → AllPairs R xs → AllPairs R (x ∷ xs)
   more_pairs x xs heads tails = AllPairs-cons R x xs (λ k d within. heads _ (All-contains_itself xs k d within)) tails
 
   -- what keeps the relation of any two keeps that of a list
-  map_pairs : (f : X → X) → ((x y : X) → R x y → R (f x) (f y)) → (xs : List X) → AllPairs R xs → AllPairs R (map f xs)
+  pub map_pairs : (f : X → X) → ((x y : X) → R x y → R (f x) (f y)) → (xs : List X) → AllPairs R xs → AllPairs R (map f xs)
   map_pairs f keeps xs h = λ i j d below within.
       let n : j < length xs = omega (arith, within, length-map xs f) in
       let m : i < length xs = omega (arith, n, below) in
@@ -173,14 +173,14 @@ AllPairs-with_edge new (old ∷ edges) h = by_test (takes_place new old) refl (A
         ])
         ih
 
-moved-role : (from to : ℕ) (e : Edge) → (moved from to e).role ≡ e.role
+pub moved-role : (from to : ℕ) (e : Edge) → (moved from to e).role ≡ e.role
 moved-role from to e = by_test (e.child == from)
   where
     by_test : (b : Bool) → (cond b (with_child to e) e).role ≡ e.role
     by_test true = refl
     by_test false = refl
 
-replaced-role : (from to : ℕ) (but : Option Parent) (e : Edge) → (replaced from to but e).role ≡ e.role
+pub replaced-role : (from to : ℕ) (but : Option Parent) (e : Edge) → (replaced from to but e).role ≡ e.role
 replaced-role from to but e = by_test (e.child == from && not (stays but e.parent))
   where
     by_test : (b : Bool) → (cond b (with_child to e) e).role ≡ e.role
@@ -188,7 +188,7 @@ replaced-role from to but e = by_test (e.child == from && not (stays but e.paren
     by_test false = refl
 
 -- edges that keep parent and role
-kept_apart : (a b c d : Edge) → c.parent ≡ a.parent → c.role ≡ a.role → d.parent ≡ b.parent → d.role ≡ b.role
+pub kept_apart : (a b c d : Edge) → c.parent ≡ a.parent → c.role ≡ a.role → d.parent ≡ b.parent → d.role ≡ b.role
     → DifferInRole a b → DifferInRole c d
 kept_apart a b c d p r q s h = λ parents roles. r ∙ h (sym p ∙ parents ∙ q) (sym r ∙ roles ∙ s)
 
@@ -287,3 +287,7 @@ pub settled_in_place : {T E : Type 0} (r : Result T E) (new edited old : List Ed
     → OnOk r (new ≡ edited) → OnOk r (AllPairs DifferInPlace old → AllPairs DifferInPlace new)
 settled_in_place (Ok x) new edited old keeps ok = rw ok keeps
 settled_in_place (Err e) new edited old keeps ok = tt
+
+-- an edge of the same parent and role may have that role
+pub owner_kept : (a b : Edge) → a.parent ≡ b.parent → a.role ≡ b.role → may_have b.parent b.role ≡ true → may_have a.parent a.role ≡ true
+owner_kept a b parent role h = ap (λ p. may_have p a.role) parent ∙ ap (may_have b.parent) role ∙ h

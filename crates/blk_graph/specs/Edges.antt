@@ -1,5 +1,5 @@
 -- Who makes an edge, what it is for, and what it asks and shares.
-use Rattle.std.specs.Prelude.{◌≡◌, ◌≢◌, ◌==◌, Bool, true, false, IsTrue}
+use Rattle.std.specs.Prelude.{◌≡◌, ◌≢◌, ◌==◌, ℕ, ◌<◌, Bool, true, false, not, List, length, filter, IsTrue}
 use Rattle.blk_graph.specs.declared.edge.Parent.{Parent}
 use Rattle.blk_graph.specs.declared.edge.Parent.TheVariants.{Node, Guest, Job}
 use Rattle.blk_graph.specs.declared.edge.Role.{Role}
@@ -49,3 +49,32 @@ holds perms Unchanged = perms.unchanged
 -- each permission that is asked is shared
 abbrev pub IsWithin : Perms → Perms → Type 0
 IsWithin asked shared = (perm : Perm) → IsTrue (holds asked perm) → IsTrue (holds shared perm)
+
+-- a node has its file, its backing node and what it filters, a guest its drive, and a job all the others
+abbrev pub may_have : Parent → Role → Bool
+may_have (Node _) File = true
+may_have (Node _) Backing = true
+may_have (Node _) Filtered = true
+may_have (Guest _) Drive = true
+may_have (Job _) Source = true
+may_have (Job _) Target = true
+may_have (Job _) Between = true
+may_have (Job _) Base = true
+may_have _ _ = false
+
+abbrev pub is_node : Parent → Bool
+is_node (Node _) = true
+is_node _ = false
+
+-- the edges of guests and jobs
+abbrev pub is_outside : Edge → Bool
+is_outside edge = not (is_node edge.parent)
+
+abbrev pub outside_count : List Edge → ℕ
+outside_count edges = length (filter is_outside edges)
+
+-- A node's edge has room in every graph. Of guests' and jobs' edges there are 1,792 at most: 64 guests have 64, and 16 jobs
+-- in a graph of 64 nodes 1,072.
+abbrev pub HasRoom : List Edge → Parent → Type 0
+HasRoom edges (Node _) = Unit {0}
+HasRoom edges _ = outside_count edges < 1792

@@ -59,6 +59,9 @@ touches node edge = edge.child == node || same_parent edge.parent (Node node)
 abbrev pub moved : ℕ → ℕ → Edge → Edge
 moved from to edge = if edge.child == from then with_child to edge else edge
 
+abbrev pub with_moved : ℕ → ℕ → List Edge → List Edge
+with_moved from to edges = map (moved from to) edges
+
 -- a filter's edge to its child
 abbrev pub filter_edge : ℕ → ℕ → Perms → Perms → Edge
 filter_edge filter child perm shared = record {
@@ -72,7 +75,7 @@ filter_edge filter child perm shared = record {
 -- the node's parents have the filter as child, and the filter has the node
 abbrev pub with_filter : ℕ → ℕ → Perms → Perms → List Edge → List Edge
 with_filter node filter perm shared edges =
-    map (moved node filter) edges ++ filter_edge filter node perm shared ∷ []
+    with_moved node filter edges ++ filter_edge filter node perm shared ∷ []
 
 -- whether the edge is that of a filter to its child
 abbrev pub is_filters : ℕ → Edge → Bool
@@ -86,8 +89,12 @@ but_filters node edges = filter (λ edge. not (is_filters node edge)) edges
 abbrev pub without_filter : ℕ → List Edge → List Edge
 without_filter node edges = elim (find (is_filters node) edges) as (λ _. List Edge) [
   | None ↦ edges
-  | Some edge ↦ map (moved node edge.child) (but_filters node edges)
+  | Some edge ↦ with_moved node edge.child (but_filters node edges)
 ]
+
+-- a parent's edges of a role are gone
+abbrev pub without_edge : Parent → Role → List Edge → List Edge
+without_edge parent role edges = filter (λ edge. not (is_edge parent role edge)) edges
 
 -- a parent's edges are gone
 abbrev pub without_parent : Parent → List Edge → List Edge

@@ -1,24 +1,39 @@
 -- What a contract sees of a graph.
-use Rattle.std.specs.Prelude.{◌≡◌, ℕ, ◌-◌, ◌≤◌, List, length, map, AllPairs, Contains, nat_eq}
+use Rattle.std.specs.Prelude.{◌≡◌, ℕ, ◌-◌, ◌<◌, ◌≤◌, List, [], ◌∷◌, ◌++◌, length, map, replicate, slice_set, AllPairs, Contains, nat_eq, true}
 use Rattle.std.specs.List.{IsDistinct}
 use Rattle.blk_graph.specs.declared.edge.Edge.{Edge}
 use Rattle.blk_graph.specs.declared.edge.Parent.{Parent}
 use Rattle.blk_graph.specs.declared.edge.Parent.TheVariants.{Node, Guest, Job}
-use Rattle.blk_graph.specs.Edges.{DifferInRole}
+use Rattle.blk_graph.specs.declared.kind.NodeKind.{NodeKind}
+use Rattle.blk_graph.specs.Edges.{DifferInRole, may_have, outside_count}
 use Rattle.blk_graph.specs.Paths.{IsAcyclic, IsPath}
+use Rattle.blk_graph.specs.Refreshed.{no_kind, kind_at, IsRefreshed}
+use Rattle.blk_graph.specs.Rule.{KeepsPermissions}
 
 -- a node, and its name as bytes
 pub record NodeRow : Type 0 where
   pub id : ℕ
   pub name : List ℕ
 
--- the nodes in order of addition, and the edges in order of making
+-- the nodes in order of addition, what each of them is by its id, and the edges in order of making
 pub record Graph : Type 0 where
   pub nodes : List NodeRow
+  pub kinds : List NodeKind
   pub edges : List Edge
 
 abbrev pub ids : Graph → List ℕ
 ids graph = map (λ row. row.id) graph.nodes
+
+-- no node and no edge
+abbrev pub no_graph : Graph
+no_graph = record { nodes = []; kinds = replicate 64 no_kind; edges = [] }
+
+-- one more node
+abbrev pub with_node : Graph → ℕ → List ℕ → NodeKind → Graph
+with_node graph id name kind = record graph {
+  nodes = graph.nodes ++ record { id = id; name = name } ∷ [];
+  kinds = slice_set graph.kinds id kind;
+}
 
 -- it is a node of the graph
 abbrev pub HasNode : Graph → ℕ → Type 0
@@ -38,16 +53,30 @@ HasName graph name = Contains (map (λ row. row.name) graph.nodes) name
 abbrev pub DifferentNames : List NodeRow → Type 0
 DifferentNames nodes = (a b : NodeRow) → Contains nodes a → Contains nodes b → a.name ≡ b.name → a.id ≡ b.id
 
+-- the edges join nodes of the graph, and those of one parent differ
+pub record IsFit (graph : Graph) (edges : List Edge) : Type 0 where
+  pub parents : (edge : Edge) → Contains edges edge → HasParent graph edge.parent
+  pub children : (edge : Edge) → Contains edges edge → HasNode graph edge.child
+  pub owners : (edge : Edge) → Contains edges edge → may_have edge.parent edge.role ≡ true
+  pub roles : AllPairs DifferInRole edges
+
+-- each of a graph's edges is as those into its parent say, and all keep the permission rule
+pub record IsJust (kinds : List NodeKind) (edges : List Edge) : Type 0 where
+  pub acyclic : IsAcyclic edges
+  pub refreshed : IsRefreshed kinds edges
+  pub rule : KeepsPermissions edges
+
 -- what is true of every graph
 pub record IsSound (graph : Graph) : Type 0 where
   pub different_nodes : IsDistinct nat_eq (ids graph)
   pub different_names : DifferentNames graph.nodes
   pub few_nodes : length graph.nodes ≤ 64
-  pub few_edges : length graph.edges ≤ 2048
-  pub parents : (edge : Edge) → Contains graph.edges edge → HasParent graph edge.parent
-  pub children : (edge : Edge) → Contains graph.edges edge → HasNode graph edge.child
-  pub acyclic : IsAcyclic graph.edges
-  pub roles : AllPairs DifferInRole graph.edges
+  pub small : (id : ℕ) → HasNode graph id → id < 64
+  pub kinds : length graph.kinds ≡ 64
+  pub vacant : (id : ℕ) → (HasNode graph id → ⊥) → kind_at graph.kinds id ≡ no_kind
+  pub few_outside : outside_count graph.edges ≤ 1792
+  pub fit : IsFit graph graph.edges
+  pub just : IsJust graph.kinds graph.edges
 
 -- no path has more edges than there are nodes beside its first
 abbrev pub PathsAreShort : Graph → Type 0

@@ -1,12 +1,16 @@
 -- What an edit of the edges answers.
-use Rattle.std.specs.Prelude.{◌≡◌, ◌↔◌, ℕ, List, Result, Err, Option, Some, IsOk, IfErr, filter, find, not, ◌==◌}
+use Rattle.std.specs.Prelude.{◌≡◌, ◌↔◌, ℕ, List, Result, Ok, Err, Option, Some, None, IsOk, IfErr, filter, find, not, ◌==◌, slice_set}
 use Rattle.std.specs.Option.{option_map}
 use Rattle.blk_graph.specs.declared.edge.Edge.{Edge}
 use Rattle.blk_graph.specs.declared.edge.Conflict.{Conflict as Pair}
 use Rattle.blk_graph.specs.declared.edge.Parent.{Parent}
+use Rattle.blk_graph.specs.declared.edge.Parent.TheVariants.{Node}
+use Rattle.blk_graph.specs.Edits.{without_parent}
 use Rattle.blk_graph.specs.declared.stop.GraphStop.{GraphStop}
 use Rattle.blk_graph.specs.declared.stop.GraphStop.TheVariants.{NameTaken, Cycle, Conflict, TooManyNodes}
-use Rattle.blk_graph.specs.Graph.{NodeRow}
+use Rattle.blk_graph.specs.declared.kind.NodeKind.{NodeKind}
+use Rattle.blk_graph.specs.Graph.{NodeRow, Graph}
+use Rattle.blk_graph.specs.Refreshed.{refreshed, no_kind}
 use Rattle.blk_graph.specs.Paths.{HasCycle, IsAcyclic}
 use Rattle.blk_graph.specs.Rule.{KeepsPermissions, first_conflict}
 
@@ -15,14 +19,25 @@ IsEditStop Cycle = Unit {0}
 IsEditStop (Conflict _) = Unit {0}
 IsEditStop _ = ⊥
 
--- the edited list is refused where it has a cycle, else where it breaks the permission rule, and then
--- with the first broken pair; any other is taken, and nothing else is answered
-pub record IsJudged (nodes : List ℕ) (edited : List Edge) (result : Result (Unit {0}) GraphStop) : Type 0 where
+-- The edited list is refused where it has a cycle, else where the list that is derived from it breaks the permission rule, and
+-- then with the first broken pair. Any other is taken, and nothing else is answered.
+pub record IsJudged (nodes : List ℕ) (kinds : List NodeKind) (edited : List Edge)
+    (result : Result (Unit {0}) GraphStop) : Type 0 where
   pub cycle : (result ≡ Err Cycle) ↔ HasCycle edited
   pub conflict : (pair : Pair) → (result ≡ Err (Conflict pair))
-      ↔ (IsAcyclic edited × (first_conflict nodes edited ≡ Some pair))
-  pub ok : IsOk result ↔ (IsAcyclic edited × KeepsPermissions edited)
+      ↔ (IsAcyclic edited × (first_conflict nodes (refreshed kinds edited) ≡ Some pair))
+  pub ok : IsOk result ↔ (IsAcyclic edited × KeepsPermissions (refreshed kinds edited))
   pub only : IfErr result IsEditStop
+
+-- the same of the derived list of an edited one without cycles
+abbrev pub IsRuled : List ℕ → List Edge → Result (Unit {0}) GraphStop → Type 0
+IsRuled nodes edges (Ok done) = first_conflict nodes edges ≡ None
+IsRuled nodes edges (Err (Conflict pair)) = first_conflict nodes edges ≡ Some pair
+IsRuled nodes edges (Err _) = ⊥
+
+-- the graph with an edited list, from which what nodes' edges ask and share is derived
+abbrev pub with_edges : Graph → List Edge → Graph
+with_edges graph edited = record graph { edges = refreshed graph.kinds edited }
 
 -- an addition is refused for these alone
 abbrev pub IsAdditionStop : GraphStop → Type 0
@@ -35,5 +50,13 @@ abbrev pub first_parent : ℕ → List Edge → Option Parent
 first_parent node edges = option_map (λ edge. edge.parent) (find (λ edge. edge.child == node) edges)
 
 -- the nodes but one
-abbrev pub without_node : ℕ → List NodeRow → List NodeRow
-without_node node nodes = filter (λ row. not (row.id == node)) nodes
+abbrev pub other_nodes : ℕ → List NodeRow → List NodeRow
+other_nodes node nodes = filter (λ row. not (row.id == node)) nodes
+
+-- a node is gone, with the edges that it makes
+abbrev pub without_node : ℕ → Graph → Graph
+without_node node graph = record {
+  nodes = other_nodes node graph.nodes;
+  kinds = slice_set graph.kinds node no_kind;
+  edges = refreshed graph.kinds (without_parent (Node node) graph.edges);
+}

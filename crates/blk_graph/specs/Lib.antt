@@ -1,5 +1,8 @@
 pub mod Edges
 pub mod Edits
+pub mod Ids
+pub mod Permissions
+pub mod Refreshed
 pub mod Paths
 pub mod Rule
 pub mod Graph

@@ -61,6 +61,13 @@ pub struct Perms {
     pub unchanged: bool,
 }
 
+/// What is asked of a node, and what others are let ask of it.
+#[derive(Clone, Copy, Debug, PartialEq, Eq)]
+pub struct Uses {
+    pub perm: Perms,
+    pub shared: Perms,
+}
+
 /// A parent's use of a node.
 #[derive(Clone, Copy, Debug, PartialEq, Eq)]
 pub struct Edge {

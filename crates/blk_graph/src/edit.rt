@@ -1,8 +1,8 @@
-//! The edited lists of edges, each written behind what is in `out`, whose room is there.
-ghost use Rattle.std.specs.Prelude.{◌≡◌, ◌↔◌, ◌+◌, ◌≤◌, IsTrue, [], ◌++◌, map, filter, not, length, find, vec_capacity};
+//! The edits of a list of edges, each made in place.
+ghost use Rattle.std.specs.Prelude.{◌≡◌, ◌↔◌, ◌+◌, ◌<◌, ◌≤◌, IsTrue, IfSome, IfNone, [], ◌∷◌, ◌++◌, length, find, slice_set, vec_capacity};
 ghost use Rattle.std.specs.Option.{option_map};
-ghost use Rattle.blk_graph.specs.Edges.{same_parent, same_role, is_job};
-ghost use Rattle.blk_graph.specs.Edits.{takes_place, with_edge, with_child, stays, replaced, with_replaced, moved, is_edge, child_of, is_filters, but_filters, with_filter, without_filter, without_parent, IsLone, touches};
+ghost use Rattle.blk_graph.specs.Edges.{same_parent, same_role, is_job, is_outside, outside_count};
+ghost use Rattle.blk_graph.specs.Edits.{takes_place, with_edge, with_child, stays, replaced, with_replaced, moved, is_edge, child_of, is_filters, but_filters, with_moved, with_filter, without_filter, without_edge, without_parent, IsLone, touches};
 ghost use Rattle.blk_graph.specs.Judged.{first_parent};
 
 use crate::edge::{Edge, NodeId, Parent, Perms, Role};
@@ -57,80 +57,72 @@ fn is_filters(edge: &Edge, filter: NodeId) -> bool
     edge.parent.is(&Parent::Node(filter)) && edge.role.is(&Role::Filtered)
 }
 
-/// The list with an edge in the place that it takes, or else at the end.
-pub(crate) fn put_edge(edges: &[Edge], new: Edge, out: &mut Vec<Edge>)
-    requires empty { out.old.items ≡ [] }
-    requires room { length edges.now + 1 ≤ vec_capacity out.old }
-    ensures items { out.new.items ≡ with_edge new edges.now }
-    ensures capacity { vec_capacity out.new ≡ vec_capacity out.old }
+/// The place that a new edge takes.
+fn place_of(edges: &[Edge], new: &Edge) -> Option<usize>
+    ensures there { IfSome result (λ i. i < length edges.now) }
+    ensures place { IfSome result (λ i. slice_set edges.now i new.now ≡ with_edge new.now edges.now) }
+    ensures none { IfNone result (edges.now ++ new.now ∷ [] ≡ with_edge new.now edges.now) }
 {
-    let mut placed = false;
-    for old in edges {
-        if !placed && takes_place(&new, old) {
-            out.push_reserved(new);
-            placed = true;
-        } else {
-            out.push_reserved(*old);
+    for (i, old) in edges.iter().enumerate() {
+        if takes_place(new, old) {
+            return Some(i);
         }
     }
-    if !placed {
-        out.push_reserved(new);
-    }
+    None
 }
 
-/// The list with all edges into one node leading to another, but those of jobs and of one parent.
-pub(crate) fn replace(
-    edges: &[Edge],
-    from: NodeId,
-    to: NodeId,
-    but: &Option<Parent>,
-    out: &mut Vec<Edge>,
-)
-    requires empty { out.old.items ≡ [] }
-    requires room { length edges.now ≤ vec_capacity out.old }
-    ensures items { out.new.items ≡ with_replaced from to but.now edges.now }
-    ensures capacity { vec_capacity out.new ≡ vec_capacity out.old }
+/// An edge stands in the place that it takes, or else at the end.
+pub(crate) fn put_edge(edges: &mut Vec<Edge>, new: Edge)
+    requires { length edges.old.items + 1 ≤ vec_capacity edges.old }
+    ensures items { edges.new.items ≡ with_edge new edges.old.items }
+    ensures capacity { vec_capacity edges.new ≡ vec_capacity edges.old }
 {
-    for edge in edges {
-        out.push_reserved(replaced(edge, from, to, but));
+    match place_of(edges.as_slice(), &new) {
+        Some(i) => edges[i] = new,
+        None => edges.push_reserved(new),
     }
 }
 
-/// The list with all edges into one node leading to another.
-fn move_all(edges: &[Edge], from: NodeId, to: NodeId, out: &mut Vec<Edge>)
-    requires empty { out.old.items ≡ [] }
-    requires room { length edges.now ≤ vec_capacity out.old }
-    ensures items { out.new.items ≡ map (moved from to) edges.now }
-    ensures capacity { vec_capacity out.new ≡ vec_capacity out.old }
+/// All edges into one node lead to another, but those of jobs and of one parent.
+pub(crate) fn replace(edges: &mut Vec<Edge>, from: NodeId, to: NodeId, but: &Option<Parent>)
+    ensures items { edges.new.items ≡ with_replaced from to but.now edges.old.items }
+    ensures capacity { vec_capacity edges.new ≡ vec_capacity edges.old }
 {
-    for edge in edges {
-        out.push_reserved(moved(edge, from, to));
+    for i in 0..edges.len() {
+        edges[i] = replaced(&edges[i], from, to, but);
     }
 }
 
-/// The list with a filter between a node and its parents.
+/// All edges into one node lead to another.
+pub(crate) fn move_all(edges: &mut Vec<Edge>, from: NodeId, to: NodeId)
+    ensures items { edges.new.items ≡ with_moved from to edges.old.items }
+    ensures capacity { vec_capacity edges.new ≡ vec_capacity edges.old }
+{
+    for i in 0..edges.len() {
+        edges[i] = moved(&edges[i], from, to);
+    }
+}
+
+/// A filter stands between a node and its parents.
 pub(crate) fn put_filter(
-    edges: &[Edge],
+    edges: &mut Vec<Edge>,
     node: NodeId,
     filter: NodeId,
     perm: Perms,
     shared: Perms,
-    out: &mut Vec<Edge>,
 )
-    requires empty { out.old.items ≡ [] }
-    requires room { length edges.now + 1 ≤ vec_capacity out.old }
-    ensures items { out.new.items ≡ with_filter node filter perm shared edges.now }
-    ensures capacity { vec_capacity out.new ≡ vec_capacity out.old }
+    requires { length edges.old.items + 1 ≤ vec_capacity edges.old }
+    ensures items { edges.new.items ≡ with_filter node filter perm shared edges.old.items }
+    ensures capacity { vec_capacity edges.new ≡ vec_capacity edges.old }
 {
-    let own = Edge {
+    move_all(edges, node, filter);
+    edges.push_reserved(Edge {
         parent: Parent::Node(filter),
         role: Role::Filtered,
         child: node,
         perm,
         shared,
-    };
-    move_all(edges, node, filter, out);
-    out.push_reserved(own);
+    });
 }
 
 /// The child of a filter.
@@ -145,21 +137,29 @@ fn filtered_child(edges: &[Edge], filter: NodeId) -> Option<NodeId>
     None
 }
 
-/// The list without a filter's edge, its parents leading to another node.
-fn unfilter(edges: &[Edge], filter: NodeId, to: NodeId, out: &mut Vec<Edge>)
-    requires empty { out.old.items ≡ [] }
-    requires room { length edges.now ≤ vec_capacity out.old }
-    ensures items { out.new.items ≡ map (moved filter to) (but_filters filter edges.now) }
-    ensures capacity { vec_capacity out.new ≡ vec_capacity out.old }
+/// A filter's own edges are gone.
+fn drop_own(edges: &mut Vec<Edge>, filter: NodeId)
+    ensures items { edges.new.items ≡ but_filters filter edges.old.items }
+    ensures capacity { vec_capacity edges.new ≡ vec_capacity edges.old }
 {
-    for edge in edges {
-        if !is_filters(edge, filter) {
-            out.push_reserved(moved(edge, filter, to));
+    edges.retain(|edge| !is_filters(edge, filter));
+}
+
+/// A filter is gone from between its child and its parents.
+pub(crate) fn drop_filter(edges: &mut Vec<Edge>, filter: NodeId)
+    ensures items { edges.new.items ≡ without_filter filter edges.old.items }
+    ensures capacity { vec_capacity edges.new ≡ vec_capacity edges.old }
+{
+    match filtered_child(edges.as_slice(), filter) {
+        None => {}
+        Some(child) => {
+            drop_own(edges, filter);
+            move_all(edges, filter, child);
         }
     }
 }
 
-fn copy_all(edges: &[Edge], out: &mut Vec<Edge>)
+pub(crate) fn copy_all(edges: &[Edge], out: &mut Vec<Edge>)
     requires empty { out.old.items ≡ [] }
     requires room { length edges.now ≤ vec_capacity out.old }
     ensures items { out.new.items ≡ edges.now }
@@ -170,31 +170,20 @@ fn copy_all(edges: &[Edge], out: &mut Vec<Edge>)
     }
 }
 
-/// The list without a filter between its child and its parents.
-pub(crate) fn drop_filter(edges: &[Edge], filter: NodeId, out: &mut Vec<Edge>)
-    requires empty { out.old.items ≡ [] }
-    requires room { length edges.now ≤ vec_capacity out.old }
-    ensures items { out.new.items ≡ without_filter filter edges.now }
-    ensures capacity { vec_capacity out.new ≡ vec_capacity out.old }
+/// A parent's edges of a role are gone.
+pub(crate) fn drop_edge(edges: &mut Vec<Edge>, parent: &Parent, role: &Role)
+    ensures items { edges.new.items ≡ without_edge parent.now role.now edges.old.items }
+    ensures capacity { vec_capacity edges.new ≡ vec_capacity edges.old }
 {
-    match filtered_child(edges, filter) {
-        None => copy_all(edges, out),
-        Some(child) => unfilter(edges, filter, child, out),
-    }
+    edges.retain(|edge| !is_edge(edge, parent, role));
 }
 
-/// The list without one parent's edges.
-pub(crate) fn drop_parent(edges: &[Edge], parent: &Parent, out: &mut Vec<Edge>)
-    requires empty { out.old.items ≡ [] }
-    requires room { length edges.now ≤ vec_capacity out.old }
-    ensures items { out.new.items ≡ without_parent parent.now edges.now }
-    ensures capacity { vec_capacity out.new ≡ vec_capacity out.old }
+/// A parent's edges are gone.
+pub(crate) fn drop_parent(edges: &mut Vec<Edge>, parent: &Parent)
+    ensures items { edges.new.items ≡ without_parent parent.now edges.old.items }
+    ensures capacity { vec_capacity edges.new ≡ vec_capacity edges.old }
 {
-    for edge in edges {
-        if !edge.parent.is(parent) {
-            out.push_reserved(*edge);
-        }
-    }
+    edges.retain(|edge| !edge.parent.is(parent));
 }
 
 fn is_edge(edge: &Edge, parent: &Parent, role: &Role) -> bool
@@ -241,4 +230,26 @@ fn touches(edge: &Edge, node: NodeId) -> bool
     ensures { result ≡ touches node edge.now }
 {
     edge.child == node || edge.parent.is(&Parent::Node(node))
+}
+
+fn is_outside(edge: &Edge) -> bool
+    ensures { result ≡ is_outside edge.now }
+{
+    match edge.parent {
+        Parent::Node(_) => false,
+        Parent::Guest(_) | Parent::Job(_) => true,
+    }
+}
+
+/// How many edges are those of guests and jobs.
+pub(crate) fn outside_count(edges: &[Edge]) -> usize
+    ensures { result ≡ outside_count edges.now }
+{
+    let mut count = 0;
+    for edge in edges {
+        if is_outside(edge) {
+            count += 1;
+        }
+    }
+    count
 }

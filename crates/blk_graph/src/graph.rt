@@ -1,15 +1,18 @@
 //! The graph: nodes, and edges between them.
-ghost use Rattle.std.specs.Prelude.{◌≡◌, ◌≢◌, ◌↔◌, ℕ, ◌+◌, ◌<◌, ◌≤◌, [], ◌∷◌, ◌++◌, length, AllPairs, Contains, IsTrue, IsNone, IfOk, IfErr, OnOk, OnErr, IfSome, IfNone, Ok, Err, MatchOption};
-ghost use Rattle.blk_graph.specs.declared.edge.Edge.{Edge as Use};
-ghost use Rattle.blk_graph.specs.Edges.{DifferInPlace};
-ghost use Rattle.blk_graph.specs.Edits.{with_edge, with_replaced, with_filter, IsLone, child_of, without_filter, without_parent};
-ghost use Rattle.blk_graph.specs.Graph.{ids, HasNode, HasParent, HasName, IsSound, PathsAreShort};
-ghost use Rattle.blk_graph.specs.Judged.{IsAdditionStop, IsJudged, first_parent, without_node};
+ghost use Rattle.std.specs.Prelude.{◌≡◌, ◌≢◌, ◌↔◌, ℕ, ◌+◌, ◌≤◌, length, Contains, IsTrue, IsNone, IfOk, IfErr, OnOk, OnErr, IfSome, IfNone, Ok, Err, MatchOption};
+ghost use Rattle.blk_graph.specs.Edges.{HasRoom, may_have};
+ghost use Rattle.blk_graph.specs.Edits.{with_edge, with_replaced, with_filter, IsLone, child_of, without_filter, without_edge, without_parent};
+ghost use Rattle.blk_graph.specs.Graph.{ids, no_graph, HasNode, HasParent, HasName, IsSound, PathsAreShort, with_node};
+ghost use Rattle.blk_graph.specs.Ids.{IsLowestFree};
+ghost use Rattle.blk_graph.specs.Judged.{IsAdditionStop, IsJudged, first_parent, with_edges, without_node};
 ghost use Rattle.blk_graph.specs.Paths.{Reaches, LeadsBack};
 ghost use Rattle.blk_graph.specs.Rule.{KeepsPermissions, GuestsWriteAlone, IsBroken, first_conflict};
 
 use crate::edge::{Conflict, Edge, MOST_NODES, NodeId, Parent, Perms, Role};
-use crate::judge::settle;
+use crate::ids::next_id;
+use crate::judge::{leads_back, settle};
+use crate::kind::{NO_KIND, NodeKind};
+use crate::list::EdgeList;
 use crate::stop::GraphStop;
 use crate::{edit, names, rule, walk};
 use blk_base::{NoMemory, Text};
@@ -18,19 +21,23 @@ use std::alloc::Global;
 use std::marker::Model;
 use std::mem;
 
-/// The most edges that a graph has at once.
-pub const MOST_EDGES: usize = 2048;
+/// The most edges that guests and jobs have in one graph.
+pub const MOST_OUTSIDE: usize = 1792;
 
-/// Nodes with their names, and what each parent asks of them and shares.
+/// Nodes with their names and kinds, and what each parent asks of them and shares.
 #[derive(Drop)]
 pub struct Graph {
     names: Slab<Text>,
+    // By the nodes' ids: where their names stand.
+    keys: [usize; MOST_NODES],
     // The nodes in order of addition.
     order: Vec<NodeId>,
+    // By the nodes' ids.
+    kinds: [NodeKind; MOST_NODES],
     // In order of making.
-    edges: Vec<Edge>,
-    // An edited list is written here and looked at before it takes the other's place.
-    staged: Vec<Edge>,
+    edges: EdgeList,
+    // An edited list is made here and looked at before it takes the other's place.
+    staged: EdgeList,
 }
 
 impl Model for Graph {
@@ -41,16 +48,15 @@ impl Model for Graph {
 
     ghost use Rattle.blk_graph.specs.Layout.{graph_of, IsKept};
 
-    ghost view = { λ g. graph_of g.names g.order.items g.edges.items };
+    ghost view = { λ g. graph_of g.names g.keys g.order.items g.kinds g.edges };
 
-    ghost invariant = { λ g. IsKept g.names g.order.items g.edges.items
-        (vec_capacity g.order) (vec_capacity g.edges) (vec_capacity g.staged) };
+    ghost invariant = { λ g. IsKept g.names g.keys g.order.items g.kinds g.edges (vec_capacity g.order) };
 }
 
 impl Graph {
     /// The empty graph, with room for 64 nodes and 2,048 edges.
     pub fn new(alloc: Global) -> Result<Self, NoMemory>
-        ensures { IfOk result (λ graph. graph ≡ record { nodes = []; edges = [] }) }
+        ensures { IfOk result (λ graph. graph ≡ no_graph) }
     {
         let names = Slab::with_capacity(alloc, MOST_NODES)?;
         if names.capacity() != MOST_NODES {
@@ -59,9 +65,11 @@ impl Graph {
         }
         Ok(Graph {
             names,
+            keys: [0; MOST_NODES],
             order: Vec::with_capacity(alloc, MOST_NODES)?,
-            edges: Vec::with_capacity(alloc, MOST_EDGES)?,
-            staged: Vec::with_capacity(alloc, MOST_EDGES)?,
+            kinds: [NO_KIND; MOST_NODES],
+            edges: EdgeList::new(alloc)?,
+            staged: EdgeList::new(alloc)?,
         })
     }
 
@@ -73,13 +81,43 @@ impl Graph {
         self.order.as_slice()
     }
 
+    /// What each node is, by its number.
+    pub fn kinds(&self) -> &[NodeKind; MOST_NODES]
+        ensures kinds { result.now ≡ self.now.kinds }
+        ensures sound { IsSound self.now }
+    {
+        &self.kinds
+    }
+
     /// The edges in order of making; one that was replaced or moved has kept its place.
     pub fn edges(&self) -> &[Edge]
         ensures edges { result.now ≡ self.now.edges }
+        ensures few { length result.now ≤ 1984 }
         ensures sound { IsSound self.now }
         ensures paths { PathsAreShort self.now }
+
+        // a guest that may write a node is alone among the edges into it that don't share write
+        ensures guests { GuestsWriteAlone self.now.edges }
     {
         self.edges.as_slice()
+    }
+
+    /// The edges, to copy and to edit apart.
+    pub fn list(&self) -> &EdgeList
+        ensures edges { result.now ≡ self.now.edges }
+        ensures sound { IsSound self.now }
+    {
+        &self.edges
+    }
+
+    /// Takes kinds and edges in place of the graph's, which `edges` has then. Needs no memory, and can't be refused.
+    pub fn take(&mut self, kinds: &[NodeKind; MOST_NODES], edges: &mut EdgeList)
+        requires { IsSound (record self.old { kinds = kinds.now; edges = edges.old }) }
+        ensures taken { self.new ≡ record self.old { kinds = kinds.now; edges = edges.old } }
+        ensures back { edges.new ≡ self.old.edges }
+    {
+        self.kinds = *kinds;
+        mem::swap(&mut self.edges, edges);
     }
 
     /// The child of a parent's edge of that role; of the role Between that of the first one.
@@ -104,34 +142,35 @@ impl Graph {
         ensures rule { IsNone result ↔ KeepsPermissions self.now.edges }
         ensures pair { IfSome result (IsBroken self.now.edges) }
 
-        // a guest that may write a node is alone among the edges into it that don't share write
-        ensures guests { IsNone result → GuestsWriteAlone self.now.edges }
+        // the graph's edges always do
+        ensures kept { IsNone result }
     {
         rule::first_conflict(self.order.as_slice(), self.edges.as_slice())
     }
 
-    /// Sets an edge in the place of the one with that parent and role, or else at the end. Of the role
-    /// Between a parent has one edge to each child, and `places` says that this stays so. (Moves of edges can lead two of
-    /// them to one child.)
+    /// Sets an edge in the place of the one with that parent and role, or else at the end. Of the role Between a parent has
+    /// one edge to each child, and `places` says that this stays so. (Moves of edges can lead two of them to one child.)
     pub fn set_edge(&mut self, edge: Edge) -> Result<(), GraphStop>
-        requires room { length self.old.edges < 2048 }
+        requires room { HasRoom self.old.edges edge.parent }
         requires child { HasNode self.old edge.child }
         requires parent { HasParent self.old edge.parent }
-        ensures judged { IsJudged (ids self.old) (with_edge edge self.old.edges) result }
+        requires role { IsTrue (may_have edge.parent edge.role) }
+        ensures judged { IsJudged (ids self.old) self.old.kinds (with_edge edge self.old.edges) result }
         ensures cycle { (result ≡ Err GraphStop.Cycle) ↔ LeadsBack self.old.edges edge.child edge.parent }
-        ensures ok { OnOk result (self.new ≡ record self.old { edges = with_edge edge self.old.edges }) }
-        ensures places { OnOk result (AllPairs DifferInPlace self.old.edges → AllPairs DifferInPlace self.new.edges) }
-        ensures room { length self.new.edges ≤ length self.old.edges + 1 }
+        ensures ok { OnOk result (self.new ≡ with_edges self.old (with_edge edge self.old.edges)) }
         ensures err { OnErr result (self.new ≡ self.old) }
+        ensures sound { IsSound self.new }
     {
-        let child = edge.child;
-        self.staged.clear();
-        edit::put_edge(self.edges.as_slice(), edge, &mut self.staged);
+        if leads_back(self.edges.as_slice(), edge.child, &edge.parent) {
+            return Err(GraphStop::Cycle);
+        }
+        self.staged.copy_from(&self.edges);
+        self.staged.put(edge);
         settle(
             self.order.as_slice(),
+            &self.kinds,
             &mut self.edges,
             &mut self.staged,
-            child,
         )
     }
 
@@ -143,13 +182,34 @@ impl Graph {
         but: Option<Parent>,
     ) -> Result<(), GraphStop>
         requires { HasNode self.old to }
-        ensures judged { IsJudged (ids self.old) (with_replaced from to but self.old.edges) result }
-        ensures ok { OnOk result (self.new ≡ record self.old { edges = with_replaced from to but self.old.edges }) }
+        ensures judged { IsJudged (ids self.old) self.old.kinds (with_replaced from to but self.old.edges) result }
+        ensures ok { OnOk result (self.new ≡ with_edges self.old (with_replaced from to but self.old.edges)) }
         ensures err { OnErr result (self.new ≡ self.old) }
+        ensures sound { IsSound self.new }
     {
-        self.staged.clear();
-        edit::replace(self.edges.as_slice(), from, to, &but, &mut self.staged);
-        settle(self.order.as_slice(), &mut self.edges, &mut self.staged, to)
+        self.staged.copy_from(&self.edges);
+        self.staged.replace(from, to, but);
+        if self.staged.reaches(to, to) {
+            return Err(GraphStop::Cycle);
+        }
+        settle(
+            self.order.as_slice(),
+            &self.kinds,
+            &mut self.edges,
+            &mut self.staged,
+        )
+    }
+
+    /// Whether there is room for one more edge of this parent.
+    pub fn has_room(&self, parent: Parent) -> bool
+        ensures { IsTrue result ↔ HasRoom self.now.edges parent }
+    {
+        match parent {
+            Parent::Node(_) => true,
+            Parent::Guest(_) | Parent::Job(_) => {
+                edit::outside_count(self.edges.as_slice()) < MOST_OUTSIDE
+            }
+        }
     }
 
     /// Whether no edge enters or leaves a node.
@@ -167,51 +227,64 @@ impl Graph {
         perm: Perms,
         shared: Perms,
     ) -> Result<(), GraphStop>
-        requires room { length self.old.edges < 2048 }
         requires node { HasNode self.old node }
         requires filter { HasNode self.old filter }
         requires differ { filter ≢ node }
         requires lone { IsLone self.old.edges filter }
-        ensures judged { IsJudged (ids self.old) (with_filter node filter perm shared self.old.edges) result }
+        ensures judged { IsJudged (ids self.old) self.old.kinds (with_filter node filter perm shared self.old.edges) result }
         ensures no_cycle { result ≢ Err GraphStop.Cycle }
-        ensures ok { OnOk result (self.new ≡ record self.old { edges = with_filter node filter perm shared self.old.edges }) }
-
-        // taking the filter away again gives back the list
-        ensures undone { OnOk result (without_filter filter self.new.edges ≡ self.old.edges) }
+        ensures ok { OnOk result (self.new ≡ with_edges self.old (with_filter node filter perm shared self.old.edges)) }
         ensures err { OnErr result (self.new ≡ self.old) }
+        ensures sound { IsSound self.new }
     {
-        self.staged.clear();
-        edit::put_filter(
-            self.edges.as_slice(),
-            node,
-            filter,
-            perm,
-            shared,
-            &mut self.staged,
-        );
+        self.staged.copy_from(&self.edges);
+        self.staged.put_filter(node, filter, perm, shared);
         settle(
             self.order.as_slice(),
+            &self.kinds,
             &mut self.edges,
             &mut self.staged,
-            filter,
         )
     }
 
-    /// Takes a filter from between its child and its parents.
-    pub fn remove_filter(&mut self, filter: NodeId)
-        ensures { self.new ≡ record self.old { edges = without_filter filter self.old.edges } }
+    /// Takes a filter from between its child and its parents. They then stand beside the child's other parents, so a conflict
+    /// may be answered.
+    pub fn remove_filter(&mut self, filter: NodeId) -> Result<(), GraphStop>
+        ensures judged { IsJudged (ids self.old) self.old.kinds (without_filter filter self.old.edges) result }
+        ensures no_cycle { result ≢ Err GraphStop.Cycle }
+        ensures ok { OnOk result (self.new ≡ with_edges self.old (without_filter filter self.old.edges)) }
+        ensures err { OnErr result (self.new ≡ self.old) }
+        ensures sound { IsSound self.new }
     {
-        self.staged.clear();
-        edit::drop_filter(self.edges.as_slice(), filter, &mut self.staged);
-        mem::swap(&mut self.edges, &mut self.staged);
+        self.staged.copy_from(&self.edges);
+        self.staged.drop_filter(filter);
+        settle(
+            self.order.as_slice(),
+            &self.kinds,
+            &mut self.edges,
+            &mut self.staged,
+        )
     }
 
     /// Removes all edges of a parent.
     pub fn clear_edges(&mut self, parent: Parent)
-        ensures { self.new ≡ record self.old { edges = without_parent parent self.old.edges } }
+        ensures edges { self.new ≡ with_edges self.old (without_parent parent self.old.edges) }
+        ensures sound { IsSound self.new }
     {
-        self.staged.clear();
-        edit::drop_parent(self.edges.as_slice(), &parent, &mut self.staged);
+        self.staged.copy_from(&self.edges);
+        self.staged.drop_parent(parent);
+        self.staged.refresh(&self.kinds);
+        mem::swap(&mut self.edges, &mut self.staged);
+    }
+
+    /// Removes a parent's edges of a role.
+    pub fn clear_edge(&mut self, parent: Parent, role: Role)
+        ensures edges { self.new ≡ with_edges self.old (without_edge parent role self.old.edges) }
+        ensures sound { IsSound self.new }
+    {
+        self.staged.copy_from(&self.edges);
+        self.staged.remove(parent, role);
+        self.staged.refresh(&self.kinds);
         mem::swap(&mut self.edges, &mut self.staged);
     }
 
@@ -220,7 +293,7 @@ impl Graph {
         requires { HasNode self.now node }
         ensures { Contains self.now.nodes (record { id = node; name = result.now }) }
     {
-        names::name_at(&self.names, node)
+        names::name_at(&self.names, &self.keys, node)
     }
 
     /// The node of that name.
@@ -228,28 +301,38 @@ impl Graph {
         ensures found { IfSome result (λ id. Contains self.now.nodes (record { id = id; name = name.now })) }
         ensures none { IfNone result (¬ HasName self.now name.now) }
     {
-        names::node_named(&self.names, self.order.as_slice(), name)
+        names::node_named(&self.names, &self.keys, self.order.as_slice(), name)
     }
 
-    /// Adds a node. It may get the id of one that was removed.
-    pub fn add_node(&mut self, name: Text) -> Result<NodeId, GraphStop>
+    /// Adds a node. It gets the lowest id that is free.
+    pub fn add_node(&mut self, name: Text, kind: NodeKind) -> Result<NodeId, GraphStop>
         ensures taken { (result ≡ Err GraphStop.NameTaken) ↔ HasName self.old name.bytes }
         ensures full { (result ≡ Err GraphStop.TooManyNodes) ↔ ((length self.old.nodes ≡ 64) × ¬ HasName self.old name.bytes) }
         ensures only { IfErr result IsAdditionStop }
-        ensures ok { IfOk result (λ id. self.new ≡ record self.old { nodes = self.old.nodes ++ (record { id = id; name = name.bytes }) ∷ [] }) }
-        ensures fresh { IfOk result (λ id. ¬ HasNode self.old id) }
+        ensures ok { IfOk result (λ id. self.new ≡ with_node self.old id name.bytes kind) }
+        ensures lowest { IfOk result (IsLowestFree (ids self.old)) }
         ensures there { IfOk result (λ id. HasNode self.new id) }
         ensures lone { IfOk result (λ id. IsLone self.new.edges id) }
         ensures err { OnErr result (self.new ≡ self.old) }
+        ensures sound { IsSound self.new }
     {
-        if names::node_named(&self.names, self.order.as_slice(), name.as_str()).is_some() {
+        let named = names::node_named(
+            &self.names,
+            &self.keys,
+            self.order.as_slice(),
+            name.as_str(),
+        );
+        if named.is_some() {
             return Err(GraphStop::NameTaken);
         }
         if self.order.len() == MOST_NODES {
             return Err(GraphStop::TooManyNodes);
         }
-        let node = NodeId::new(self.names.insert_reserved(name));
+        let node = next_id(self.order.as_slice());
+        let key = self.names.insert_reserved(name);
+        self.keys[node.index()] = key;
         self.order.push_reserved(node);
+        self.kinds[node.index()] = kind;
         Ok(node)
     }
 
@@ -257,20 +340,20 @@ impl Graph {
     pub fn remove_node(&mut self, node: NodeId) -> Result<(), GraphStop>
         requires { HasNode self.old node }
         ensures answer { MatchOption (first_parent node self.old.edges) (result ≡ Ok tt) (λ parent. result ≡ Err (GraphStop.InUse parent)) }
-        ensures ok { OnOk result (self.new ≡ record {
-          nodes = without_node node self.old.nodes;
-          edges = without_parent (Parent.Node node) self.old.edges;
-        }) }
+        ensures ok { OnOk result (self.new ≡ without_node node self.old) }
         ensures err { OnErr result (self.new ≡ self.old) }
+        ensures sound { IsSound self.new }
     {
         if let Some(parent) = edit::first_parent(self.edges.as_slice(), node) {
             return Err(GraphStop::InUse(parent));
         }
-        self.staged.clear();
-        edit::drop_parent(self.edges.as_slice(), &Parent::Node(node), &mut self.staged);
+        self.staged.copy_from(&self.edges);
+        self.staged.drop_parent(Parent::Node(node));
+        self.staged.refresh(&self.kinds);
         mem::swap(&mut self.edges, &mut self.staged);
         names::drop_node(&mut self.order, node);
-        self.names.remove(node.index());
+        self.names.remove(self.keys[node.index()]);
+        self.kinds[node.index()] = NO_KIND;
         Ok(())
     }
 }

@@ -1,47 +1,50 @@
 //! The look at an edited list before it is taken.
-ghost use Rattle.std.specs.Prelude.{◌≡◌, ℕ, ◌≤◌, Contains, OnOk, OnErr, vec_capacity};
-ghost use Rattle.blk_graph.specs.Paths.{Reaches, IsAcyclic};
-ghost use Rattle.blk_graph.specs.Judged.{IsJudged};
-ghost use Rattle.blk_graph.specs.declared.edge.Edge.{Edge as Use};
+ghost use Rattle.std.specs.Prelude.{◌≡◌, ◌↔◌, length, IsTrue, OnOk, OnErr};
+ghost use Rattle.blk_graph.specs.Judged.{IsRuled};
+ghost use Rattle.blk_graph.specs.Paths.{LeadsBack};
+ghost use Rattle.blk_graph.specs.Refreshed.{refreshed};
 
-use crate::edge::{Edge, NodeId};
-use crate::rule::first_conflict;
+use crate::edge::{Edge, NodeId, Parent};
+use crate::kind::NodeKind;
+use crate::list::EdgeList;
 use crate::stop::GraphStop;
 use crate::walk::reaches;
 use std::mem;
 
-/// Refuses a list that has a cycle, else one that breaks the permission rule. All that is new in the
-/// list leads to one node, so that a cycle would lead through it.
-fn judge(nodes: &[NodeId], edited: &[Edge], through: NodeId) -> Result<(), GraphStop>
-    requires through { (Reaches edited.now through through → ⊥) → IsAcyclic edited.now }
-    requires children { (edge : Use) → Contains edited.now edge → Contains nodes.now edge.child }
-    ensures { IsJudged nodes.now edited.now result }
+/// Whether an edge from this parent to the child would close a cycle.
+pub(crate) fn leads_back(edges: &[Edge], child: NodeId, parent: &Parent) -> bool
+    ensures { IsTrue result ↔ LeadsBack edges.now child parent.now }
 {
-    if reaches(edited, through, through) {
-        return Err(GraphStop::Cycle);
-    }
-    match first_conflict(nodes, edited) {
-        None => Ok(()),
-        Some(pair) => Err(GraphStop::Conflict(pair)),
+    match parent {
+        Parent::Node(node) => child == *node || reaches(edges, child, *node),
+        Parent::Guest(_) | Parent::Job(_) => false,
     }
 }
 
-/// Takes the edited list for the graph's, unless it is refused.
+/// Refuses a list that breaks the permission rule.
+fn judge(nodes: &[NodeId], edited: &EdgeList) -> Result<(), GraphStop>
+    ensures { IsRuled nodes.now edited.now result }
+{
+    match edited.judge(nodes) {
+        Ok(()) => Ok(()),
+        Err(pair) => Err(GraphStop::Conflict(pair)),
+    }
+}
+
+/// Derives what nodes' edges ask and share, and takes the edited list for the graph's, unless it is refused.
 pub(crate) fn settle(
     nodes: &[NodeId],
-    edges: &mut Vec<Edge>,
-    edited: &mut Vec<Edge>,
-    through: NodeId,
+    kinds: &[NodeKind],
+    edges: &mut EdgeList,
+    edited: &mut EdgeList,
 ) -> Result<(), GraphStop>
-    requires through { (Reaches edited.old.items through through → ⊥) → IsAcyclic edited.old.items }
-    requires children { (edge : Use) → Contains edited.old.items edge → Contains nodes.now edge.child }
-    ensures judged { IsJudged nodes.now edited.old.items result }
-    ensures ok { OnOk result (edges.new.items ≡ edited.old.items) }
-    ensures err { OnErr result (edges.new.items ≡ edges.old.items) }
-    ensures room { (n : ℕ) → n ≤ vec_capacity edges.old → n ≤ vec_capacity edited.old → n ≤ vec_capacity edges.new }
-    ensures spare { (n : ℕ) → n ≤ vec_capacity edges.old → n ≤ vec_capacity edited.old → n ≤ vec_capacity edited.new }
+    requires kinds { length kinds.now ≡ 64 }
+    ensures ruled { IsRuled nodes.now (refreshed kinds.now edited.old) result }
+    ensures ok { OnOk result (edges.new ≡ refreshed kinds.now edited.old) }
+    ensures err { OnErr result (edges.new ≡ edges.old) }
 {
-    let judged = judge(nodes, edited.as_slice(), through);
+    edited.refresh(kinds);
+    let judged = judge(nodes, edited);
     if judged.is_ok() {
         mem::swap(edges, edited);
     }

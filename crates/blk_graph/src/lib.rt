@@ -5,14 +5,22 @@
 mod edge;
 mod edit;
 mod graph;
+mod ids;
 mod judge;
+mod kind;
+mod list;
 mod names;
+mod refresh;
 mod rule;
 mod stop;
 #[cfg(test)]
 mod tests;
+mod uses;
 mod walk;
 
-pub use edge::{Conflict, Edge, MOST_NODES, NodeId, Parent, Perm, Perms, Role};
-pub use graph::{Graph, MOST_EDGES};
+pub use edge::{Conflict, Edge, MOST_NODES, NodeId, Parent, Perm, Perms, Role, Uses};
+pub use graph::{Graph, MOST_OUTSIDE};
+pub use ids::free_id;
+pub use kind::{JobUse, Kind, NO_KIND, NodeKind};
+pub use list::{EdgeList, MOST_EDGES};
 pub use stop::GraphStop;

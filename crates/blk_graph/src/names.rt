@@ -1,28 +1,35 @@
 //! Nodes and their names, as the graph keeps them.
-ghost use Rattle.std.specs.Prelude.{◌≡◌, ◌≢◌, ◌==◌, ℕ, Contains, IfSome, IfNone, filter, not, vec_capacity};
+ghost use Rattle.std.specs.Prelude.{◌≡◌, ◌≢◌, ◌==◌, ℕ, length, Contains, IfSome, IfNone, filter, not, vec_capacity};
 ghost use Rattle.slab.specs.Slab.{ContainsKey};
-ghost use Rattle.blk_graph.specs.Layout.{name_of, HasNames};
+ghost use Rattle.blk_graph.specs.Layout.{name_of, key_of, HasNames};
 
 use crate::edge::NodeId;
 use blk_base::Text;
 use slab::Slab;
 
-pub(crate) fn name_at(names: &Slab<Text>, node: NodeId) -> &str
-    requires { ContainsKey names.now node }
-    ensures { result.now ≡ name_of names.now node }
+pub(crate) fn name_at<'x>(names: &'x Slab<Text>, keys: &[usize], node: NodeId) -> &'x str
+    requires room { length keys.now ≡ 64 }
+    requires named { ContainsKey names.now (key_of keys.now node) }
+    ensures { result.now ≡ name_of names.now (key_of keys.now node) }
 {
-    names.get(node.index()).unwrap().as_str()
+    names.get(keys[node.index()]).unwrap().as_str()
 }
 
 /// The node of that name.
-pub(crate) fn node_named(names: &Slab<Text>, order: &[NodeId], name: &str) -> Option<NodeId>
-    requires { HasNames names.now order.now }
+pub(crate) fn node_named(
+    names: &Slab<Text>,
+    keys: &[usize],
+    order: &[NodeId],
+    name: &str,
+) -> Option<NodeId>
+    requires room { length keys.now ≡ 64 }
+    requires named { HasNames names.now keys.now order.now }
     ensures found { IfSome result (λ id. Contains order.now id) }
-    ensures named { IfSome result (λ id. name_of names.now id ≡ name.now) }
-    ensures none { IfNone result ((id : ℕ) → Contains order.now id → name_of names.now id ≢ name.now) }
+    ensures named { IfSome result (λ id. name_of names.now (key_of keys.now id) ≡ name.now) }
+    ensures none { IfNone result ((id : ℕ) → Contains order.now id → name_of names.now (key_of keys.now id) ≢ name.now) }
 {
     for node in order {
-        if name_at(names, *node) == name {
+        if name_at(names, keys, *node) == name {
             return Some(*node);
         }
     }

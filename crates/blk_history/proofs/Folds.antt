@@ -4,7 +4,7 @@ use Rattle.std.specs.Prelude.{◌==◌}
 use Rattle.blk_history.specs.Fold.{run, Each}
 use Rattle.blk_history.specs.Owned.{asked_by}
 use Rattle.blk_history.specs.declared.event.Event.{Event}
-use Rattle.blk_history.specs.declared.event.Event.TheVariants.{Admit, Refuse, Piece, Retire}
+use Rattle.blk_history.specs.declared.event.Event.TheVariants.{Admit, Refuse}
 
 pub run-push : {S E : Type 0} (step : S → E → S) (s : S) (es : List E) (e : E) → run step s (es ++ e ∷ []) ≡ step (run step s es) e
 run-push step s [] e = refl
@@ -25,5 +25,4 @@ asked-push g (Refuse h r op why ∷ es) e = elim (h == g) as (λ b. cond b (op �
   | true ↦ ap (λ ops. op ∷ ops) (asked-push g es e)
   | false ↦ asked-push g es e
 ]
-asked-push g (Piece h r k outcome got ∷ es) e = asked-push g es e
-asked-push g (Retire h r ∷ es) e = asked-push g es e
+asked-push g (x ∷ es) e = asked-push g es e

@@ -4,7 +4,7 @@ use Rattle.std.specs.Prelude.{slice_range, slice_get}
 use Rattle.std.proofs.lemmas.List.{drop-append-le, take-append-le}
 use Rattle.blk_base.specs.Pieces.{end_of}
 use Rattle.blk_history.specs.declared.entry.Entry.{Entry}
-use Rattle.blk_history.specs.declared.entry.Entry.TheVariants.{Admit, Refuse, Piece, Retire}
+use Rattle.blk_history.specs.declared.entry.Entry.TheVariants.{Piece}
 use Rattle.blk_history.specs.declared.event.Event.{Event}
 use Rattle.blk_history.specs.declared.event.Event.TheVariants as events
 use Rattle.blk_history.specs.Line.{At}
@@ -15,10 +15,8 @@ points-push n [] e all one = (one, tt)
 points-push n (x ∷ es) e all one = (all.0, points-push n es e all.1 one)
 
 point-more : (n m : ℕ) (e : Entry) → n ≤ m → PointsWithin n e → PointsWithin m e
-point-more n m (Admit g r op) le h = tt
-point-more n m (Refuse g r op why) le h = tt
 point-more n m (Piece g r k outcome got) le h = omega arith
-point-more n m (Retire g r) le h = tt
+point-more n m e le h = tt
 
 pub points-more : (n m : ℕ) (es : List Entry) → n ≤ m → AllPointWithin n es → AllPointWithin m es
 points-more n m [] le all = tt
@@ -30,10 +28,8 @@ range-append bytes more i j le within =
     ap (take (j - i)) (drop-append-le i bytes more (omega arith)) ∙ take-append-le (j - i) (drop i bytes) more (omega (arith, length-drop i bytes))
 
 event-append : (bytes more : List ℕ) (e : Entry) → PointsWithin (length bytes) e → event_of (bytes ++ more) e ≡ event_of bytes e
-event-append bytes more (Admit g r op) h = refl
-event-append bytes more (Refuse g r op why) h = refl
 event-append bytes more (Piece g r k outcome got) h = ap (events.Piece g r k outcome) (range-append bytes more got.start (end_of got) (omega arith) h)
-event-append bytes more (Retire g r) h = refl
+event-append bytes more e h = refl
 
 pub events-append : (bytes more : List ℕ) (es : List Entry) → AllPointWithin (length bytes) es → map (event_of (bytes ++ more)) es ≡ map (event_of bytes) es
 events-append bytes more [] all = refl

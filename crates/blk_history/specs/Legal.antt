@@ -59,6 +59,7 @@ Fits s (Admit g r op) = With (guest_at s g) (λ row. With (node_at s row.node) (
 Fits s (Refuse g r op why) = With (guest_at s g) (λ row. With (node_at s row.node) (λ node. IsNext row r × IsRefusedFor op row node why))
 Fits s (Piece g r k outcome got) = With (guest_at s g) (λ row. With row.flight (λ f. (r ≡ row.done) × IsNextPiece f k outcome (disk_in s.disks row.node) got))
 Fits s (Retire g r) = With (guest_at s g) (λ row. With row.flight (λ f. (r ≡ row.done) × IsOver f))
+Fits s e = ⊥
 
 -- a history is legal where each of its entries fits
 abbrev pub Legal : State → List Event → Type 0

@@ -4,6 +4,7 @@ pub mod Machine
 pub mod Legal
 pub mod Owned
 pub mod Licence
+pub mod Names
 pub mod Transcript
 pub mod Recorded
 pub mod Line

@@ -5,7 +5,7 @@ use Rattle.blk_base.specs.declared.fault.Outcome.{Outcome}
 use Rattle.blk_base.specs.declared.fault.Outcome.TheVariants.{Good, Torn, Io, NoSpace}
 use Rattle.blk_history.specs.Fold.{run, Each}
 use Rattle.blk_history.specs.declared.event.Event.{Event}
-use Rattle.blk_history.specs.declared.event.Event.TheVariants.{Admit, Refuse, Piece, Retire}
+use Rattle.blk_history.specs.declared.event.Event.TheVariants.{Piece}
 
 -- a device and its count of faults, as an entry names them
 pub record Named : Type 0 where
@@ -19,10 +19,8 @@ named_by (Io dev count) = Some (record { dev = dev.0; count = count })
 named_by (NoSpace dev) = None
 
 abbrev pub named_in : Event → Option Named
-named_in (Admit g r op) = None
-named_in (Refuse g r op why) = None
 named_in (Piece g r k outcome got) = named_by outcome
-named_in (Retire g r) = None
+named_in e = None
 
 -- for each device the count that was named last, at first that of its opening
 abbrev pub last_named : List ℕ → Option Named → List ℕ

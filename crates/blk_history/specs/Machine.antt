@@ -98,6 +98,7 @@ after s (Admit g r op) = with_guest g (admitted op) s
 after s (Refuse g r op why) = with_guest g finished s
 after s (Piece g r k outcome got) = with_guest g (past_piece outcome) (piece_done (guest_at s g) k outcome s)
 after s (Retire g r) = with_guest g finished s
+after s e = s
 
 -- the state after a history
 abbrev pub replay : State → List Event → State

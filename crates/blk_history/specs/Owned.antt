@@ -3,15 +3,14 @@ use Rattle.std.specs.Prelude.{◌≡◌, ℕ, ◌==◌, if◌then◌else◌, Lis
 use Rattle.trace_codec.specs.declared.op.Op.{Op}
 use Rattle.blk_history.specs.Machine.{State, replay}
 use Rattle.blk_history.specs.declared.event.Event.{Event}
-use Rattle.blk_history.specs.declared.event.Event.TheVariants.{Admit, Refuse, Piece, Retire}
+use Rattle.blk_history.specs.declared.event.Event.TheVariants.{Admit, Refuse}
 
 -- what a guest asked, in order: each request is admitted once or refused once
 abbrev pub asked_by : ℕ → List Event → List Op
 asked_by g [] = []
 asked_by g (Admit h r op ∷ es) = if h == g then op ∷ asked_by g es else asked_by g es
 asked_by g (Refuse h r op why ∷ es) = if h == g then op ∷ asked_by g es else asked_by g es
-asked_by g (Piece h r k outcome got ∷ es) = asked_by g es
-asked_by g (Retire h r ∷ es) = asked_by g es
+asked_by g (e ∷ es) = asked_by g es
 
 -- nobody has a request in flight
 abbrev pub IsIdle : State → Type 0

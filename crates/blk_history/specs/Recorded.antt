@@ -19,13 +19,17 @@ event_of bytes (entries.Admit g r op) = events.Admit g r op
 event_of bytes (entries.Refuse g r op why) = events.Refuse g r op why
 event_of bytes (entries.Piece g r k outcome got) = events.Piece g r k outcome (slice_range bytes got.start (end_of got))
 event_of bytes (entries.Retire g r) = events.Retire g r
+event_of bytes (entries.Reply line given command text) = events.Reply line given.bytes command text.bytes
+event_of bytes (entries.Reached line what) = events.Reached line what
+event_of bytes (entries.Start job) = events.Start job
+event_of bytes (entries.Ready job) = events.Ready job
+event_of bytes (entries.End job outcome offset) = events.End job outcome offset
+event_of bytes (entries.Done actor) = events.Done actor
 
 -- the bytes that an entry points to are among so many
 abbrev pub PointsWithin : ℕ → Entry → Type 0
-PointsWithin n (entries.Admit g r op) = Unit {0}
-PointsWithin n (entries.Refuse g r op why) = Unit {0}
 PointsWithin n (entries.Piece g r k outcome got) = end_of got ≤ n
-PointsWithin n (entries.Retire g r) = Unit {0}
+PointsWithin n entry = Unit {0}
 
 -- each entry does
 abbrev pub AllPointWithin : ℕ → List Entry → Type 0

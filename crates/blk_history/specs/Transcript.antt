@@ -1,20 +1,30 @@
 -- The transcript: one line for each entry.
-use Rattle.std.specs.Prelude.{ℕ, List, [], ◌∷◌, ◌++◌, get_or, flat_map, codes, decimal}
+use Rattle.std.specs.Prelude.{ℕ, zero, suc, List, [], ◌∷◌, ◌++◌, get_or, flat_map, codes, decimal, Option, Some, None, option_map}
+use Rattle.std.specs.List.{join_with_byte}
+use Rattle.serde_json.specs.Written.{compact_text}
 use Rattle.blk_base.specs.Pieces.{Extent}
+use Rattle.blk_base.specs.Written.{Written}
 use Rattle.blk_base.specs.declared.fault.DevNo.{DevNo}
+use Rattle.blk_base.specs.declared.fault.Fault.{Fault}
+use Rattle.blk_base.specs.declared.fault.Fault.TheVariants as faults
 use Rattle.blk_base.specs.declared.fault.Outcome.{Outcome}
 use Rattle.blk_base.specs.declared.fault.Outcome.TheVariants.{Good, Torn, Io, NoSpace}
 use Rattle.blk_runs.specs.Runs.{runs_text}
 use Rattle.trace_codec.specs.declared.op.Op.{Op}
 use Rattle.trace_codec.specs.declared.op.Op.TheVariants.{Read, Write, Zero, Flush, Discard}
+use Rattle.qmp_codec.specs.declared.event.Event.{Event as Told}
+use Rattle.qmp_codec.specs.declared.event.EventName.{EventName}
+use Rattle.qmp_codec.specs.declared.event.EventName.TheVariants as event
+use Rattle.qmp_codec.specs.Events.{kind_text, event_data}
+use Rattle.blk_history.specs.Names.{JobLine, RowNames, no_job}
 use Rattle.blk_history.specs.declared.entry.Refused.{Refused}
 use Rattle.blk_history.specs.declared.entry.Refused.TheVariants.{Range, ReadOnly}
+use Rattle.blk_history.specs.declared.entry.Cause.{Cause}
+use Rattle.blk_history.specs.declared.entry.Cause.TheVariants.{Command, Group, RunEnd}
+use Rattle.blk_history.specs.declared.entry.JobEnd.{JobEnd}
+use Rattle.blk_history.specs.declared.entry.JobEnd.TheVariants.{Completed, Pivoted, Copied, Failed, Cancelled}
 use Rattle.blk_history.specs.declared.event.Event.{Event}
-use Rattle.blk_history.specs.declared.event.Event.TheVariants.{Admit, Refuse, Piece, Retire}
-
--- names by number, as a transcript prints them
-pub record RowNames : Type 0 where
-  pub guests : List (List ℕ)
+use Rattle.blk_history.specs.declared.event.Event.TheVariants.{Admit, Refuse, Piece, Retire, Reply, Reached, Start, Ready, End, Done}
 
 -- words parted by single spaces, and a line feed
 abbrev pub sentence : List ℕ → List (List ℕ) → List ℕ
@@ -49,11 +59,87 @@ outcome_words (Torn done dev count) got = codes "torn" ∷ decimal done ∷ dev_
 outcome_words (Io dev count) got = codes "io" ∷ dev_word dev ∷ decimal count ∷ []
 outcome_words (NoSpace dev) got = codes "nospace" ∷ dev_word dev ∷ []
 
+-- ---- jobs
+
+abbrev pub fault_words : Fault → List (List ℕ)
+fault_words (faults.Io dev count) = codes "io" ∷ dev_word dev ∷ decimal count ∷ []
+fault_words (faults.NoSpace dev) = codes "nospace" ∷ dev_word dev ∷ []
+
+abbrev pub cause_word : Cause → List ℕ
+cause_word Command = codes "command"
+cause_word Group = codes "group"
+cause_word RunEnd = codes "run"
+
+abbrev pub result_words : JobEnd → List (List ℕ)
+result_words Completed = codes "done" ∷ []
+result_words Pivoted = codes "pivot" ∷ []
+result_words Copied = codes "copied" ∷ []
+result_words (Failed fault) = fault_words fault
+result_words (Cancelled cause) = codes "cancelled" ∷ cause_word cause ∷ []
+
+-- a job that failed is told as completed, with its fault
+abbrev pub event_name : JobEnd → EventName
+event_name (Cancelled cause) = event.Cancelled
+event_name outcome = event.Completed
+
+abbrev pub plain_text : List ℕ → Written
+plain_text bytes = record { bytes = bytes; spare = 0 }
+
+abbrev pub fault_of : JobEnd → Option Fault
+fault_of (Failed fault) = Some fault
+fault_of outcome = None
+
+abbrev pub fault_text : Fault → List ℕ
+fault_text fault = join_with_byte 32 (fault_words fault)
+
+-- what a job tells
+abbrev pub told_by : JobLine → EventName → Option Fault → ℕ → Told
+told_by job name fault offset = record {
+  name = name;
+  device = plain_text job.id;
+  error = option_map (λ f. plain_text (fault_text f)) fault;
+  len = job.size;
+  offset = offset;
+  kind = job.kind;
+}
+
+abbrev pub event_text : JobLine → EventName → Option Fault → ℕ → List ℕ
+event_text job name fault offset = compact_text (event_data (told_by job name fault offset))
+
+-- ---- lines
+
+abbrev pub guest_word : RowNames → ℕ → List ℕ
+guest_word names g = get_or names.guests g []
+
+abbrev pub job_line : RowNames → ℕ → JobLine
+job_line names job = get_or names.jobs job no_job
+
+-- the script is actor 0, and guest g is actor g + 1
+abbrev pub actor_word : RowNames → ℕ → List ℕ
+actor_word names zero = codes "script"
+actor_word names (suc g) = guest_word names g
+
+abbrev pub start_words : JobLine → List (List ℕ)
+start_words job = job.id ∷ kind_text job.kind ∷ []
+
+-- once it is ready it has copied all
+abbrev pub ready_words : JobLine → List (List ℕ)
+ready_words job = job.id ∷ event_text job event.Ready None job.size ∷ []
+
+abbrev pub end_words : JobLine → JobEnd → ℕ → List (List ℕ)
+end_words job outcome offset = (job.id ∷ result_words outcome) ++ event_text job (event_name outcome) (fault_of outcome) offset ∷ []
+
 abbrev pub line_of : RowNames → Event → List ℕ
-line_of names (Admit g r op) = sentence (codes "admit") (get_or names.guests g [] ∷ decimal r ∷ op_words op)
-line_of names (Refuse g r op why) = sentence (codes "refuse") ((get_or names.guests g [] ∷ decimal r ∷ op_words op) ++ refused_word why ∷ [])
-line_of names (Piece g r k outcome got) = sentence (codes "piece") (get_or names.guests g [] ∷ decimal r ∷ decimal k ∷ outcome_words outcome got)
-line_of names (Retire g r) = sentence (codes "retire") (get_or names.guests g [] ∷ decimal r ∷ [])
+line_of names (Admit g r op) = sentence (codes "admit") (guest_word names g ∷ decimal r ∷ op_words op)
+line_of names (Refuse g r op why) = sentence (codes "refuse") ((guest_word names g ∷ decimal r ∷ op_words op) ++ refused_word why ∷ [])
+line_of names (Piece g r k outcome got) = sentence (codes "piece") (guest_word names g ∷ decimal r ∷ decimal k ∷ outcome_words outcome got)
+line_of names (Retire g r) = sentence (codes "retire") (guest_word names g ∷ decimal r ∷ [])
+line_of names (Reply line given command text) = sentence (codes "reply") (decimal line ∷ text ∷ [])
+line_of names (Reached line what) = sentence (codes "reached") (decimal line ∷ [])
+line_of names (Start job) = sentence (codes "start") (start_words (job_line names job))
+line_of names (Ready job) = sentence (codes "ready") (ready_words (job_line names job))
+line_of names (End job outcome offset) = sentence (codes "end") (end_words (job_line names job) outcome offset)
+line_of names (Done actor) = sentence (codes "done") (actor_word names actor ∷ [])
 
 -- all lines, in order
 unfoldable pub transcript : RowNames → List Event → List ℕ

@@ -2,8 +2,8 @@
 
 ghost use Rattle.std.specs.Prelude.{◌≡◌, ◌+◌, ◌<◌, ◌≤◌, [], ◌∷◌, ◌++◌, length, vec_len, vec_capacity};
 
-use crate::Asked;
-use blk_base::{Outcome, Span};
+use crate::{Asked, Awaited, Understood};
+use blk_base::{Fault, Outcome, Span, Text};
 
 /// Why a request was refused at its admission.
 #[derive(Clone, Copy, Debug, PartialEq, Eq)]
@@ -14,8 +14,33 @@ pub enum Refused {
     ReadOnly,
 }
 
+/// Why a job was cancelled.
+#[derive(Clone, Copy, Debug, PartialEq, Eq)]
+pub enum Cause {
+    /// A command named it.
+    Command,
+    /// A member of its group failed or was cancelled.
+    Group,
+    /// Script and guests were done, and nobody had asked it to end.
+    RunEnd,
+}
+
+/// How a job ended.
+#[derive(Clone, Copy, Debug, PartialEq, Eq)]
+pub enum JobEnd {
+    Completed,
+    /// It was told to complete, and its source's parents moved to the target.
+    Pivoted,
+    /// It was cancelled once it was ready: the target equals the source, and nobody moved.
+    Copied,
+    Failed(Fault),
+    Cancelled(Cause),
+}
+
 /// One entry. `request` counts a guest's admitted and refused requests from 0. `got` is where a read piece's bytes
-/// stand among the bytes of the history, and empty for every other piece.
+/// stand among the bytes of the history, and empty for every other piece. `job` counts the starts of jobs from 0, and
+/// `offset` is how far the job is: the size of its source once it is ready and at an end without error, and else 0. The
+/// script is actor 0, and guest `g` is actor `g + 1`.
 #[derive(Debug, Drop)]
 pub enum Entry {
     Admit {
@@ -39,6 +64,32 @@ pub enum Entry {
     Retire {
         guest: u32,
         request: u32,
+    },
+    /// The answer to a line of the script, with the line as it was given.
+    Reply {
+        line: u32,
+        given: Text,
+        command: Understood,
+        text: Text,
+    },
+    /// What a line of the script waits for has come.
+    Reached {
+        line: u32,
+        what: Awaited,
+    },
+    Start {
+        job: u32,
+    },
+    Ready {
+        job: u32,
+    },
+    End {
+        job: u32,
+        outcome: JobEnd,
+        offset: u64,
+    },
+    Done {
+        actor: u32,
     },
 }
 

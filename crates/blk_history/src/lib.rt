@@ -7,11 +7,12 @@ mod event;
 mod history;
 mod line;
 mod rows;
+mod telling;
 #[cfg(test)]
 mod tests;
 
-pub use asked::Asked;
-pub use entry::{Entry, Refused};
+pub use asked::{Asked, Awaited, Understood};
+pub use entry::{Cause, Entry, JobEnd, Refused};
 pub use event::Event;
 pub use history::History;
-pub use rows::Rows;
+pub use rows::{JobName, Rows};

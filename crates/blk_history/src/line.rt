@@ -1,17 +1,19 @@
 //! The transcript's line of an entry.
 ghost use Rattle.std.specs.Prelude.{◌≡◌, ◌+◌, ◌*◌, ◌^◌, ◌<◌, ◌≤◌, [], ◌∷◌, ◌++◌, length, codes, decimal, get_or, slice_range, SomeIff, IsOk, OnOk, OnErr};
 ghost use Rattle.blk_base.specs.Pieces.{end_of};
-ghost use Rattle.blk_history.specs.Transcript.{span_words, op_words, refused_word, dev_word, good_words, outcome_words, line_of};
+ghost use Rattle.blk_history.specs.Names.{no_job};
+ghost use Rattle.blk_history.specs.Transcript.{span_words, op_words, refused_word, dev_word, good_words, outcome_words, actor_word, start_words, ready_words, end_words, line_of};
 ghost use Rattle.blk_history.specs.Recorded.{event_of, PointsWithin};
-ghost use Rattle.blk_history.specs.Line.{blanked, HasName, line_room, Appends};
+ghost use Rattle.blk_history.specs.Line.{blanked, HasName, HasActor, actor_room, long_part, line_room, Appends};
 
+use crate::telling::{push_end, push_ready, push_start};
 use crate::{Entry, Refused, Rows};
 use blk_base::{DevNo, NoMemory, Outcome, Span, Text};
 use blk_runs::push_runs;
 use trace_codec::Op;
 
 /// Puts a blank and a word at the end.
-fn push_word(out: &mut Text, word: &str)
+pub(crate) fn push_word(out: &mut Text, word: &str)
     requires { length word.now + 1 ≤ out.old.spare }
     ensures { Appends out.old out.new (32 ∷ word.now) (length word.now + 1) }
 {
@@ -21,7 +23,7 @@ fn push_word(out: &mut Text, word: &str)
 
 /// Puts a blank and a number at the end.
 #[tactic(auto, using(crate::proofs::Words::short_decimal, std::proofs::lemmas::List::append_assoc))]
-fn push_count(out: &mut Text, n: u64)
+pub(crate) fn push_count(out: &mut Text, n: u64)
     requires { 21 ≤ out.old.spare }
     ensures { Appends out.old out.new (32 ∷ decimal n) 21 }
 {
@@ -31,7 +33,7 @@ fn push_count(out: &mut Text, n: u64)
 
 /// Puts a blank and a device's name at the end.
 #[tactic(auto, using(crate::proofs::Words::short_decimal, std::proofs::lemmas::List::append_assoc))]
-fn push_dev(out: &mut Text, dev: DevNo)
+pub(crate) fn push_dev(out: &mut Text, dev: DevNo)
     requires { 24 ≤ out.old.spare }
     ensures { Appends out.old out.new (32 ∷ dev_word dev) 24 }
 {
@@ -108,23 +110,62 @@ fn push_outcome(out: &mut Text, outcome: Outcome, got: &[u8])
     }
 }
 
+/// The name of an actor, where it is a guest: the script has none.
+fn actor_name(names: &Rows, actor: u32) -> &str
+    requires { HasActor names.now actor }
+    ensures { length result.now ≡ actor_room names.now actor }
+{
+    match actor.checked_sub(1) {
+        Some(guest) => names.guest(guest),
+        None => "",
+    }
+}
+
+/// Puts a blank and the name of an actor at the end.
+fn push_actor(out: &mut Text, names: &Rows, actor: u32)
+    requires named { HasActor names.now actor }
+    requires room { 7 + actor_room names.now actor ≤ out.old.spare }
+    ensures { Appends out.old out.new (32 ∷ actor_word names.now actor) (7 + actor_room names.now actor) }
+{
+    match actor.checked_sub(1) {
+        Some(guest) => push_word(out, names.guest(guest)),
+        None => push_word(out, "script"),
+    }
+}
+
+/// How much longer than 256 bytes the line of an entry may be, where that is a number of 64 bits.
+fn longer(entry: &Entry, bytes: &[u8], names: &Rows) -> Option<usize>
+    requires within { PointsWithin (length bytes.now) entry.now }
+    requires named { HasName names.now (event_of bytes.now entry.now) }
+    ensures { SomeIff result (long_part names.now (event_of bytes.now entry.now) < 2 ^ 64) (long_part names.now (event_of bytes.now entry.now)) }
+{
+    match entry {
+        Entry::Admit { guest, .. } | Entry::Refuse { guest, .. } | Entry::Retire { guest, .. } => {
+            Some(names.guest(*guest).len())
+        }
+        Entry::Piece { guest, got, .. } => {
+            let shown = (got.len as usize).checked_mul(5)?;
+            shown.checked_add(names.guest(*guest).len())
+        }
+        Entry::Reply { text, .. } => Some(text.len()),
+        Entry::Reached { .. } => Some(0),
+        Entry::Start { job } | Entry::Ready { job } | Entry::End { job, .. } => {
+            names.job(*job).id().len().checked_mul(2)?.checked_add(256)
+        }
+        Entry::Done { actor } => Some(actor_name(names, *actor).len()),
+    }
+}
+
 /// How much room the line of an entry is given, where that is a number of 64 bits.
 fn needed(entry: &Entry, bytes: &[u8], names: &Rows) -> Option<usize>
     requires within { PointsWithin (length bytes.now) entry.now }
     requires named { HasName names.now (event_of bytes.now entry.now) }
     ensures { SomeIff result (line_room names.now (event_of bytes.now entry.now) < 2 ^ 64) (line_room names.now (event_of bytes.now entry.now)) }
 {
-    let (guest, shown) = match entry {
-        Entry::Admit { guest, .. } | Entry::Refuse { guest, .. } | Entry::Retire { guest, .. } => {
-            (*guest, 0)
-        }
-        Entry::Piece { guest, got, .. } => (*guest, got.len as usize),
-    };
-    let name = names.guest(guest).len();
-    shown.checked_mul(5)?.checked_add(256)?.checked_add(name)
+    longer(entry, bytes, names)?.checked_add(256)
 }
 
-/// Puts the line of an entry at the end.
+/// Puts the line of an entry of a guest at the end.
 fn push_line(out: &mut Text, entry: &Entry, bytes: &[u8], names: &Rows)
     requires within { PointsWithin (length bytes.now) entry.now }
     requires named { HasName names.now (event_of bytes.now entry.now) }
@@ -169,6 +210,35 @@ fn push_line(out: &mut Text, entry: &Entry, bytes: &[u8], names: &Rows)
             out.push_str("retire");
             push_word(out, names.guest(*guest));
             push_count(out, u64::from(*request));
+        }
+        Entry::Reply { line, text, .. } => {
+            out.push_str("reply");
+            push_count(out, u64::from(*line));
+            push_word(out, text.as_str());
+        }
+        Entry::Reached { line, .. } => {
+            out.push_str("reached");
+            push_count(out, u64::from(*line));
+        }
+        Entry::Start { job } => {
+            out.push_str("start");
+            push_start(out, names.job(*job));
+        }
+        Entry::Ready { job } => {
+            out.push_str("ready");
+            push_ready(out, names.job(*job));
+        }
+        Entry::End {
+            job,
+            outcome,
+            offset,
+        } => {
+            out.push_str("end");
+            push_end(out, names.job(*job), *outcome, *offset);
+        }
+        Entry::Done { actor } => {
+            out.push_str("done");
+            push_actor(out, names, *actor);
         }
     }
     out.push_ascii(b'\n');

@@ -1,21 +1,30 @@
-ghost use Rattle.std.specs.Prelude.{◌≡◌, ◌<◌, [], length, IfOk};
+ghost use Rattle.std.specs.Prelude.{◌≡◌, ◌<◌, [], ◌∷◌, length, codes, IfOk};
+ghost use Rattle.qmp_codec.specs.declared.event.JobKind.{JobKind};
+ghost use Rattle.blk_history.specs.Names.{RowNames};
 ghost use Rattle.blk_history.specs.Recorded.{event_of, PointsWithin};
-ghost use Rattle.blk_history.specs.Line.{guest_of};
+ghost use Rattle.blk_history.specs.Line.{HasName};
 
 use super::*;
 use blk_base::{Bytes, DevNo, Names1, Outcome, Room, Span, Text};
+use qmp_codec::JobKind;
 use std::test::Fail;
-use trace_codec::{Op, Payload};
+use trace_codec::{Await, Op, Payload};
 
 const NOTHING: Span = Span { start: 0, len: 0 };
 
 fn names(rt: &HostRuntime) -> Result<Rows, Fail>
-    ensures { IfOk result (λ rows. length rows.guests ≡ 2) }
+    ensures { IfOk result (λ rows. rows ≡ record {
+      guests = codes "a" ∷ codes "guest2" ∷ [];
+      jobs = record { id = codes "b"; kind = JobKind.Backup; size = 131072 } ∷ [];
+    }) }
 {
     let mut guests = Vec::new(rt.alloc());
     guests.push(Text::copied(rt.alloc(), "a")?)?;
     guests.push(Text::copied(rt.alloc(), "guest2")?)?;
-    Ok(Rows::new(Names1::from_vec(guests)))
+    let id = Text::copied(rt.alloc(), "b")?;
+    let mut jobs = Vec::new(rt.alloc());
+    jobs.push(JobName::new(id, JobKind::Backup, 131_072))?;
+    Ok(Rows::new(Names1::from_vec(guests), jobs))
 }
 
 fn read(start: u32, len: u32) -> Asked {
@@ -34,7 +43,7 @@ fn write(start: u32, len: u32) -> Asked {
 }
 
 fn piece(k: u32, outcome: Outcome) -> Entry
-    ensures named { guest_of (event_of [] result) < 2 }
+    ensures named { (names : RowNames) → 1 < length names.guests → HasName names (event_of [] result) }
     ensures within { PointsWithin 0 result }
 {
     Entry::Piece {
@@ -48,7 +57,10 @@ fn piece(k: u32, outcome: Outcome) -> Entry
 
 // The line of a history's only entry, where reads gave these bytes.
 fn line(rt: &HostRuntime, entry: Entry, got: &[u8]) -> Result<Text, Fail>
-    requires named { guest_of (event_of got.now entry) < 2 }
+    requires named { HasName (record {
+      guests = codes "a" ∷ codes "guest2" ∷ [];
+      jobs = record { id = codes "b"; kind = JobKind.Backup; size = 131072 } ∷ [];
+    }) (event_of got.now entry) }
     requires within { PointsWithin (length got.now) entry }
 {
     let room = Room {
@@ -188,6 +200,34 @@ fn line_of_a_read(rt: HostRuntime) -> Result<(), Fail> {
         line(&rt, entry, &[9, 0x55, 0x55, 0x55, 0, 0, 0xab, 9])?.as_str(),
         "piece a 1 2 ok 55*3 00*2 ab*1\n"
     );
+    Ok(())
+}
+
+#[test]
+fn lines_of_the_script(rt: HostRuntime) -> Result<(), Fail> {
+    let entry = Entry::Reply {
+        line: 4,
+        given: Text::copied(rt.alloc(), "hello")?,
+        command: Understood::new(None),
+        text: Text::copied(rt.alloc(), "{\"return\":{}}")?,
+    };
+    assert_eq!(rt;
+        line(&rt, entry, &[])?.as_str(),
+        "reply 4 {\"return\":{}}\n"
+    );
+    let what = Await::Guest {
+        guest: 0,
+        requests: 2,
+    };
+    let entry = Entry::Reached {
+        line: 4096,
+        what: Awaited::new(what),
+    };
+    assert_eq!(rt; line(&rt, entry, &[])?.as_str(), "reached 4096\n");
+    let script = Entry::Done { actor: 0 };
+    assert_eq!(rt; line(&rt, script, &[])?.as_str(), "done script\n");
+    let guest = Entry::Done { actor: 2 };
+    assert_eq!(rt; line(&rt, guest, &[])?.as_str(), "done guest2\n");
     Ok(())
 }
 

@@ -1,13 +1,14 @@
 -- The rows, edges and devices of the nodes belong together, also after counts of devices have risen.
-use Rattle.std.proofs.Common.{◌≡◌, ℕ, ◌/◌, ◌<◌, List, get_or, replicate, Option, Some, None, refl, sym, ◌∙◌, ap, arith, inl, inr}
-use Rattle.std.specs.Prelude.{IsSome}
-use Rattle.std.proofs.lemmas.List.{length-replicate, get_or_past, get_or-replicate}
+use Rattle.std.proofs.Common.{◌≡◌, ℕ, ◌/◌, ◌<◌, List, [], ◌∷◌, length, map, get_or, replicate, Option, Some, None, refl, sym, ◌∙◌, ap, arith, inl, inr}
+use Rattle.std.specs.Prelude.{IsSome, AllPairs}
+use Rattle.blk_graph.proofs.NodeLemmas.{IsSound-none}
+use Rattle.std.proofs.lemmas.List.{length-replicate, length-map, get_or-map, get_or_past, get_or-replicate}
 use Rattle.std.proofs.lemmas.Bool.{cases_lt}
 use Rattle.q2_format.specs.declared.entries.L2Entry.{L2Entry}
 use Rattle.q2_format.specs.declared.entries.L2Entry.TheVariants as entries
 use Rattle.q2_image.specs.Image.{Known, IsImageOf, entry_in}
 use Rattle.blk_nodes.specs.Nodes.{Nodes, DeviceState, no_nodes, row_at, device_in, size_by, size_of, file_of, backing_of}
-use Rattle.blk_nodes.specs.Joined.{IsFile, HasSize, IsPart, IsOverlay, IsCopying, HasBelow, IsJoined}
+use Rattle.blk_nodes.specs.Joined.{IsFile, HasSize, IsPart, IsOverlay, IsCopying, HasBelow, IsJoined, DifferInNode}
 use Rattle.blk_nodes.specs.Reading.{HaveRisen}
 use Rattle.blk_nodes.specs.Sources.{in_below, step_by_entry, step_by, step_of}
 use Rattle.blk_nodes.specs.Walk.{GoesOn}
@@ -18,6 +19,27 @@ use Rattle.blk_nodes.specs.declared.source.Source.TheVariants.{Zeros}
 use Rattle.blk_nodes.specs.declared.source.Step.{Step}
 use Rattle.blk_nodes.specs.declared.source.Step.TheVariants.{Found}
 use Rattle.blk_nodes.proofs.HeldDevices.{before_rise, held_after, held_before}
+
+-- the same nodes have devices, one each
+nodes_after : (old new : List DeviceState) → HaveRisen old new → map (λ (d : DeviceState). d.node) new ≡ map (λ (d : DeviceState). d.node) old
+nodes_after [] [] risen = refl
+nodes_after (a ∷ old) (b ∷ new) risen =
+    ap (λ (n : ℕ). n ∷ map (λ (d : DeviceState). d.node) new) (ap (λ (d : DeviceState). d.node) risen.0.same)
+    ∙ ap (λ (ns : List ℕ). a.node ∷ ns) (nodes_after old new risen.1)
+nodes_after [] (b ∷ new) risen = absurd risen
+nodes_after (a ∷ old) [] risen = absurd risen
+
+once_after : (old new : List DeviceState) → HaveRisen old new → AllPairs DifferInNode old → AllPairs DifferInNode new
+once_after old new risen once i j d below within same =
+    let f : DeviceState → ℕ = λ d. d.node in
+    let lists : map f new ≡ map f old = nodes_after old new risen in
+    let lengths : length new ≡ length old = sym (length-map new f) ∙ ap length lists ∙ length-map old f in
+    let in_old : j < length old = omega (arith, within, lengths) in
+    let node_at : (k : ℕ) → k < length new → (get_or new k d).node ≡ (get_or old k d).node
+    = λ k less.
+    sym (get_or-map f new k d d.node less) ∙ ap (λ (ns : List ℕ). get_or ns k d.node) lists
+    ∙ get_or-map f old k d d.node (omega (arith, less, lengths)) in
+    once i j d below in_old (sym (node_at i (omega (arith, below, within))) ∙ same ∙ node_at j within)
 
 module _ (nodes : Nodes) (new : List DeviceState) (risen : HaveRisen nodes.devices new) where
   abbrev after : Nodes
@@ -52,11 +74,14 @@ module _ (nodes : Nodes) (new : List DeviceState) (risen : HaveRisen nodes.devic
   pub joined_after : IsJoined nodes → IsJoined after
   joined_after is = record {
     rows = is.rows;
+    sound = is.sound;
+    kinds = is.kinds;
     there = is.there;
     only = is.only;
     sized = is.sized;
     below = λ node row there. below_after node row.size row.driver (is.below node row there);
-    devices = λ node held. is.devices node (held_before node nodes.devices new risen held);
+    devices = λ node held. file_after node (is.devices node (held_before node nodes.devices new risen held));
+    once = once_after nodes.devices new risen is.once;
   }
 
 no_row : (n k : ℕ) → get_or (replicate {A = Option Row} n None) k None ≡ None
@@ -65,11 +90,14 @@ no_row n k = let len = length-replicate {A = Option Row} n None in elim (cases_l
 pub joined_none : IsJoined no_nodes
 joined_none = record {
   rows = length-replicate {A = Option Row} 64 None;
+  sound = IsSound-none;
+  kinds = λ node row there. absurd (nowhere (sym there ∙ no_row 64 node));
   there = λ node has. absurd (omega (arith, has.1));
   only = λ node some. absurd (none some (no_row 64 node));
   sized = λ node row there. absurd (nowhere (sym there ∙ no_row 64 node));
   below = λ node row there. absurd (nowhere (sym there ∙ no_row 64 node));
   devices = λ node some. absurd (cc some);
+  once = λ i j d below within. absurd (omega (arith, within));
 }
   where
     none : {found : Option Row} → IsSome found → found ≡ None → ⊥

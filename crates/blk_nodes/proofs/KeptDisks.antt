@@ -92,7 +92,7 @@ module _ (nodes : Nodes) (id size : ℕ) (name : List ℕ) (is_read_only : Bool)
   pub file_disk_new : disk_of with_file id ≡ file_disk size (told device.content)
   file_disk_new =
       disk_of_file with_file id (record { driver = File; size = size; is_read_only = is_read_only })
-      (row_new nodes with_file id name (record { driver = File; size = size; is_read_only = is_read_only }) joined absent small refl refl) refl
+      (row_new nodes with_file id name (record { driver = File; size = size; is_read_only = is_read_only }) joined absent small refl refl refl) refl
       ∙ ap (file_disk size) (ap bytes_by (device_new nodes.devices device id (no_device nodes id joined absent)) ∙ here (device.node == id) (ap (λ (n : ℕ). n == id) node ∙ eq-eqb id id refl))
     where
       here : (b : Bool) → b ≡ true → bytes_by (cond b (Some device) None) ≡ told device.content
@@ -106,17 +106,17 @@ module _ (nodes : Nodes) (id file offset size : ℕ) (name : List ℕ) (is_read_
   raw_row = record { driver = Raw (record { offset = offset; size = size }); size = size; is_read_only = is_read_only }
 
   abbrev with_raw : Nodes
-  with_raw = with_below (with_node nodes id name raw_row) (file_edge id file is_read_only)
+  with_raw = with_below (with_node nodes id name raw_row) (file_edge id file)
 
   extends_raw : Extends nodes with_raw
-  extends_raw = extends_over nodes id file name is_read_only raw_row joined absent small lone is_file
+  extends_raw = extends_over nodes id file name raw_row joined absent small lone is_file
 
   pub raw_disks : (other : ℕ) → HasNode nodes.graph other → disk_of with_raw other ≡ disk_of nodes other
   raw_disks = disk_stays nodes with_raw extends_raw joined
 
   pub raw_disk_new : disk_of with_raw id ≡ raw_disk offset size (disk_of nodes file)
   raw_disk_new =
-      disk_of_raw with_raw id file offset size raw_row (row_new nodes with_raw id name raw_row joined absent small refl refl) refl
-      (file_below nodes id file name is_read_only raw_row joined absent small lone is_file)
+      disk_of_raw with_raw id file offset size raw_row (row_new nodes with_raw id name raw_row joined absent small refl refl refl) refl
+      (file_below nodes id file name raw_row joined absent small lone is_file)
       ∙ ap (raw_disk offset size) (file_stays nodes with_raw extends_raw joined file is_file
       ∙ ap (λ (n : ℕ). file_disk n (bytes_of nodes file)) (ap size_by is_file.there) ∙ sym (disk_of_file nodes file is_file.row is_file.there is_file.driver))

@@ -5,3 +5,4 @@ mod Leading
 mod Disks
 mod Additions
 mod KeptDisks
+mod Unfolding

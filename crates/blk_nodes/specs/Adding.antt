@@ -1,13 +1,19 @@
 -- What an addition makes of the nodes, and why one is refused.
 use Rattle.std.specs.Prelude.{◌≡◌, ℕ, Bool, true, false, not, List, [], ◌∷◌, ◌++◌, length, slice_set, Option, Some, None}
 use Rattle.blk_graph.specs.Edits.{with_edge, without_parent}
-use Rattle.blk_graph.specs.Graph.{Graph, HasName, HasNode, ids}
+use Rattle.blk_graph.specs.Graph.{Graph, HasName, ids, with_node as with_graph_node}
+use Rattle.blk_graph.specs.Ids.{IsLowestFree}
+use Rattle.blk_graph.specs.Judged.{with_edges}
+use Rattle.blk_graph.specs.Permissions.{drive_edge, node_edge}
+use Rattle.blk_graph.specs.Refreshed.{refreshed}
 use Rattle.blk_graph.specs.Rule.{first_conflict}
 use Rattle.blk_graph.specs.declared.edge.Conflict.{Conflict as Pair}
 use Rattle.blk_graph.specs.declared.edge.Edge.{Edge}
-use Rattle.blk_graph.specs.declared.edge.Parent.TheVariants.{Node, Guest}
-use Rattle.blk_graph.specs.declared.edge.Role.TheVariants.{File, Drive}
-use Rattle.blk_nodes.specs.Nodes.{Nodes, DeviceState}
+use Rattle.blk_graph.specs.declared.edge.Parent.TheVariants.{Guest}
+use Rattle.blk_graph.specs.declared.edge.Role.TheVariants.{File}
+use Rattle.blk_nodes.specs.Nodes.{Nodes, DeviceState, row_at, node_kind}
+use Rattle.blk_base.specs.Pieces.{Extent}
+use Rattle.blk_nodes.specs.declared.row.Driver.TheVariants.{Raw}
 use Rattle.blk_nodes.specs.declared.row.Row.{Row}
 use Rattle.blk_nodes.specs.declared.stop.AddStop.{AddStop}
 use Rattle.blk_nodes.specs.declared.stop.AddStop.TheVariants.{NameTaken, TooManyNodes, Conflict, NoMemory}
@@ -15,8 +21,16 @@ use Rattle.blk_nodes.specs.declared.stop.AddStop.TheVariants.{NameTaken, TooMany
 -- one more node with its row
 abbrev pub with_node : Nodes → ℕ → List ℕ → Row → Nodes
 with_node nodes id name row = record nodes {
-  graph = record nodes.graph { nodes = nodes.graph.nodes ++ record { id = id; name = name } ∷ [] };
+  graph = with_graph_node nodes.graph id name (node_kind row);
   rows = slice_set nodes.rows id (Some row);
+}
+
+-- the row of a part of a file
+abbrev pub raw_row : Extent → Bool → Row
+raw_row part is_read_only = record {
+  driver = Raw (record { offset = part.start; size = part.len });
+  size = part.len;
+  is_read_only = is_read_only;
 }
 
 -- and its device
@@ -29,25 +43,20 @@ IsNameStop graph name NameTaken = HasName graph name
 IsNameStop graph name TooManyNodes = (length graph.nodes ≡ 64) × ¬ HasName graph name
 IsNameStop graph name _ = ⊥
 
--- the edge of a node over a file: it reads, writes where it may, and lets others read
-abbrev pub file_edge : ℕ → ℕ → Bool → Edge
-file_edge node file is_read_only = record {
-  parent = Node node;
-  role = File;
-  child = file;
-  perm = record { read = true; write = not is_read_only; unchanged = false };
-  shared = record { read = true; write = false; unchanged = false };
-}
+-- the edge of a node over a file
+abbrev pub file_edge : ℕ → ℕ → Edge
+file_edge node file = node_edge node File file
 
--- one more edge
+-- one more edge, from which what others ask and share is derived
 abbrev pub with_below : Nodes → Edge → Nodes
-with_below nodes edge = record nodes { graph = record nodes.graph { edges = with_edge edge nodes.graph.edges } }
+with_below nodes edge = record nodes { graph = with_edges nodes.graph (with_edge edge nodes.graph.edges) }
 
--- some id that is free would be the node's, and its edge breaks the permission rule with that pair first
-pub record IsDenied (nodes : Nodes) (edge : ℕ → Edge) (pair : Pair) : Type 0 where
+-- the nodes with one more, whose edge breaks the permission rule with that pair first
+pub record IsDenied (nodes : Nodes) (row : Row) (edge : ℕ → Edge) (pair : Pair) : Type 0 where
   pub id : ℕ
-  pub free : ¬ HasNode nodes.graph id
-  pub first : first_conflict (ids nodes.graph ++ id ∷ []) (with_edge (edge id) nodes.graph.edges) ≡ Some pair
+  pub lowest : IsLowestFree (ids nodes.graph) id
+  pub first : first_conflict (ids nodes.graph ++ id ∷ [])
+      (refreshed (slice_set nodes.graph.kinds id (node_kind row)) (with_edge (edge id) nodes.graph.edges)) ≡ Some pair
 
 -- the addition of a node over a file is refused for these alone
 abbrev pub IsOverStop : AddStop → Type 0
@@ -63,21 +72,16 @@ IsFileStop TooManyNodes = Unit {0}
 IsFileStop NoMemory = Unit {0}
 IsFileStop _ = ⊥
 
--- the edge of a guest's drive: it reads, writes where it may, and lets others read, and write where that is shared
-abbrev pub drive_edge : ℕ → ℕ → Bool → Bool → Edge
-drive_edge guest node is_read_only share_rw = record {
-  parent = Guest guest;
-  role = Drive;
-  child = node;
-  perm = record { read = true; write = not is_read_only; unchanged = false };
-  shared = record { read = true; write = share_rw; unchanged = true };
-}
-
--- the nodes without a guest's edges
-abbrev pub without_guest : ℕ → Nodes → Nodes
-without_guest guest nodes = record nodes { graph = record nodes.graph { edges = without_parent (Guest guest) nodes.graph.edges } }
-
 -- whether a node may not be written; of no node, false
 abbrev pub is_read_only_in : Option Row → Bool
 is_read_only_in None = false
 is_read_only_in (Some row) = row.is_read_only
+
+-- the edge of a guest's drive, which writes where the node may be written
+abbrev pub guest_edge : Nodes → ℕ → ℕ → Bool → Edge
+guest_edge nodes guest node share_rw = drive_edge guest node (not (is_read_only_in (row_at nodes node))) share_rw
+
+-- the nodes without a guest's edges
+abbrev pub without_guest : ℕ → Nodes → Nodes
+without_guest guest nodes =
+    record nodes { graph = with_edges nodes.graph (without_parent (Guest guest) nodes.graph.edges) }

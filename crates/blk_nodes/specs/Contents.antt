@@ -1,8 +1,9 @@
 -- What a node reads as: its disk, from the bytes of the devices and the edges of the graph.
-use Rattle.std.specs.Prelude.{ℕ, zero, suc, List, [], Option, Some, None}
+use Rattle.std.specs.Prelude.{◌≡◌, ℕ, zero, suc, List, [], Option, Some, None}
 use Rattle.q2_format.specs.Contents.{file_disk, raw_disk, image_disk}
 use Rattle.blk_nodes.specs.Nodes.{Nodes, DeviceState, row_at, device_in, size_of, file_of, backing_of}
 use Rattle.blk_nodes.specs.declared.row.Driver.{Driver}
+use Rattle.blk_nodes.specs.declared.row.Row.{Row}
 use Rattle.blk_nodes.specs.declared.row.Driver.TheVariants.{File, Raw, Qcow2, CopyOnRead}
 
 abbrev pub told : Option (List ℕ) → List ℕ
@@ -45,3 +46,8 @@ disk_in (suc turns) nodes node = elim (row_at nodes node) as (λ _. List ℕ) [
 -- there are at most 64 nodes, and no node reaches itself
 unfoldable pub disk_of : Nodes → ℕ → List ℕ
 disk_of nodes node = disk_in 64 nodes node
+
+-- the disk of each node is made of the disks below it
+abbrev pub Unfolds : Nodes → Type 0
+Unfolds nodes = (node : ℕ) (row : Row) → row_at nodes node ≡ Some row
+    → disk_of nodes node ≡ disk_by nodes (disk_of nodes) node row.driver

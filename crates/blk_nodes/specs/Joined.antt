@@ -1,8 +1,9 @@
 -- How the rows, the edges and the devices of the nodes belong together.
-use Rattle.std.specs.Prelude.{◌≡◌, ℕ, ◌+◌, ◌≤◌, List, length, Some, IsSome}
-use Rattle.blk_graph.specs.Graph.{HasNode}
+use Rattle.std.specs.Prelude.{◌≡◌, ◌≢◌, ℕ, ◌+◌, ◌≤◌, List, length, AllPairs, Some, IsSome}
+use Rattle.blk_graph.specs.Graph.{HasNode, IsSound}
+use Rattle.blk_graph.specs.Refreshed.{kind_at}
 use Rattle.q2_image.specs.Image.{Known, IsImageOf, IsOpen}
-use Rattle.blk_nodes.specs.Nodes.{Nodes, DeviceState, row_at, device_in, size_of, file_of, backing_of}
+use Rattle.blk_nodes.specs.Nodes.{Nodes, DeviceState, row_at, device_in, size_of, file_of, backing_of, node_kind}
 use Rattle.blk_nodes.specs.declared.row.Driver.{Driver}
 use Rattle.blk_nodes.specs.declared.row.Driver.TheVariants.{File, Raw, Qcow2, CopyOnRead}
 use Rattle.blk_nodes.specs.declared.row.Row.{Row}
@@ -54,11 +55,19 @@ IsSized size (Raw part) = (part.size ≡ size) × (part.offset + size ≤ 922337
 IsSized size (Qcow2 image) = image.header.size ≡ size
 IsSized size CopyOnRead = Unit {0}
 
+-- two devices are of different nodes
+abbrev pub DifferInNode : DeviceState → DeviceState → Type 0
+DifferInNode a b = a.node ≢ b.node
+
 -- what is true of all nodes at each moment
 pub record IsJoined (nodes : Nodes) : Type 0 where
   pub rows : length nodes.rows ≡ 64
+  pub sound : IsSound nodes.graph
+  pub kinds : (node : ℕ) (row : Row) → row_at nodes node ≡ Some row → kind_at nodes.graph.kinds node ≡ node_kind row
   pub there : (node : ℕ) → HasNode nodes.graph node → IsSome (row_at nodes node)
   pub only : (node : ℕ) → IsSome (row_at nodes node) → HasNode nodes.graph node
   pub sized : (node : ℕ) (row : Row) → row_at nodes node ≡ Some row → IsSized row.size row.driver
   pub below : (node : ℕ) (row : Row) → row_at nodes node ≡ Some row → HasBelow nodes node row.size row.driver
-  pub devices : (node : ℕ) → IsSome (device_in nodes.devices node) → HasNode nodes.graph node
+  -- one device for each `file` node, and none besides
+  pub devices : (node : ℕ) → IsSome (device_in nodes.devices node) → IsFile nodes node
+  pub once : AllPairs DifferInNode nodes.devices

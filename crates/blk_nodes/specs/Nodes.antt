@@ -1,10 +1,16 @@
 -- What a contract sees of the nodes: their graph, what each of them is, and the devices that they hold.
-use Rattle.std.specs.Prelude.{◌≡◌, ℕ, Bool, List, [], ◌==◌, slice_index_or, replicate, find, Option, Some, None, is_some, true, Contains}
+use Rattle.std.specs.Prelude.{◌≡◌, ℕ, Bool, List, [], ◌==◌, slice_index_or, replicate, find, Option, Some, None, is_some, true, not, Contains}
+use Rattle.blk_base.specs.Content.{Log}
 use Rattle.blk_base.specs.declared.fault.DevNo.{DevNo}
-use Rattle.blk_graph.specs.Graph.{Graph}
+use Rattle.blk_graph.specs.Graph.{Graph, no_graph}
 use Rattle.blk_graph.specs.Edits.{child_of}
 use Rattle.blk_graph.specs.declared.edge.Parent.TheVariants.{Node}
-use Rattle.blk_graph.specs.declared.edge.Role.TheVariants.{File, Backing}
+use Rattle.blk_graph.specs.declared.edge.Role.TheVariants.{File as FileRole, Backing}
+use Rattle.blk_graph.specs.declared.kind.Kind.{Kind}
+use Rattle.blk_graph.specs.declared.kind.Kind.TheVariants as kinds
+use Rattle.blk_graph.specs.declared.kind.NodeKind.{NodeKind}
+use Rattle.blk_nodes.specs.declared.row.Driver.{Driver}
+use Rattle.blk_nodes.specs.declared.row.Driver.TheVariants.{File, Raw, Qcow2, CopyOnRead}
 use Rattle.blk_nodes.specs.declared.row.Row.{Row}
 
 -- the device of a `file` node: its number among the openings of the run, and what is seen of it
@@ -13,9 +19,20 @@ pub record DeviceState : Type 0 where
   pub number : DevNo
   pub content : Option (List ℕ)
   pub is_flushed : Option Bool
+  pub log : Option Log
   pub size : ℕ
   pub capacity : ℕ
   pub faults : ℕ
+
+-- what a node is, as far as the permissions of its edges go
+abbrev pub kind_of : Driver → Kind
+kind_of File = kinds.Protocol
+kind_of (Raw _) = kinds.Raw
+kind_of (Qcow2 _) = kinds.Qcow2
+kind_of CopyOnRead = kinds.CopyOnRead
+
+abbrev pub node_kind : Row → NodeKind
+node_kind row = record { kind = kind_of row.driver; writes = not row.is_read_only }
 
 -- the rows stand by the numbers of their nodes, and the devices in the order in which their nodes were added
 pub record Nodes : Type 0 where
@@ -24,7 +41,7 @@ pub record Nodes : Type 0 where
   pub devices : List DeviceState
 
 abbrev pub no_nodes : Nodes
-no_nodes = record { graph = record { nodes = []; edges = [] }; rows = replicate 64 None; devices = [] }
+no_nodes = record { graph = no_graph; rows = replicate 64 None; devices = [] }
 
 abbrev pub row_at : Nodes → ℕ → Option Row
 row_at nodes node = slice_index_or nodes.rows node None
@@ -46,7 +63,7 @@ size_of nodes node = size_by (row_at nodes node)
 
 -- the `file` node under a node, and its backing node
 abbrev pub file_of : Nodes → ℕ → Option ℕ
-file_of nodes node = child_of (Node node) File nodes.graph.edges
+file_of nodes node = child_of (Node node) FileRole nodes.graph.edges
 
 abbrev pub backing_of : Nodes → ℕ → Option ℕ
 backing_of nodes node = child_of (Node node) Backing nodes.graph.edges

@@ -33,6 +33,7 @@ impl<D: Device> Model for Held<D> {
       number = h.number;
       content = D.content h.device;
       is_flushed = D.is_flushed h.device;
+      log = D.log h.device;
       size = D.size h.device;
       capacity = D.capacity h.device;
       faults = D.faults h.device;

@@ -1,28 +1,29 @@
 //! The nodes.
-ghost use Rattle.std.specs.Prelude.{◌≡◌, ◌≢◌, ◌↔◌, ℕ, ◌<◌, ◌≤◌, [], length, replicate, IfOk, IfErr, OnOk, OnErr, IsErrAnd, IsTrue, Err, Some};
+ghost use Rattle.std.specs.Prelude.{◌≡◌, ◌≢◌, ◌↔◌, ℕ, ◌<◌, ◌≤◌, [], length, replicate, IfOk, IfErr, IsOk, OnOk, OnErr, IsErrAnd, IsTrue, Err, Some};
 ghost use Rattle.blk_base.specs.Pieces.{end_of};
-ghost use Rattle.blk_graph.specs.Edits.{with_edge};
+ghost use Rattle.blk_graph.specs.Edges.{HasRoom};
 ghost use Rattle.blk_graph.specs.Graph.{HasName, HasNode, ids};
-ghost use Rattle.blk_nodes.specs.Adding.{with_node, with_device, with_below, without_guest, file_edge, drive_edge, is_read_only_in, IsDenied, IsFileStop, IsNameStop, IsOverStop};
-ghost use Rattle.blk_nodes.specs.Joined.{IsFile};
+ghost use Rattle.blk_graph.specs.Ids.{IsLowestFree};
+ghost use Rattle.blk_nodes.specs.Adding.{with_node, with_device, with_below, without_guest, file_edge, guest_edge, raw_row, is_read_only_in, IsDenied, IsFileStop, IsNameStop, IsOverStop};
+ghost use Rattle.blk_nodes.specs.Joined.{IsFile, IsJoined};
 ghost use Rattle.blk_graph.specs.Rule.{KeepsPermissions, first_conflict};
 ghost use Rattle.blk_graph.specs.declared.edge.Conflict.{Conflict as Pair};
 ghost use Rattle.q2_image.specs.Reading.{IsWithinCluster};
 ghost use Rattle.blk_nodes.specs.Nodes.{no_nodes, row_at, size_of, AreTold};
 ghost use Rattle.q2_image.specs.Guest.{guest_bytes};
-ghost use Rattle.blk_nodes.specs.Contents.{told, disk_of, bytes_of};
+ghost use Rattle.blk_nodes.specs.Contents.{told, disk_of, bytes_of, Unfolds};
 ghost use Rattle.q2_format.specs.Contents.{file_disk, raw_disk};
 ghost use Rattle.blk_nodes.specs.Walk.{IsMapped, CanBeRead, GoesOn, LeadsToSource, LeadsOn};
 ghost use Rattle.blk_nodes.specs.Sources.{step_of, source_in, source_of};
 ghost use Rattle.blk_nodes.specs.Reading.{HaveRisen, IsReadAt, IsReadBelow, ReadsDisk};
 
-use crate::adding::{conflict_of, drive_edge, file_edge, take_back};
+use crate::adding::{conflict_of, take_back};
 use crate::devices::{Devices, Held};
-use crate::row::{Driver, Row, step};
+use crate::row::{Driver, Row, node_kind, step};
 use crate::source::{Source, Step};
 use crate::stop::AddStop;
 use blk_base::{DevNo, Device, NoMemory, Outcome, Span, Text};
-use blk_graph::{Conflict, Edge, Graph, MOST_NODES, NodeId, Parent, Role};
+use blk_graph::{Conflict, Edge, Graph, Kind, MOST_NODES, NodeId, Parent, Role};
 use raw_image::RawImage;
 use std::alloc::Global;
 use std::marker::Model;
@@ -97,9 +98,11 @@ impl<D: Device> Nodes<D> {
         }
     }
 
-    /// The edges of the graph in order of making.
+    /// The edges of the graph in order of making. What is true of the nodes at each moment comes with them.
     pub fn edges(&self) -> &[Edge]
-        ensures { result.now ≡ self.now.graph.edges }
+        ensures edges { result.now ≡ self.now.graph.edges }
+        ensures joined { IsJoined self.now }
+        ensures disks { Unfolds self.now }
     {
         self.graph.edges()
     }
@@ -132,8 +135,8 @@ impl<D: Device> Nodes<D> {
         ensures full { IsErrAnd result (λ e. e.0 ≡ AddStop.TooManyNodes) ↔ ((length self.old.graph.nodes ≡ 64) × ¬ HasName self.old.graph name.bytes) }
         ensures only { IfErr result (λ e. IsFileStop e.0) }
         ensures ok { IfOk result (λ id. self.new ≡ with_device (with_node self.old id name.bytes (record { driver = Driver.File; size = D.size device; is_read_only = read_only }))
-            (record { node = id; number = number; content = D.content device; is_flushed = D.is_flushed device; size = D.size device; capacity = D.capacity device; faults = D.faults device })) }
-        ensures fresh { IfOk result (λ id. ¬ HasNode self.old.graph id) }
+            (record { node = id; number = number; content = D.content device; is_flushed = D.is_flushed device; log = D.log device; size = D.size device; capacity = D.capacity device; faults = D.faults device })) }
+        ensures lowest { IfOk result (IsLowestFree (ids self.old.graph)) }
         ensures disks { OnOk result ((other : ℕ) → HasNode self.old.graph other → disk_of self.new other ≡ disk_of self.old other) }
         ensures disk { IfOk result (λ id. disk_of self.new id ≡ file_disk (D.size device) (told (D.content device))) }
         ensures err { OnErr result (self.new ≡ self.old) }
@@ -145,7 +148,8 @@ impl<D: Device> Nodes<D> {
         if self.devices.list.reserve(1).is_err() {
             return Err((AddStop::NoMemory, device));
         }
-        let Ok(node) = self.graph.add_node(name) else {
+        let kind = node_kind(Kind::Protocol, read_only);
+        let Ok(node) = self.graph.add_node(name, kind) else {
             unreachable!()
         };
         self.rows[node.index()] = Some(Row {
@@ -173,15 +177,14 @@ impl<D: Device> Nodes<D> {
     ) -> Result<NodeId, AddStop>
         requires file { IsFile self.old file }
         requires part { end_of part ≤ size_of self.old file }
-        requires room { length self.old.graph.edges < 2048 }
         ensures taken { (result ≡ Err AddStop.NameTaken) ↔ HasName self.old.graph name.bytes }
         ensures full { (result ≡ Err AddStop.TooManyNodes) ↔ ((length self.old.graph.nodes ≡ 64) × ¬ HasName self.old.graph name.bytes) }
-        ensures denied { (pair : Pair) → result ≡ Err (AddStop.Conflict pair) → IsDenied self.old (λ id. file_edge id file read_only) pair }
-        ensures rule { OnOk result (KeepsPermissions self.new.graph.edges) }
+        ensures denied { (pair : Pair) → result ≡ Err (AddStop.Conflict pair)
+            → IsDenied self.old (raw_row part read_only) (λ id. file_edge id file) pair }
         ensures only { IfErr result IsOverStop }
-        ensures ok { IfOk result (λ id. self.new ≡ with_below (with_node self.old id name.bytes
-            (record { driver = Driver.Raw (record { offset = part.start; size = part.len }); size = part.len; is_read_only = read_only })) (file_edge id file read_only)) }
-        ensures fresh { IfOk result (λ id. ¬ HasNode self.old.graph id) }
+        ensures ok { IfOk result (λ id. self.new
+            ≡ with_below (with_node self.old id name.bytes (raw_row part read_only)) (file_edge id file)) }
+        ensures lowest { IfOk result (IsLowestFree (ids self.old.graph)) }
         ensures disks { OnOk result ((other : ℕ) → HasNode self.old.graph other → disk_of self.new other ≡ disk_of self.old other) }
         ensures disk { IfOk result (λ id. disk_of self.new id ≡ raw_disk part.start part.len (disk_of self.old file)) }
         ensures err { OnErr result (self.new ≡ self.old) }
@@ -189,10 +192,12 @@ impl<D: Device> Nodes<D> {
         if let Err(stop) = self.check_name(name.as_str()) {
             return Err(stop);
         }
-        let Ok(node) = self.graph.add_node(name) else {
+        let kind = node_kind(Kind::Raw, read_only);
+        let Ok(node) = self.graph.add_node(name, kind) else {
             unreachable!()
         };
-        if let Err(stop) = self.graph.set_edge(file_edge(node, file, read_only)) {
+        let edge = Edge::of_node(node, Role::File, file);
+        if let Err(stop) = self.graph.set_edge(edge) {
             take_back(&mut self.graph, node);
             return Err(AddStop::Conflict(conflict_of(stop)));
         }
@@ -205,6 +210,13 @@ impl<D: Device> Nodes<D> {
             is_read_only: read_only,
         });
         Ok(node)
+    }
+
+    /// Whether there is room for one more guest's drive. In a graph with fewer than 1,792 edges of guests and jobs there is.
+    pub fn has_room(&self, guest: u32) -> bool
+        ensures { IsTrue result ↔ HasRoom self.now.graph.edges (Parent.Guest guest) }
+    {
+        self.graph.has_room(Parent::Guest(guest))
     }
 
     /// Whether a node may not be written.
@@ -222,15 +234,15 @@ impl<D: Device> Nodes<D> {
     /// answered, and all is as it was.
     pub fn attach(&mut self, guest: u32, node: NodeId, share_rw: bool) -> Result<(), Conflict>
         requires node { HasNode self.old.graph node }
-        requires room { length self.old.graph.edges < 2048 }
+        requires room { HasRoom self.old.graph.edges (Parent.Guest guest) }
         ensures denied { (pair : Pair) → result ≡ Err pair
-            → first_conflict (ids self.old.graph) (with_edge (drive_edge guest node (is_read_only_in (row_at self.old node)) share_rw) self.old.graph.edges) ≡ Some pair }
-        ensures ok { OnOk result (self.new ≡ with_below self.old (drive_edge guest node (is_read_only_in (row_at self.old node)) share_rw)) }
-        ensures rule { OnOk result (KeepsPermissions self.new.graph.edges) }
+            → first_conflict (ids self.old.graph) (with_below self.old (guest_edge self.old guest node share_rw)).graph.edges ≡ Some pair }
+        ensures ok { OnOk result (self.new ≡ with_below self.old (guest_edge self.old guest node share_rw)) }
+        ensures kept { IsOk result ↔ KeepsPermissions (with_below self.old (guest_edge self.old guest node share_rw)).graph.edges }
         ensures err { OnErr result (self.new ≡ self.old) }
         ensures disks { (other : ℕ) → disk_of self.new other ≡ disk_of self.old other }
     {
-        let edge = drive_edge(guest, node, self.is_read_only(node), share_rw);
+        let edge = Edge::drive(guest, node, !self.is_read_only(node), share_rw);
         if let Err(stop) = self.graph.set_edge(edge) {
             return Err(conflict_of(stop));
         }

@@ -1,10 +1,10 @@
 //! What a node is.
-ghost use Rattle.std.specs.Prelude.{◌≡◌, ◌<◌};
+ghost use Rattle.std.specs.Prelude.{◌≡◌, ◌<◌, not};
 ghost use Rattle.blk_nodes.specs.Joined.{IsSized};
 ghost use Rattle.blk_nodes.specs.Sources.{step_by};
 
 use crate::source::{Source, Step, in_below, in_file, in_mapped};
-use blk_graph::NodeId;
+use blk_graph::{Kind, NodeId, NodeKind};
 use q2_image::Image;
 use raw_image::RawImage;
 
@@ -28,6 +28,16 @@ pub(crate) struct Row {
     /// The bytes of its disk.
     pub size: u64,
     pub is_read_only: bool,
+}
+
+/// What a node is, as far as the permissions of its edges go.
+pub(crate) fn node_kind(kind: Kind, is_read_only: bool) -> NodeKind
+    ensures { result ≡ record { kind = kind; writes = not is_read_only } }
+{
+    NodeKind {
+        kind,
+        writes: !is_read_only,
+    }
 }
 
 /// One step down the chain of a node with this row: where its bytes stand from a place on.

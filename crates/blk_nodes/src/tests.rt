@@ -1,7 +1,7 @@
 use crate::Nodes;
 use blk_base::{DevNo, Outcome, Span, Text};
 use blk_fakes::{FailAt, MemDevice};
-use blk_graph::{MOST_EDGES, NodeId};
+use blk_graph::NodeId;
 use std::alloc::Global;
 use std::test::Fail;
 
@@ -83,7 +83,7 @@ fn raw_node(
     part: Span,
 ) -> Result<Option<NodeId>, Fail> {
     let end = part.start.saturating_add(part.len);
-    if !nodes.is_file(file) || end > nodes.size(file) || nodes.edges().len() >= MOST_EDGES {
+    if !nodes.is_file(file) || end > nodes.size(file) {
         return Ok(None);
     }
     match nodes.add_raw(Text::copied(alloc, name)?, file, part, false) {
@@ -117,7 +117,7 @@ fn a_raw_node_reads_as_its_part_and_is_written_alone(rt: HostRuntime) -> Result<
 
 /// Whether a guest's drive is put on a `file` node.
 fn attached(nodes: &mut Nodes<MemDevice>, guest: u32, node: NodeId, share_rw: bool) -> bool {
-    if !nodes.is_file(node) || nodes.edges().len() >= MOST_EDGES {
+    if !nodes.is_file(node) || !nodes.has_room(guest) {
         return false;
     }
     nodes.attach(guest, node, share_rw).is_ok()

@@ -1,2 +1,3 @@
 pub mod FirstRun
 pub mod Longest
+pub mod LaneLemmas

@@ -1,22 +1,18 @@
 //! Runs of equal bytes, as a transcript writes what was read, and the test for zeros.
 #![tactic(auto)]
 
-ghost use Rattle.std.specs.Prelude.{◌≡◌, ◌+◌, ◌*◌, ◌<◌, ◌≤◌, ◌↔◌, ◌++◌, ◌∷◌, ℕ, List, IsTrue, IsOk, OnOk, OnErr, All, length, false};
+ghost use Rattle.std.specs.Prelude.{◌≡◌, ◌+◌, ◌*◌, ◌<◌, ◌≤◌, ◌++◌, ◌∷◌, ℕ, List, IsOk, OnOk, OnErr, length, false};
 ghost use Rattle.std.specs.Fmt.{digit_glyph};
 ghost use Rattle.blk_base.specs.Written.{memory_of};
-ghost use Rattle.blk_runs.specs.Runs.{Run, IsFront, AreLongest, runs_of, bytes_of, run_text, runs_text};
+ghost use Rattle.blk_runs.specs.Runs.{Run, AreLongest, runs_of, bytes_of, run_text, runs_text};
 
+mod lanes;
 #[cfg(test)]
 mod tests;
 
 use blk_base::{NoMemory, Text};
-
-/// Whether every byte is 0.
-pub fn is_zero(bytes: &[u8]) -> bool
-    ensures { IsTrue result ↔ All (λ b. b ≡ 0) bytes.now }
-{
-    bytes.iter().all(|b| *b == 0)
-}
+use lanes::front_count;
+pub use lanes::is_zero;
 
 /// Appends the runs of some bytes: two lower-case hexadecimal digits, `*` and a decimal count for each, longest
 /// possible, parted by single spaces. It can't be refused where `out` has 5 bytes to spare for each byte.
@@ -53,13 +49,6 @@ fn push_first<'a>(out: &mut Text, byte: u8, after: &'a [u8]) -> &'a [u8]
         out.push_ascii(b' ');
     }
     rest
-}
-
-/// How many bytes at the front are this one.
-fn front_count(bytes: &[u8], byte: u8) -> usize
-    ensures { IsFront byte result bytes.now }
-{
-    bytes.iter().position(|b| *b != byte).unwrap_or(bytes.len())
 }
 
 /// Writes one run.

@@ -138,13 +138,13 @@ placed_l1_table file h len nothing =
     let test = refused_where-none (ltb h.l1_size (l1_entries_for c h.size) || is_misplaced c len h.l1_offset) h.l1_offset nothing.l1_table in
     (or_parts (ltb h.l1_size (l1_entries_for c h.size)) (is_misplaced c len h.l1_offset) test).1
 
-placed_block : (c len : ℕ) (table : List ℕ) → bad_block c len table ≡ None → (i : ℕ) → i < length table → is_misplaced c len (block_offset (get_or table i 0)) ≡ false
+pub placed_block : (c len : ℕ) (table : List ℕ) → bad_block c len table ≡ None → (i : ℕ) → i < length table → is_misplaced c len (block_offset (get_or table i 0)) ≡ false
 unfolding bad_block
 placed_block c len table none i h =
     let lowest_none = option_map-none (λ k. block_offset (get_or table k 0)) (lowest (λ k. is_misplaced c len (block_offset (get_or table k 0))) (length table)) none in
     lowest-none (λ k. is_misplaced c len (block_offset (get_or table k 0))) (length table) lowest_none i h
 
-placed_l2_table : (c len : ℕ) (tree : Tree) → bad_l2_table c len tree ≡ None → (i : ℕ) → i < length tree.l1 → is_misplaced c len (host_offset (get_or tree.l1 i 0)) ≡ false
+pub placed_l2_table : (c len : ℕ) (tree : Tree) → bad_l2_table c len tree ≡ None → (i : ℕ) → i < length tree.l1 → is_misplaced c len (host_offset (get_or tree.l1 i 0)) ≡ false
 unfolding bad_l2_table
 placed_l2_table c len tree none i h =
     let lowest_none = option_map-none (λ k. host_offset (get_or tree.l1 k 0)) (lowest (λ k. is_misplaced c len (host_offset (get_or tree.l1 k 0))) (length tree.l1)) none in

@@ -10,6 +10,7 @@ use Rattle.q2_format.specs.Sizes.{clusters_for, l1_entries_for}
 use Rattle.q2_format.specs.Entry.{host_offset, block_offset, is_compressed, has_reserved_in_l1, has_reserved_in_l2, has_reserved_in_refcount_table}
 use Rattle.q2_format.specs.Tables.{refcount_table, Tree, tree_at, active_tree, l2_word_of, refcount_of}
 use Rattle.q2_format.specs.References.{names_cluster, in_run, own_offset, structure_uses, tree_uses, uses, cluster_bound}
+use Rattle.q2_format.specs.Renamed.{next_extension}
 use Rattle.q2_format.specs.Sound.{is_misplaced, bad_refcount_table, bad_l1_table, bad_block, bad_l2_table, bad_host, guest_clusters, reserved_in_l1, reserved_in_refcount_table, reserved_in_l2, compressed_cluster, overlap, uncounted, is_header_full, IsSound}
 use Rattle.q2_format.specs.Created.{CanBeCreated, creation_of, created_header, created_l1_size, created_clusters, AreZeros, IsCreated, IsNewFormat}
 use Rattle.q2_format.specs.declared.header.Header.{Header}
@@ -259,7 +260,7 @@ module _ (file : List ℕ) (size : ℕ) (name format : Option (List ℕ)) (can :
       room_for None fits = with_ending (is_some (created_header (creation_of size name None)).name) false
       room_for (Some text) fits =
           let near = le-ltb 32768 (120 + (length text + 7) / 8 * 8 + 8) (omega (arith, fits text refl)) in
-          rw near (with_ending (is_some (created_header (creation_of size name (Some text))).name) (ltb 504 (120 + (length text + 7) / 8 * 8 + 8)))
+          rw near (with_ending (is_some (created_header (creation_of size name (Some text))).name) (ltb 504 (next_extension (created_header (creation_of size name (Some text))))))
 
   made_finds_nothing : FindsNothing file made (length file)
   made_finds_nothing = record {

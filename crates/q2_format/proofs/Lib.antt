@@ -15,3 +15,9 @@ pub mod Autoclear
 pub mod CreatedSound
 pub mod TreeFrames
 pub mod Limits
+pub mod HeaderCluster
+pub mod Walks
+pub mod RenamedHeader
+pub mod NameWrites
+pub mod NameSound
+pub mod NamePlaces

@@ -5,6 +5,7 @@ pub mod Header
 pub mod Tables
 pub mod Contents
 pub mod References
+pub mod Renamed
 pub mod Sound
 pub mod Created
 pub mod Text

@@ -1,5 +1,5 @@
 -- When an image is refused, and when it is sound: where nothing refuses it.
-use Rattle.std.specs.Prelude.{◌≡◌, ℕ, ◌*◌, ◌/◌, ◌%◌, ◌≤◌, Bool, not, ◌==◌, ◌||◌, ◌&&◌, nat_lt, List, [], ◌∷◌, length, slice_index, Option, None, is_some}
+use Rattle.std.specs.Prelude.{◌≡◌, ℕ, ◌*◌, ◌/◌, ◌%◌, ◌≤◌, Bool, not, ◌==◌, ◌||◌, ◌&&◌, nat_lt, List, [], ◌∷◌, length, slice_index, Option, None}
 use Rattle.std.specs.Option.{option_map}
 use Rattle.std.specs.List.{find, range_with_len}
 use Rattle.q2_format.specs.Sizes.{cluster_size, entries_in_cluster, l1_entries_for}
@@ -7,6 +7,7 @@ use Rattle.q2_format.specs.Entry.{host_offset, block_offset, is_compressed, has_
 use Rattle.q2_format.specs.Header.{first, refused_where, header_of, header_refusal}
 use Rattle.q2_format.specs.Tables.{Tree, active_tree, l2_word_of, refcount_table, refcount_of}
 use Rattle.q2_format.specs.References.{own_offset, uses, cluster_bound}
+use Rattle.q2_format.specs.Renamed.{needs_ending, next_extension}
 use Rattle.q2_format.specs.declared.header.Header.{Header}
 use Rattle.q2_format.specs.declared.header.HeaderStop.{HeaderStop}
 
@@ -98,7 +99,7 @@ uncounted file h len =
 abbrev pub is_header_full : Header → Bool
 is_header_full h =
     nat_lt (cluster_size h.cluster_bits / 2) h.ext_end
-    || (is_some h.name && not h.ended && nat_lt 504 h.ext_end)
+    || (needs_ending h && nat_lt 504 (next_extension h))
 
 -- the refusals behind the header, in their order
 unfoldable pub table_refusals : List ℕ → Header → ℕ → List (Option Refusal)

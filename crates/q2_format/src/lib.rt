@@ -9,8 +9,7 @@ mod layout;
 mod numbers;
 mod reading;
 mod refcounts;
-#[cfg(test)]
-mod tests;
+mod renaming;
 mod writing;
 
 pub use entries::{L2Entry, l2_word, read_l2};
@@ -27,4 +26,7 @@ pub use layout::{
 };
 pub use reading::read_header;
 pub use refcounts::{write_refcount_block, write_refcount_table};
+pub use renaming::{
+    ending_place, format_bytes, format_room, name_fields, new_name_offset, renamed,
+};
 pub use writing::write_header;

@@ -24,3 +24,6 @@ pub mod LinkTold
 pub mod Plans
 pub mod Creations
 pub mod OwnTold
+pub mod ClearWrites
+pub mod OwnStops
+pub mod Stages

@@ -1,7 +1,12 @@
 -- A link, whatever it answers, as its callers see it.
 use Rattle.std.proofs.Common.{◌≡◌, ◌≢◌, ℕ, ◌+◌, ◌*◌, ◌/◌, ◌%◌, ◌<◌, ◌≤◌, ◌⊎◌, inl, inr, max, Bool, true, false, not, ◌&&◌, cond, eqb, List, length, get_or, Option, Some, Result, Ok, Err, OnOk, OnErr, is_ok, refl, sym, ap, subst, ◌∙◌, arith, eq-eqb}
 use Rattle.std.proofs.lemmas.Bool.{cases_eq, ne_eqb, eqb-true}
+use Rattle.std.specs.Prelude.{IfErr}
+use Rattle.blk_base.specs.Device.{Writes, stop_of}
+use Rattle.blk_base.specs.declared.device.Device.{Ghosts}
 use Rattle.blk_base.specs.declared.fault.DevStop.{DevStop}
+use Rattle.blk_base.specs.declared.fault.DevStop.TheVariants.{Io, NoSpace}
+use Rattle.q2_tables.proofs.LinkWrites.{end-link_writes}
 use Rattle.q2_format.specs.Contents.{byte_by_entry}
 use Rattle.q2_format.specs.Entry.{l2_entry, l2_spelling, host_of, host_offset, is_compressed, has_reserved_in_l2, reads_as_zeros, IsWritable}
 use Rattle.q2_format.specs.References.{own_offset}
@@ -13,10 +18,10 @@ use Rattle.q2_format.proofs.ByPlace.{get_or-bytes_at}
 use Rattle.q2_format.proofs.Words.{entry_of_spelling}
 use Rattle.q2_tables.specs.Kept.{IsTreeOf, is_plain}
 use Rattle.q2_tables.specs.Kept as tables
-use Rattle.q2_tables.specs.Linking.{CanLink, FileAfter, entry_at, l1_index, link_end, table_len, with_entry}
+use Rattle.q2_tables.specs.Linking.{CanLink, FileAfter, entry_at, l1_index, link_end, link_writes, table_len, with_entry}
 use Rattle.std.proofs.lemmas.List.{get_or-set_same, get_or-set_other}
 use Rattle.q2_image.specs.Image.{Known, IsImageOf, IsOpen, cluster_size_in, entry_in}
-use Rattle.q2_image.specs.Writing.{IsDiskWith, IsSameDisk, HasEntriesBut, IsSpelled, counts_once, IsSpare, MayName, Shows}
+use Rattle.q2_image.specs.Writing.{IsDiskWith, IsFault, IsSameDisk, HasEntriesBut, IsSpelled, counts_once, IsSpare, MayName, Shows}
 use Rattle.q2_image.proofs.EntryWrites.{entry_place, short}
 use Rattle.q2_image.proofs.HostUses.{host_entry, zero_entry, size_in}
 use Rattle.q2_image.proofs.LinkedImage.{open_linked}
@@ -130,7 +135,7 @@ module _ (image : Known) (cluster table single_word : ℕ) (entry : L2Entry) (si
 
   -- The file.
   module _ (old new : List ℕ) (is : IsImageOf old image) (spare : table ≢ 0 → IsSpare old (table / 65536)) (whole : table % 65536 ≡ 0) (near : table + 65536 ≤ 549755813888)
-      (may : MayName old image cluster table (host_of entry)) (grows : length old ≤ length new) (bound : length new ≤ max (length old) (link_end image.tables cluster table)) where
+      (may : MayName 65536 old image cluster table (host_of entry)) (grows : length old ≤ length new) (bound : length new ≤ max (length old) (link_end image.tables cluster table)) where
     len_cases : table_len image.tables table ≤ 65536
     len_cases = elim (cases_eq table 0) [
       | inl none ↦ let test = eq-eqb table 0 none in rw test (omega arith)
@@ -182,7 +187,7 @@ module _ (image : Known) (cluster table single_word : ℕ) (entry : L2Entry) (si
       linked_image = image_linked old new image cluster table is ready below can spare whole b.outside grows small single_word (host_of entry) entry is_entry own plain reached may inside_new b.tree
 
       -- the bytes that the entry shows
-      shown : (e : L2Entry) (bytes : List ℕ) → e ≡ entry → Shows old e bytes → (backing : List ℕ) (i : ℕ) → i < 65536
+      shown : (e : L2Entry) (bytes : List ℕ) → e ≡ entry → Shows 65536 old e bytes → (backing : List ℕ) (i : ℕ) → i < 65536
           → byte_by_entry new 65536 backing (cluster * 65536 + i) e ≡ get_or bytes i 0
       shown Unallocated bytes same shows backing i inside = absurd shows
       shown (Zero host) bytes same shows backing i inside = sym (shows i)
@@ -196,7 +201,7 @@ module _ (image : Known) (cluster table single_word : ℕ) (entry : L2Entry) (si
       shown Compressed bytes same shows backing i inside = absurd shows
       shown Reserved bytes same shows backing i inside = absurd shows
 
-      linked_disk : (bytes : List ℕ) → length bytes ≡ 65536 → Shows old entry bytes → IsDiskWith old new (cluster * 65536) bytes
+      linked_disk : (bytes : List ℕ) → length bytes ≡ 65536 → Shows 65536 old entry bytes → IsDiskWith old new (cluster * 65536) bytes
       linked_disk bytes len shows =
           disk_linked old new image cluster table is ready below can spare whole b.outside grows small single_word (host_of entry) entry is_entry own plain reached may inside_new b.tree
           bytes len (shown entry bytes refl shows)
@@ -217,7 +222,7 @@ module _ (image : Known) (cluster table single_word : ℕ) (entry : L2Entry) (si
 
       pub disk_after : (t : Unit {0}) → next ≡ with_entry image.tables cluster single_word table
           → FileAfter next old told (entry_at image.tables cluster table) 8 table (table_len image.tables table)
-          → table + table_len image.tables table ≤ length new → (bytes : List ℕ) → length bytes ≡ 65536 → Shows old entry bytes → IsDiskWith old new (cluster * 65536) bytes
+          → table + table_len image.tables table ≤ length new → (bytes : List ℕ) → length bytes ≡ 65536 → Shows 65536 old entry bytes → IsDiskWith old new (cluster * 65536) bytes
       disk_after t linked after long bytes len shows =
           let P : tables.Kept → Type 0 = λ k. FileAfter k old told (entry_at image.tables cluster table) 8 table (table_len image.tables table) in
           linked_disk (behind (with_entry image.tables cluster single_word table) 8 told is_new (subst P linked after)) long bytes len shows
@@ -226,3 +231,12 @@ module _ (image : Known) (cluster table single_word : ℕ) (entry : L2Entry) (si
       disk_kept stop kept after =
           let P : tables.Kept → Type 0 = λ k. FileAfter k old told (entry_at image.tables cluster table) 0 table (table_len image.tables table) in
           stopped_disk (behind image.tables 0 told is_new (subst P kept after))
+
+-- a stop of a link, where all that it writes has room
+pub link_fault : {D : Type 0} (g : Ghosts D) (kept : tables.Kept) (cluster word table : ℕ) (r : Result (Unit {0}) DevStop) (a b : D) → link_end kept cluster table ≤ g.capacity a
+    → Writes g (link_writes kept cluster word table) (stop_of r) a b → IfErr r (IsFault (g.faults a) (g.faults b))
+link_fault g kept cluster word table (Ok done) a b fits writes = tt
+link_fault g kept cluster word table (Err (Io count)) a b fits writes = writes.cause
+link_fault g kept cluster word table (Err NoSpace) a b fits writes =
+    let beyond = writes.cause.0 in
+    absurd (omega (arith, fits, beyond, end-link_writes kept cluster word table))

@@ -137,7 +137,7 @@ module _ (old new : List ℕ) (image : Known) (cluster table : ℕ) (is : IsImag
 
   -- and where it was made
   module _ (word host : ℕ) (entry : L2Entry) (is_entry : l2_entry word ≡ entry) (own : own_offset word ≡ host) (plain : is_plain word ≡ true)
-      (reached : host < length image.refs.counts * cluster_size_in image) (may : MayName old image cluster table host) (long : table ≢ 0 → table < length new)
+      (reached : host < length image.refs.counts * cluster_size_in image) (may : MayName 65536 old image cluster table host) (long : table ≢ 0 → table < length new)
       (tree : IsTreeOf image.tables.c (with_entry image.tables cluster word table)
       (tree_at new image.tables.c image.tables.l1_offset (length (with_entry image.tables cluster word table).l1))) where
     abbrev row : ℕ

@@ -125,7 +125,7 @@ module _ (image : Known) (cluster table word host : ℕ) (ready : IsOpen image) 
       let mine = own_names (cluster_size_in image) k in
       omega (arith, l1, mine)
 
-  module _ (old : List ℕ) (is : IsImageOf old image) (spare : table ≢ 0 → IsSpare old (table / 65536)) (may : MayName old image cluster table host) where
+  module _ (old : List ℕ) (is : IsImageOf old image) (spare : table ≢ 0 → IsSpare old (table / 65536)) (may : MayName 65536 old image cluster table host) where
     abbrev refcounts : List ℕ
     refcounts = refcount_table old image.header
 

@@ -13,9 +13,10 @@ use Rattle.q2_format.specs.Sound.{Refusal, IsSound, image_refusal, table_refusal
 use Rattle.q2_format.specs.Sound as sound
 use Rattle.q2_format.specs.declared.header.Header.{Header}
 use Rattle.q2_format.proofs.Firsts.{lowest_alike, lowest-none, first-none, option_map-none, refused_where-none}
-use Rattle.q2_refs.specs.Kept.{IsCountsOf, AreWholeClusters, BeginBelow}
+use Rattle.q2_refs.specs.Kept.{IsCountsOf}
 use Rattle.q2_refs.specs.Kept as refs
-use Rattle.q2_refs.specs.Loading.{table_entries}
+use Rattle.q2_refs.specs.Loading.{table_entries, refcounts_refusal}
+use Rattle.q2_refs.proofs.Shapes.{blocks_whole, blocks_below}
 use Rattle.q2_tables.specs.Kept.{IsTreeOf}
 use Rattle.q2_tables.specs.Kept as tables
 use Rattle.q2_tables.specs.Loading.{IsLoaded}
@@ -25,6 +26,7 @@ use Rattle.q2_image.specs.Opening.{Names, refusal_of, header_stops, place_stops,
 use Rattle.q2_image.specs.Loading.{table_stops, HasCounts, counts_loaded}
 use Rattle.q2_image.specs.Image.{IsOpen}
 use Rattle.q2_image.proofs.Counted.{both_placed, some_cluster}
+use Rattle.q2_image.proofs.Order.{names_head}
 
 -- one refusal, or the next
 abbrev pub or_else : Option Refusal → Option Refusal → Option Refusal
@@ -71,14 +73,28 @@ image_by_stages file = two (header_stops file (length file)) (first (table_refus
     two None (Some r) = refl
     two (Some r) b = refl
 
--- where the kept words and counts are a file's, what they name is what the file names
+-- where the words that were read are a file's, they name what the file names
+same_uses_by : (file : List ℕ) (h : Header) (table : List ℕ) (t : tables.Kept) (k : ℕ) → table ≡ refcount_table file h → IsTreeOf (cluster_size h.cluster_bits) t (active_tree file h)
+    → uses file h k ≡ uses_in h table t.l1 t.words k
+unfolding uses
+same_uses_by file h table t k is tree =
+    let words = tree_uses_of file (cluster_size h.cluster_bits) h.l1_offset h.l1_size k t tree in
+    let structure = ap (λ (xs : List ℕ). structure_uses h xs k) is in
+    omega arith
+
 pub same_uses : (file : List ℕ) (h : Header) (r : refs.Kept) (t : tables.Kept) (k : ℕ) → IsCountsOf file h r → IsTreeOf (cluster_size h.cluster_bits) t (active_tree file h)
     → uses file h k ≡ uses_in h r.table t.l1 t.words k
-unfolding uses
-same_uses file h r t k counts tree =
-    let words = tree_uses_of file (cluster_size h.cluster_bits) h.l1_offset h.l1_size k t tree in
-    let table = ap (λ (xs : List ℕ). structure_uses h xs k) counts.table in
-    omega arith
+same_uses file h r t k counts tree = same_uses_by file h r.table t k counts.table tree
+
+overlap_of_file : (file : List ℕ) (h : Header) (len : ℕ) (table : List ℕ) (t : tables.Kept) → table ≡ refcount_table file h → IsTreeOf (cluster_size h.cluster_bits) t (active_tree file h)
+    → overlap_stop (uses_in h table t.l1 t.words) (cluster_bound h len) ≡ option_map sound.Overlap (overlap file h len)
+unfolding overlap
+overlap_of_file file h len table t is tree =
+    let n : ℕ = cluster_bound h len in
+    let u : ℕ → ℕ = uses_in h table t.l1 t.words in
+    let twice : lowest (λ k. ltb 1 (u k)) n ≡ lowest (λ k. ltb 1 (uses file h k)) n =
+    lowest_alike (λ k. ltb 1 (u k)) (λ k. ltb 1 (uses file h k)) n (λ k below. ap (ltb 1) (sym (same_uses_by file h table t k is tree))) in
+    rw twice refl
 
 names_of_file : (file : List ℕ) (h : Header) (len : ℕ) (r : refs.Kept) (t : tables.Kept) → IsCountsOf file h r → IsTreeOf (cluster_size h.cluster_bits) t (active_tree file h)
     → cluster_bound h len ≤ length r.counts
@@ -131,6 +147,16 @@ last_stage file h same header places words =
     let plain = both.1 in
     image_by_stages file ∙ rw (header, placed, plain) (ap (λ (x : Header). names_of file x (length file)) same)
 
+-- what is named twice is judged before any refcount is known
+pub overlap_of_image : (file : List ℕ) (h : Header) (table : List ℕ) (t : tables.Kept) (stop : ImageStop) → header_of file ≡ h → header_stops file (length file) ≡ None
+    → place_stops h (length file) ≡ None → table_stops h (length file) (refcount_table file h) (active_tree file h) ≡ None
+    → table ≡ refcount_table file h → IsTreeOf (cluster_size h.cluster_bits) t (active_tree file h)
+    → Names (overlap_stop (uses_in h table t.l1 t.words) (cluster_bound h (length file))) stop → Names (image_refusal file) stop
+overlap_of_image file h table t stop same header places words is tree names =
+    named_by _ _ stop (last_stage file h same header places words)
+    (names_head (option_map sound.Overlap (overlap file h (length file))) _ stop
+    (named_by _ _ stop (sym (overlap_of_file file h (length file) table t is tree)) names))
+
 pub last_names : (file : List ℕ) (h : Header) (r : refs.Kept) (t : tables.Kept) (stop : ImageStop) → header_of file ≡ h → header_stops file (length file) ≡ None
     → place_stops h (length file) ≡ None → table_stops h (length file) (refcount_table file h) (active_tree file h) ≡ None
     → IsCountsOf file h r → IsTreeOf (cluster_size h.cluster_bits) t (active_tree file h) → cluster_bound h (length file) ≤ length r.counts
@@ -170,15 +196,15 @@ l1_placed h len none =
     let test = refused_where-none (ltb h.l1_size (l1_entries_for (cluster_size h.cluster_bits) h.size) || is_misplaced (cluster_size h.cluster_bits) len h.l1_offset) h.l1_offset none in
     (first_false (ltb h.l1_size (l1_entries_for (cluster_size h.cluster_bits) h.size)) _ test, second_false (ltb h.l1_size (l1_entries_for (cluster_size h.cluster_bits) h.size)) _ test)
 
-pub are_placed : (h : Header) (len n : ℕ) (r : refs.Kept) (t : tables.Kept) → place_stops h len ≡ None → HasCounts h len n r → IsLoaded h len t → ArePlaced h len r.table t.l1 t.words
-are_placed h len n r t places counts loaded =
+pub are_placed : (h : Header) (len : ℕ) (table : List ℕ) (t : tables.Kept) → place_stops h len ≡ None → refcounts_refusal h len table ≡ None → IsLoaded h len t → ArePlaced h len table t.l1 t.words
+are_placed h len table t places accepted loaded =
     let both = both_placed h len places in
     let C : ℕ → Type 0 = λ c. ((i : ℕ) → i < length t.l1 → is_misplaced c len (host_offset (get_or t.l1 i 0)) ≡ false) in
     let H : ℕ → Type 0 = λ c. ((i : ℕ) → i < length t.words → is_misplaced c len (own_offset (get_or t.words i 0)) ≡ false) in
     record {
       refcount_table = refs_placed h len both.0;
       l1_table = (l1_placed h len both.1).1;
-      blocks = λ i below. placed_by_parts (cluster_size h.cluster_bits) len (block_offset (get_or r.table i 0)) (counts.blocks i below) (counts.below i below);
+      blocks = λ i below. placed_by_parts (cluster_size h.cluster_bits) len (block_offset (get_or table i 0)) (blocks_whole h len table accepted i below) (blocks_below h len table accepted i below);
       tables = subst C loaded.c loaded.tables;
       hosts = subst H loaded.c loaded.hosts;
     }

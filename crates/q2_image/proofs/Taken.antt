@@ -1,5 +1,5 @@
 -- An image after a cluster was taken.
-use Rattle.std.proofs.Common.{◌≡◌, ◌≢◌, ℕ, ◌+◌, ◌*◌, ◌/◌, ◌<◌, ◌⊎◌, inl, inr, List, ◌∷◌, length, get_or, slice_index, slice_index_or, slice_set, Option, Some, None, is_some, Result, Ok, Err, IfOk, OnErr, refl, sym, ap, subst, ◌∙◌, arith, eq-eqb}
+use Rattle.std.proofs.Common.{◌≡◌, ◌≢◌, ℕ, ◌+◌, ◌*◌, ◌/◌, ◌<◌, ◌≤◌, ◌⊎◌, inl, inr, List, ◌∷◌, length, get_or, slice_index, slice_index_or, slice_set, Option, Some, None, is_some, Result, Ok, Err, IfOk, OnErr, refl, sym, ap, subst, ◌∙◌, arith, eq-eqb}
 use Rattle.std.proofs.Math.ListN.{length-set}
 use Rattle.std.proofs.lemmas.Bool.{cases_eq, ne_eqb}
 use Rattle.std.proofs.lemmas.List.{get_or-set_same, get_or-set_other, get_or_past}
@@ -10,7 +10,11 @@ use Rattle.q2_format.specs.References.{uses}
 use Rattle.q2_format.specs.Sizes.{cluster_size}
 use Rattle.q2_format.specs.Tables.{Tree, active_tree, refcount_of}
 use Rattle.q2_format.specs.declared.header.Header.{Header}
-use Rattle.q2_refs.specs.Allocating.{IsInStep, KeepsCounted, with_one, with_block, with_block_for, place_of_block, refcount_uses}
+use Rattle.blk_base.specs.Device.{Writes}
+use Rattle.blk_base.specs.declared.device.Device.{Ghosts}
+use Rattle.blk_base.specs.declared.fault.DevStop.{DevStop}
+use Rattle.blk_base.specs.declared.fault.DevStop.TheVariants.{Io, NoSpace}
+use Rattle.q2_refs.specs.Allocating.{IsInStep, KeepsCounted, allocation_writes, end_of_allocation, with_one, with_block, with_block_for, place_of_block, refcount_uses}
 use Rattle.q2_refs.specs.Free.{free_cluster, free_clusters}
 use Rattle.q2_refs.specs.Kept.{IsCountsOf, per_block}
 use Rattle.q2_refs.specs.Kept as refs
@@ -18,7 +22,7 @@ use Rattle.q2_refs.specs.declared.allocating.RefStop.{RefStop}
 use Rattle.q2_refs.proofs.FreeClusters.{first_free_cluster, given_count}
 use Rattle.q2_tables.specs.Kept.{IsTreeOf}
 use Rattle.q2_image.specs.Image.{Known, IsImageOf, IsOpen, cluster_size_in, entry_in}
-use Rattle.q2_image.specs.Writing.{IsSameDisk, IsSpare}
+use Rattle.q2_image.specs.Writing.{IsFault, IsSameDisk, IsSpare}
 use Rattle.q2_image.proofs.HostUses.{host_entry, held_by}
 use Rattle.q2_image.proofs.DiskKept.{HostStays, same_disk}
 
@@ -169,3 +173,9 @@ fresh_count file image n rest is given below =
 
 pub by_size : (n size : ℕ) → size ≡ 65536 → n * size / 65536 ≡ n
 by_size n size is = rw is (omega arith)
+
+-- a stop of the device, where all that is written has room
+pub taken_fault : {D : Type 0} (g : Ghosts D) (kept : refs.Kept) (stop : DevStop) (a b : D) → end_of_allocation kept (free_cluster kept 0) ≤ g.capacity a
+    → Writes g (allocation_writes kept (free_cluster kept 0)) (Some stop) a b → IsFault (g.faults a) (g.faults b) stop
+taken_fault g kept (Io count) a b fits writes = writes.cause
+taken_fault g kept NoSpace a b fits writes = let beyond = writes.cause.0 in absurd (omega (arith, fits, beyond))

@@ -12,10 +12,10 @@ use Rattle.q2_refs.specs.Kept as refs
 use Rattle.q2_tables.specs.Kept.{IsTreeOf}
 use Rattle.q2_tables.specs.Kept as tables
 use Rattle.q2_image.specs.declared.stop.ImageStop.{ImageStop}
-use Rattle.q2_image.specs.Opening.{Judges, Names, HasCause, IsNoFault, header_stops, place_stops, names_stops, uses_in}
-use Rattle.q2_image.specs.Loading.{table_stops, counts_loaded}
+use Rattle.q2_image.specs.Opening.{Judges, Names, HasCause, IsNoFault, header_stops, place_stops, names_stops, overlap_stop, uses_in}
+use Rattle.q2_image.specs.Loading.{table_stops, counts_loaded, HasCounts, IsReadFrom}
 use Rattle.q2_image.specs.Image.{Known, IsImageOf}
-use Rattle.q2_image.proofs.Opened.{header_names, place_names, word_names, last_names, is_sound}
+use Rattle.q2_image.proofs.Opened.{header_names, place_names, word_names, overlap_of_image, last_names, is_sound}
 use Rattle.q2_image.proofs.Order.{no_fault_cause}
 
 -- what is so of a file's header, its tables' places and words, up to their last refusals
@@ -29,28 +29,43 @@ pub record IsLoadedFrom (file : List ℕ) (h : Header) (len : ℕ) (r : refs.Kep
   tree : IsTreeOf (cluster_size h.cluster_bits) t (active_tree file h)
   room : cluster_bound h len ≤ length r.counts
 
--- the same of a device whose size was asked for
-pub loaded_from : (file : List ℕ) (h : Header) (len first then : ℕ) (r : refs.Kept) (t : tables.Kept) → len ≡ then → then ≡ first → first ≡ length file
-    → header_of file ≡ h → header_stops file first ≡ None → place_stops h len ≡ None → table_stops h then (refcount_table file h) (active_tree file h) ≡ None
-    → IsCountsOf file h r → IsTreeOf (cluster_size h.cluster_bits) t (active_tree file h) → length r.counts ≡ counts_loaded h then → IsLoadedFrom file h len r t
-loaded_from file h len first then r t asked same size header headers places words counts tree count =
+-- what a device told of a file, whose size was asked for before
+pub read_from : (file : List ℕ) (h : Header) (first then : ℕ) (table : List ℕ) (t : tables.Kept) → then ≡ first → first ≡ length file → header_of file ≡ h → header_stops file first ≡ None
+    → table_stops h then (refcount_table file h) (active_tree file h) ≡ None → table ≡ refcount_table file h → IsTreeOf (cluster_size h.cluster_bits) t (active_tree file h) → IsReadFrom file h table t
+read_from file h first then table t same size header headers words is tree =
     let H : ℕ → Type 0 = λ n. header_stops file n ≡ None in
     let W : ℕ → Type 0 = λ n. table_stops h n (refcount_table file h) (active_tree file h) ≡ None in
+    record { header = header; headers = subst H size headers; stops = subst W (same ∙ size) words; same = is; tree = tree }
+
+pub loaded_from : (file : List ℕ) (h : Header) (len size : ℕ) (table : List ℕ) (r : refs.Kept) (t : tables.Kept) → len ≡ size → size ≡ length file → place_stops h size ≡ None
+    → IsReadFrom file h table t → IsCountsOf file h r → HasCounts h size (counts_loaded h size) r → IsLoadedFrom file h len r t
+loaded_from file h len size table r t asked whole places read counts has =
+    let H : ℕ → Type 0 = λ n. header_stops file n ≡ None in
+    let P : ℕ → Type 0 = λ n. place_stops h n ≡ None in
+    let W : ℕ → Type 0 = λ n. table_stops h n (refcount_table file h) (active_tree file h) ≡ None in
     let C : ℕ → Type 0 = λ n. length r.counts ≡ counts_loaded h n in
-    let all : length r.counts ≡ max (cluster_bound h len) (reach_of h len) = subst C (sym asked) count in
+    let all : length r.counts ≡ max (cluster_bound h len) (reach_of h len) = subst C (sym asked) has.reach in
     let bound : ℕ = cluster_bound h len in
     let reach : ℕ = reach_of h len in
     let fits : bound ≤ max bound reach = omega arith in
     record {
-      size = asked ∙ same ∙ size;
-      header = header;
-      headers = subst H (sym (asked ∙ same)) headers;
-      places = places;
-      words = subst W (sym asked) words;
+      size = asked ∙ whole;
+      header = read.header;
+      headers = subst H (sym (asked ∙ whole)) read.headers;
+      places = subst P (sym asked) places;
+      words = subst W (sym (asked ∙ whole)) read.stops;
       counts = counts;
-      tree = tree;
+      tree = read.tree;
       room = rw all fits;
     }
+
+-- a cluster that is named twice, by the words that were read
+pub overlap_named : (file : List ℕ) (h : Header) (len size : ℕ) (table : List ℕ) (t : tables.Kept) (stop : ImageStop) → len ≡ size → size ≡ length file → place_stops h size ≡ None
+    → IsReadFrom file h table t → Names (overlap_stop (uses_in h table t.l1 t.words) (cluster_bound h len)) stop → Names (image_refusal file) stop
+overlap_named file h len size table t stop asked whole places read is =
+    let P : ℕ → Type 0 = λ n. place_stops h n ≡ None in
+    let O : ℕ → Type 0 = λ n. Names (overlap_stop (uses_in h table t.l1 t.words) (cluster_bound h n)) stop in
+    overlap_of_image file h table t stop read.header read.headers (subst P whole places) read.stops read.same read.tree (subst O (asked ∙ whole) is)
 
 -- the last refusals, by the kept words
 abbrev pub last_of : Header → ℕ → refs.Kept → tables.Kept → Option Refusal
@@ -131,6 +146,16 @@ ok_reach h len r t (Ok image) count is =
     let cut : length (take n r.counts) ≡ min n (length r.counts) = taken in
     subst P (sym is) (omega arith)
 ok_reach h len r t (Err stop) count is = tt
+
+-- what was said of a device before is so of it now
+pub ok_told : {T U : List ℕ → Type 0} (result : Result Known ImageStop) → ((file : List ℕ) → T file → U file)
+    → IfOk result (λ image. (file : List ℕ) → U file → IsImageOf file image) → IfOk result (λ image. (file : List ℕ) → T file → IsImageOf file image)
+ok_told (Ok image) same is = λ file told. is file (same file told)
+ok_told (Err stop) same is = tt
+
+pub ok_reach_at : (result : Result Known ImageStop) (n m : ℕ) → n ≡ m → IfOk result (λ image. length image.refs.counts ≡ reach_of image.header n)
+    → IfOk result (λ image. length image.refs.counts ≡ reach_of image.header m)
+ok_reach_at result n m same is = let P : ℕ → Type 0 = λ k. IfOk result (λ image. length image.refs.counts ≡ reach_of image.header k) in subst P same is
 
 pub err_cause : (before now : ℕ) (result : Result Known ImageStop) → IfErr result IsNoFault → IfErr result (HasCause before now)
 err_cause before now (Ok image) is = tt

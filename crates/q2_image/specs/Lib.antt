@@ -7,4 +7,6 @@ pub mod Merge
 pub mod Image
 pub mod Reading
 pub mod Writing
+pub mod Room
+pub mod Made
 pub mod Creating

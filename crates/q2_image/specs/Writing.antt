@@ -3,6 +3,7 @@ use Rattle.std.specs.Prelude.{◌≡◌, ◌≢◌, ◌⊎◌, ℕ, ◌+◌, ◌
 use Rattle.blk_base.specs.Counts.{Rose}
 use Rattle.blk_base.specs.Pieces.{Extent}
 use Rattle.blk_base.specs.declared.device.WriteStop.{WriteStop}
+use Rattle.blk_base.specs.declared.device.Stop.{Stop}
 use Rattle.blk_base.specs.declared.device.Stop.TheVariants as why
 use Rattle.blk_base.specs.declared.fault.DevStop.{DevStop}
 use Rattle.blk_base.specs.declared.fault.DevStop.TheVariants.{Io, NoSpace}
@@ -67,32 +68,32 @@ pub record IsSpare (file : List ℕ) (cluster : ℕ) : Type 0 where
   pub unnamed : uses file (header_of file) cluster ≡ 0
   pub counted : refcount_of file (header_of file) cluster ≢ 0
 
--- No guest byte lies in the host cluster at an offset: it is spare, or an entry that reads as zeros names it.
-abbrev pub IsIdle : List ℕ → Known → ℕ → Type 0
-IsIdle file image offset =
-    IsSpare file (offset / 65536)
+-- No guest byte lies in the host cluster of c bytes at an offset: it is spare, or an entry that reads as zeros names it.
+abbrev pub IsIdle : ℕ → List ℕ → Known → ℕ → Type 0
+IsIdle c file image offset =
+    IsSpare file (offset / c)
     ⊎ ((cluster : ℕ) × (cluster < length image.tables.words) × (entry_in image cluster ≡ Zero offset) × (0 < offset))
 
--- What a link may name for its guest cluster: no host cluster, the one that is named already, or a spare one
+-- What a link may name for its guest cluster, in clusters of c bytes: no host cluster, the one that is named already, or a spare one
 -- other than the new table's.
-abbrev pub MayName : List ℕ → Known → ℕ → ℕ → ℕ → Type 0
-MayName file image cluster table host =
+abbrev pub MayName : ℕ → List ℕ → Known → ℕ → ℕ → ℕ → Type 0
+MayName c file image cluster table host =
     (host ≡ 0)
     ⊎ ((host ≡ own_offset (slice_index image.tables.words cluster))
-    ⊎ (IsSpare file (host / 65536) × (host % 65536 ≡ 0) × (host < length file) × (table ≢ 0 → host / 65536 ≢ table / 65536)))
+    ⊎ (IsSpare file (host / c) × (host % c ≡ 0) × (host < length file) × (table ≢ 0 → host / c ≢ table / c)))
 
--- the bytes of a guest cluster that reads as zeros
-pub record AreClusterZeros (bytes : List ℕ) : Type 0 where
-  pub whole : length bytes ≡ 65536
+-- the bytes of a guest cluster of c bytes that reads as zeros
+pub record AreClusterZeros (c : ℕ) (bytes : List ℕ) : Type 0 where
+  pub whole : length bytes ≡ c
   pub zeros : (i : ℕ) → slice_index bytes i ≡ 0
 
--- the bytes that a guest cluster reads as by its own entry
-abbrev pub Shows : List ℕ → L2Entry → List ℕ → Type 0
-Shows file Unallocated bytes = ⊥
-Shows file (Zero host) bytes = (i : ℕ) → slice_index bytes i ≡ 0
-Shows file (Host host) bytes = bytes_at file host 65536 ≡ bytes
-Shows file Compressed bytes = ⊥
-Shows file Reserved bytes = ⊥
+-- the bytes that a guest cluster of c bytes reads as by its own entry
+abbrev pub Shows : ℕ → List ℕ → L2Entry → List ℕ → Type 0
+Shows c file Unallocated bytes = ⊥
+Shows c file (Zero host) bytes = (i : ℕ) → slice_index bytes i ≡ 0
+Shows c file (Host host) bytes = bytes_at file host c ≡ bytes
+Shows c file Compressed bytes = ⊥
+Shows c file Reserved bytes = ⊥
 
 -- Which clusters are taken, and when there is room.
 
@@ -172,6 +173,11 @@ pub record PutFits (image : Known) (cluster capacity : ℕ) : Type 0 where
   pub host : needs_host image cluster ≡ true → CanTake image (if needs_table image cluster then 1 else 0) capacity
   pub payload : host_for image cluster + cluster_size_in image ≤ capacity
 
+-- what a device's stop is to the caller
+abbrev pub stop_told : Stop → ℕ → DevStop
+stop_told why.Failed count = Io count
+stop_told why.NoSpace count = NoSpace
+
 -- a call of the device failed, whose count rose and is named
 abbrev pub IsFault : ℕ → ℕ → DevStop → Type 0
 IsFault before now (Io count) = Rose before count × (count ≡ now)
@@ -186,19 +192,24 @@ HasWriteCause before now NoSpace = ⊤
 abbrev pub HasHeaderOf : Known → Known → Type 0
 HasHeaderOf old new = (autocleared new).header ≡ (autocleared old).header
 
+-- where a part of a mapped cluster begins in the file
+abbrev pub own_place : Known → Extent → ℕ
+own_place image span =
+    let c = cluster_size_in image in
+    host_of (entry_in image (span.start / c)) + span.start % c
+
 -- the end of a write in place, and of the autoclear field where that is written before it
 abbrev pub own_end : Known → Extent → ℕ
-own_end image span =
-    let c = cluster_size_in image in
-    max (autoclear_end image) (host_of (entry_in image (span.start / c)) + span.start % c + span.len)
+own_end image span = max (autoclear_end image) (own_place image span + span.len)
 
--- a write in place that a failed call stopped: some of its first bytes are written, but not all
-pub record IsFailedOwn (len before now : ℕ) (stop : WriteStop) : Type 0 where
+-- a write in place that a failed call stopped: some of its first bytes are written, but not all, up to a border of sectors
+pub record IsFailedOwn (place len before now : ℕ) (stop : WriteStop) : Type 0 where
   pub why : stop.why ≡ why.Failed
   pub part : (stop.done ≡ 0) ⊎ (stop.done < len)
+  pub sector : (stop.done ≡ 0) ⊎ ((place + stop.done) % 512 ≡ 0)
   pub rose : Rose before now
 
 -- want of space comes exactly where the write would end above the capacity, and then nothing was written
-pub record IsOwnStop (end capacity len before now : ℕ) (stop : WriteStop) : Type 0 where
+pub record IsOwnStop (place end capacity len before now : ℕ) (stop : WriteStop) : Type 0 where
   pub no_space : stop.why ≡ why.NoSpace → (capacity < end) × (stop.done ≡ 0)
-  pub failed : stop.why ≡ why.Failed → (end ≤ capacity) × IsFailedOwn len before now stop
+  pub failed : stop.why ≡ why.Failed → (end ≤ capacity) × IsFailedOwn place len before now stop

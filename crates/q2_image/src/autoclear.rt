@@ -2,6 +2,8 @@
 
 ghost use Rattle.std.specs.Prelude.{◌≡◌, ◌≤◌, ℕ, List, Some, IfErr, OnOk, OnErr, is_some};
 ghost use Rattle.q2_image.specs.Image.{IsImageOf};
+ghost use Rattle.blk_base.specs.Device.{Writes, stop_of};
+ghost use Rattle.q2_image.specs.Made.{clear_writes};
 ghost use Rattle.q2_image.specs.Writing.{IsFault, IsSameDisk, autoclear_end, autocleared};
 
 use crate::image::Image;
@@ -20,6 +22,7 @@ impl Image {
         ensures untouched { OnErr result (D.content dev.new ≡ D.content dev.old) }
         ensures image { (file : List ℕ) → D.content dev.new ≡ Some file → IsImageOf file self.new }
         ensures disk { (old new : List ℕ) → D.content dev.old ≡ Some old → D.content dev.new ≡ Some new → IsSameDisk old new }
+        ensures writes { Writes D.Device (clear_writes self.old) (stop_of result) dev.old dev.new }
         ensures cause { IfErr result (IsFault (D.faults dev.old) (D.faults dev.new)) }
         ensures faults { D.faults dev.old ≤ D.faults dev.new }
         ensures capacity { D.capacity dev.new ≡ D.capacity dev.old }

@@ -8,12 +8,12 @@ ghost use Rattle.q2_format.specs.Entry.{host_of, is_single};
 ghost use Rattle.q2_format.specs.declared.entries.L2Entry.TheVariants.{Zero, Host};
 ghost use Rattle.q2_image.specs.Image.{IsImageOf, IsOpen, clusters_in, cluster_size_in, word_in, entry_in};
 ghost use Rattle.q2_image.specs.Reading.{IsHost, IsWithinCluster};
-ghost use Rattle.q2_image.specs.Writing.{IsDiskWith, IsSameDisk, HasEntriesBut, StaysTaken, IsSpelled, AreClusterZeros, PutFits, ZeroFits, needs_host, HasWriteCause, IsFault, IsOwnStop, IsFailedOwn, own_end, autoclear_end, autocleared, ClearsFirst, HasHeaderOf};
+ghost use Rattle.blk_base.specs.Device.{AtEachStopOf};
+ghost use Rattle.q2_image.specs.Made.{own_writes, WroteOwn, UnlessFull, IsOwnPart};
+ghost use Rattle.q2_image.specs.Writing.{IsDiskWith, IsSameDisk, HasEntriesBut, StaysTaken, IsSpelled, AreClusterZeros, PutFits, ZeroFits, needs_host, HasWriteCause, IsFault, IsOwnStop, IsFailedOwn, own_place, own_end, autoclear_end, autocleared, ClearsFirst, HasHeaderOf};
 
-use crate::header::cluster_size;
 use crate::image::Image;
 use blk_base::{DevStop, Device, Span, Stop, WriteStop};
-use q2_tables::Mapping;
 
 impl Image {
     /// Makes a guest cluster Host with these bytes, the whole cluster's. What it takes and writes comes in this order:
@@ -32,7 +32,7 @@ impl Image {
         bytes: &[u8],
     ) -> Result<(), DevStop>
         requires cluster { cluster < clusters_in self.old }
-        requires whole { length bytes.now ≡ 65536 }
+        requires whole { length bytes.now ≡ cluster_size_in self.old }
         requires image { (file : List ℕ) → D.content dev.old ≡ Some file → IsImageOf file self.old }
 
         // the image
@@ -46,7 +46,7 @@ impl Image {
         ensures cleared { ClearsFirst (D.content dev.old) (D.content dev.new) self.new }
         ensures image { (file : List ℕ) → D.content dev.new ≡ Some file → IsImageOf file self.new }
         ensures disk { OnOk result ((old new : List ℕ) → D.content dev.old ≡ Some old → D.content dev.new ≡ Some new
-            → IsDiskWith old new (cluster * 65536) bytes.now) }
+            → IsDiskWith old new (cluster * cluster_size_in self.old) bytes.now) }
         ensures kept { OnErr result ((old new : List ℕ) → D.content dev.old ≡ Some old → D.content dev.new ≡ Some new → IsSameDisk old new) }
 
         // why each answer comes
@@ -82,7 +82,7 @@ impl Image {
         ensures cleared { ClearsFirst (D.content dev.old) (D.content dev.new) self.new }
         ensures image { (file : List ℕ) → D.content dev.new ≡ Some file → IsImageOf file self.new }
         ensures disk { OnOk result ((old new zeros : List ℕ) → D.content dev.old ≡ Some old → D.content dev.new ≡ Some new
-            → AreClusterZeros zeros → IsDiskWith old new (cluster * 65536) zeros) }
+            → AreClusterZeros (cluster_size_in self.old) zeros → IsDiskWith old new (cluster * cluster_size_in self.old) zeros) }
         ensures kept { OnErr result ((old new : List ℕ) → D.content dev.old ≡ Some old → D.content dev.new ≡ Some new → IsSameDisk old new) }
 
         // why each answer comes
@@ -121,30 +121,28 @@ impl Image {
         ensures cleared { ClearsFirst (D.content dev.old) (D.content dev.new) self.new }
         ensures image { (file : List ℕ) → D.content dev.new ≡ Some file → IsImageOf file self.new }
         ensures disk { (old new : List ℕ) → D.content dev.old ≡ Some old → D.content dev.new ≡ Some new → IsDiskWith old new span.start (taken result bytes.now) }
+        ensures stops { AtEachStopOf D.Device (IsOwnPart span.start bytes.now) (own_writes self.old span bytes.now) dev.old }
 
         // why each answer comes
         ensures fits { OnOk result (own_end self.old span ≤ D.capacity dev.old) }
-        ensures stop { IfErr result (IsOwnStop (own_end self.old span) (D.capacity dev.old) (length bytes.now) (D.faults dev.old) (D.faults dev.new)) }
+        ensures stop { IfErr result (IsOwnStop (own_place self.old span) (own_end self.old span) (D.capacity dev.old) (length bytes.now) (D.faults dev.old) (D.faults dev.new)) }
         ensures untouched { IfErr result (λ stop. stop.why ≡ why.NoSpace → (self.new ≡ self.old) × (D.content dev.new ≡ D.content dev.old)
             × (D.log dev.new ≡ D.log dev.old) × (D.is_flushed dev.new ≡ D.is_flushed dev.old) × (D.size dev.new ≡ D.size dev.old)
             × (D.faults dev.new ≡ D.faults dev.old)) }
 
         // the device
+        ensures wrote { UnlessFull result (WroteOwn D.Device self.old self.new span (taken result bytes.now) dev.old dev.new) }
         ensures told { is_some (D.content dev.new) ≡ is_some (D.content dev.old) }
         ensures faults { D.faults dev.old ≤ D.faults dev.new }
         ensures capacity { D.capacity dev.new ≡ D.capacity dev.old }
     {
-        let cluster_size = cluster_size(&self.header);
-        let Mapping::Host { host } = self.tables.lookup(span.start / cluster_size) else {
-            unreachable!()
-        };
-        let place = host + span.start % cluster_size;
-        if !self.own_fits(place, bytes.len() as u64, dev.capacity()) {
+        if !self.own_fits(span, dev.capacity()) {
             return Err(WriteStop {
                 done: 0,
                 why: Stop::NoSpace,
             });
         }
+        let place = self.own_place(span);
         self.write_cleared(dev, span, place, bytes)
     }
 
@@ -215,7 +213,7 @@ impl Image {
         ensures cleared { ClearsFirst (D.content dev.old) (D.content dev.new) self.new }
         ensures image { (file : List ℕ) → D.content dev.new ≡ Some file → IsImageOf file self.new }
         ensures disk { OnOk result ((old new zeros : List ℕ) → D.content dev.old ≡ Some old → D.content dev.new ≡ Some new
-            → AreClusterZeros zeros → IsDiskWith old new (cluster * 65536) zeros) }
+            → AreClusterZeros 65536 zeros → IsDiskWith old new (cluster * 65536) zeros) }
         ensures kept { OnErr result ((old new : List ℕ) → D.content dev.old ≡ Some old → D.content dev.new ≡ Some new → IsSameDisk old new) }
         ensures cause { IfErr result (IsFault (D.faults dev.old) (D.faults dev.new)) }
         ensures told { is_some (D.content dev.new) ≡ is_some (D.content dev.old) }
@@ -240,12 +238,14 @@ impl Image {
         requires cluster { span.start % 65536 + length bytes.now ≤ 65536 }
         requires header_fits { autoclear_end self.old ≤ D.capacity dev.old }
         requires fits { place + length bytes.now ≤ D.capacity dev.old }
+        requires place { place ≡ own_place self.old span }
         requires image { (file : List ℕ) → D.content dev.old ≡ Some file → IsImageOf file self.old }
         ensures known { (self.new ≡ self.old) ⊎ (self.new ≡ autocleared self.old) }
         ensures cleared { ClearsFirst (D.content dev.old) (D.content dev.new) self.new }
         ensures image { (file : List ℕ) → D.content dev.new ≡ Some file → IsImageOf file self.new }
         ensures disk { (old new : List ℕ) → D.content dev.old ≡ Some old → D.content dev.new ≡ Some new → IsDiskWith old new span.start (taken result bytes.now) }
-        ensures stop { IfErr result (IsFailedOwn (length bytes.now) (D.faults dev.old) (D.faults dev.new)) }
+        ensures wrote { WroteOwn D.Device self.old self.new span (taken result bytes.now) dev.old dev.new }
+        ensures stop { IfErr result (IsFailedOwn place (length bytes.now) (D.faults dev.old) (D.faults dev.new)) }
         ensures told { is_some (D.content dev.new) ≡ is_some (D.content dev.old) }
         ensures faults { D.faults dev.old ≤ D.faults dev.new }
         ensures capacity { D.capacity dev.new ≡ D.capacity dev.old }

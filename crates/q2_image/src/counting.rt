@@ -4,24 +4,26 @@ ghost use Rattle.std.specs.Prelude.{◌≡◌, ◌≤◌, ◌+◌, ◌*◌, ◌<
 ghost use Rattle.q2_format.specs.Header.{CanBeRead, IsWithinLimits};
 ghost use Rattle.q2_format.specs.Sound.{lowest};
 ghost use Rattle.q2_format.specs.References.{cluster_bound, reach_of};
-ghost use Rattle.q2_refs.specs.Loading.{table_reach};
+ghost use Rattle.q2_format.specs.Tables.{refcount_table};
+ghost use Rattle.q2_refs.specs.Kept.{IsCountsOf};
 ghost use Rattle.q2_image.specs.Seen.{IsSeen, is_uncounted};
 ghost use Rattle.q2_image.specs.Opening.{Judges, HasCause, IsNoFault, place_stops, refusal_of, uncounted_stop};
-ghost use Rattle.q2_image.specs.Loading.{counts_loaded, reserved_entry, AreCountsOf, HaveCounts, TableTells, IsBlockStop};
+ghost use Rattle.q2_image.specs.Loading.{counts_loaded, reserved_entry, IsTableOf, IsTableRead, IsRead, HasCounts, TableTells, IsBlockStop};
 
 use crate::header::cluster_size;
 use crate::seen::Seen;
 use crate::stop::ImageStop;
 use blk_base::Device;
 use q2_format::{Header, MAX_FILE_CLUSTERS};
-use q2_refs::{Refs, RefsStop, load_refs};
+use q2_refs::{Refs, RefsStop, load_counts, load_table};
 use std::alloc::Global;
 
-/// What loading the refcounts of an image gave, where its refcount table names no block outside its place.
+/// What was read of the refcount table of an image, where it names no block outside its place.
 #[derive(Drop)]
-pub(crate) enum Counts {
-    Loaded(Refs),
-    /// A reserved bit is set in this entry of the refcount table. Other tables may have a refusal that comes before.
+pub(crate) enum RefTable {
+    /// Its words.
+    Read(Vec<u64>),
+    /// A reserved bit is set in this entry. Other tables may have a refusal that comes before.
     Reserved(u64),
 }
 
@@ -50,20 +52,53 @@ pub(crate) fn bound(header: &Header, len: u64) -> u64
     len.div_ceil(cluster_size) + u64::from(header.ref_clusters) + l1_clusters
 }
 
-/// Loads the refcounts of an image whose refcount table lies in its place.
-pub(crate) fn load_counts<D: Device>(
+/// Reads the refcount table of an image, which lies in its place.
+pub(crate) fn load_ref_table<D: Device>(
     alloc: Global,
     dev: &mut D,
     header: &Header,
-) -> Result<Counts, ImageStop>
+) -> Result<RefTable, ImageStop>
+    requires readable { CanBeRead header.now (D.size dev.old) }
+    requires placed { place_stops header.now (D.size dev.old) ≡ None }
+    ensures told { IfOk result (λ table. (file : List ℕ) → D.content dev.old ≡ Some file
+        → TableTells file header.now (D.size dev.old) None (reserved_entry table) × IsTableOf file header.now table) }
+    ensures stop { IfErr result (λ stop. (file : List ℕ) → D.content dev.old ≡ Some file
+        → IfSome (refusal_of stop) (IsBlockStop file header.now (D.size dev.old))) }
+    ensures read { IfOk result (IsRead header.now (D.size dev.old)) }
+    ensures cause { IfErr result (HasCause (D.faults dev.old) (D.faults dev.new)) }
+    ensures content { D.content dev.new ≡ D.content dev.old }
+    ensures size { D.size dev.new ≡ D.size dev.old }
+    ensures capacity { D.capacity dev.new ≡ D.capacity dev.old }
+    ensures flushed { D.is_flushed dev.new ≡ D.is_flushed dev.old }
+    ensures log { D.log dev.new ≡ D.log dev.old }
+    ensures faults { D.faults dev.old ≤ D.faults dev.new }
+{
+    match load_table(alloc, dev, header) {
+        Ok(words) => Ok(RefTable::Read(words)),
+        Err(RefsStop::Reserved { index }) => Ok(RefTable::Reserved(index)),
+        Err(RefsStop::Offset(offset)) => Err(ImageStop::Offset(offset)),
+        Err(RefsStop::Io { count }) => Err(ImageStop::Io { count }),
+        Err(RefsStop::NoMemory) => Err(ImageStop::NoMemory),
+    }
+}
+
+/// Loads the refcounts of an image by the words of its refcount table: those up to the reach, and those that a table
+/// at the file's end may take.
+pub(crate) fn load_refcounts<D: Device>(
+    alloc: Global,
+    dev: &mut D,
+    header: &Header,
+    table: Vec<u64>,
+) -> Result<Refs, ImageStop>
     requires readable { CanBeRead header.now (D.size dev.old) }
     requires limits { IsWithinLimits header.now (D.size dev.old) }
     requires placed { place_stops header.now (D.size dev.old) ≡ None }
-    ensures told { IfOk result (λ counts. (file : List ℕ) → D.content dev.old ≡ Some file
-        → TableTells file header.now (D.size dev.old) None (reserved_entry counts) × AreCountsOf file header.now counts) }
-    ensures stop { IfErr result (λ stop. (file : List ℕ) → D.content dev.old ≡ Some file
-        → IfSome (refusal_of stop) (IsBlockStop file header.now (D.size dev.old))) }
-    ensures loaded { IfOk result (HaveCounts header.now (D.size dev.old) (counts_loaded header.now (D.size dev.old))) }
+    requires read { IsTableRead header.now (D.size dev.old) table.items }
+    ensures kept { IfOk result (λ refs. (file : List ℕ) → D.content dev.old ≡ Some file → table.items ≡ refcount_table file header.now
+        → IsCountsOf file header.now refs) }
+    ensures loaded { IfOk result (HasCounts header.now (D.size dev.old) (counts_loaded header.now (D.size dev.old))) }
+    ensures table { IfOk result (λ refs. refs.table ≡ table.items) }
+    ensures stop { IfErr result (λ stop. refusal_of stop ≡ None) }
     ensures cause { IfErr result (HasCause (D.faults dev.old) (D.faults dev.new)) }
     ensures content { D.content dev.new ≡ D.content dev.old }
     ensures size { D.size dev.new ≡ D.size dev.old }
@@ -74,12 +109,11 @@ pub(crate) fn load_counts<D: Device>(
 {
     let len = dev.length();
     let loaded = bound(header, len).max(reach(header, len));
-    match load_refs(alloc, dev, header, loaded) {
-        Ok(refs) => Ok(Counts::Loaded(refs)),
-        Err(RefsStop::Reserved { index }) => Ok(Counts::Reserved(index)),
-        Err(RefsStop::Offset(offset)) => Err(ImageStop::Offset(offset)),
+    match load_counts(alloc, dev, header, table, loaded) {
+        Ok(refs) => Ok(refs),
         Err(RefsStop::Io { count }) => Err(ImageStop::Io { count }),
         Err(RefsStop::NoMemory) => Err(ImageStop::NoMemory),
+        Err(RefsStop::Offset(_) | RefsStop::Reserved { .. }) => unreachable!(),
     }
 }
 

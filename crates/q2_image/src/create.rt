@@ -1,6 +1,6 @@
 //! Creating an image on a device.
 
-ghost use Rattle.std.specs.Prelude.{◌≡◌, ◌⊎◌, ◌+◌, ◌%◌, ◌<◌, ◌≤◌, max, ℕ, false, List, Option, length, slice_index, Some, IfOk, IfErr, OnOk, OnErr, option_map, if◌then◌else◌};
+ghost use Rattle.std.specs.Prelude.{◌≡◌, ◌⊎◌, ◌+◌, ◌%◌, ◌<◌, ◌≤◌, max, ℕ, false, List, [], ◌∷◌, Option, length, slice_index, take, drop, replicate, Some, IfOk, IfErr, OnOk, OnErr, option_map, if◌then◌else◌};
 ghost use Rattle.std.specs.Bool.{OnFalse};
 ghost use Rattle.std.specs.Option.{ForSome, option_copied};
 ghost use Rattle.q2_format.specs.Bytes.{bytes_at, Holds};
@@ -12,7 +12,9 @@ ghost use Rattle.q2_format.specs.Sound.{image_refusal, IsSound, InHeader};
 ghost use Rattle.q2_format.specs.declared.entries.L2Entry.TheVariants.{Unallocated};
 ghost use Rattle.q2_format.specs.declared.header.HeaderStop.TheVariants.{Magic};
 ghost use Rattle.q2_format.specs.declared.header.TheConstants.{MAX_DISK_SIZE, MAX_FILE_CLUSTERS};
-ghost use Rattle.q2_image.specs.Creating.{CreateAnswers, wrote, IsFailedCall, ChangesWithin, LacksHeader, text_at};
+ghost use Rattle.blk_base.specs.Device.{Writes};
+ghost use Rattle.blk_base.specs.Writes.{write_of};
+ghost use Rattle.q2_image.specs.Creating.{CreateAnswers, wrote, IsFailedCall, ChangesWithin, LacksHeader, text_at, call_stop, MakesStages, MakesImage};
 ghost use Rattle.q2_image.specs.Guest.{file_entry};
 
 use crate::header::cluster_buffer;
@@ -70,6 +72,7 @@ const SECTOR: usize = 512;
 fn write<D: Device>(dev: &mut D, at: u64, bytes: &[u8]) -> Result<(), CreateStop>
     requires some { 0 < length bytes.now }
     requires room { at + length bytes.now ≤ D.capacity dev.old }
+    ensures writes { Writes D.Device (write_of at bytes.now ∷ []) (call_stop result) dev.old dev.new }
     ensures holds { OnOk result ((file : List ℕ) → D.content dev.new ≡ Some file → Holds file at bytes.now) }
     ensures kept { at % 512 + length bytes.now ≤ 512 → OnErr result (D.content dev.new ≡ D.content dev.old) }
     ensures within { ChangesWithin (D.content dev.old) (D.content dev.new) at (at + length bytes.now) }
@@ -102,6 +105,7 @@ fn clear(buffer: &mut [u8])
 /// The first sector of a cluster's bytes.
 fn first_sector(cluster: &[u8]) -> &[u8]
     requires { length cluster.now ≡ 65536 }
+    ensures part { result.now ≡ take 512 cluster.now }
     ensures whole { length result.now ≡ 512 }
     ensures bytes { (i : ℕ) → i < 512 → slice_index result.now i ≡ slice_index cluster.now i }
 {
@@ -111,6 +115,7 @@ fn first_sector(cluster: &[u8]) -> &[u8]
 /// What lies behind it.
 fn behind_first_sector(cluster: &[u8]) -> &[u8]
     requires { length cluster.now ≡ 65536 }
+    ensures part { result.now ≡ drop 512 cluster.now }
     ensures whole { length result.now ≡ 65024 }
     ensures bytes { (i : ℕ) → slice_index result.now i ≡ slice_index cluster.now (512 + i) }
 {
@@ -121,6 +126,7 @@ fn behind_first_sector(cluster: &[u8]) -> &[u8]
 fn clear_header<D: Device>(dev: &mut D, buffer: &mut [u8]) -> Result<(), CreateStop>
     requires whole { length buffer.old ≡ 65536 }
     requires room { 512 ≤ D.capacity dev.old }
+    ensures writes { Writes D.Device (write_of 0 (replicate 512 0) ∷ []) (call_stop result) dev.old dev.new }
     ensures cleared { OnOk result ((file : List ℕ) → D.content dev.new ≡ Some file → LacksHeader file) }
     ensures kept { OnErr result (D.content dev.new ≡ D.content dev.old) }
     ensures within { ChangesWithin (D.content dev.old) (D.content dev.new) 0 512 }
@@ -139,6 +145,8 @@ fn clear_header<D: Device>(dev: &mut D, buffer: &mut [u8]) -> Result<(), CreateS
 fn write_tables<D: Device>(dev: &mut D, buffer: &mut [u8]) -> Result<(), CreateStop>
     requires whole { length buffer.old ≡ 65536 }
     requires room { 262144 ≤ D.capacity dev.old }
+    ensures writes { (size : ℕ) (name format : Option (List ℕ)) → size ≤ MAX_DISK_SIZE
+        → MakesStages D.Device (creation_of size name format) 1 3 (call_stop result) dev.old dev.new }
     ensures tables { OnOk result ((size : ℕ) (name format : Option (List ℕ)) (file : List ℕ) → size ≤ MAX_DISK_SIZE
         → D.content dev.new ≡ Some file → HasCreatedTables (creation_of size name format) file) }
     ensures within { ChangesWithin (D.content dev.old) (D.content dev.new) 65536 262144 }
@@ -172,6 +180,7 @@ fn put_header<D: Device>(
     requires size { size ≤ MAX_DISK_SIZE }
     requires name { ForSome name (λ name. IsNewName name.now) }
     requires format { ForSome format (λ format. IsNewFormat format.now) }
+    ensures writes { MakesStages D.Device (creation_of size (option_copied name.entry) (option_copied format.entry)) 4 2 (call_stop result) dev.old dev.new }
     ensures header { OnOk result ((file : List ℕ) → D.content dev.new ≡ Some file
         → HasCreatedHeader (creation_of size (option_copied name.entry) (option_copied format.entry)) file) }
     ensures readable { OnOk result (CanBeCreated size (option_copied name.entry) (option_copied format.entry)) }
@@ -204,6 +213,7 @@ fn write_image<D: Device>(
     requires size { size ≤ MAX_DISK_SIZE }
     requires name { ForSome name (λ name. IsNewName name.now) }
     requires format { ForSome format (λ format. IsNewFormat format.now) }
+    ensures writes { MakesStages D.Device (creation_of size (option_copied name.entry) (option_copied format.entry)) 0 6 (call_stop result) dev.old dev.new }
     ensures created { OnOk result ((file : List ℕ) → D.content dev.new ≡ Some file
         → IsCreated (creation_of size (option_copied name.entry) (option_copied format.entry)) file) }
     ensures readable { OnOk result (CanBeCreated size (option_copied name.entry) (option_copied format.entry)) }
@@ -261,6 +271,7 @@ pub fn create_image<D: Device>(
         in CreateAnswers end (D.capacity dev.old) (D.faults dev.old) (D.faults dev.new) result }
 
     // the device
+    ensures writes { MakesImage D.Device (creation_of size (option_copied name.entry) (option_copied format.entry)) result dev.old dev.new }
     ensures behind { let end = created_length (creation_of size (option_copied name.entry) (option_copied format.entry))
         in ChangesWithin (D.content dev.old) (D.content dev.new) 0 end }
     ensures unfinished { OnErr result ((D.content dev.new ≡ D.content dev.old)

@@ -1,12 +1,15 @@
 //! Whether there is room for a write: looked at before anything is written.
 
-ghost use Rattle.std.specs.Prelude.{◌≡◌, ◌↔◌, ◌+◌, ◌*◌, ◌<◌, ◌≤◌, max, ℕ, length, IsTrue, true, if◌then◌else◌};
+ghost use Rattle.std.specs.Prelude.{◌≡◌, ◌↔◌, ◌+◌, ◌*◌, ◌/◌, ◌<◌, ◌≤◌, ℕ, length, IsTrue, true, if◌then◌else◌};
 ghost use Rattle.q2_image.specs.Image.{IsOpen, clusters_in, cluster_size_in, entry_in};
-ghost use Rattle.q2_image.specs.Writing.{CanTake, ZeroFits, PutFits, autoclear_end, needs_table, needs_host, taken_at, table_for, host_for, idle_host};
+ghost use Rattle.q2_image.specs.Reading.{IsHost};
+ghost use Rattle.q2_image.specs.Writing.{CanTake, ZeroFits, PutFits, needs_table, needs_host, taken_at, table_for, host_for, idle_host, own_place, own_end};
 
 use crate::header::cluster_size;
 use crate::image::Image;
 use crate::writing::idle_host;
+use blk_base::Span;
+use q2_tables::Mapping;
 
 /// Where the header's autoclear field ends.
 const AUTOCLEAR_END: u64 = 96;
@@ -101,8 +104,9 @@ impl Image {
         !self.needs_host(cluster) || self.can_take(self.taken_before_host(cluster), capacity)
     }
 
-    /// Whether there is room to make a guest cluster read as zeros.
-    pub(crate) fn zero_fits(&self, cluster: u64, capacity: u64) -> bool
+    /// Whether there is room to make a guest cluster read as zeros: whether `zero_cluster` would not answer `NoSpace`
+    /// on a device of this capacity. Nothing is read.
+    pub fn zero_fits(&self, cluster: u64, capacity: u64) -> bool
         requires { cluster < clusters_in self.now }
         ensures fits { IsTrue result ↔ ZeroFits self.now cluster capacity }
         ensures open { IsOpen self.now }
@@ -118,8 +122,8 @@ impl Image {
             .link_fits(cluster, self.table_for(cluster), capacity)
     }
 
-    /// Whether there is room to put the data of a guest cluster.
-    pub(crate) fn put_fits(&self, cluster: u64, capacity: u64) -> bool
+    /// Whether there is room to put the data of a guest cluster: whether `put_cluster` would not answer `NoSpace`.
+    pub fn put_fits(&self, cluster: u64, capacity: u64) -> bool
         requires { cluster < clusters_in self.now }
         ensures fits { IsTrue result ↔ PutFits self.now cluster capacity }
         ensures open { IsOpen self.now }
@@ -131,14 +135,30 @@ impl Image {
         ends_within(self.host_for(cluster), cluster_size(&self.header), capacity)
     }
 
-    /// Whether a write in place has room, and that of the autoclear field where it has to be made.
-    pub(crate) fn own_fits(&self, place: u64, len: u64, capacity: u64) -> bool
-        ensures fits { IsTrue result ↔ (max (autoclear_end self.now) (place + len) ≤ capacity) }
+    /// Whether there is room to write a part of a mapped cluster in place: whether `write_own` would not answer
+    /// `NoSpace`.
+    pub fn own_fits(&self, span: Span, capacity: u64) -> bool
+        requires disk { span.start / cluster_size_in self.now < clusters_in self.now }
+        requires mapped { IsHost (entry_in self.now (span.start / cluster_size_in self.now)) }
+        ensures fits { IsTrue result ↔ (own_end self.now span ≤ capacity) }
         ensures open { IsOpen self.now }
     {
         if self.header.autoclear != 0 && capacity < AUTOCLEAR_END {
             return false;
         }
-        ends_within(place, len, capacity)
+        ends_within(self.own_place(span), span.len, capacity)
+    }
+
+    /// Where a part of a mapped cluster begins in the file.
+    pub(crate) fn own_place(&self, span: Span) -> u64
+        requires disk { span.start / cluster_size_in self.now < clusters_in self.now }
+        requires mapped { IsHost (entry_in self.now (span.start / cluster_size_in self.now)) }
+        ensures { result ≡ own_place self.now span }
+    {
+        let cluster_size = cluster_size(&self.header);
+        let Mapping::Host { host } = self.tables.lookup(span.start / cluster_size) else {
+            unreachable!()
+        };
+        host + span.start % cluster_size
     }
 }

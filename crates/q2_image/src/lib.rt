@@ -18,8 +18,6 @@ mod stop;
 #[cfg(test)]
 mod tests;
 mod writing;
-#[cfg(test)]
-mod writing_tests;
 
 pub use create::{CreateStop, create_image};
 pub use image::Image;

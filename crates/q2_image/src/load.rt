@@ -1,21 +1,19 @@
-//! Loading the refcounts and the tables of an image, and which of their refusals comes first.
+//! Loading the refcount table and the mapping's tables of an image, and which of their refusals comes first.
 
 ghost use Rattle.std.specs.Prelude.{◌≡◌, ◌≤◌, ℕ, List, Some, None, Option, IfOk, IfErr};
-ghost use Rattle.q2_format.specs.Header.{CanBeRead, IsWithinLimits};
+ghost use Rattle.q2_format.specs.Header.{CanBeRead};
 ghost use Rattle.q2_format.specs.Sizes.{cluster_size};
 ghost use Rattle.q2_format.specs.Tables.{active_tree, refcount_table};
-ghost use Rattle.q2_refs.specs.Kept.{IsCountsOf};
 ghost use Rattle.q2_tables.specs.Kept.{IsTreeOf};
 ghost use Rattle.q2_tables.specs.Loading.{IsLoaded};
 ghost use Rattle.q2_image.specs.Opening.{Judges, HasCause, place_stops};
-ghost use Rattle.q2_image.specs.Loading.{table_stops, reserved_entry, counts_loaded, AreCountsOf, HasCounts, HaveCounts, TableTells};
+ghost use Rattle.q2_image.specs.Loading.{table_stops, reserved_entry, IsTableOf, IsTableRead, IsRead, TableTells};
 ghost use Rattle.q2_image.specs.Merge.{behind_reserved, merged_stop};
 
-use crate::counting::{Counts, load_counts};
+use crate::counting::{RefTable, load_ref_table};
 use crate::stop::ImageStop;
 use blk_base::Device;
 use q2_format::Header;
-use q2_refs::Refs;
 use q2_tables::{Tables, TablesStop, load_tables};
 use std::alloc::Global;
 
@@ -54,47 +52,47 @@ fn merge(header: &Header, reserved: Option<u64>, stop: TablesStop) -> ImageStop
 }
 
 /// The entry of the refcount table in which a reserved bit was found.
-fn reserved_in(counts: &Counts) -> Option<u64>
-    ensures { result ≡ reserved_entry counts.now }
+fn reserved_in(table: &RefTable) -> Option<u64>
+    ensures { result ≡ reserved_entry table.now }
 {
-    match counts {
-        Counts::Loaded(_) => None,
-        Counts::Reserved(index) => Some(*index),
+    match table {
+        RefTable::Read(_) => None,
+        RefTable::Reserved(index) => Some(*index),
     }
 }
 
-/// The refcounts, where no reserved bit was found.
-fn counts_of(header: &Header, counts: Counts) -> Result<Refs, ImageStop>
-    ensures loaded { IfOk result (λ refs. counts ≡ Counts.Loaded refs) }
-    ensures reserved { IfErr result (λ stop. (index : ℕ) × (counts ≡ Counts.Reserved index) × (stop ≡ ImageStop.Reserved header.now.ref_offset index)) }
+/// The words of the refcount table, where no reserved bit was found.
+fn words_of(header: &Header, table: RefTable) -> Result<Vec<u64>, ImageStop>
+    ensures read { IfOk result (λ words. table ≡ RefTable.Read words) }
+    ensures reserved { IfErr result (λ stop. (index : ℕ) × (table ≡ RefTable.Reserved index) × (stop ≡ ImageStop.Reserved header.now.ref_offset index)) }
 {
-    match counts {
-        Counts::Loaded(refs) => Ok(refs),
-        Counts::Reserved(index) => Err(ImageStop::Reserved {
+    match table {
+        RefTable::Read(words) => Ok(words),
+        RefTable::Reserved(index) => Err(ImageStop::Reserved {
             table: header.ref_offset,
             index,
         }),
     }
 }
 
-/// Loads the tables of an image whose refcounts were looked at.
+/// Loads the tables of an image whose refcount table was read.
 fn load_behind<D: Device>(
     alloc: Global,
     dev: &mut D,
     header: &Header,
-    counts: Counts,
-) -> Result<(Refs, Tables), ImageStop>
+    table: RefTable,
+) -> Result<(Vec<u64>, Tables), ImageStop>
     requires readable { CanBeRead header.now (D.size dev.old) }
     requires placed { place_stops header.now (D.size dev.old) ≡ None }
     requires told { (file : List ℕ) → D.content dev.old ≡ Some file
-        → TableTells file header.now (D.size dev.old) None (reserved_entry counts) × AreCountsOf file header.now counts }
-    requires loaded { HaveCounts header.now (D.size dev.old) (counts_loaded header.now (D.size dev.old)) counts }
+        → TableTells file header.now (D.size dev.old) None (reserved_entry table) × IsTableOf file header.now table }
+    requires read { IsRead header.now (D.size dev.old) table }
     ensures judged { (file : List ℕ) → D.content dev.old ≡ Some file
         → Judges (table_stops header.now (D.size dev.old) (refcount_table file header.now) (active_tree file header.now)) result }
-    ensures counts { IfOk result (λ both. (file : List ℕ) → D.content dev.old ≡ Some file → IsCountsOf file header.now both.0) }
+    ensures table { IfOk result (λ both. (file : List ℕ) → D.content dev.old ≡ Some file → both.0.items ≡ refcount_table file header.now) }
     ensures tree { IfOk result (λ both. (file : List ℕ) → D.content dev.old ≡ Some file
         → IsTreeOf (cluster_size header.now.cluster_bits) both.1 (active_tree file header.now)) }
-    ensures has_counts { IfOk result (λ both. HasCounts header.now (D.size dev.old) (counts_loaded header.now (D.size dev.old)) both.0) }
+    ensures has_table { IfOk result (λ both. IsTableRead header.now (D.size dev.old) both.0.items) }
     ensures has_tables { IfOk result (λ both. IsLoaded header.now (D.size dev.old) both.1) }
     ensures cause { IfErr result (HasCause (D.faults dev.old) (D.faults dev.new)) }
     ensures content { D.content dev.new ≡ D.content dev.old }
@@ -105,29 +103,29 @@ fn load_behind<D: Device>(
     ensures faults { D.faults dev.old ≤ D.faults dev.new }
 {
     match load_tables(alloc, dev, header) {
-        Ok(tables) => match counts_of(header, counts) {
-            Ok(refs) => Ok((refs, tables)),
+        Ok(tables) => match words_of(header, table) {
+            Ok(words) => Ok((words, tables)),
             Err(stop) => Err(stop),
         },
-        Err(stop) => Err(merge(header, reserved_in(&counts), stop)),
+        Err(stop) => Err(merge(header, reserved_in(&table), stop)),
     }
 }
 
-/// Loads the refcounts and the tables of an image whose two tables lie in their places.
+/// Loads the words of the refcount table, the L1 table and the L2 tables of an image whose two tables lie in their
+/// places. The refcount table is read first, since the places of its blocks are judged before what the others name.
 pub(crate) fn load<D: Device>(
     alloc: Global,
     dev: &mut D,
     header: &Header,
-) -> Result<(Refs, Tables), ImageStop>
+) -> Result<(Vec<u64>, Tables), ImageStop>
     requires readable { CanBeRead header.now (D.size dev.old) }
-    requires limits { IsWithinLimits header.now (D.size dev.old) }
     requires placed { place_stops header.now (D.size dev.old) ≡ None }
     ensures judged { (file : List ℕ) → D.content dev.old ≡ Some file
         → Judges (table_stops header.now (D.size dev.old) (refcount_table file header.now) (active_tree file header.now)) result }
-    ensures counts { IfOk result (λ both. (file : List ℕ) → D.content dev.old ≡ Some file → IsCountsOf file header.now both.0) }
+    ensures table { IfOk result (λ both. (file : List ℕ) → D.content dev.old ≡ Some file → both.0.items ≡ refcount_table file header.now) }
     ensures tree { IfOk result (λ both. (file : List ℕ) → D.content dev.old ≡ Some file
         → IsTreeOf (cluster_size header.now.cluster_bits) both.1 (active_tree file header.now)) }
-    ensures has_counts { IfOk result (λ both. HasCounts header.now (D.size dev.old) (counts_loaded header.now (D.size dev.old)) both.0) }
+    ensures has_table { IfOk result (λ both. IsTableRead header.now (D.size dev.old) both.0.items) }
     ensures has_tables { IfOk result (λ both. IsLoaded header.now (D.size dev.old) both.1) }
     ensures cause { IfErr result (HasCause (D.faults dev.old) (D.faults dev.new)) }
     ensures content { D.content dev.new ≡ D.content dev.old }
@@ -137,8 +135,8 @@ pub(crate) fn load<D: Device>(
     ensures log { D.log dev.new ≡ D.log dev.old }
     ensures faults { D.faults dev.old ≤ D.faults dev.new }
 {
-    match load_counts(alloc, dev, header) {
-        Ok(counts) => load_behind(alloc, dev, header, counts),
+    match load_ref_table(alloc, dev, header) {
+        Ok(table) => load_behind(alloc, dev, header, table),
         Err(stop) => Err(stop),
     }
 }

@@ -10,10 +10,10 @@ ghost use Rattle.q2_refs.specs.Allocating.{with_block_for};
 ghost use Rattle.q2_refs.specs.Free.{free_cluster};
 ghost use Rattle.q2_format.specs.Entry.{IsWritable, host_of, is_single};
 ghost use Rattle.q2_tables.specs.Entries.{entry_of};
-ghost use Rattle.q2_tables.specs.Linking.{stop_of, CanLink, link_end};
+ghost use Rattle.q2_tables.specs.Linking.{CanLink, link_end};
 ghost use Rattle.q2_image.specs.Image.{IsImageOf, IsOpen, clusters_in, cluster_size_in, word_in, entry_in};
 ghost use Rattle.q2_image.specs.Reading.{IsHost, IsWithinCluster};
-ghost use Rattle.q2_image.specs.Writing.{IsDiskWith, IsSameDisk, HasEntriesBut, StaysTaken, IsSpelled, counts_once, IsSpare, IsIdle, MayName, Shows, PutFits, ZeroFits, AreClusterZeros, CanTake, IsFault, HasSameEntries, taken_at, after_take, needs_table, needs_host, idle_host, next_host, table_for, with_table, with_host};
+ghost use Rattle.q2_image.specs.Writing.{stop_told, IsDiskWith, IsSameDisk, HasEntriesBut, StaysTaken, IsSpelled, counts_once, IsSpare, IsIdle, MayName, Shows, PutFits, ZeroFits, AreClusterZeros, CanTake, IsFault, HasSameEntries, taken_at, after_take, needs_table, needs_host, idle_host, next_host, table_for, with_table, with_host};
 
 use crate::header::cluster_size;
 use crate::image::Image;
@@ -23,7 +23,7 @@ use q2_tables::Mapping;
 
 /// The stop of a write, with the count of faults behind it.
 fn stopped(why: Stop, count: u64) -> DevStop
-    ensures { result ≡ stop_of why count }
+    ensures { result ≡ stop_told why count }
 {
     match why {
         Stop::Failed => DevStop::Io { count },
@@ -86,7 +86,7 @@ impl Image {
         requires small { host < 549755813888 }
         requires fits { host + 65536 ≤ D.capacity dev.old }
         requires image { (file : List ℕ) → D.content dev.old ≡ Some file → IsImageOf file self.now }
-        requires idle { (file : List ℕ) → D.content dev.old ≡ Some file → IsIdle file self.now host }
+        requires idle { (file : List ℕ) → D.content dev.old ≡ Some file → IsIdle 65536 file self.now host }
         ensures written { OnOk result ((file : List ℕ) → D.content dev.new ≡ Some file → bytes_at file host 65536 ≡ bytes.now) }
         ensures reaches { OnOk result (host + 65536 ≤ D.size dev.new) }
         ensures spare_stay { (old new : List ℕ) (n : ℕ) → D.content dev.old ≡ Some old → D.content dev.new ≡ Some new → IsSpare old n → IsSpare new n }
@@ -121,7 +121,7 @@ impl Image {
         requires fits { link_end self.old.tables cluster table ≤ D.capacity dev.old }
         requires image { (file : List ℕ) → D.content dev.old ≡ Some file → IsImageOf file self.old }
         requires spare { (file : List ℕ) → D.content dev.old ≡ Some file → table ≢ 0 → IsSpare file (table / 65536) }
-        requires may { (file : List ℕ) → D.content dev.old ≡ Some file → MayName file self.old cluster table (host_of (entry_of to)) }
+        requires may { (file : List ℕ) → D.content dev.old ≡ Some file → MayName 65536 file self.old cluster table (host_of (entry_of to)) }
         ensures entry { OnOk result (entry_in self.new cluster ≡ entry_of to) }
         ensures spelled { OnOk result (IsSpelled self.new cluster) }
         ensures others { HasEntriesBut self.old self.new cluster }
@@ -130,7 +130,7 @@ impl Image {
         ensures refs { self.new.refs ≡ self.old.refs }
         ensures image { (file : List ℕ) → D.content dev.new ≡ Some file → IsImageOf file self.new }
         ensures disk { OnOk result ((old new bytes : List ℕ) → D.content dev.old ≡ Some old → D.content dev.new ≡ Some new
-            → length bytes ≡ 65536 → Shows old (entry_of to) bytes → IsDiskWith old new (cluster * 65536) bytes) }
+            → length bytes ≡ 65536 → Shows 65536 old (entry_of to) bytes → IsDiskWith old new (cluster * 65536) bytes) }
         ensures kept { OnErr result ((old new : List ℕ) → D.content dev.old ≡ Some old → D.content dev.new ≡ Some new → IsSameDisk old new) }
         ensures cause { IfErr result (IsFault (D.faults dev.old) (D.faults dev.new)) }
         ensures told { is_some (D.content dev.new) ≡ is_some (D.content dev.old) }
@@ -248,7 +248,7 @@ impl Image {
         ensures header { self.new.header ≡ self.old.header }
         ensures image { (file : List ℕ) → D.content dev.new ≡ Some file → IsImageOf file self.new }
         ensures disk { OnOk result ((old new zeros : List ℕ) → D.content dev.old ≡ Some old → D.content dev.new ≡ Some new
-            → AreClusterZeros zeros → IsDiskWith old new (cluster * 65536) zeros) }
+            → AreClusterZeros 65536 zeros → IsDiskWith old new (cluster * 65536) zeros) }
         ensures kept { OnErr result ((old new : List ℕ) → D.content dev.old ≡ Some old → D.content dev.new ≡ Some new → IsSameDisk old new) }
         ensures cause { IfErr result (IsFault (D.faults dev.old) (D.faults dev.new)) }
         ensures told { is_some (D.content dev.new) ≡ is_some (D.content dev.old) }

@@ -5,7 +5,8 @@ use Rattle.std.proofs.Math.ListN.{length-set}
 use Rattle.std.proofs.lemmas.List.{get_or-set_same, get_or-set_other}
 use Rattle.q2_format.specs.Sizes.{cluster_size}
 use Rattle.q2_format.specs.Entry.{block_offset}
-use Rattle.q2_refs.specs.Allocating.{with_one, with_block, with_block_for, place_of_block, end_of_block, end_of_block_for, end_of_allocation, count_place}
+use Rattle.q2_refs.specs.Allocating.{with_one, with_block, with_block_for, place_of_block, end_of_allocation, count_place}
+use Rattle.q2_refs.proofs.AllocationStops.{end_of_block, end_of_block_for, end-allocation_writes}
 use Rattle.q2_refs.specs.Kept.{Kept, per_block}
 
 -- the block of a cluster, where it is or where it will be put
@@ -41,7 +42,9 @@ count_after kept n has =
     ]
 
 pub end_by_block : (kept : Kept) (n : ℕ) → HasEntry kept n → end_of_allocation kept n ≡ max (end_of_block_for kept n) (block_for kept n + n % per_block kept * 2 + 2)
-end_by_block kept n has = ap (λ (at : ℕ). max (end_of_block_for kept n) (at + 2)) (count_after kept n has)
+end_by_block kept n has =
+    let size : cluster_size kept.cluster_bits ≡ 65536 = rw has.cluster_bits refl in
+    end-allocation_writes kept n size ∙ ap (λ (at : ℕ). max (end_of_block_for kept n) (at + 2)) (count_after kept n has)
 
 -- the same where the entry was looked at
 pub end_of_kept : (kept : Kept) (n : ℕ) → kept.cluster_bits ≡ 16 → kept.refcount_order ≡ 4 → n < length kept.counts → length kept.counts ≤ length kept.table * per_block kept → length kept.counts ≤ 8388608

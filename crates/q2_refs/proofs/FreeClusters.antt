@@ -166,6 +166,10 @@ given_place kept k first absent =
 pub given_count : (kept : Kept) (n : ℕ) → will_be_given kept n ≡ true → slice_index kept.counts n ≡ 0
 given_count kept n given = eqb-true (slice_index kept.counts n) 0 (and_parts (eqb (slice_index kept.counts n) 0) (is_no_place kept n) given).0
 
+-- a cluster that will be given isn't the place of its block, where that is absent
+pub given_beside : (kept : Kept) (n : ℕ) → will_be_given kept n ≡ true → block_offset (slice_index kept.table (n / per_block kept)) ≡ 0 → n % per_block kept ≢ 0
+given_beside kept n given absent first = false≢true (sym (given_place kept n first absent) ∙ given)
+
 -- a new block changes nothing of what will be given
 block_same : (kept : Kept) (i k : ℕ) → 0 < per_block kept → i < length kept.table → place_of_block kept i < length kept.counts → block_offset (slice_index kept.table i) ≡ 0
     → will_be_given (with_block kept i) k ≡ will_be_given kept k
@@ -214,10 +218,10 @@ free_with_one kept n rest below is =
 
 -- The same for the block of a cluster, which is put only where it is absent.
 
-for_absent : (kept : Kept) (n : ℕ) → block_offset (slice_index kept.table (n / per_block kept)) ≡ 0 → with_block_for kept n ≡ with_block kept (n / per_block kept)
+pub for_absent : (kept : Kept) (n : ℕ) → block_offset (slice_index kept.table (n / per_block kept)) ≡ 0 → with_block_for kept n ≡ with_block kept (n / per_block kept)
 for_absent kept n absent = let test = eq-eqb (block_offset (slice_index kept.table (n / per_block kept))) 0 absent in rw test refl
 
-for_present : (kept : Kept) (n : ℕ) → block_offset (slice_index kept.table (n / per_block kept)) ≢ 0 → with_block_for kept n ≡ kept
+pub for_present : (kept : Kept) (n : ℕ) → block_offset (slice_index kept.table (n / per_block kept)) ≢ 0 → with_block_for kept n ≡ kept
 for_present kept n there = let test = ne_eqb (block_offset (slice_index kept.table (n / per_block kept))) 0 there in rw test refl
 
 pub free_with_block_for : (kept : Kept) (n : ℕ) → 0 < per_block kept → length kept.counts ≤ length kept.table * per_block kept → n < length kept.counts

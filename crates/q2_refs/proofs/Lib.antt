@@ -11,4 +11,6 @@ pub mod BlockStep
 pub mod Ends
 pub mod Made
 pub mod Placing
-pub mod Told
+pub mod AllocationStops
+pub mod Allocated
+pub mod Loads

@@ -1,8 +1,11 @@
 -- Taking a cluster: what is kept afterwards, what the file is, and what of it stays.
-use Rattle.std.specs.Prelude.{◌≡◌, ◌≢◌, ℕ, ◌+◌, ◌*◌, ◌/◌, ◌%◌, ◌<◌, max, ◌==◌, if◌then◌else◌, ⊤, List, length, count_by, slice_index, slice_set}
-use Rattle.blk_base.specs.Counts.{Rose}
+use Rattle.std.specs.Prelude.{◌≡◌, ◌≢◌, ◌⊎◌, ℕ, ◌+◌, ◌-◌, ◌*◌, ◌/◌, ◌%◌, ◌==◌, if◌then◌else◌, List, [], ◌∷◌, ◌++◌, length, replicate, count_by, slice_index, slice_set, Option, Some, None, Result, Ok, Err}
+use Rattle.blk_base.specs.Content.{Write}
+use Rattle.blk_base.specs.Device.{Writes, Wrote}
+use Rattle.blk_base.specs.Writes.{write_of, first_bytes, end_of_writes}
+use Rattle.blk_base.specs.declared.device.Device.{Ghosts}
 use Rattle.blk_base.specs.declared.fault.DevStop.{DevStop}
-use Rattle.blk_base.specs.declared.fault.DevStop.TheVariants.{Io, NoSpace}
+use Rattle.byteorder.specs.Endian.{big_bytes}
 use Rattle.q2_format.specs.Sizes.{cluster_size}
 use Rattle.q2_format.specs.Entry.{block_offset}
 use Rattle.q2_format.specs.Header.{header_of}
@@ -12,6 +15,7 @@ use Rattle.q2_format.specs.Tables.{active_tree, refcount_table, refcount_of}
 use Rattle.q2_format.specs.declared.header.Header.{Header}
 use Rattle.q2_refs.specs.declared.allocating.RefStop.{RefStop}
 use Rattle.q2_refs.specs.declared.allocating.RefStop.TheVariants.{Dev, HostLimit}
+use Rattle.q2_refs.specs.Free.{free_cluster}
 use Rattle.q2_refs.specs.Kept.{Kept, IsCountsOf, per_block}
 
 -- the file is sound, and what is kept is its refcounts
@@ -40,6 +44,39 @@ with_block_for kept cluster =
     let i = cluster / per_block kept in
     if block_offset (slice_index kept.table i) == 0 then with_block kept i else kept
 
+-- where the refcount of a cluster is, whose block is there
+abbrev pub count_place : Kept → ℕ → ℕ
+count_place kept n = block_offset (slice_index kept.table (n / per_block kept)) + n % per_block kept * 2
+
+-- the offset of the first cluster of block i's range, where that block is put
+abbrev pub offset_of_block : Kept → ℕ → ℕ
+offset_of_block kept i = place_of_block kept i * cluster_size kept.cluster_bits
+
+-- the bytes of a new block: it counts one of its own cluster, which is its first, and none of the others
+unfoldable pub new_block : ℕ → List ℕ
+new_block len = big_bytes 2 1 ++ replicate (len - 2) 0
+
+-- the writes by which block i is put there: its bytes, and then its entry in the table
+unfoldable pub block_writes : Kept → ℕ → List Write
+block_writes kept i =
+    write_of (offset_of_block kept i) (new_block (cluster_size kept.cluster_bits))
+    ∷ write_of (kept.table_offset + 8 * i) (big_bytes 8 (offset_of_block kept i))
+    ∷ []
+
+-- the writes by which the block of a cluster is put, none where it is there
+abbrev pub block_writes_for : Kept → ℕ → List Write
+block_writes_for kept n =
+    let i = n / per_block kept in
+    if block_offset (slice_index kept.table i) == 0 then block_writes kept i else []
+
+-- the write by which a cluster counts one, whose block is there
+unfoldable pub count_write : Kept → ℕ → Write
+count_write kept n = write_of (count_place kept n) (big_bytes 2 1)
+
+-- the writes of a call that gives cluster n: for its block, and then its refcount
+abbrev pub allocation_writes : Kept → ℕ → List Write
+allocation_writes kept n = block_writes_for kept n ++ count_write (with_block_for kept n) n ∷ []
+
 -- how often the refcount table and its blocks lie on a cluster
 abbrev pub refcount_uses : List ℕ → Header → ℕ → ℕ
 refcount_uses file h cluster = let c = cluster_size h.cluster_bits in
@@ -57,35 +94,42 @@ pub record KeepsCounted (old new : List ℕ) (h : Header) : Type 0 where
   pub bytes : (i : ℕ) → refcount_of old h (i / cluster_size h.cluster_bits) ≢ 0 → refcount_uses old h (i / cluster_size h.cluster_bits) ≡ 0
       → slice_index new i ≡ slice_index old i
 
--- the bytes behind the last that a new block takes, and that its entry in the table takes
-abbrev pub end_of_block : Kept → ℕ → ℕ
-end_of_block kept i = let c = cluster_size kept.cluster_bits in
-    max (place_of_block kept i * c + c) (kept.table_offset + 8 * i + 8)
-
--- where the refcount of a cluster is, whose block is there
-abbrev pub count_place : Kept → ℕ → ℕ
-count_place kept n = block_offset (slice_index kept.table (n / per_block kept)) + n % per_block kept * 2
-
--- the byte behind the last that putting the block of a cluster writes, and 0 where it is there
-abbrev pub end_of_block_for : Kept → ℕ → ℕ
-end_of_block_for kept n =
-    let i = n / per_block kept in
-    if block_offset (slice_index kept.table i) == 0 then end_of_block kept i else 0
-
--- the byte behind the last that a call writes which gives cluster n
+-- the highest end of what a call writes that gives cluster n
 abbrev pub end_of_allocation : Kept → ℕ → ℕ
-end_of_allocation kept n = max (end_of_block_for kept n) (count_place (with_block_for kept n) n + 2)
+end_of_allocation kept n = end_of_writes (allocation_writes kept n)
 
--- A failed call is answered only where the device's count rose, and names the count; want of space only where
--- the call would write behind the capacity.
-abbrev pub HasDevCause : ℕ → ℕ → ℕ → ℕ → DevStop → Type 0
-HasDevCause before now capacity end (Io count) = Rose before count × (count ≡ now)
-HasDevCause before now capacity end NoSpace = capacity < end
+-- the stop of the device that an allocation tells
+abbrev pub ref_stop_of : {A : Type 0} → Result A RefStop → Option DevStop
+ref_stop_of (Ok cluster) = None
+ref_stop_of (Err (Dev stop)) = Some stop
+ref_stop_of (Err HostLimit) = None
 
--- the same for an allocation, of which a full image has its own cause
-abbrev pub HasRefCause : ℕ → ℕ → ℕ → ℕ → RefStop → Type 0
-HasRefCause before now capacity end (Dev stop) = HasDevCause before now capacity end stop
-HasRefCause before now capacity end HostLimit = ⊤
+-- the writes of an allocation, by its answer
+abbrev pub writes_of_answer : Kept → Result ℕ RefStop → List Write
+writes_of_answer kept (Ok cluster) = allocation_writes kept cluster
+writes_of_answer kept (Err (Dev stop)) = allocation_writes kept (free_cluster kept 0)
+writes_of_answer kept (Err HostLimit) = []
+
+-- the writes up to a refcount of which nothing was written
+abbrev pub all_but_count : Kept → ℕ → List Write
+all_but_count kept n = block_writes_for kept n ++ first_bytes 0 (count_write (with_block_for kept n) n) ∷ []
+
+-- What a stop leaves of an allocation that gives cluster n: its block was not put and isn't kept, or it was and is,
+-- and the refcount was not written.
+abbrev pub StopsAllocating : {D : Type 0} → Ghosts D → Kept → ℕ → DevStop → Kept → D → D → Type 0
+StopsAllocating g kept n stop left old new =
+    ((left ≡ kept) × Writes g (block_writes_for kept n) (Some stop) old new)
+    ⊎ ((left ≡ with_block_for kept n) × Wrote g (all_but_count kept n) old new)
+
+-- what is kept after each refusal
+abbrev pub IsLeft : {D : Type 0} → Ghosts D → Kept → Kept → RefStop → D → D → Type 0
+IsLeft g kept left (Dev stop) old new = StopsAllocating g kept (free_cluster kept 0) stop left old new
+IsLeft g kept left HostLimit old new = left ≡ kept
+
+-- a file in which all is sound, and of what counted in an older one all stays
+pub record KeepsSound (old new : List ℕ) : Type 0 where
+  pub sound : IsSound new
+  pub keeps : KeepsCounted old new (header_of old)
 
 -- what is kept of one image before and after
 pub record IsAlike (old new : Kept) : Type 0 where

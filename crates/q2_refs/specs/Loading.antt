@@ -1,7 +1,6 @@
 -- Reading an image's refcounts: what is refused, and why each answer comes.
 use Rattle.std.specs.Prelude.{◌≡◌, ℕ, ◌*◌, ◌≤◌, ◌<◌, ⊤, List, [], ◌∷◌, length, slice_index, Option, Some, None, Result, Ok, Err}
 use Rattle.std.specs.Option.{option_map}
-use Rattle.blk_base.specs.Counts.{Rose}
 use Rattle.q2_format.specs.Sizes.{cluster_size, entries_in_cluster, block_entries}
 use Rattle.q2_format.specs.Header.{first}
 use Rattle.q2_format.specs.Tables.{refcount_of}
@@ -43,12 +42,16 @@ RefusedBy (Err (Reserved index)) refusal = refusal ≡ Some (Reserved index)
 RefusedBy (Err (Io count)) refusal = ⊤
 RefusedBy (Err NoMemory) refusal = ⊤
 
--- a failed read is answered only where the device's count rose, and names the count
-abbrev pub HasCause : ℕ → ℕ → RefsStop → Type 0
-HasCause before now (Offset at) = ⊤
-HasCause before now (Reserved index) = ⊤
-HasCause before now (Io count) = Rose before count × (count ≡ now)
-HasCause before now NoMemory = ⊤
+-- the fault that a stop tells, and an answer
+abbrev pub fault_in_refs : RefsStop → Option ℕ
+fault_in_refs (Offset at) = None
+fault_in_refs (Reserved index) = None
+fault_in_refs (Io count) = Some count
+fault_in_refs NoMemory = None
+
+abbrev pub fault_of_refs : {A : Type 0} → Result A RefsStop → Option ℕ
+fault_of_refs (Ok refs) = None
+fault_of_refs (Err stop) = fault_in_refs stop
 
 -- a call that reads and decodes answers these alone
 abbrev pub IsReadStop : RefsStop → Type 0

@@ -11,8 +11,8 @@ ghost use Rattle.q2_refs.specs.Kept.{per_block};
 
 use crate::entries::block_offset;
 use crate::refs::{Refs, first_free};
-use crate::writing::{count_bytes, make_block, write, write_block};
-use blk_base::{DevStop, Device};
+use crate::writing::{count_bytes, make_block, write_block};
+use blk_base::{DevStop, Device, write};
 
 /// Why no cluster was given.
 #[derive(Clone, Copy, Debug, PartialEq, Eq)]
@@ -45,7 +45,8 @@ fn ends_within(at: u64, n: u64, capacity: u64) -> bool
 }
 
 impl Refs {
-    ghost use Rattle.q2_refs.specs.Allocating.{IsInStep, KeepsCounted, HasDevCause, HasRefCause, IsAlike, with_block, with_block_for, with_one, place_of_block, end_of_block, end_of_block_for, end_of_allocation, count_place};
+    ghost use Rattle.blk_base.specs.Device.{AtEachStopOf, Untouched, Writes, stop_of};
+    ghost use Rattle.q2_refs.specs.Allocating.{IsAlike, IsInStep, IsLeft, KeepsCounted, KeepsSound, StopsAllocating, allocation_writes, block_writes, block_writes_for, count_place, count_write, end_of_allocation, place_of_block, ref_stop_of, with_block, with_block_for, with_one, writes_of_answer};
 
     /// Where the refcount of a cluster is, whose block is there.
     fn count_place(&self, cluster: usize) -> u64
@@ -57,25 +58,13 @@ impl Refs {
         block_offset(self.table[cluster / per_block]) + (cluster % per_block) as u64 * 2
     }
 
-    /// Writes that a cluster whose refcount is 0, and whose block is there, counts one.
+    /// Writes that a cluster counts one, whose block is there.
+    #[tactic(auto, unfolding(crate::specs::Allocating::count_write))]
     fn count_one<D: Device>(&mut self, dev: &mut D, cluster: usize) -> Result<(), DevStop>
-        requires cluster { cluster < length self.old.counts }
-        requires few { length self.old.counts ≤ MAX_FILE_CLUSTERS }
-        requires free { slice_index self.old.counts cluster ≡ 0 }
-        requires there { (file : List ℕ) → D.content dev.old ≡ Some file → block_offset (slice_index self.old.table (cluster / per_block self.old)) ≢ 0 }
-        requires step { (file : List ℕ) → D.content dev.old ≡ Some file → IsInStep file self.old }
+        requires { cluster < length self.old.counts }
         ensures ok { OnOk result (self.new ≡ with_one self.old cluster) }
         ensures err { OnErr result (self.new ≡ self.old) }
-        ensures unwritten { OnErr result (D.content dev.new ≡ D.content dev.old) }
-        ensures step { (file : List ℕ) → D.content dev.new ≡ Some file → IsInStep file self.new }
-        ensures unused { OnOk result ((file : List ℕ) → D.content dev.new ≡ Some file → uses file (header_of file) cluster ≡ 0) }
-        ensures keeps { (old new : List ℕ) → D.content dev.old ≡ Some old → D.content dev.new ≡ Some new → KeepsCounted old new (header_of old) }
-        ensures fits { OnOk result (count_place self.old cluster + 2 ≤ D.capacity dev.old) }
-        ensures cause { IfErr result (HasDevCause (D.faults dev.old) (D.faults dev.new) (D.capacity dev.old) (count_place self.old cluster + 2)) }
-        ensures grows { D.size dev.old ≤ D.size dev.new }
-        ensures told { is_some (D.content dev.new) ≡ is_some (D.content dev.old) }
-        ensures faults { D.faults dev.old ≤ D.faults dev.new }
-        ensures capacity { D.capacity dev.new ≡ D.capacity dev.old }
+        ensures writes { Writes D.Device (count_write self.old cluster ∷ []) (stop_of result) dev.old dev.new }
     {
         let at = self.count_place(cluster);
         write(dev, at, &count_bytes(1))?;
@@ -113,25 +102,14 @@ impl Refs {
         self.counts[cluster] = 1;
     }
 
-    /// Puts block `i`, which is absent, into the first cluster of its range: first its bytes, in which that
-    /// cluster counts one, and then its entry in the table, which makes it visible.
+    /// Puts block `i` into the first cluster of its range: first its bytes, in which that cluster counts one,
+    /// and then its entry in the table, which makes it visible.
     fn place_block<D: Device>(&mut self, dev: &mut D, i: usize) -> Result<(), DevStop>
         requires entry { i < length self.old.table }
-        requires absent { block_offset (slice_index self.old.table i) ≡ 0 }
         requires place { place_of_block self.old i < length self.old.counts }
-        requires few { length self.old.counts ≤ MAX_FILE_CLUSTERS }
-        requires step { (file : List ℕ) → D.content dev.old ≡ Some file → IsInStep file self.old }
         ensures ok { OnOk result (self.new ≡ with_block self.old i) }
         ensures err { OnErr result (self.new ≡ self.old) }
-        ensures there { OnOk result ((file : List ℕ) → D.content dev.new ≡ Some file → block_offset (slice_index self.new.table i) ≢ 0) }
-        ensures step { (file : List ℕ) → D.content dev.new ≡ Some file → IsInStep file self.new }
-        ensures keeps { (old new : List ℕ) → D.content dev.old ≡ Some old → D.content dev.new ≡ Some new → KeepsCounted old new (header_of old) }
-        ensures fits { OnOk result (end_of_block self.old i ≤ D.capacity dev.old) }
-        ensures cause { IfErr result (HasDevCause (D.faults dev.old) (D.faults dev.new) (D.capacity dev.old) (end_of_block self.old i)) }
-        ensures grows { D.size dev.old ≤ D.size dev.new }
-        ensures told { is_some (D.content dev.new) ≡ is_some (D.content dev.old) }
-        ensures faults { D.faults dev.old ≤ D.faults dev.new }
-        ensures capacity { D.capacity dev.new ≡ D.capacity dev.old }
+        ensures writes { Writes D.Device (block_writes self.old i) (stop_of result) dev.old dev.new }
     {
         let offset = self.block_place(i);
         let entry = self.entry_place(i);
@@ -169,20 +147,10 @@ impl Refs {
 
     /// Puts the block of a cluster where it is absent.
     fn ensure_block<D: Device>(&mut self, dev: &mut D, cluster: usize) -> Result<(), DevStop>
-        requires cluster { cluster < length self.old.counts }
-        requires few { length self.old.counts ≤ MAX_FILE_CLUSTERS }
-        requires step { (file : List ℕ) → D.content dev.old ≡ Some file → IsInStep file self.old }
+        requires { cluster < length self.old.counts }
         ensures ok { OnOk result (self.new ≡ with_block_for self.old cluster) }
         ensures err { OnErr result (self.new ≡ self.old) }
-        ensures there { OnOk result ((file : List ℕ) → D.content dev.new ≡ Some file → block_offset (slice_index self.new.table (cluster / per_block self.new)) ≢ 0) }
-        ensures step { (file : List ℕ) → D.content dev.new ≡ Some file → IsInStep file self.new }
-        ensures keeps { (old new : List ℕ) → D.content dev.old ≡ Some old → D.content dev.new ≡ Some new → KeepsCounted old new (header_of old) }
-        ensures fits { OnOk result (end_of_block_for self.old cluster ≤ D.capacity dev.old) }
-        ensures cause { IfErr result (HasDevCause (D.faults dev.old) (D.faults dev.new) (D.capacity dev.old) (end_of_block_for self.old cluster)) }
-        ensures grows { D.size dev.old ≤ D.size dev.new }
-        ensures told { is_some (D.content dev.new) ≡ is_some (D.content dev.old) }
-        ensures faults { D.faults dev.old ≤ D.faults dev.new }
-        ensures capacity { D.capacity dev.new ≡ D.capacity dev.old }
+        ensures writes { Writes D.Device (block_writes_for self.old cluster) (stop_of result) dev.old dev.new }
     {
         let i = cluster / self.per_block();
         if block_offset(self.table[i]) != 0 {
@@ -191,23 +159,12 @@ impl Refs {
         self.place_block(dev, i)
     }
 
-    /// Takes a cluster that will be given: puts its block where that is absent, and counts it once.
+    /// Takes a cluster: puts its block where that is absent, and counts it once.
     fn take<D: Device>(&mut self, dev: &mut D, cluster: usize) -> Result<(), DevStop>
-        requires cluster { cluster < length self.old.counts }
-        requires given { will_be_given self.old cluster ≡ true }
-        requires few { length self.old.counts ≤ MAX_FILE_CLUSTERS }
-        requires step { (file : List ℕ) → D.content dev.old ≡ Some file → IsInStep file self.old }
+        requires { cluster < length self.old.counts }
         ensures ok { OnOk result (self.new ≡ with_one (with_block_for self.old cluster) cluster) }
-        ensures err { OnErr result ((self.new ≡ self.old) ⊎ (self.new ≡ with_block_for self.old cluster)) }
-        ensures step { (file : List ℕ) → D.content dev.new ≡ Some file → IsInStep file self.new }
-        ensures unused { OnOk result ((file : List ℕ) → D.content dev.new ≡ Some file → uses file (header_of file) cluster ≡ 0) }
-        ensures keeps { (old new : List ℕ) → D.content dev.old ≡ Some old → D.content dev.new ≡ Some new → KeepsCounted old new (header_of old) }
-        ensures fits { OnOk result (end_of_allocation self.old cluster ≤ D.capacity dev.old) }
-        ensures cause { IfErr result (HasDevCause (D.faults dev.old) (D.faults dev.new) (D.capacity dev.old) (end_of_allocation self.old cluster)) }
-        ensures grows { D.size dev.old ≤ D.size dev.new }
-        ensures told { is_some (D.content dev.new) ≡ is_some (D.content dev.old) }
-        ensures faults { D.faults dev.old ≤ D.faults dev.new }
-        ensures capacity { D.capacity dev.new ≡ D.capacity dev.old }
+        ensures writes { Writes D.Device (allocation_writes self.old cluster) (stop_of result) dev.old dev.new }
+        ensures left { IfErr result (λ stop. StopsAllocating D.Device self.old cluster stop self.new dev.old dev.new) }
     {
         self.ensure_block(dev, cluster)?;
         self.count_one(dev, cluster)
@@ -219,8 +176,9 @@ impl Refs {
     /// table; a refcount of 2 bytes.
     ///
     /// It needs a file that is sound, and whose refcounts are the kept ones; so the file is after every answer,
-    /// and its header, its tables and all that is counted in it stay. After `HostLimit` nothing was written.
-    /// After a refusal by the device the next call gives the same cluster.
+    /// and its header, its tables and all that is counted in it stay. The file is also sound, and what counted stays,
+    /// wherever these writes are cut off. After `HostLimit` nothing was written. After a refusal by the device the
+    /// next call gives the same cluster.
     pub fn allocate<D: Device>(&mut self, dev: &mut D) -> Result<u64, RefStop>
         requires few { length self.old.counts ≤ MAX_FILE_CLUSTERS }
         requires step { (file : List ℕ) → D.content dev.old ≡ Some file → IsInStep file self.old }
@@ -235,22 +193,19 @@ impl Refs {
 
         // when none is
         ensures full { (result ≡ Err RefStop.HostLimit) ↔ (free_clusters self.old ≡ []) }
-        ensures untouched { result ≡ Err RefStop.HostLimit → (self.new ≡ self.old)
-            × (D.content dev.new ≡ D.content dev.old) × (D.log dev.new ≡ D.log dev.old) × (D.is_flushed dev.new ≡ D.is_flushed dev.old)
-            × (D.size dev.new ≡ D.size dev.old) × (D.faults dev.new ≡ D.faults dev.old) }
+        ensures untouched { result ≡ Err RefStop.HostLimit → Untouched D.Device dev.old dev.new }
         ensures again { OnErr result (free_clusters self.new ≡ free_clusters self.old) }
         ensures partly { OnErr result ((self.new ≡ self.old) ⊎ (self.new ≡ with_block_for self.old (free_cluster self.old 0))) }
-        ensures cause { IfErr result (HasRefCause (D.faults dev.old) (D.faults dev.new) (D.capacity dev.old) (end_of_allocation self.old (free_cluster self.old 0))) }
-        ensures fits { IfOk result (λ cluster. end_of_allocation self.old cluster ≤ D.capacity dev.old) }
+        ensures left { IfErr result (λ stop. IsLeft D.Device self.old self.new stop dev.old dev.new) }
+
+        // the device
+        ensures writes { Writes D.Device (writes_of_answer self.old result) (ref_stop_of result) dev.old dev.new }
+        ensures stops { AtEachStopOf D.Device KeepsSound (writes_of_answer self.old result) dev.old }
 
         // the file
         ensures step { (file : List ℕ) → D.content dev.new ≡ Some file → IsInStep file self.new }
         ensures keeps { (old new : List ℕ) → D.content dev.old ≡ Some old → D.content dev.new ≡ Some new → KeepsCounted old new (header_of old) }
         ensures alike { IsAlike self.old self.new }
-        ensures told { is_some (D.content dev.new) ≡ is_some (D.content dev.old) }
-        ensures grows { D.size dev.old ≤ D.size dev.new }
-        ensures faults { D.faults dev.old ≤ D.faults dev.new }
-        ensures capacity { D.capacity dev.new ≡ D.capacity dev.old }
     {
         self.skip_taken();
         let cluster = self.next_free(0) as usize;

@@ -1,10 +1,10 @@
 //! The entries of the refcount table, and which are refused.
-ghost use Rattle.std.specs.Prelude.{◌≡◌, ◌+◌, ◌^◌, ◌<◌, ◌≤◌};
+ghost use Rattle.std.specs.Prelude.{◌≡◌, ◌+◌, ◌^◌, ◌<◌, ◌≤◌, None, IfErr};
 ghost use Rattle.std.specs.Option.{option_map};
 ghost use Rattle.q2_format.specs.Entry.{block_offset, has_reserved_in_refcount_table};
 ghost use Rattle.q2_format.specs.Header.{refusal_in};
 ghost use Rattle.q2_format.specs.Sound.{bad_block, is_misplaced, reserved_in_refcount_table};
-ghost use Rattle.q2_refs.specs.Loading.{words_refusal};
+ghost use Rattle.q2_refs.specs.Loading.{fault_in_refs, words_refusal};
 
 use crate::stop::RefsStop;
 
@@ -60,7 +60,8 @@ fn first_reserved(table: &[u64]) -> Option<u64>
 /// Refuses a table that names a block outside its place, and then one that has a reserved bit.
 pub(crate) fn check_words(table: &[u64], c: u64, len: u64) -> Result<(), RefsStop>
     requires { 0 < c }
-    ensures { refusal_in result ≡ words_refusal c len table.now }
+    ensures refused { refusal_in result ≡ words_refusal c len table.now }
+    ensures quiet { IfErr result (λ stop. fault_in_refs stop ≡ None) }
 {
     if let Some(offset) = first_misplaced(table, c, len) {
         return Err(RefsStop::Offset(offset));

@@ -2,13 +2,14 @@
 ghost use Rattle.std.specs.Prelude.{◌≡◌, ◌+◌, ◌-◌, ◌*◌, ◌%◌, ◌^◌, ◌<◌, ◌≤◌, ℕ, List, length, slice_index, None, Some, IfOk, IfErr, OnOk};
 ghost use Rattle.std.specs.Option.{option_map};
 ghost use Rattle.blk_base.specs.Content.{bytes_at};
+ghost use Rattle.blk_base.specs.Device.{Reads};
 ghost use Rattle.q2_format.specs.Bytes.{number_at, words_at};
 ghost use Rattle.q2_format.specs.Header.{CanBeRead, refusal_in};
 ghost use Rattle.q2_format.specs.Sizes.{cluster_size, block_entries};
 ghost use Rattle.q2_format.specs.Sound.{bad_refcount_table};
 ghost use Rattle.q2_format.specs.Tables.{refcount_table};
 ghost use Rattle.q2_refs.specs.Kept.{AreWholeClusters, BeginBelow, IsCountsOf, IsShapedBy};
-ghost use Rattle.q2_refs.specs.Loading.{table_entries, table_reach, refcounts_refusal, RefusedBy, HasCause, IsReadStop, HasShape, AreCounts, AreZeroFrom};
+ghost use Rattle.q2_refs.specs.Loading.{table_entries, table_reach, refcounts_refusal, RefusedBy, fault_in_refs, fault_of_refs, IsReadStop, HasShape, AreCounts, AreZeroFrom};
 
 use crate::entries::{block_offset, check_words, is_misplaced};
 use crate::refs::{Refs, first_free};
@@ -65,13 +66,7 @@ fn zero_counts(alloc: Global, len: usize) -> Result<Vec<u16>, AllocError>
 fn read<D: Device>(dev: &mut D, at: u64, buf: &mut [u8]) -> Result<(), RefsStop>
     ensures read { OnOk result ((file : List ℕ) → D.content dev.old ≡ Some file → buf.new ≡ bytes_at file at (length buf.old)) }
     ensures stop { IfErr result IsReadStop }
-    ensures cause { IfErr result (HasCause (D.faults dev.old) (D.faults dev.new)) }
-    ensures faults { D.faults dev.old ≤ D.faults dev.new }
-    ensures content { D.content dev.new ≡ D.content dev.old }
-    ensures flushed { D.is_flushed dev.new ≡ D.is_flushed dev.old }
-    ensures log { D.log dev.new ≡ D.log dev.old }
-    ensures size { D.size dev.new ≡ D.size dev.old }
-    ensures capacity { D.capacity dev.new ≡ D.capacity dev.old }
+    ensures device { Reads D.Device (fault_of_refs result) dev.old dev.new }
 {
     match dev.read_at(at, buf) {
         Ok(()) => Ok(()),
@@ -85,7 +80,8 @@ fn read<D: Device>(dev: &mut D, at: u64, buf: &mut [u8]) -> Result<(), RefsStop>
 #[tactic(auto, unfolding(q2_format::specs::Sound::bad_refcount_table))]
 fn check_place(h: &Header, len: u64) -> Result<(), RefsStop>
     requires { h.now.cluster_bits < 32 }
-    ensures { refusal_in result ≡ option_map RefsStop.Offset (bad_refcount_table h.now len) }
+    ensures refused { refusal_in result ≡ option_map RefsStop.Offset (bad_refcount_table h.now len) }
+    ensures quiet { IfErr result (λ stop. fault_in_refs stop ≡ None) }
 {
     if h.ref_clusters == 0 || is_misplaced(cluster_len(h) as u64, len, h.ref_offset) {
         return Err(RefsStop::Offset(h.ref_offset));
@@ -111,13 +107,7 @@ fn read_words<D: Device>(
     requires { length buffer.old ≡ 8 * length words.old }
     ensures words { OnOk result ((file : List ℕ) → D.content dev.old ≡ Some file → words.new ≡ words_at file at (length words.old)) }
     ensures stop { IfErr result IsReadStop }
-    ensures cause { IfErr result (HasCause (D.faults dev.old) (D.faults dev.new)) }
-    ensures faults { D.faults dev.old ≤ D.faults dev.new }
-    ensures content { D.content dev.new ≡ D.content dev.old }
-    ensures flushed { D.is_flushed dev.new ≡ D.is_flushed dev.old }
-    ensures log { D.log dev.new ≡ D.log dev.old }
-    ensures size { D.size dev.new ≡ D.size dev.old }
-    ensures capacity { D.capacity dev.new ≡ D.capacity dev.old }
+    ensures device { Reads D.Device (fault_of_refs result) dev.old dev.new }
 {
     read(dev, at, buffer)?;
     decode_words(buffer, words);
@@ -131,13 +121,7 @@ fn read_table<D: Device>(alloc: Global, dev: &mut D, h: &Header) -> Result<Vec<u
     ensures table { IfOk result (λ words. (file : List ℕ) → D.content dev.old ≡ Some file → words.items ≡ refcount_table file h.now) }
     ensures len { IfOk result (λ words. length words.items ≡ table_entries h.now) }
     ensures stop { IfErr result IsReadStop }
-    ensures cause { IfErr result (HasCause (D.faults dev.old) (D.faults dev.new)) }
-    ensures faults { D.faults dev.old ≤ D.faults dev.new }
-    ensures content { D.content dev.new ≡ D.content dev.old }
-    ensures flushed { D.is_flushed dev.new ≡ D.is_flushed dev.old }
-    ensures log { D.log dev.new ≡ D.log dev.old }
-    ensures size { D.size dev.new ≡ D.size dev.old }
-    ensures capacity { D.capacity dev.new ≡ D.capacity dev.old }
+    ensures device { Reads D.Device (fault_of_refs result) dev.old dev.new }
 {
     let entries = table_len(h);
     let mut buffer = zero_bytes(alloc, 8 * entries)?;
@@ -192,13 +176,7 @@ fn read_block<D: Device>(
     ensures before { (k : ℕ) → k < i * block_entries (cluster_size h.now.cluster_bits) h.now.refcount_order → slice_index counts.new k ≡ slice_index counts.old k }
     ensures behind { AreZeroFrom counts.new ((i + 1) * block_entries (cluster_size h.now.cluster_bits) h.now.refcount_order) }
     ensures stop { IfErr result IsReadStop }
-    ensures cause { IfErr result (HasCause (D.faults dev.old) (D.faults dev.new)) }
-    ensures faults { D.faults dev.old ≤ D.faults dev.new }
-    ensures content { D.content dev.new ≡ D.content dev.old }
-    ensures flushed { D.is_flushed dev.new ≡ D.is_flushed dev.old }
-    ensures log { D.log dev.new ≡ D.log dev.old }
-    ensures size { D.size dev.new ≡ D.size dev.old }
-    ensures capacity { D.capacity dev.new ≡ D.capacity dev.old }
+    ensures device { Reads D.Device (fault_of_refs result) dev.old dev.new }
 {
     let offset = block_offset(table[i]);
     if offset == 0 {
@@ -228,13 +206,7 @@ fn read_counts<D: Device>(
     ensures counts { OnOk result ((file : List ℕ) → D.content dev.old ≡ Some file → table.now ≡ refcount_table file h.now
         → AreCounts file h.now counts.new 0 (length counts.old)) }
     ensures stop { IfErr result IsReadStop }
-    ensures cause { IfErr result (HasCause (D.faults dev.old) (D.faults dev.new)) }
-    ensures faults { D.faults dev.old ≤ D.faults dev.new }
-    ensures content { D.content dev.new ≡ D.content dev.old }
-    ensures flushed { D.is_flushed dev.new ≡ D.is_flushed dev.old }
-    ensures log { D.log dev.new ≡ D.log dev.old }
-    ensures size { D.size dev.new ≡ D.size dev.old }
-    ensures capacity { D.capacity dev.new ≡ D.capacity dev.old }
+    ensures device { Reads D.Device (fault_of_refs result) dev.old dev.new }
 {
     let blocks = counts.len().div_ceil(block_len(h));
     for i in 0..blocks {
@@ -243,21 +215,17 @@ fn read_counts<D: Device>(
     Ok(())
 }
 
-/// Reads the words of the refcount table, and refuses what is refused of it.
-fn open_table<D: Device>(alloc: Global, dev: &mut D, h: &Header) -> Result<Vec<u64>, RefsStop>
-    requires { HasShape h.now }
+/// Reads the words of the refcount table in one read, and refuses what is refused of it, in this order: its place,
+/// the places of its blocks, reserved bits in its entries. `Io` comes in place of what the read would have told, and
+/// `NoMemory` may come before or after.
+pub fn load_table<D: Device>(alloc: Global, dev: &mut D, h: &Header) -> Result<Vec<u64>, RefsStop>
+    requires { CanBeRead h.now (D.size dev.old) }
     ensures refused { (file : List ℕ) → D.content dev.old ≡ Some file →
         RefusedBy result (refcounts_refusal h.now (D.size dev.old) (refcount_table file h.now)) }
     ensures accepted { IfOk result (λ words. refcounts_refusal h.now (D.size dev.old) words.items ≡ None) }
     ensures table { IfOk result (λ words. (file : List ℕ) → D.content dev.old ≡ Some file → words.items ≡ refcount_table file h.now) }
     ensures len { IfOk result (λ words. length words.items ≡ table_entries h.now) }
-    ensures cause { IfErr result (HasCause (D.faults dev.old) (D.faults dev.new)) }
-    ensures faults { D.faults dev.old ≤ D.faults dev.new }
-    ensures content { D.content dev.new ≡ D.content dev.old }
-    ensures flushed { D.is_flushed dev.new ≡ D.is_flushed dev.old }
-    ensures log { D.log dev.new ≡ D.log dev.old }
-    ensures size { D.size dev.new ≡ D.size dev.old }
-    ensures capacity { D.capacity dev.new ≡ D.capacity dev.old }
+    ensures device { Reads D.Device (fault_of_refs result) dev.old dev.new }
 {
     let len = dev.length();
     check_place(h, len)?;
@@ -292,11 +260,50 @@ fn refs_of(h: &Header, table: Vec<u64>, counts: Vec<u16>, buffer: Vec<u8>) -> Re
     }
 }
 
+/// Reads the refcounts of the first `reach` clusters of a file, by the words of its refcount table: a cluster for
+/// each block that is there and counts one of them.
+pub fn load_counts<D: Device>(
+    alloc: Global,
+    dev: &mut D,
+    h: &Header,
+    table: Vec<u64>,
+    reach: u64,
+) -> Result<Refs, RefsStop>
+    requires header { CanBeRead h.now (D.size dev.old) }
+    requires accepted { refcounts_refusal h.now (D.size dev.old) table.items ≡ None }
+    requires entries { length table.items ≡ table_entries h.now }
+    requires reach { reach ≤ table_reach h.now }
+    requires small { reach ≤ 2 ^ 24 }
+    ensures kept { IfOk result (λ refs. (file : List ℕ) → D.content dev.old ≡ Some file → table.items ≡ refcount_table file h.now
+        → IsCountsOf file h.now refs) }
+    ensures stop { IfErr result IsReadStop }
+
+    // what holds even where the device doesn't tell its bytes
+    ensures shape { IfOk result (IsShapedBy h.now) }
+    ensures table { IfOk result (λ refs. refs.table ≡ table.items) }
+    ensures reach { IfOk result (λ refs. length refs.counts ≡ reach) }
+    ensures blocks { IfOk result (λ refs. AreWholeClusters (cluster_size h.now.cluster_bits) refs.table) }
+    ensures below { IfOk result (λ refs. BeginBelow (D.size dev.old) refs.table) }
+
+    // the device
+    ensures device { Reads D.Device (fault_of_refs result) dev.old dev.new }
+{
+    let mut counts = zero_counts(alloc, reach as usize)?;
+    let mut buffer = zero_bytes(alloc, cluster_len(h))?;
+    read_counts(
+        dev,
+        h,
+        table.as_slice(),
+        buffer.as_mut_slice(),
+        counts.as_mut_slice(),
+    )?;
+    Ok(refs_of(h, table, counts, buffer))
+}
+
 /// Reads the refcounts of the first `reach` clusters of a file. It reads the refcount table at once, then a
 /// cluster for each block that is there and counts one of them.
 ///
-/// What is refused is refused in this order: the refcount table's place, the places of its blocks, reserved
-/// bits in its entries. `Io` and `NoMemory` may come before or after. The device's bytes stay.
+/// What is refused is what `load_table` refuses, before a block is read. The device's bytes stay.
 pub fn load_refs<D: Device>(
     alloc: Global,
     dev: &mut D,
@@ -321,23 +328,8 @@ pub fn load_refs<D: Device>(
     ensures below { IfOk result (λ refs. BeginBelow (D.size dev.old) refs.table) }
 
     // the device
-    ensures cause { IfErr result (HasCause (D.faults dev.old) (D.faults dev.new)) }
-    ensures faults { D.faults dev.old ≤ D.faults dev.new }
-    ensures content { D.content dev.new ≡ D.content dev.old }
-    ensures flushed { D.is_flushed dev.new ≡ D.is_flushed dev.old }
-    ensures log { D.log dev.new ≡ D.log dev.old }
-    ensures size { D.size dev.new ≡ D.size dev.old }
-    ensures capacity { D.capacity dev.new ≡ D.capacity dev.old }
+    ensures device { Reads D.Device (fault_of_refs result) dev.old dev.new }
 {
-    let table = open_table(alloc, dev, h)?;
-    let mut counts = zero_counts(alloc, reach as usize)?;
-    let mut buffer = zero_bytes(alloc, cluster_len(h))?;
-    read_counts(
-        dev,
-        h,
-        table.as_slice(),
-        buffer.as_mut_slice(),
-        counts.as_mut_slice(),
-    )?;
-    Ok(refs_of(h, table, counts, buffer))
+    let table = load_table(alloc, dev, h)?;
+    load_counts(alloc, dev, h, table, reach)
 }

@@ -6,3 +6,5 @@ pub mod Written
 pub mod Links
 pub mod Apart
 pub mod SmallTables
+pub mod LinkWrites
+pub mod Loads

@@ -1,10 +1,8 @@
 -- What linking a guest cluster needs, and what it changes.
-use Rattle.std.specs.Prelude.{◌≡◌, ◌≢◌, ◌⊎◌, ℕ, ◌+◌, ◌*◌, ◌/◌, ◌%◌, ◌^◌, ◌<◌, ◌≤◌, max, ◌==◌, if◌then◌else◌, List, length, slice_index, slice_set, Option, Some}
-use Rattle.blk_base.specs.Counts.{Rose}
-use Rattle.blk_base.specs.declared.fault.DevStop.{DevStop}
-use Rattle.blk_base.specs.declared.fault.DevStop.TheVariants.{Io, NoSpace}
-use Rattle.blk_base.specs.declared.device.Stop.{Stop}
-use Rattle.blk_base.specs.declared.device.Stop.TheVariants as why
+use Rattle.std.specs.Prelude.{◌≡◌, ◌≢◌, ◌⊎◌, ℕ, ◌+◌, ◌*◌, ◌/◌, ◌%◌, ◌^◌, ◌<◌, ◌≤◌, max, ◌==◌, if◌then◌else◌, List, [], ◌∷◌, ◌++◌, length, replicate, take, slice_index, slice_set, Option, Some}
+use Rattle.blk_base.specs.Content.{Write}
+use Rattle.blk_base.specs.Writes.{write_of}
+use Rattle.byteorder.specs.Endian.{big_bytes}
 use Rattle.q2_format.specs.Bytes.{words_at}
 use Rattle.q2_format.specs.Sizes.{entries_in_cluster}
 use Rattle.q2_format.specs.Entry.{host_offset}
@@ -60,9 +58,26 @@ table_len kept table = if table == 0 then 0 else kept.c
 abbrev pub link_end : Kept → ℕ → ℕ → ℕ
 link_end kept cluster table = max (table + table_len kept table) (entry_at kept cluster table + 8)
 
+-- the write of an entry of a table
+unfoldable pub entry_write : ℕ → ℕ → Write
+entry_write at word = write_of at (big_bytes 8 word)
+
+-- the n bytes of a new table: one entry, and zeros
+unfoldable pub new_table : ℕ → ℕ → ℕ → List ℕ
+new_table n column word = take n (replicate (8 * column) 0 ++ big_bytes 8 word ++ replicate n 0)
+
 -- the L1 entry of a table whose refcount is one
 abbrev pub l1_spelling : ℕ → ℕ
 l1_spelling table = table + 2 ^ 63
+
+-- The writes of a link, in their order: a new table with the entry in it, and then the L1 entry that names it; or
+-- the L2 entry alone.
+abbrev pub link_writes : Kept → ℕ → ℕ → ℕ → List Write
+link_writes kept cluster word table =
+    if table == 0 then entry_write (entry_at kept cluster table) word ∷ []
+    else write_of table (new_table kept.c (cluster % entries_in_cluster kept.c) word)
+    ∷ entry_write (entry_at kept cluster table) (l1_spelling table)
+    ∷ []
 
 -- the words with another L2 entry, in a new table where that isn't 0
 abbrev pub with_entry : Kept → ℕ → ℕ → ℕ → Kept
@@ -80,16 +95,6 @@ pub record FileAfter (kept : Kept) (old : List ℕ) (told : Option (List ℕ)) (
   pub is : told ≡ Some file
   pub tree : IsTreeOf kept.c kept (tree_at file kept.c kept.l1_offset (length kept.l1))
   pub outside : (i : ℕ) → (i < entry) ⊎ (entry + len ≤ i) → (i < table) ⊎ (table + table_bytes ≤ i) → slice_index file i ≡ slice_index old i
-
--- why writes up to an end stop: a fault, or want of space exactly above the capacity
-abbrev pub IsLinkStop : ℕ → ℕ → ℕ → ℕ → DevStop → Type 0
-IsLinkStop end capacity before now (Io count) = Rose before count × (count ≡ now)
-IsLinkStop end capacity before now NoSpace = capacity < end
-
--- what a device's stop is to the caller
-abbrev pub stop_of : Stop → ℕ → DevStop
-stop_of why.Failed count = Io count
-stop_of why.NoSpace count = NoSpace
 
 -- a table of one entry
 pub record HasOneEntry (file : List ℕ) (place e column word : ℕ) : Type 0 where

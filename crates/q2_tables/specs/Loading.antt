@@ -1,7 +1,6 @@
 -- What loading refuses, and what it keeps.
 use Rattle.std.specs.Prelude.{◌≡◌, ℕ, ◌*◌, ◌<◌, true, false, [], ◌∷◌, length, slice_index, Option, None, Some, Result, Ok, Err}
 use Rattle.std.specs.Option.{option_map}
-use Rattle.blk_base.specs.Counts.{Rose}
 use Rattle.q2_format.specs.Sizes.{cluster_size, entries_in_cluster}
 use Rattle.q2_format.specs.Entry.{host_offset, has_reserved_in_l1}
 use Rattle.q2_format.specs.Header.{first}
@@ -38,14 +37,18 @@ abbrev pub Loads : Header → ℕ → Tree → Result Kept TablesStop → Type 0
 Loads h len tree (Ok kept) = (load_refusal h len tree ≡ None) × IsTreeOf (cluster_size h.cluster_bits) kept tree
 Loads h len tree (Err stop) = IsRefusal stop → load_refusal h len tree ≡ Some stop
 
--- a fault comes with a count of faults that has risen, and tells it
-abbrev pub HasCause : ℕ → ℕ → TablesStop → Type 0
-HasCause before now (Io count) = Rose before count × (count ≡ now)
-HasCause before now (Offset offset) = Unit {0}
-HasCause before now (ReservedInL1 index) = Unit {0}
-HasCause before now (ReservedInL2 table index) = Unit {0}
-HasCause before now (Compressed cluster) = Unit {0}
-HasCause before now NoMemory = Unit {0}
+-- the fault that a stop tells, and an answer
+abbrev pub fault_in_tables : TablesStop → Option ℕ
+fault_in_tables (Io count) = Some count
+fault_in_tables (Offset offset) = None
+fault_in_tables (ReservedInL1 index) = None
+fault_in_tables (ReservedInL2 table index) = None
+fault_in_tables (Compressed cluster) = None
+fault_in_tables NoMemory = None
+
+abbrev pub fault_of_tables : {A : Type 0} → Result A TablesStop → Option ℕ
+fault_of_tables (Ok tables) = None
+fault_of_tables (Err stop) = fault_in_tables stop
 
 -- what is kept of a file of `len` bytes, whether or not it tells its bytes
 pub record IsLoaded (h : Header) (len : ℕ) (kept : Kept) : Type 0 where

@@ -1,7 +1,6 @@
 -- What the steps of loading do, in lists of words.
 use Rattle.std.specs.Prelude.{◌≡◌, ℕ, ◌*◌, ◌/◌, ◌%◌, ◌<◌, not, ◌&&◌, List, [], ◌∷◌, length, position, slice_index, Option}
 use Rattle.std.specs.Option.{option_map}
-use Rattle.blk_base.specs.Counts.{Rose}
 use Rattle.q2_format.specs.Sizes.{entries_in_cluster}
 use Rattle.q2_format.specs.Entry.{host_offset, is_compressed, has_reserved_in_l1, has_reserved_in_l2}
 use Rattle.q2_format.specs.Header.{first}
@@ -17,13 +16,13 @@ pub record AreTablesOf (file : List ℕ) (c : ℕ) (l1 words : List ℕ) : Type 
       → slice_index words k ≡ slice_index (l2_table file c (slice_index l1 (k / entries_in_cluster c))) (k % entries_in_cluster c)
 
 -- reading stops at a fault, or for want of memory
-abbrev pub IsReadStop : ℕ → ℕ → TablesStop → Type 0
-IsReadStop before now (Io count) = Rose before count × (count ≡ now)
-IsReadStop before now (Offset offset) = ⊥
-IsReadStop before now (ReservedInL1 index) = ⊥
-IsReadStop before now (ReservedInL2 table index) = ⊥
-IsReadStop before now (Compressed cluster) = ⊥
-IsReadStop before now NoMemory = Unit {0}
+abbrev pub IsReadStop : TablesStop → Type 0
+IsReadStop (Io count) = Unit {0}
+IsReadStop (Offset offset) = ⊥
+IsReadStop (ReservedInL1 index) = ⊥
+IsReadStop (ReservedInL2 table index) = ⊥
+IsReadStop (Compressed cluster) = ⊥
+IsReadStop NoMemory = Unit {0}
 
 -- What is refused of the words, by the first that is.
 

@@ -1,21 +1,22 @@
 //! Writing entries: an L2 entry, or a new L2 table and the L1 entry that names it.
-ghost use Rattle.std.specs.Prelude.{◌≡◌, ◌≢◌, ◌⊎◌, ◌+◌, ◌*◌, ◌/◌, ◌%◌, ◌^◌, ◌<◌, ◌≤◌, max, ℕ, List, length, slice_index, true, false, Some, OnOk, OnErr, IfErr, is_ok, is_some, option_map, if◌then◌else◌};
-ghost use Rattle.byteorder.specs.Endian.{big_bytes};
+ghost use Rattle.std.specs.Prelude.{◌≡◌, ◌+◌, ◌*◌, ◌/◌, ◌%◌, ◌≤◌, ℕ, List, [], ◌∷◌, ◌++◌, length, take, drop, replicate, slice_index, Some, option_map, OnOk, OnErr};
 ghost use Rattle.blk_base.specs.Content.{with_bytes};
+ghost use Rattle.blk_base.specs.Device.{Writes, stop_of};
+ghost use Rattle.blk_base.specs.Writes.{write_of};
+ghost use Rattle.byteorder.specs.Endian.{big_bytes};
 ghost use Rattle.q2_format.specs.Bytes.{IsWritten};
-ghost use Rattle.q2_tables.specs.Linking.{IsLinkStop, HasOneEntry, TableAfter, stop_of};
+ghost use Rattle.q2_tables.specs.Linking.{HasOneEntry, TableAfter, entry_write, new_table};
 
-use blk_base::{DevStop, Device, Stop};
+use blk_base::{DevStop, Device, write};
 use byteorder::{BigEndian, ByteOrder};
 
-/// The stop of a write, with the count of faults behind it.
-pub(crate) fn stopped(why: Stop, count: u64) -> DevStop
-    ensures { result ≡ stop_of why count }
+/// The 8 bytes of a word.
+fn word_bytes(word: u64) -> [u8; 8]
+    ensures { result ≡ big_bytes 8 word }
 {
-    match why {
-        Stop::Failed => DevStop::Io { count },
-        Stop::NoSpace => DevStop::NoSpace,
-    }
+    let mut bytes = [0; 8];
+    BigEndian::write_u64(&mut bytes, word);
+    bytes
 }
 
 /// Writes an entry of a table. It lies within a sector, so all of it is written or nothing.
@@ -23,35 +24,25 @@ pub(crate) fn write_entry<D: Device>(dev: &mut D, at: u64, word: u64) -> Result<
     requires { at % 8 ≡ 0 }
     ensures written { OnOk result (D.content dev.new ≡ option_map (λ b. with_bytes b at (big_bytes 8 word)) (D.content dev.old)) }
     ensures kept { OnErr result (D.content dev.new ≡ D.content dev.old) }
-    ensures stop { IfErr result (IsLinkStop (at + 8) (D.capacity dev.old) (D.faults dev.old) (D.faults dev.new)) }
-    ensures fits { OnOk result (at + 8 ≤ D.capacity dev.old) }
-    ensures tells { is_some (D.content dev.new) ≡ is_some (D.content dev.old) }
-    ensures flushed { D.is_flushed dev.new ≡ option_map (λ _. false) (D.is_flushed dev.old) }
-    ensures faults { D.faults dev.old ≤ D.faults dev.new }
-    ensures capacity { D.capacity dev.new ≡ D.capacity dev.old }
-    ensures grows { D.size dev.old ≤ D.size dev.new }
-    ensures bound { D.size dev.new ≤ max (D.size dev.old) (at + 8) }
+    ensures writes { Writes D.Device (entry_write at word ∷ []) (stop_of result) dev.old dev.new }
 {
-    let mut bytes = [0; 8];
-    BigEndian::write_u64(&mut bytes, word);
-    match dev.write_at(at, &bytes) {
-        Ok(()) => Ok(()),
-        Err(stop) => Err(stopped(stop.why, dev.faults())),
-    }
+    write(dev, at, &word_bytes(word))
 }
 
 /// Puts bytes at a place.
 #[tactic(auto, using(q2_format::proofs::ByPlace::written_by_list))]
 fn put_bytes(out: &mut [u8], at: usize, bytes: &[u8])
     requires { at + length bytes.now ≤ length out.old }
-    ensures { IsWritten out.old out.new at bytes.now }
+    ensures list { out.new ≡ take at out.old ++ bytes.now ++ drop (at + length bytes.now) out.old }
+    ensures written { IsWritten out.old out.new at bytes.now }
 {
     out[at..at + bytes.len()].copy_from_slice(bytes);
 }
 
 /// Makes all bytes 0.
 fn clear(buffer: &mut [u8])
-    ensures { (i : ℕ) → slice_index buffer.new i ≡ 0 }
+    ensures list { buffer.new ≡ replicate (length buffer.old) 0 }
+    ensures zeros { (i : ℕ) → slice_index buffer.new i ≡ 0 }
 {
     buffer.fill(0);
 }
@@ -59,12 +50,11 @@ fn clear(buffer: &mut [u8])
 /// Makes the buffer a table with this one entry.
 fn put_entry(buffer: &mut [u8], column: usize, word: u64)
     requires { 8 * column + 8 ≤ length buffer.old }
-    ensures { HasOneEntry buffer.new 0 (length buffer.old / 8) column word }
+    ensures bytes { buffer.new ≡ new_table (length buffer.old) column word }
+    ensures entry { HasOneEntry buffer.new 0 (length buffer.old / 8) column word }
 {
     clear(buffer);
-    let mut bytes = [0; 8];
-    BigEndian::write_u64(&mut bytes, word);
-    put_bytes(buffer, 8 * column, &bytes);
+    put_bytes(buffer, 8 * column, &word_bytes(word));
 }
 
 /// Writes a table with one entry, made in the buffer, at an offset.
@@ -78,19 +68,9 @@ pub(crate) fn write_table<D: Device>(
     requires { 8 * column + 8 ≤ length buffer.old }
     ensures told { (file : List ℕ) → D.content dev.old ≡ Some file → TableAfter file (D.content dev.new) at (length buffer.old) }
     ensures entry { OnOk result ((file : List ℕ) → D.content dev.new ≡ Some file → HasOneEntry file at (length buffer.old / 8) column word) }
-    ensures stop { IfErr result (IsLinkStop (at + length buffer.old) (D.capacity dev.old) (D.faults dev.old) (D.faults dev.new)) }
-    ensures fits { OnOk result (at + length buffer.old ≤ D.capacity dev.old) }
     ensures reaches { OnOk result (at + length buffer.old ≤ D.size dev.new) }
-    ensures tells { is_some (D.content dev.new) ≡ is_some (D.content dev.old) }
-    ensures flushed { D.is_flushed dev.new ≡ option_map (λ _. false) (D.is_flushed dev.old) }
-    ensures faults { D.faults dev.old ≤ D.faults dev.new }
-    ensures capacity { D.capacity dev.new ≡ D.capacity dev.old }
-    ensures grows { D.size dev.old ≤ D.size dev.new }
-    ensures bound { D.size dev.new ≤ max (D.size dev.old) (at + length buffer.old) }
+    ensures writes { Writes D.Device (write_of at (new_table (length buffer.old) column word) ∷ []) (stop_of result) dev.old dev.new }
 {
     put_entry(buffer, column, word);
-    match dev.write_at(at, buffer) {
-        Ok(()) => Ok(()),
-        Err(stop) => Err(stopped(stop.why, dev.faults())),
-    }
+    write(dev, at, buffer)
 }

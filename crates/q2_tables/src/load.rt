@@ -1,11 +1,12 @@
 //! Loading the tables of an image: one read a table, and a look at each word for each kind of fault.
 ghost use Rattle.std.specs.Prelude.{◌≡◌, ◌*◌, ◌/◌, ◌^◌, ◌<◌, ◌≤◌, ℕ, List, length, slice_index, Some, None, IfOk, IfErr, OnOk, option_map};
+ghost use Rattle.blk_base.specs.Device.{Reads};
 ghost use Rattle.q2_format.specs.Bytes.{words_at};
 ghost use Rattle.q2_format.specs.Sizes.{cluster_size, entries_in_cluster};
 ghost use Rattle.q2_format.specs.Header.{CanBeRead};
 ghost use Rattle.q2_format.specs.Sound.{bad_l1_table};
 ghost use Rattle.q2_format.specs.Tables.{active_tree};
-ghost use Rattle.q2_tables.specs.Loading.{Loads, load_refusal, HasCause, IsLoaded, IsRefusal};
+ghost use Rattle.q2_tables.specs.Loading.{Loads, fault_of_tables, load_refusal, IsLoaded, IsRefusal};
 ghost use Rattle.q2_tables.specs.Words.{AreTablesOf, IsReadStop, misplaced_table};
 ghost use Rattle.q2_tables.specs.declared.stop.TablesStop.TheVariants.{Offset};
 
@@ -27,13 +28,8 @@ fn read_table<D: Device>(
 ) -> Result<(), TablesStop>
     requires { length buffer.old ≡ 8 * length words.old }
     ensures told { OnOk result ((file : List ℕ) → D.content dev.old ≡ Some file → words.new ≡ words_at file at (length words.old)) }
-    ensures stop { IfErr result (IsReadStop (D.faults dev.old) (D.faults dev.new)) }
-    ensures faults { D.faults dev.old ≤ D.faults dev.new }
-    ensures content { D.content dev.new ≡ D.content dev.old }
-    ensures flushed { D.is_flushed dev.new ≡ D.is_flushed dev.old }
-    ensures log { D.log dev.new ≡ D.log dev.old }
-    ensures size { D.size dev.new ≡ D.size dev.old }
-    ensures capacity { D.capacity dev.new ≡ D.capacity dev.old }
+    ensures stop { IfErr result IsReadStop }
+    ensures device { Reads D.Device (fault_of_tables result) dev.old dev.new }
 {
     match dev.read_at(at, buffer) {
         Ok(()) => {
@@ -58,13 +54,8 @@ fn read_l2_tables<D: Device>(
     requires whole { length words.old ≡ length l1.now * entries_in_cluster (length buffer.old) }
     requires zeros { (k : ℕ) → slice_index words.old k ≡ 0 }
     ensures told { OnOk result ((file : List ℕ) → D.content dev.old ≡ Some file → AreTablesOf file (length buffer.old) l1.now words.new) }
-    ensures stop { IfErr result (IsReadStop (D.faults dev.old) (D.faults dev.new)) }
-    ensures faults { D.faults dev.old ≤ D.faults dev.new }
-    ensures content { D.content dev.new ≡ D.content dev.old }
-    ensures flushed { D.is_flushed dev.new ≡ D.is_flushed dev.old }
-    ensures log { D.log dev.new ≡ D.log dev.old }
-    ensures size { D.size dev.new ≡ D.size dev.old }
-    ensures capacity { D.capacity dev.new ≡ D.capacity dev.old }
+    ensures stop { IfErr result IsReadStop }
+    ensures device { Reads D.Device (fault_of_tables result) dev.old dev.new }
 {
     let entries = buffer.len() / ENTRY;
     for (i, word) in l1.iter().enumerate() {
@@ -102,13 +93,8 @@ fn read_l1<D: Device>(
     requires { entries < 2 ^ 32 }
     ensures told { IfOk result (λ l1. (file : List ℕ) → D.content dev.old ≡ Some file → l1.items ≡ words_at file at entries) }
     ensures len { IfOk result (λ l1. length l1.items ≡ entries) }
-    ensures stop { IfErr result (IsReadStop (D.faults dev.old) (D.faults dev.new)) }
-    ensures faults { D.faults dev.old ≤ D.faults dev.new }
-    ensures content { D.content dev.new ≡ D.content dev.old }
-    ensures flushed { D.is_flushed dev.new ≡ D.is_flushed dev.old }
-    ensures log { D.log dev.new ≡ D.log dev.old }
-    ensures size { D.size dev.new ≡ D.size dev.old }
-    ensures capacity { D.capacity dev.new ≡ D.capacity dev.old }
+    ensures stop { IfErr result IsReadStop }
+    ensures device { Reads D.Device (fault_of_tables result) dev.old dev.new }
 {
     let mut l1 = zero_words(alloc, entries)?;
     let mut bytes = zero_bytes(alloc, ENTRY * entries)?;
@@ -127,13 +113,8 @@ fn read_l2<D: Device>(
     requires small { length l1.now * entries_in_cluster (length buffer.old) < 2 ^ 62 }
     ensures told { IfOk result (λ words. (file : List ℕ) → D.content dev.old ≡ Some file → AreTablesOf file (length buffer.old) l1.now words.items) }
     ensures len { IfOk result (λ words. length words.items ≡ length l1.now * entries_in_cluster (length buffer.old)) }
-    ensures stop { IfErr result (IsReadStop (D.faults dev.old) (D.faults dev.new)) }
-    ensures faults { D.faults dev.old ≤ D.faults dev.new }
-    ensures content { D.content dev.new ≡ D.content dev.old }
-    ensures flushed { D.is_flushed dev.new ≡ D.is_flushed dev.old }
-    ensures log { D.log dev.new ≡ D.log dev.old }
-    ensures size { D.size dev.new ≡ D.size dev.old }
-    ensures capacity { D.capacity dev.new ≡ D.capacity dev.old }
+    ensures stop { IfErr result IsReadStop }
+    ensures device { Reads D.Device (fault_of_tables result) dev.old dev.new }
 {
     let mut words = zero_words(alloc, l1.len() * (buffer.len() / ENTRY))?;
     read_l2_tables(dev, l1, buffer, words.as_mut_slice())?;
@@ -154,13 +135,7 @@ fn load_l1<D: Device>(
     ensures refused { IfErr result (λ stop. (file : List ℕ) → D.content dev.old ≡ Some file → IsRefusal stop → load_refusal h.now len (active_tree file h.now) ≡ Some stop) }
     ensures placed { IfOk result (λ l1. (option_map Offset (bad_l1_table h.now len) ≡ None) × (misplaced_table c len l1.items ≡ None)) }
     ensures entries { IfOk result (λ l1. length l1.items ≡ h.now.l1_size) }
-    ensures cause { IfErr result (HasCause (D.faults dev.old) (D.faults dev.new)) }
-    ensures faults { D.faults dev.old ≤ D.faults dev.new }
-    ensures content { D.content dev.new ≡ D.content dev.old }
-    ensures flushed { D.is_flushed dev.new ≡ D.is_flushed dev.old }
-    ensures log { D.log dev.new ≡ D.log dev.old }
-    ensures size { D.size dev.new ≡ D.size dev.old }
-    ensures capacity { D.capacity dev.new ≡ D.capacity dev.old }
+    ensures device { Reads D.Device (fault_of_tables result) dev.old dev.new }
 {
     check_l1_table(h, c, len)?;
     let l1 = read_l1(alloc, dev, h.l1_offset, h.l1_size as usize)?;
@@ -192,13 +167,7 @@ pub fn load_tables<D: Device>(alloc: Global, dev: &mut D, h: &Header) -> Result<
     requires { CanBeRead h.now (D.size dev.old) }
     ensures told { (file : List ℕ) → D.content dev.old ≡ Some file → Loads h.now (D.size dev.old) (active_tree file h.now) result }
     ensures loaded { IfOk result (IsLoaded h.now (D.size dev.old)) }
-    ensures cause { IfErr result (HasCause (D.faults dev.old) (D.faults dev.new)) }
-    ensures faults { D.faults dev.old ≤ D.faults dev.new }
-    ensures content { D.content dev.new ≡ D.content dev.old }
-    ensures flushed { D.is_flushed dev.new ≡ D.is_flushed dev.old }
-    ensures log { D.log dev.new ≡ D.log dev.old }
-    ensures size { D.size dev.new ≡ D.size dev.old }
-    ensures capacity { D.capacity dev.new ≡ D.capacity dev.old }
+    ensures device { Reads D.Device (fault_of_tables result) dev.old dev.new }
 {
     let len = dev.length();
     let c = cluster_len(h, len);

@@ -4,7 +4,8 @@ ghost use Rattle.q2_format.specs.Entry.{l2_entry, l2_spelling, IsWritable, CanBe
 ghost use Rattle.q2_format.specs.Tables.{tree_at};
 ghost use Rattle.q2_tables.specs.Entries.{entry_of};
 ghost use Rattle.q2_tables.specs.Kept.{IsTreeOf, is_plain};
-ghost use Rattle.q2_tables.specs.Linking.{CanLink, FileAfter, IsFreeBut, IsLinkStop, LieBesideL1, LiesApart, entry_at, l1_index, link_end, table_len, table_of, with_entry};
+ghost use Rattle.blk_base.specs.Device.{Writes, stop_of};
+ghost use Rattle.q2_tables.specs.Linking.{CanLink, FileAfter, IsFreeBut, LieBesideL1, LiesApart, entry_at, l1_index, link_end, link_writes, table_len, table_of, with_entry};
 
 use crate::link::{write_entry, write_table};
 use crate::mapping::Mapping;
@@ -115,15 +116,7 @@ impl Tables {
             → FileAfter self.new file (D.content dev.new) (entry_at self.old cluster 0) (if is_ok result then 8 else 0) 0 (table_len self.old 0) }
         ensures linked { OnOk result (self.new ≡ with_entry self.old cluster word 0) }
         ensures kept { OnErr result (self.new ≡ self.old) }
-        ensures stop { IfErr result (IsLinkStop (link_end self.old cluster 0) (D.capacity dev.old) (D.faults dev.old) (D.faults dev.new)) }
-        ensures fits { OnOk result (link_end self.old cluster 0 ≤ D.capacity dev.old) }
-        ensures reaches { OnOk result (0 + table_len self.old 0 ≤ D.size dev.new) }
-        ensures tells { is_some (D.content dev.new) ≡ is_some (D.content dev.old) }
-        ensures flushed { D.is_flushed dev.new ≡ option_map (λ _. false) (D.is_flushed dev.old) }
-        ensures faults { D.faults dev.old ≤ D.faults dev.new }
-        ensures capacity { D.capacity dev.new ≡ D.capacity dev.old }
-        ensures grows { D.size dev.old ≤ D.size dev.new }
-        ensures bound { D.size dev.new ≤ max (D.size dev.old) (link_end self.old cluster 0) }
+        ensures writes { Writes D.Device (link_writes self.old cluster word 0) (stop_of result) dev.old dev.new }
     {
         let entries = self.cluster_size / 8;
         let table = self.table_of(cluster);
@@ -148,15 +141,8 @@ impl Tables {
             → FileAfter self.new file (D.content dev.new) (entry_at self.old cluster table) (if is_ok result then 8 else 0) table (table_len self.old table) }
         ensures linked { OnOk result (self.new ≡ with_entry self.old cluster word table) }
         ensures kept { OnErr result (self.new ≡ self.old) }
-        ensures stop { IfErr result (IsLinkStop (link_end self.old cluster table) (D.capacity dev.old) (D.faults dev.old) (D.faults dev.new)) }
-        ensures fits { OnOk result (link_end self.old cluster table ≤ D.capacity dev.old) }
         ensures reaches { OnOk result (table + table_len self.old table ≤ D.size dev.new) }
-        ensures tells { is_some (D.content dev.new) ≡ is_some (D.content dev.old) }
-        ensures flushed { D.is_flushed dev.new ≡ option_map (λ _. false) (D.is_flushed dev.old) }
-        ensures faults { D.faults dev.old ≤ D.faults dev.new }
-        ensures capacity { D.capacity dev.new ≡ D.capacity dev.old }
-        ensures grows { D.size dev.old ≤ D.size dev.new }
-        ensures bound { D.size dev.new ≤ max (D.size dev.old) (link_end self.old cluster table) }
+        ensures writes { Writes D.Device (link_writes self.old cluster word table) (stop_of result) dev.old dev.new }
     {
         let entries = self.cluster_size / 8;
         let index = cluster / entries;
@@ -190,13 +176,9 @@ impl Tables {
             → FileAfter self.new file (D.content dev.new) (entry_at self.old cluster table) (if is_ok result then 8 else 0) table (table_len self.old table) }
         ensures linked { OnOk result (self.new ≡ with_entry self.old cluster (l2_spelling (entry_of to) single) table) }
         ensures kept { OnErr result (self.new ≡ self.old) }
-        ensures stop { IfErr result (IsLinkStop (link_end self.old cluster table) (D.capacity dev.old) (D.faults dev.old) (D.faults dev.new)) }
-        ensures fits { OnOk result (link_end self.old cluster table ≤ D.capacity dev.old) }
+        ensures writes { Writes D.Device (link_writes self.old cluster (l2_spelling (entry_of to) single) table) (stop_of result) dev.old dev.new }
         ensures reaches { OnOk result (table + table_len self.old table ≤ D.size dev.new) }
         ensures tells { is_some (D.content dev.new) ≡ is_some (D.content dev.old) }
-        ensures flushed { D.is_flushed dev.new ≡ option_map (λ _. false) (D.is_flushed dev.old) }
-        ensures faults { D.faults dev.old ≤ D.faults dev.new }
-        ensures capacity { D.capacity dev.new ≡ D.capacity dev.old }
         ensures grows { D.size dev.old ≤ D.size dev.new }
         ensures bound { D.size dev.new ≤ max (D.size dev.old) (link_end self.old cluster table) }
     {

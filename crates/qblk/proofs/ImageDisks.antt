@@ -142,7 +142,7 @@ disk-put old new start bytes whole is zeros filled block within =
     ])
 
 -- after a zero write of a whole cluster, up to the disk's end
-pub disk-zeroed : (old new : List ℕ) (start n : ℕ) → ((zeros : List ℕ) → AreClusterZeros zeros → IsDiskWith old new (start / 65536 * 65536) zeros)
+pub disk-zeroed : (old new : List ℕ) (start n : ℕ) → ((zeros : List ℕ) → AreClusterZeros 65536 zeros → IsDiskWith old new (start / 65536 * 65536) zeros)
     → start % 65536 ≡ 0 → n ≤ 65536 → start + n ≤ (header_of old).size → (n ≡ 65536) ⊎ (start + n ≡ (header_of old).size)
     → image_disk new [] ≡ with_bytes (image_disk old []) start (replicate n 0)
 disk-zeroed old new start n is whole small within end =
@@ -210,7 +210,7 @@ put-writes old new was now part bytes whole (Err stop) told image before_image o
 -- of a whole cluster's entry
 pub zero-writes : (old new : Option (List ℕ)) (was now : Known) (part : Extent) (written : Result (Unit {0}) DevStop) → is_some new ≡ is_some old
     → ((file : List ℕ) → new ≡ Some file → IsImageOf file now) → ((file : List ℕ) → old ≡ Some file → IsImageOf file was)
-    → OnOk written ((before after zeros : List ℕ) → old ≡ Some before → new ≡ Some after → AreClusterZeros zeros → IsDiskWith before after (part.start / 65536 * 65536) zeros)
+    → OnOk written ((before after zeros : List ℕ) → old ≡ Some before → new ≡ Some after → AreClusterZeros 65536 zeros → IsDiskWith before after (part.start / 65536 * 65536) zeros)
     → OnErr written ((before after : List ℕ) → old ≡ Some before → new ≡ Some after → IsSameDisk before after)
     → part.start % 65536 ≡ 0 → (part.len ≡ 65536) ⊎ (end_of part ≡ was.header.size) → part.len ≤ 65536 → end_of part ≤ was.header.size
     → WritesImage old new now part.start (take (done_by (cluster_outcome_of written) part) (replicate part.len 0))

@@ -4,9 +4,11 @@ use Rattle.std.specs.Prelude.{option_map, slice_get, flat_map}
 use Rattle.std.proofs.lemmas.List.{append-nil, take-append-drop, take_all}
 use Rattle.blk_base.specs.Counts.{Rose}
 use Rattle.blk_base.specs.Written.{Written, memory_of}
-use Rattle.blk_history.specs.Line.{guest_of, line_room, Appends}
-use Rattle.blk_history.specs.Transcript.{RowNames, line_of, transcript}
+use Rattle.blk_history.specs.Names.{RowNames}
+use Rattle.blk_history.specs.Line.{HasName, line_room, Appends}
+use Rattle.blk_history.specs.Transcript.{line_of, transcript}
 use Rattle.blk_history.specs.declared.event.Event.{Event}
+use Rattle.blk_history.specs.declared.event.Event.TheVariants.{Admit, Refuse, Piece, Retire}
 use Rattle.qblk.specs.Comes.{HasLine, HaveLines}
 use Rattle.qblk.specs.Run.{guest_names}
 use Rattle.blk_base.specs.declared.fault.FaultAt.{FaultAt}
@@ -47,10 +49,18 @@ get-below (x ∷ es) zero below = (x, refl)
 get-below (x ∷ es) (suc at) below = get-below es at (omega arith)
 
 pub room-of : (names : RowNames) (e : Event) → names ≡ guest_names → HasLine e → line_room names e ≤ 327940
-room-of names e named line = rw (named, line.whose) (let shown = line.shown in omega arith)
+room-of names (Admit g r op) named line = rw (named, line.whose) (omega arith)
+room-of names (Refuse g r op why) named line = rw (named, line.whose) (omega arith)
+room-of names (Piece g r k outcome got) named line = rw (named, line.whose) (let shown = line.shown in omega arith)
+room-of names (Retire g r) named line = rw (named, line.whose) (omega arith)
+room-of names e named line = absurd line.whose
 
-pub named-by : (names : RowNames) (e : Event) → names ≡ guest_names → HasLine e → guest_of e < length names.guests
-named-by names e named line = rw (named, line.whose) (lit< tt)
+pub named-by : (names : RowNames) (e : Event) → names ≡ guest_names → HasLine e → HasName names e
+named-by names (Admit g r op) named line = rw (named, line.whose) (lit< tt)
+named-by names (Refuse g r op why) named line = rw (named, line.whose) (lit< tt)
+named-by names (Piece g r k outcome got) named line = rw (named, line.whose) (lit< tt)
+named-by names (Retire g r) named line = rw (named, line.whose) (lit< tt)
+named-by names e named line = absurd line.whose
 
 -- a line that stays in the text
 pub line-kept : (old : Option (List ℕ)) (before now : Written) (more : List ℕ) (room : ℕ) → IsBuffer before → Appends before now more room → length now.bytes < 65536 → SendsPart old old (before.bytes ++ more) now

@@ -1,6 +1,6 @@
 -- What a run of a trace keeps, from its opening on.
 use Rattle.std.specs.Prelude.{◌≡◌, ℕ, ◌≤◌, false, length, List, [], ◌∷◌, Option, Some, IsSome}
-use Rattle.blk_history.specs.Line.{guest_of, shown_by}
+use Rattle.blk_history.specs.Line.{IsOfGuest, shown_by}
 use Rattle.blk_history.specs.Machine.{State, replay}
 use Rattle.blk_history.specs.Legal.{Legal}
 use Rattle.blk_history.specs.Licence.{counted, HaveRisen}
@@ -30,7 +30,7 @@ pub record AreLicensed (o : Opening) (w : Face) : Type 0 where
 
 -- an entry is the guest's, and shows at most one block
 pub record HasLine (e : Event) : Type 0 where
-  pub whose : guest_of e ≡ 0
+  pub whose : IsOfGuest 0 e
   pub shown : length (shown_by e) ≤ 65536
 
 abbrev pub HaveLines : List Event → Type 0

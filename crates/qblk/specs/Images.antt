@@ -4,7 +4,7 @@ use Rattle.blk_history.specs.Fold.{With}
 use Rattle.blk_history.specs.Disk.{piece}
 use Rattle.blk_history.specs.Machine.{State, guest_at, after}
 use Rattle.blk_history.specs.declared.event.Event.{Event}
-use Rattle.blk_history.specs.declared.event.Event.TheVariants.{Admit, Refuse, Piece, Retire}
+use Rattle.blk_history.specs.declared.event.Event.TheVariants.{Piece}
 use Rattle.q2_image.specs.Image.{Known, IsImageOf}
 use Rattle.qblk.specs.Space.{IsPieceOn}
 use Rattle.qblk.specs.declared.words.Format.{Format}
@@ -19,10 +19,8 @@ IsKnownOf Qcow2 file (Some image) = IsImageOf file image
 
 -- what an entry makes of it: only a piece changes it
 abbrev pub IsStepOf : ℕ → State → Event → Option Known → Option Known → Type 0
-IsStepOf capacity s (Admit g r op) old new = new ≡ old
-IsStepOf capacity s (Refuse g r op why) old new = new ≡ old
 IsStepOf capacity s (Piece g r k outcome got) old new = With (guest_at s g) (λ row. With row.flight (λ f. IsPieceOn capacity f.op (piece f.op k) outcome old new))
-IsStepOf capacity s (Retire g r) old new = new ≡ old
+IsStepOf capacity s e old new = new ≡ old
 
 -- so it went on, entry by entry, from the first to the last
 abbrev pub HasImages : ℕ → State → Option Known → List Event → Option Known → Type 0

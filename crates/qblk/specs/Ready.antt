@@ -3,7 +3,7 @@ use Rattle.std.specs.Prelude.{◌≡◌, ℕ, ◌^◌, ◌<◌, ◌≤◌, List,
 use Rattle.blk_base.specs.Written.{Written}
 use Rattle.trace_codec.specs.declared.op.Op.{Op}
 use Rattle.blk_history.specs.Recorded.{Recorded}
-use Rattle.blk_history.specs.Transcript.{RowNames}
+use Rattle.blk_history.specs.Names.{RowNames}
 use Rattle.qblk.specs.Requests.{entries_for, bytes_for, HaveNumbers}
 use Rattle.qblk.specs.Run.{guest_names}
 

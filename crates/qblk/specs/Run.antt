@@ -15,7 +15,8 @@ use Rattle.blk_history.specs.Machine.{State, disk_in, after, replay}
 use Rattle.blk_history.specs.Legal.{Legal}
 use Rattle.blk_history.specs.Owned.{asked_by, IsIdle}
 use Rattle.blk_history.specs.Licence.{counted, RoseSince, HaveRisen, NameNone}
-use Rattle.blk_history.specs.Transcript.{RowNames, transcript}
+use Rattle.blk_history.specs.Names.{RowNames}
+use Rattle.blk_history.specs.Transcript.{transcript}
 use Rattle.blk_history.specs.declared.event.Event.{Event}
 use Rattle.q2_format.specs.Header.{header_of}
 use Rattle.q2_format.specs.Sound.{IsSound, image_refusal}
@@ -45,7 +46,7 @@ machine_of format bytes = let disk = disk_of format bytes in state_with (length 
 
 -- the one guest is called `disk`
 abbrev pub guest_names : RowNames
-guest_names = record { guests = (100 ∷ 105 ∷ 115 ∷ 107 ∷ []) ∷ [] }
+guest_names = record { guests = (100 ∷ 105 ∷ 115 ∷ 107 ∷ []) ∷ []; jobs = [] }
 
 -- the image's file at the end reads as the flat disk of a legal history, and all else is as it was
 pub record TellsDisk (format : Format) (image : List ℕ) (h : List Event) (kept : Bool) (old : List File) (new : Option (List File)) (f : File) : Type 0 where

@@ -1,5 +1,5 @@
 -- Whether there is room for what a piece writes: on a raw disk, and on an image with what is known of it.
-use Rattle.std.specs.Prelude.{◌≡◌, ◌↔◌, ℕ, ◌/◌, ◌%◌, ◌≤◌, ◌==◌, ◌&&◌, ◌||◌, Bool, true, false, ⊤, Option, Some, None}
+use Rattle.std.specs.Prelude.{◌≡◌, ◌↔◌, ℕ, ◌≤◌, true, false, ⊤, Option, Some, None}
 use Rattle.blk_base.specs.Pieces.{Extent, end_of}
 use Rattle.blk_base.specs.Outcomes.{is_good}
 use Rattle.blk_base.specs.declared.fault.Outcome.{Outcome}
@@ -9,48 +9,16 @@ use Rattle.trace_codec.specs.declared.op.Op.TheVariants.{Read, Write, Zero, Flus
 use Rattle.blk_history.specs.Disk.{is_write}
 use Rattle.q2_format.specs.declared.entries.L2Entry.{L2Entry}
 use Rattle.q2_format.specs.declared.entries.L2Entry.TheVariants as entries
-use Rattle.q2_image.specs.Image.{Known, cluster_size_in, word_in, entry_in}
+use Rattle.q2_image.specs.Image.{Known, word_in, entry_in}
 use Rattle.q2_image.specs.Reading.{IsHost}
-use Rattle.q2_image.specs.Writing.{PutFits, ZeroFits, HasHeaderOf, HasEntriesBut, StaysTaken, own_end}
-
--- the guest cluster in which a part lies
-abbrev pub cluster_of : Known → Extent → ℕ
-cluster_of image part = part.start / cluster_size_in image
-
--- the entry of that cluster
-abbrev pub entry_for : Known → Extent → L2Entry
-entry_for image part = entry_in image (cluster_of image part)
+use Rattle.q2_image.specs.Room.{WriteFits, ZerosFit, cluster_of, entry_for}
+use Rattle.q2_image.specs.Writing.{HasHeaderOf, HasEntriesBut, StaysTaken}
 
 -- a cluster without bytes of its own: it reads as zeros where there is no backing disk
 abbrev pub IsBlank : L2Entry → Type 0
 IsBlank entries.Unallocated = ⊤
 IsBlank (entries.Zero host) = ⊤
 IsBlank entry = ⊥
-
--- a part is written in place where its cluster is mapped, and else with its whole cluster
-abbrev pub WriteFitsBy : L2Entry → Known → Extent → ℕ → Type 0
-WriteFitsBy (entries.Host host) image part capacity = own_end image part ≤ capacity
-WriteFitsBy entry image part capacity = PutFits image (cluster_of image part) capacity
-
-abbrev pub WriteFits : Known → Extent → ℕ → Type 0
-WriteFits image part capacity = WriteFitsBy (entry_for image part) image part capacity
-
--- a part that is a whole cluster, up to the disk's end
-abbrev pub is_whole : Known → Extent → Bool
-is_whole image part = part.start % cluster_size_in image == 0 && (part.len == cluster_size_in image || end_of part == image.header.size)
-
--- of a cluster that reads as zeros no part is written
-abbrev pub PartZerosFit : L2Entry → Known → Extent → ℕ → Type 0
-PartZerosFit (entries.Zero host) image part capacity = ⊤
-PartZerosFit entry image part capacity = WriteFitsBy entry image part capacity
-
--- zeros of a whole cluster are its entry alone
-abbrev pub ZerosFitBy : Bool → Known → Extent → ℕ → Type 0
-ZerosFitBy true image part capacity = ZeroFits image (cluster_of image part) capacity
-ZerosFitBy false image part capacity = PartZerosFit (entry_for image part) image part capacity
-
-abbrev pub ZerosFit : Known → Extent → ℕ → Type 0
-ZerosFit image part capacity = ZerosFitBy (is_whole image part) image part capacity
 
 -- each write that a piece makes ends within the capacity, and what clusters it needs are below the image's reach
 abbrev pub HasSpace : Option Known → ℕ → Op → Extent → Type 0

@@ -80,7 +80,7 @@ fn guest_row(alloc: Global) -> Result<Rows, NoMemory>
 {
     let mut names = Vec::with_capacity(alloc, 1)?;
     names.push_reserved(Text::copied(alloc, "disk")?);
-    Ok(Rows::new(Names1::from_vec(names)))
+    Ok(Rows::new(Names1::from_vec(names), Vec::new(alloc)))
 }
 
 /// Takes the memory of a run.

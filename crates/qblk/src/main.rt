@@ -9,6 +9,7 @@ mod medium;
 mod opening;
 mod output;
 mod qcow2;
+mod report;
 mod requests;
 mod run;
 mod session;
@@ -20,40 +21,79 @@ mod words;
 #[cfg(test)]
 mod writing_tests;
 
-use blk_base::{NoMemory, Text};
-use blk_files::{FileStore, OutSink};
+use crate::report::{print_failure, print_status};
+use blk_base::{FaultFrom, Text};
+use blk_files::{Failure, FileStore, OutSink};
 pub use run::{qblk, run_io};
 pub use status::{InputWhy, Status};
 use std::alloc::Global;
+use std::fs::File;
+use std::io::{ErrorKind, Write};
 use std::process::ExitCode;
-use std::rt::Env;
+use std::rt::{Env, Files};
 use std::{env, io};
 pub use words::Format;
 
-/// The words behind the program's name.
-fn words_of<R: Env + AllocGlobal>(rt: &R, alloc: Global) -> Result<Vec<Text>, NoMemory> {
-    let mut words = Vec::new(alloc);
-    let Ok(args) = env::args(rt) else {
-        return Err(NoMemory);
+/// The words behind the program's name. Words that aren't UTF-8 are of no form.
+fn words_of<R: Env + AllocGlobal>(rt: &R, alloc: Global) -> Result<Vec<Text>, Status> {
+    let args = match env::args(rt) {
+        Ok(args) => args,
+        Err(error) if error.kind() == ErrorKind::InvalidData => return Err(Status::Usage),
+        Err(_) => return Err(Status::NoMemory),
     };
+    let mut words = Vec::new(alloc);
     for word in args.skip(1) {
-        words.push(Text::from_string(word))?;
+        if words.push(Text::from_string(word)).is_err() {
+            return Err(Status::NoMemory);
+        }
     }
     Ok(words)
+}
+
+/// What the system said of the fault that a status names.
+fn failure_of<'a, R: Files, W: Write>(
+    status: &Status,
+    store: &'a FileStore<'_, R>,
+    out: &OutSink<W>,
+) -> Option<Failure<'a>> {
+    let Status::Fault { from, .. } = status else {
+        return None;
+    };
+    match from {
+        FaultFrom::Store => store.failure(),
+        FaultFrom::Dev(dev) => store.failure_of(dev.0 as usize),
+        FaultFrom::Sink => Some(Failure {
+            name: "standard output",
+            error: out.failure()?,
+        }),
+    }
+}
+
+/// Does what the words say on the system's files, and tells on standard error how it ended.
+fn run_on_system<R: Files<File = File> + Print + Eprint>(
+    rt: &R,
+    alloc: Global,
+    words: &[Text],
+) -> Status {
+    let mut out = OutSink::new(io::writer(rt));
+    let (status, store) = qblk(alloc, words, FileStore::new(rt, alloc), &mut out);
+    if !matches!(status, Status::Done) {
+        print_status(rt, alloc, &status);
+    }
+    if let Some(failure) = failure_of(&status, &store, &out) {
+        print_failure(rt, alloc, &failure);
+    }
+    status
 }
 
 fn main(rt: HostRuntime) -> ExitCode {
     let alloc = rt.alloc();
     let status = match words_of(&rt, alloc) {
-        Ok(words) => {
-            let mut out = OutSink::new(io::writer(&rt));
-            let (status, _store) = qblk(alloc, &words, FileStore::new(&rt, alloc), &mut out);
+        Ok(words) => run_on_system(&rt, alloc, &words),
+        Err(status) => {
+            print_status(&rt, alloc, &status);
             status
         }
-        Err(NoMemory) => Status::NoMemory,
     };
-    if !matches!(status, Status::Done) {
-        let _ = eprintln!(&rt; "{status}");
-    }
     ExitCode::from(status.exit())
 }

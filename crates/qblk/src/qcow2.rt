@@ -7,9 +7,10 @@ ghost use Rattle.q2_format.specs.Contents.{image_disk};
 ghost use Rattle.q2_image.specs.Guest.{file_entry};
 ghost use Rattle.q2_image.specs.Image.{IsImageOf, word_in, entry_in};
 ghost use Rattle.q2_image.specs.Reading.{IsHost, IsWithinCluster};
+ghost use Rattle.q2_image.specs.Room.{WriteFits, ZerosFit, cluster_of, entry_for, is_whole};
 ghost use Rattle.q2_image.specs.Writing.{PutFits, own_end};
 ghost use Rattle.qblk.specs.Medium.{WritesImage};
-ghost use Rattle.qblk.specs.Space.{WriteFits, ZerosFit, LacksSpace, TearsInPlace, ChangesAt, IsBlank, cluster_of, entry_for, is_whole};
+ghost use Rattle.qblk.specs.Space.{LacksSpace, TearsInPlace, ChangesAt, IsBlank};
 ghost use Rattle.qblk.specs.Steps.{HasCause, cluster_outcome_of, IsRead, IsWritten};
 
 use crate::transfer::{DEVICE, write_outcome};

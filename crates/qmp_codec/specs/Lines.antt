@@ -1,5 +1,5 @@
 -- What a line is read as.
-use Rattle.std.specs.Prelude.{ℕ, List, codes, if◌then◌else◌, Option, Some, None, option_and_then, unwrap_or, is_some, Result, Ok, Err, String, string_bytes}
+use Rattle.std.specs.Prelude.{ℕ, Bool, false, bytes_eq, List, codes, if◌then◌else◌, Option, Some, None, option_map, option_and_then, unwrap_or, is_some, Result, Ok, Err, String, string_bytes}
 use Rattle.std.specs.declared.alloc.Global.{Global}
 use Rattle.serde_json.specs.Data.{Data, null}
 use Rattle.serde_json.specs.Read.{read}
@@ -34,6 +34,13 @@ with_execute d = if is_some (option_and_then as_str (get (codes "execute") d)) t
 -- the object of a line, where it is one with a text `execute`
 unfoldable pub line_in : List ℕ → Option Data
 line_in text = option_and_then with_execute (read text)
+
+abbrev pub is_capabilities : Data → Bool
+is_capabilities line = bytes_eq (text_in (codes "execute") line) (codes "qmp_capabilities")
+
+-- whether a line, be its members accepted or not, asks for capabilities
+unfoldable pub asks_for_capabilities : List ℕ → Bool
+asks_for_capabilities text = unwrap_or (option_map is_capabilities (line_in text)) false
 
 -- absent arguments are like empty ones
 abbrev pub arguments_of : Data → Data

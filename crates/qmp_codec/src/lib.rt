@@ -25,7 +25,7 @@ pub use command::{Action, Command, Transaction};
 pub use event::{Event, EventName, JobKind, print_event};
 pub use fields::Amount;
 pub use jobs::{Backup, Commit, JobOptions, Mirror, Stream};
-pub use line::{read_command, read_id};
+pub use line::{asks_for_capabilities, read_command, read_id};
 pub use nodes::{
     AddQcow2, AddRaw, Added, Backing, BlockdevAdd, BlockdevCreate, Cache, CreateFile, CreateQcow2,
     Created, DeviceAdd, FileRef, InlineFile, NodeOptions, Snapshot,

@@ -6,7 +6,7 @@ ghost use Rattle.serde_json.specs.Find.{get};
 ghost use Rattle.qmp_codec.specs.Verbs.{verb_of};
 ghost use Rattle.qmp_codec.specs.Forms.{text_in};
 ghost use Rattle.qmp_codec.specs.Commands.{seen_command};
-ghost use Rattle.qmp_codec.specs.Lines.{seen_stop, line_in, arguments_of, cause_in, command_at, command_for, unless_fraction, id_at};
+ghost use Rattle.qmp_codec.specs.Lines.{seen_stop, line_in, arguments_of, cause_in, command_at, command_for, unless_fraction, id_at, asks_for_capabilities};
 
 use crate::command::{Command, read_verb};
 use crate::fields::maybe_str;
@@ -123,5 +123,16 @@ pub fn read_id(alloc: Global, line: &str) -> Result<Option<Value>, NoMemory>
     match read_line(alloc, line)? {
         Some(object) => Ok(id_of(&object)?),
         None => Ok(None),
+    }
+}
+
+/// Whether a line asks for capabilities, be its members accepted or not.
+#[tactic(auto, unfolding(crate::specs::Lines::asks_for_capabilities))]
+pub fn asks_for_capabilities(alloc: Global, line: &str) -> Result<bool, NoMemory>
+    ensures { IfOk result (λ asks. asks ≡ asks_for_capabilities line.now) }
+{
+    match read_line(alloc, line)? {
+        Some(object) => Ok(text_of(&object, "execute") == "qmp_capabilities"),
+        None => Ok(false),
     }
 }

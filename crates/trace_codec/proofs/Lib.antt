@@ -1,5 +1,6 @@
 pub mod Numerals
 pub mod Parts
+pub mod Waiting
 pub mod HexLemmas
 pub mod Asking
 pub mod Figures

@@ -28,7 +28,7 @@ pub uncut : (s : ℕ) (bytes : List ℕ) → All (λ b. b ≢ s) bytes → slice
 uncut s bytes h = slice_split_none (λ b. eqb b s) bytes (λ k d below. ne_eqb _ _ (h k d below))
 
 -- bytes have a part at least
-one_part : (s : ℕ) (bytes : List ℕ) → 0 < length (slice_split (λ b. eqb b s) bytes)
+pub one_part : (s : ℕ) (bytes : List ℕ) → 0 < length (slice_split (λ b. eqb b s) bytes)
 one_part s bytes = omega (arith, length-slice_split (λ b. eqb b s) bytes)
 
 not_two : (offset len : List ℕ) (words : List (List ℕ)) → 0 < length words → span_in (offset ∷ len ∷ words) ≡ None

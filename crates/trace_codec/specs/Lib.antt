@@ -3,6 +3,7 @@ pub mod Cut
 pub mod Hex
 pub mod Line
 pub mod Amounts
+pub mod Awaits
 pub mod Request
 pub mod Reading
 pub mod Trace

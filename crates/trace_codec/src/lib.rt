@@ -1,6 +1,7 @@
 //! Traces: what a guest asks for, line by line.
 #![tactic(auto)]
 
+mod awaiting;
 mod cut;
 mod line;
 mod number;
@@ -15,6 +16,7 @@ mod totals;
 mod trace;
 mod writing;
 
+pub use awaiting::{Await, first_await, read_await};
 pub use op::{Op, Payload};
 pub use ops::Ops;
 pub use stop::TraceStop;

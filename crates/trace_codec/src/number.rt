@@ -35,7 +35,7 @@ fn unit_at(letter: u8) -> Option<u64>
 }
 
 /// The number of these digits, where it is below the limit and they are digits.
-fn read_digits(base: u32, digits: &[u8], limit: u64) -> Option<u64>
+pub(crate) fn read_digits(base: u32, digits: &[u8], limit: u64) -> Option<u64>
     requires low { 2 ≤ base }
     requires high { base ≤ 16 }
     requires limit { limit ≤ 2 ^ 62 }

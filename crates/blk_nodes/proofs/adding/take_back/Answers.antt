@@ -1,5 +1,5 @@
 use Rattle.std.proofs.Common.{sym, ◌∙◌}
-use Rattle.blk_graph.proofs.ChildLemmas.{lone-unused, lone-removed}
+use Rattle.blk_graph.proofs.ChildLemmas.{lone-unused}
 use Rattle.blk_nodes.proofs.adding.take_back.Goals as goal
 
 pub unreachable-requires : goal.unreachable-requires
@@ -8,6 +8,3 @@ unreachable-requires c =
     let good = rw unused at c.remove_node.ensures.answer in
     let bad = sym good ∙ c.in-Err.is in
     absurd (cc bad)
-
-pub returns : goal.returns
-returns c = rw (lone-removed c.args.node c.args.graph.now.edges c.requires.lone) at c.in-Ok.ensures.ok

@@ -1,4 +1,6 @@
 -- What a created file is follows from its bytes.
+use Rattle.std.proofs.lemmas.Result.{err_from_is_err_and}
+use Rattle.q2_image.proofs.Stages.{makes_failed}
 use Rattle.std.proofs.Common.{inl, inr}
 use Rattle.std.specs.Option.{option_copied}
 use Rattle.q2_format.proofs.Unmapped.{created_entry, created_disk}
@@ -30,3 +32,11 @@ returns-clause-disk g c = λ file backing now.
 pub returns-clause-sound : goal.returns-clause-sound
 returns-clause-sound g c = λ file now short.
     made_sound file c.args.size (option_copied c.args.name) (option_copied c.args.format) c.in_ok-write_image.ensures.readable (c.in_ok-write_image.ensures.created file now) short
+
+pub returns-in_err-write_image-clause-writes : goal.returns-in_err-write_image-clause-writes
+returns-in_err-write_image-clause-writes g c =
+    let p = err_from_is_err_and c.from_residual-in_err-write_image.result c.from_residual-in_err-write_image.ensures.1 in
+    rw (p.1, p.2) (makes_failed g.D.Device (creation_of c.args.size (option_copied c.args.name) (option_copied c.args.format)) c.in_err-write_image.field-0.0 _ _ _ _ c.in_err-write_image.ensures.cause c.in_err-write_image.ensures.writes)
+
+pub returns-clause-writes : goal.returns-clause-writes
+returns-clause-writes g c = c.in_ok-write_image.ensures.writes

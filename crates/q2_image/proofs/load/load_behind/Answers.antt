@@ -1,34 +1,39 @@
 use Rattle.std.proofs.Common.{ℕ, Option, None, sym, subst}
 use Rattle.q2_format.specs.Tables.{active_tree, refcount_table}
-use Rattle.q2_image.specs.Loading.{table_stops, reserved_entry, TableTells, AreCountsOf}
+use Rattle.q2_image.specs.Loading.{table_stops, reserved_entry, TableTells, IsTableOf, IsRead}
 use Rattle.q2_image.specs.Opening.{Names}
 use Rattle.q2_image.specs.Merge.{merged_stop}
-use Rattle.q2_image.specs.declared.counting.Counts.{Counts}
+use Rattle.q2_image.specs.declared.counting.RefTable.{RefTable}
 use Rattle.q2_image.specs.declared.stop.ImageStop.{ImageStop}
 use Rattle.q2_image.proofs.Merged.{judged_ok, judged_reserved, judged_stop}
 use Rattle.q2_image.proofs.load.load_behind.Goals as goal
 
-pub returns-in-Ok-counts_of-clause-judged : goal.returns-in-Ok-counts_of-clause-judged
-returns-in-Ok-counts_of-clause-judged g c = λ file told.
+pub returns-in-Ok-words_of-clause-judged : goal.returns-in-Ok-words_of-clause-judged
+returns-in-Ok-words_of-clause-judged g c = λ file told.
     let h = c.args.header.now in
     let len = g.D.Device.size c.args.dev.now in
-    let P : Counts → Type 0 = λ counts. TableTells file h len None (reserved_entry counts) in
-    judged_ok file h len (active_tree file h) c.requires.placed (subst P c.in-Ok-counts_of.ensures.loaded (c.requires.told file told).0) (c.in-Ok.ensures.told file told).0
+    let P : RefTable → Type 0 = λ table. TableTells file h len None (reserved_entry table) in
+    judged_ok file h len (active_tree file h) c.requires.placed (subst P c.in-Ok-words_of.ensures.read (c.requires.told file told).0) (c.in-Ok.ensures.told file told).0
 
-pub returns-in-Ok-counts_of-clause-counts : goal.returns-in-Ok-counts_of-clause-counts
-returns-in-Ok-counts_of-clause-counts g c = λ file told.
-    let P : Counts → Type 0 = λ counts. AreCountsOf file c.args.header.now counts in
-    subst P c.in-Ok-counts_of.ensures.loaded (c.requires.told file told).1
+pub returns-in-Ok-words_of-clause-table : goal.returns-in-Ok-words_of-clause-table
+returns-in-Ok-words_of-clause-table g c = λ file told.
+    let P : RefTable → Type 0 = λ table. IsTableOf file c.args.header.now table in
+    subst P c.in-Ok-words_of.ensures.read (c.requires.told file told).1
 
-pub returns-in-Ok-counts_of-clause-tree : goal.returns-in-Ok-counts_of-clause-tree
-returns-in-Ok-counts_of-clause-tree g c = λ file told. (c.in-Ok.ensures.told file told).1
+pub returns-in-Ok-words_of-clause-has_table : goal.returns-in-Ok-words_of-clause-has_table
+returns-in-Ok-words_of-clause-has_table g c =
+    let P : RefTable → Type 0 = λ table. IsRead c.args.header.now (g.D.Device.size c.args.dev.now) table in
+    subst P c.in-Ok-words_of.ensures.read c.requires.read
 
-pub returns-in-Err-counts_of-clause-judged : goal.returns-in-Err-counts_of-clause-judged
-returns-in-Err-counts_of-clause-judged g c = λ file told.
+pub returns-in-Ok-words_of-clause-tree : goal.returns-in-Ok-words_of-clause-tree
+returns-in-Ok-words_of-clause-tree g c = λ file told. (c.in-Ok.ensures.told file told).1
+
+pub returns-in-Err-words_of-clause-judged : goal.returns-in-Err-words_of-clause-judged
+returns-in-Err-words_of-clause-judged g c = λ file told.
     let h = c.args.header.now in
     let len = g.D.Device.size c.args.dev.now in
-    let found = c.in-Err-counts_of.ensures.reserved in
-    let P : Counts → Type 0 = λ counts. TableTells file h len None (reserved_entry counts) in
+    let found = c.in-Err-words_of.ensures.reserved in
+    let P : RefTable → Type 0 = λ table. TableTells file h len None (reserved_entry table) in
     let J : ImageStop → Type 0 = λ stop. Names (table_stops h len (refcount_table file h) (active_tree file h)) stop in
     subst J (sym found.2)
     (judged_reserved file h len found.0 (active_tree file h) c.requires.placed (subst P found.1 (c.requires.told file told).0) (c.in-Ok.ensures.told file told).0)
@@ -40,4 +45,4 @@ returns-in-Err-clause-judged g c = λ file told.
     let J : ImageStop → Type 0 = λ stop. Names (table_stops h len (refcount_table file h) (active_tree file h)) stop in
     let M : Option ℕ → Type 0 = λ reserved. J (merged_stop h reserved c.in-Err.stop) in
     subst J (sym c.merge.ensures) (subst M (sym c.reserved_in.ensures)
-    (judged_stop file h len (reserved_entry c.args.counts) (active_tree file h) c.in-Err.stop c.requires.placed (c.requires.told file told).0 (c.in-Err.ensures.told file told)))
+    (judged_stop file h len (reserved_entry c.args.table) (active_tree file h) c.in-Err.stop c.requires.placed (c.requires.told file told).0 (c.in-Err.ensures.told file told)))

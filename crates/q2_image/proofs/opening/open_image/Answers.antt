@@ -1,10 +1,8 @@
-use Rattle.std.proofs.Common.{◌≡◌, ℕ, length, None, IfOk, sym, subst, ◌∙◌}
+use Rattle.std.proofs.Common.{◌≡◌, ℕ, length, None, Some, sym, subst, ◌∙◌}
 use Rattle.std.proofs.lemmas.Result.{err_from_is_err_and}
-use Rattle.q2_format.specs.References.{reach_of}
-use Rattle.q2_image.specs.Loading.{counts_loaded}
 use Rattle.q2_image.specs.Opening.{Names, header_stops, place_stops}
 use Rattle.q2_image.proofs.Order.{no_fault_cause}
-use Rattle.q2_image.proofs.Whole.{loaded_from, header_named, place_named, word_named, last_judged, ok_image, ok_reach, err_cause}
+use Rattle.q2_image.proofs.Whole.{read_from, header_named, place_named, word_named, ok_told, ok_reach_at}
 use Rattle.q2_image.proofs.opening.open_image.Goals as goal
 
 pub returns-in_err-header-clause-judged : goal.returns-in_err-header-clause-judged
@@ -26,32 +24,22 @@ returns-in_err-check_places-clause-cause g c =
     let p = err_from_is_err_and c.from_residual-in_err-check_places.result c.from_residual-in_err-check_places.ensures.1 in
     rw (p.1, p.2) (no_fault_cause _ _ c.in_err-check_places.field-0.0 c.in_err-check_places.ensures.no_fault)
 
+pub open_tables-requires-clause-read : goal.open_tables-requires-clause-read
+open_tables-requires-clause-read g c = λ file told.
+    let loaded : g.D.Device.content c.open_header.new.dev ≡ Some file = sym c.in-Ok.ensures.content ∙ told in
+    let first : g.D.Device.content c.args.dev.now ≡ Some file = sym c.in_ok-header.ensures.content ∙ loaded in
+    read_from file c.in_ok-header.header (g.D.Device.size c.args.dev.now) (g.D.Device.size c.open_header.new.dev) c.in-Ok.table.items c.in-Ok.tables
+    c.in_ok-header.ensures.size (g.met.D.Device.told_size c.args.dev.now file first) (c.in_ok-header.ensures.header file first) (c.in_ok-header.ensures.judged file first)
+    (c.in-Ok.ensures.judged file loaded) (c.in-Ok.ensures.table file loaded) (c.in-Ok.ensures.tree file loaded)
+
 pub returns-in-Ok-clause-judged : goal.returns-in-Ok-clause-judged
-returns-in-Ok-clause-judged g c = λ file told. last_judged file c.in_ok-header.header c.length-len.result c.in-Ok.refs c.in-Ok.tables c.finish.result
-    (loaded_from file c.in_ok-header.header c.length-len.result (g.D.Device.size c.args.dev.now) (g.D.Device.size c.open_header.new.dev) c.in-Ok.refs c.in-Ok.tables
-    c.length-len.ensures c.in_ok-header.ensures.size (g.met.D.Device.told_size c.args.dev.now file told) (c.in_ok-header.ensures.header file told)
-    (c.in_ok-header.ensures.judged file told) c.in_ok-check_places.ensures.judged (c.in-Ok.ensures.judged file (c.in_ok-header.ensures.content ∙ told))
-    (c.in-Ok.ensures.counts file (c.in_ok-header.ensures.content ∙ told)) (c.in-Ok.ensures.tree file (c.in_ok-header.ensures.content ∙ told)) c.in-Ok.ensures.has_counts.reach)
-    c.finish.ensures.judged
+returns-in-Ok-clause-judged g c = λ file told. c.open_tables.ensures.judged file (c.in-Ok.ensures.content ∙ c.in_ok-header.ensures.content ∙ told)
 
 pub returns-in-Ok-clause-image : goal.returns-in-Ok-clause-image
-returns-in-Ok-clause-image g c = ok_image c.in_ok-header.header c.length-len.result c.in-Ok.refs c.in-Ok.tables c.finish.result
-    (λ file told. loaded_from file c.in_ok-header.header c.length-len.result (g.D.Device.size c.args.dev.now) (g.D.Device.size c.open_header.new.dev) c.in-Ok.refs c.in-Ok.tables
-    c.length-len.ensures c.in_ok-header.ensures.size (g.met.D.Device.told_size c.args.dev.now file told) (c.in_ok-header.ensures.header file told)
-    (c.in_ok-header.ensures.judged file told) c.in_ok-check_places.ensures.judged (c.in-Ok.ensures.judged file (c.in_ok-header.ensures.content ∙ told))
-    (c.in-Ok.ensures.counts file (c.in_ok-header.ensures.content ∙ told)) (c.in-Ok.ensures.tree file (c.in_ok-header.ensures.content ∙ told)) c.in-Ok.ensures.has_counts.reach)
-    c.finish.ensures.judged c.finish.ensures.known
+returns-in-Ok-clause-image g c = ok_told c.open_tables.result (λ file told. c.in-Ok.ensures.content ∙ c.in_ok-header.ensures.content ∙ told) c.open_tables.ensures.image
 
 pub returns-in-Ok-clause-reach : goal.returns-in-Ok-clause-reach
-returns-in-Ok-clause-reach g c =
-    let len : c.length-len.result ≡ g.D.Device.size c.args.dev.now = c.length-len.ensures ∙ c.in_ok-header.ensures.size in
-    let asked : c.length-len.result ≡ g.D.Device.size c.open_header.new.dev = c.length-len.ensures in
-    let C : ℕ → Type 0 = λ n. length c.in-Ok.refs.counts ≡ counts_loaded c.in_ok-header.header n in
-    let R : ℕ → Type 0 = λ n. IfOk c.finish.result (λ image. length image.refs.counts ≡ reach_of image.header n) in
-    subst R len (ok_reach c.in_ok-header.header c.length-len.result c.in-Ok.refs c.in-Ok.tables c.finish.result (subst C (sym asked) c.in-Ok.ensures.has_counts.reach) c.finish.ensures.known)
-
-pub returns-in-Ok-clause-cause : goal.returns-in-Ok-clause-cause
-returns-in-Ok-clause-cause g c = err_cause _ _ c.finish.result c.finish.ensures.no_fault
+returns-in-Ok-clause-reach g c = ok_reach_at c.open_tables.result _ _ (c.in-Ok.ensures.size ∙ c.in_ok-header.ensures.size) c.open_tables.ensures.reach
 
 pub returns-in-Err-clause-judged : goal.returns-in-Err-clause-judged
 returns-in-Err-clause-judged g c = λ file told.

@@ -1,28 +1,22 @@
-use Rattle.std.proofs.Common.{arith}
-use Rattle.q2_refs.proofs.Shapes.{shape_of, blocks_whole, blocks_below, table_whole, table_low}
+use Rattle.std.proofs.Common.{◌≡◌, List, ℕ, Some, Result, Ok, Err, IfOk, ◌∙◌}
+use Rattle.blk_base.proofs.DeviceLemmas.{reads_then}
+use Rattle.q2_refs.specs.Loading.{fault_of_refs}
+use Rattle.q2_format.specs.Tables.{refcount_table}
+use Rattle.q2_refs.specs.Kept.{Kept, IsCountsOf}
 use Rattle.q2_refs.proofs.loading.load_refs.Goals as goal
 
-pub open_table-requires : goal.open_table-requires
-open_table-requires g c = shape_of c.args.h.now _ c.requires.header
+kept_too : {E : Type 0} (P Q : Kept → Type 0) (r : Result Kept E) → ((k : Kept) → P k → Q k) → IfOk r P → IfOk r Q
+kept_too P Q (Ok k) f h = f k h
+kept_too P Q (Err e) f h = tt
 
-pub cluster_len-requires : goal.cluster_len-requires
-cluster_len-requires g c = let shape = shape_of c.args.h.now _ c.requires.header in omega (arith, shape.cluster_bits)
+pub returns-clause-kept : goal.returns-clause-kept
+returns-clause-kept g c = kept_too
+    (λ refs. (file : List ℕ) → g.D.Device.content c.load_table.new.dev ≡ Some file → c.in_ok-table.table.items ≡ refcount_table file c.args.h.now → IsCountsOf file c.args.h.now refs)
+    (λ refs. (file : List ℕ) → g.D.Device.content c.args.dev.now ≡ Some file → IsCountsOf file c.args.h.now refs)
+    c.load_counts.result
+    (λ refs kept. λ file told. kept file (c.in_ok-table.ensures.device.reads.content ∙ told) (c.in_ok-table.ensures.table file told)) c.load_counts.ensures.kept
 
-pub read_counts-requires-clause-shape : goal.read_counts-requires-clause-shape
-read_counts-requires-clause-shape g c = shape_of c.args.h.now _ c.requires.header
-
-pub refs_of-requires-clause-shape : goal.refs_of-requires-clause-shape
-refs_of-requires-clause-shape g c = shape_of c.args.h.now _ c.requires.header
-
-pub refs_of-requires-clause-blocks : goal.refs_of-requires-clause-blocks
-refs_of-requires-clause-blocks g c = blocks_whole c.args.h.now _ c.in_ok-table.table.items c.in_ok-table.ensures.accepted
-
-pub returns-clause-below : goal.returns-clause-below
-returns-clause-below g c =
-    rw c.refs_of.ensures.table (blocks_below c.args.h.now _ c.in_ok-table.table.items c.in_ok-table.ensures.accepted)
-
-pub refs_of-requires-clause-place : goal.refs_of-requires-clause-place
-refs_of-requires-clause-place g c = table_whole c.args.h.now _ c.in_ok-table.table.items c.in_ok-table.ensures.accepted
-
-pub refs_of-requires-clause-low : goal.refs_of-requires-clause-low
-refs_of-requires-clause-low g c = table_low c.args.h.now _ c.in_ok-table.table.items c.requires.header c.in_ok-table.ensures.accepted
+pub returns-clause-device : goal.returns-clause-device
+returns-clause-device g c =
+    reads_then g.D.Device (fault_of_refs c.load_counts.result) c.args.dev.now c.load_table.new.dev c.load_counts.new.dev
+    c.in_ok-table.ensures.device c.load_counts.ensures.device

@@ -1,10 +1,12 @@
-use Rattle.std.proofs.Common.{ℕ, ◌*◌, drop, List, ap, ◌∙◌}
-use Rattle.q2_format.specs.Bytes.{number_at}
-use Rattle.q2_refs.proofs.Made.{counts_itself, counts_no_other}
+use Rattle.std.proofs.Common.{◌≡◌, ℕ, List, ◌++◌, length, drop, replicate, ap, ◌∙◌}
+use Rattle.std.proofs.lemmas.List.{drop-replicate}
+use Rattle.byteorder.specs.Endian.{big_bytes}
+use Rattle.q2_refs.specs.Allocating.{new_block}
 use Rattle.q2_refs.proofs.writing.make_block.Goals as goal
 
-pub returns-clause-own : goal.returns-clause-own
-returns-clause-own c = ap (λ (bytes : List ℕ). number_at bytes 0 2) c.write_u16.ensures ∙ counts_itself (drop 2 c.clear.new.block)
-
-pub returns-clause-others : goal.returns-clause-others
-returns-clause-others c = λ j some. ap (λ (bytes : List ℕ). number_at bytes (j * 2) 2) c.write_u16.ensures ∙ counts_no_other c.clear.new.block c.clear.ensures j some
+pub returns : goal.returns
+unfolding new_block
+returns c =
+    let filled : c.fill.new.self ≡ replicate (length c.args.block.now) 0 = c.fill.ensures.after (λ y same. same) in
+    c.write_u16.ensures ∙ ap (λ (xs : List ℕ). big_bytes 2 1 ++ drop 2 xs) filled
+    ∙ ap (λ (xs : List ℕ). big_bytes 2 1 ++ xs) (drop-replicate 2 (length c.args.block.now) 0)

@@ -1,18 +1,13 @@
-use Rattle.std.proofs.Common.{◌≡◌, ℕ, List, length, option_map, sym, ap, ◌∙◌, arith}
-use Rattle.std.proofs.lemmas.List.{take_all}
-use Rattle.std.proofs.lemmas.Result.{on_err_weaker}
-use Rattle.blk_base.specs.Content.{with_bytes}
+use Rattle.std.proofs.Common.{ℕ, List, [], ◌∷◌, subst}
+use Rattle.blk_base.specs.Device.{Writes, stop_of}
+use Rattle.blk_base.specs.Writes.{write_of}
+use Rattle.blk_base.proofs.DeviceLemmas.{writes_then}
 use Rattle.q2_refs.proofs.writing.write_block.Goals as goal
 
-pub returns-clause-partly : goal.returns-clause-partly
-returns-clause-partly g c =
-    let block : List ℕ = c.args.block.now in
-    let eight : length c.word_bytes.result ≡ 8 = ap length c.word_bytes.ensures in
-    let all = take_all (length block) block (omega arith) in
-    on_err_weaker c.write-2.result
-    (λ same. (
-      length block,
-      same ∙ c.in_ok-write.ensures.written
-          ∙ ap (λ (bytes : List ℕ). option_map (λ (b : List ℕ). with_bytes b c.args.offset bytes) (g.D.Device.content c.args.dev.now)) (sym all),
-    ))
-    (c.write-2.ensures.unwritten (omega (arith, c.requires.sector, eight)))
+pub returns : goal.returns
+returns g c =
+    let P : List ℕ → Type 0 = λ xs.
+    Writes g.D.Device (write_of c.args.offset c.args.block.now ∷ write_of c.args.entry xs ∷ []) (stop_of c.write-2.result) c.args.dev.now c.write-2.new.dev in
+    subst P c.word_bytes.ensures
+    (writes_then g.D.Device (write_of c.args.offset c.args.block.now ∷ []) (write_of c.args.entry c.word_bytes.result ∷ []) (stop_of c.write-2.result)
+    c.args.dev.now c.write.new.dev c.write-2.new.dev c.in_ok-write.ensures c.write-2.ensures)

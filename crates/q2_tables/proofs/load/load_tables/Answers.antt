@@ -1,5 +1,7 @@
 use Rattle.std.proofs.Common.{◌≡◌, ◌*◌, ◌/◌, false, ℕ, List, length, None, refl, sym, ap, ◌∙◌, arith}
 use Rattle.std.proofs.lemmas.Result.{err_from_is_err_and}
+use Rattle.blk_base.proofs.DeviceLemmas.{reads_then}
+use Rattle.q2_tables.proofs.Loads.{refused_quietly}
 use Rattle.q2_format.specs.Sizes.{cluster_size, entries_in_cluster}
 use Rattle.q2_format.specs.Tables.{active_tree}
 use Rattle.q2_format.specs.Sound.{is_misplaced}
@@ -17,7 +19,7 @@ returns-in_err-check_words-clause-told g c = λ file told.
     let room : length c.as_mut_slice.result.now ≡ kept.c = ap length c.as_mut_slice.ensures.value ∙ c.in_ok-buffer.ensures in
     let tree : IsTreeOf (cluster_size c.args.h.now.cluster_bits) kept (active_tree file c.args.h.now) =
     read_as file c.args.h.now kept (length c.as_mut_slice.result.now) c.as_slice.result.now c.cluster_len-c.ensures.size (c.in_ok-l1.ensures.told file told)
-    room c.as_slice.ensures.value (c.in_ok-words.ensures.told file (c.in_ok-l1.ensures.content ∙ told)) c.in_ok-words.ensures.len in
+    room c.as_slice.ensures.value (c.in_ok-words.ensures.told file (c.in_ok-l1.ensures.device.reads.content ∙ told)) c.in_ok-words.ensures.len in
     let refused = refused_of file c.args.h.now c.length-len.result kept c.cluster_len-c.ensures.size tree c.in_ok-l1.ensures.placed.0 c.in_ok-l1.ensures.placed.1 in
     rw (p.1, p.2) (λ named.
     ap (λ (len : ℕ). load_refusal c.args.h.now len (active_tree file c.args.h.now)) (sym c.length-len.ensures)
@@ -51,7 +53,7 @@ returns-clause-told g c = λ file told.
     let room : length c.as_mut_slice.result.now ≡ kept.c = ap length c.as_mut_slice.ensures.value ∙ c.in_ok-buffer.ensures in
     let tree : IsTreeOf (cluster_size c.args.h.now.cluster_bits) kept (active_tree file c.args.h.now) =
     read_as file c.args.h.now kept (length c.as_mut_slice.result.now) c.as_slice.result.now c.cluster_len-c.ensures.size (c.in_ok-l1.ensures.told file told)
-    room c.as_slice.ensures.value (c.in_ok-words.ensures.told file (c.in_ok-l1.ensures.content ∙ told)) c.in_ok-words.ensures.len in
+    room c.as_slice.ensures.value (c.in_ok-words.ensures.told file (c.in_ok-l1.ensures.device.reads.content ∙ told)) c.in_ok-words.ensures.len in
     let refused = refused_of file c.args.h.now c.length-len.result kept c.cluster_len-c.ensures.size tree c.in_ok-l1.ensures.placed.0 c.in_ok-l1.ensures.placed.1 in (
       ap (λ (len : ℕ). load_refusal c.args.h.now len (active_tree file c.args.h.now)) (sym c.length-len.ensures)
           ∙ refused ∙ rw (← c.as_slice-2.ensures.value, ← c.as_slice-3.ensures.value) (sym c.in_ok-check_words.ensures.refused),
@@ -80,3 +82,10 @@ returns-clause-loaded g c =
       unreserved = found.unreserved;
       plain = found.plain;
     }
+
+pub returns-in_err-check_words-clause-device : goal.returns-in_err-check_words-clause-device
+returns-in_err-check_words-clause-device g c =
+    let p = err_from_is_err_and c.from_residual-in_err-check_words.result c.from_residual-in_err-check_words.ensures.1 in
+    refused_quietly g.D.Device p.0 c.in_err-check_words.field-0.0 c.from_residual-in_err-check_words.result p.1 p.2 c.args.dev.now c.read_l2.new.dev
+    c.in_err-check_words.ensures.stop
+    (reads_then g.D.Device None c.args.dev.now c.load_l1.new.dev c.read_l2.new.dev c.in_ok-l1.ensures.device c.in_ok-words.ensures.device)

@@ -1,5 +1,8 @@
-use Rattle.std.proofs.Common.{◌≡◌, ◌≢◌, ◌+◌, ◌-◌, ◌*◌, ◌/◌, ◌≤◌, ℕ, length, get_or, sym, ◌∙◌, arith}
+use Rattle.std.proofs.Common.{◌≡◌, ◌≢◌, ◌+◌, ◌-◌, ◌*◌, ◌/◌, ◌≤◌, ℕ, length, get_or, None, sym, ◌∙◌, arith}
+use Rattle.std.proofs.lemmas.Result.{err_from_is_err_and}
+use Rattle.blk_base.proofs.DeviceLemmas.{reads_then}
 use Rattle.q2_format.specs.Entry.{host_offset}
+use Rattle.q2_tables.proofs.Loads.{passed_on}
 use Rattle.q2_tables.proofs.Loaded.{no_table, one_table, zeros_behind, fewer_zeros, all_tables, rows_fit, row_size}
 use Rattle.q2_tables.proofs.load.read_l2_tables.Goals as goal
 use Rattle.q2_tables.proofs.load.read_l2_tables.Goals.{then-offset-ne0+in_ok-read_table, else-offset-ne0}
@@ -19,27 +22,23 @@ loop-i-preserved g c =
           record {
             told = λ file told.
                 rw w.words-is (one_table file L i k c.offset_in-offset.result c.args.l1.now c.loop-i.words w.read_table.new.words (had.told file told) some
-                offset (w.in_ok-read_table.ensures.told file (had.content ∙ told)) fits size);
+                offset (w.in_ok-read_table.ensures.told file (had.device.reads.content ∙ told)) fits size);
             zeros = rw w.words-is (zeros_behind (L / 8) i k c.loop-i.words w.read_table.new.words had.zeros fits size w.read_table.auto.words);
-            faults = rw w.dev-is (omega (arith, w.read_table.ensures.faults, had.faults));
-            content = rw w.dev-is (w.read_table.ensures.content ∙ had.content);
-            flushed = rw w.dev-is (w.read_table.ensures.flushed ∙ had.flushed);
-            log = rw w.dev-is (w.read_table.ensures.log ∙ had.log);
-            size = rw w.dev-is (w.read_table.ensures.size ∙ had.size);
-            capacity = rw w.dev-is (w.read_table.ensures.capacity ∙ had.capacity);
+            device = rw w.dev-is (reads_then g.D.Device None c.args.dev.now c.loop-i.dev w.read_table.new.dev had.device w.in_ok-read_table.ensures.device);
           }
       | else-offset-ne0 w ↦ record {
         told = λ file told. rw w.words-is (no_table file L i c.args.l1.now c.loop-i.words (had.told file told) had.zeros (sym offset ∙ w.if-offset-ne0.false));
         zeros = rw w.words-is (fewer_zeros (L / 8) i c.loop-i.words had.zeros);
-        faults = rw w.dev-is had.faults;
-        content = rw w.dev-is had.content;
-        flushed = rw w.dev-is had.flushed;
-        log = rw w.dev-is had.log;
-        size = rw w.dev-is had.size;
-        capacity = rw w.dev-is had.capacity;
+        device = rw w.dev-is had.device;
       }
     ]
 
 pub returns-clause-told : goal.returns-clause-told
 returns-clause-told g c = λ file told.
     all_tables file (length c.args.buffer.now) c.loop-i.i c.args.l1.now c.loop-i.words (c.loop-i.invariant.told file told) c.loop-i-test.false
+
+pub returns-in_err-read_table-clause-device : goal.returns-in_err-read_table-clause-device
+returns-in_err-read_table-clause-device g c =
+    let p = err_from_is_err_and c.from_residual.result c.from_residual.ensures.1 in
+    passed_on g.D.Device p.0 c.in_err-read_table.field-0.0 c.from_residual.result p.1 p.2 c.args.dev.now c.loop-i.dev c.read_table.new.dev
+    c.loop-i.invariant.device c.in_err-read_table.ensures.device

@@ -19,7 +19,7 @@ returns-then-is_whole-clause-image g c =
     let parts = and_parts _ _ whole in
     let first : part.start % 65536 ≡ 0 = eqb-true _ _ parts.0 in
     let end : (part.len ≡ 65536) ⊎ (end_of part ≡ c.args.image.now.header.size) = elim (or_cases _ _ parts.1) [ inl full ↦ inl (eqb-true _ _ full) | inr last ↦ inr (eqb-true _ _ last) ] in
-    let ok = rw (at, number) at c.zero_cluster.ensures.disk in
+    let ok = rw (at, number, bits) at c.zero_cluster.ensures.disk in
     let W : Outcome → Type 0 = λ o. WritesImage (g.D.Device.content c.args.device.now) (g.D.Device.content c.zero_cluster.new.dev) c.zero_cluster.new.self part.start (take (done_by o part) (replicate part.len 0)) in
     subst W (sym c.cluster_outcome.ensures)
     (zero-writes _ _ c.args.image.now c.zero_cluster.new.self part c.zero_cluster.result c.zero_cluster.ensures.told c.zero_cluster.ensures.image c.requires.image

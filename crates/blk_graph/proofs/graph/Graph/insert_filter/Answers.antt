@@ -1,85 +1,57 @@
-use Rattle.std.proofs.Common.{◌≡◌, length, sym, ◌∙◌, ap, arith, ◌≤◌, ◌<◌}
-use Rattle.std.specs.Vec.{vec_capacity}
-use Rattle.blk_graph.specs.Edits.{with_filter, without_filter}
-use Rattle.blk_graph.specs.Graph.{Graph, ids}
+use Rattle.std.proofs.Common.{◌≡◌, ◌≢◌, ◌∙◌, ◌<◌, ◌≤◌, ap, sym, length, List, arith, true}
+use Rattle.blk_graph.specs.declared.edge.Edge.{Edge}
+use Rattle.blk_graph.specs.Graph.{Graph, ids, IsFit}
+use Rattle.blk_graph.specs.Judged.{IsJudged, IsRuled}
 use Rattle.blk_graph.specs.Layout.{graph_of}
-use Rattle.blk_graph.specs.Judged.{IsJudged}
-use Rattle.blk_graph.specs.Paths.{IsAcyclic}
-use Rattle.blk_graph.proofs.EditLemmas.{length-with_filter}
+use Rattle.blk_graph.specs.Paths.{IsAcyclic, Reaches, HasCycle}
+use Rattle.blk_graph.specs.Refreshed.{refreshed}
+use Rattle.blk_graph.proofs.GraphLemmas.{IsKept-settled, judged_of}
+use Rattle.blk_graph.specs.Edits.{with_filter}
+use Rattle.blk_graph.proofs.RoomLemmas.{outside-with_filter, few_edges}
 use Rattle.blk_graph.proofs.FilterLemmas.{IsAcyclic-with_filter}
-use Rattle.blk_graph.proofs.InverseLemmas.{without_filter-with_filter}
-use Rattle.blk_graph.proofs.GraphLemmas.{IsFit, IsFit-with_filter, IsKept-settled, OnOk-then, Contains-slice, IsJudged-seen}
+use Rattle.blk_graph.proofs.GraphLemmas.{IsFit-with_filter}
 use Rattle.blk_graph.proofs.graph.Graph.insert_filter.Goals as goal
 
-acyclic : (c : goal.After-settle-arg-2-1)
-    → IsAcyclic (with_filter c.args.node c.args.filter c.args.perm c.args.shared c.self.inside.edges.items)
-acyclic c = IsAcyclic-with_filter c.self.inside.edges.items c.args.node c.args.filter c.args.perm c.args.shared
-    c.requires.differ (rw (← c.self.view_is) at c.requires.lone) c.self.invariant.sound.acyclic
+abbrev edited : (c : goal.After-settle) → List Edge
+edited c = with_filter c.args.node c.args.filter c.args.perm c.args.shared c.self.inside.edges
 
-pub settle-requires-clause-through : goal.settle-requires-clause-through
-settle-requires-clause-through c =
-    rw (c.put_filter.ensures.items, c.as_slice.ensures.value) (λ _. acyclic c)
+made : (c : goal.After-settle) → c.put_filter.new.self ≡ with_filter c.args.node c.args.filter c.args.perm c.args.shared c.self.inside.edges
+made c = c.put_filter.ensures ∙ ap (with_filter c.args.node c.args.filter c.args.perm c.args.shared) c.copy_from.ensures
 
-ends : (c : goal.After-settle-arg-2-1)
-    → IsFit (graph_of c.self.inside.names c.self.inside.order.items c.self.inside.edges.items)
-    (with_filter c.args.node c.args.filter c.args.perm c.args.shared c.self.inside.edges.items)
-ends c = IsFit-with_filter _ c.args.node c.args.filter c.args.perm c.args.shared c.self.invariant.sound
+fit : (c : goal.After-settle) → IsFit (graph_of c.self.inside.names c.self.inside.keys c.self.inside.order.items c.self.inside.kinds c.self.inside.edges) (with_filter c.args.node c.args.filter c.args.perm c.args.shared c.self.inside.edges)
+fit c = IsFit-with_filter _ c.args.node c.args.filter c.args.perm c.args.shared c.self.invariant.sound
     (rw (← c.self.view_is) at c.requires.node) (rw (← c.self.view_is) at c.requires.filter)
     (rw (← c.self.view_is) at c.requires.lone)
 
-pub settle-requires-clause-children : goal.settle-requires-clause-children
-settle-requires-clause-children c = λ e h.
-    Contains-slice c.self.inside.names c.self.inside.order.items c.self.inside.edges.items
-    c.as_slice-2.result.now c.as_slice-2.ensures.value e.child
-    ((ends c).children e (rw (c.put_filter.ensures.items, c.as_slice.ensures.value) at h))
+acyclic : (c : goal.After-settle) → IsAcyclic (with_filter c.args.node c.args.filter c.args.perm c.args.shared c.self.inside.edges)
+acyclic c = IsAcyclic-with_filter c.self.inside.edges c.args.node c.args.filter c.args.perm c.args.shared
+    c.requires.differ (rw (← c.self.view_is) at c.requires.lone) c.self.invariant.sound.just.acyclic
 
 pub invariant_of-self : goal.invariant_of-self
 invariant_of-self c =
-    let is : c.put_filter.new.out.items ≡ with_filter c.args.node c.args.filter c.args.perm c.args.shared c.self.inside.edges.items
-    = c.put_filter.ensures.items ∙ ap (with_filter c.args.node c.args.filter c.args.perm c.args.shared) c.as_slice.ensures.value in
-    let room : length c.self.inside.edges.items < 2048 = rw (← c.self.view_is) at c.requires.room in
-    let few : length (with_filter c.args.node c.args.filter c.args.perm c.args.shared c.self.inside.edges.items) ≤ 2048
-    = omega (arith, room, length-with_filter c.args.node c.args.filter c.args.perm c.args.shared c.self.inside.edges.items) in
-    let spare : 2048 ≤ vec_capacity c.put_filter.new.out
-    = rw (c.put_filter.ensures.capacity, c.clear.ensures.capacity) c.self.invariant.staged_fit in
-    IsKept-settled c.self.inside.names c.self.inside.order.items c.self.inside.edges.items c.put_filter.new.out.items
-    c.settle.new.edges.items (vec_capacity c.self.inside.order) (vec_capacity c.self.inside.edges)
-    (vec_capacity c.self.inside.staged) (vec_capacity c.settle.new.edges) (vec_capacity c.settle.new.edited)
-    c.as_slice-2.result.now c.settle.result c.self.invariant (rw is few)
-    (rw is (IsFit-with_filter _ c.args.node c.args.filter c.args.perm c.args.shared c.self.invariant.sound
-    (rw (← c.self.view_is) at c.requires.node) (rw (← c.self.view_is) at c.requires.filter)
-    (rw (← c.self.view_is) at c.requires.lone)))
-    c.settle.ensures.judged c.settle.ensures.ok c.settle.ensures.err
-    (c.settle.ensures.room 2048 c.self.invariant.edges_fit spare)
-    (c.settle.ensures.spare 2048 c.self.invariant.edges_fit spare)
+    IsKept-settled c.self.inside.names c.self.inside.keys c.self.inside.order.items c.self.inside.kinds c.self.inside.edges _ c.self.invariant
+    (with_filter c.args.node c.args.filter c.args.perm c.args.shared c.self.inside.edges) c.settle.new.edges c.as_slice.result.now c.settle.result c.as_slice.ensures.value
+    (omega (
+      arith,
+      outside-with_filter c.args.node c.args.filter c.args.perm c.args.shared c.self.inside.edges,
+      c.self.invariant.sound.few_outside,
+    )) (fit c) (acyclic c)
+    (rw (← made c) c.settle.ensures.ruled) (rw (← made c) c.settle.ensures.ok) c.settle.ensures.err
 
-judged : (c : goal.After-settle) → IsJudged (ids c.args.self.now) (with_filter c.args.node c.args.filter c.args.perm c.args.shared c.args.self.now.edges) c.settle.result
-judged c = IsJudged-seen c.self.inside.names c.self.inside.order.items c.self.inside.edges.items c.args.self.now c.self.view_is
-    c.as_slice-2.result.now c.as_slice-2.ensures.value (with_filter c.args.node c.args.filter c.args.perm c.args.shared) c.put_filter.new.out.items
-    (c.put_filter.ensures.items ∙ ap (with_filter c.args.node c.args.filter c.args.perm c.args.shared) c.as_slice.ensures.value) c.settle.result c.settle.ensures.judged
+judged : (c : goal.After-settle) → IsJudged (ids c.args.self.now) c.args.self.now.kinds (with_filter c.args.node c.args.filter c.args.perm c.args.shared c.args.self.now.edges) c.settle.result
+judged c =
+    rw (sym c.self.view_is) (judged_of c.self.inside.names c.self.inside.keys c.self.inside.order.items c.self.inside.kinds c.self.inside.edges _ c.self.invariant
+    (with_filter c.args.node c.args.filter c.args.perm c.args.shared c.self.inside.edges) c.as_slice.result.now c.settle.result c.as_slice.ensures.value (fit c) (acyclic c)
+    (rw (← made c) c.settle.ensures.ruled))
 
 pub returns-clause-judged : goal.returns-clause-judged
 returns-clause-judged c = judged c
 
-pub returns-clause-no_cycle : goal.returns-clause-no_cycle
-returns-clause-no_cycle c = λ e.
-    let has = (judged c).cycle.0 e in
-    let none : IsAcyclic (with_filter c.args.node c.args.filter c.args.perm c.args.shared c.args.self.now.edges)
-    = rw (sym c.self.view_is) (IsAcyclic-with_filter c.self.inside.edges.items c.args.node c.args.filter c.args.perm
-    c.args.shared c.requires.differ (rw (← c.self.view_is) at c.requires.lone) c.self.invariant.sound.acyclic) in
-    none has.node has.cycle
+pub returns-clause-sound : goal.returns-clause-sound
+returns-clause-sound c = (invariant_of-self c).sound
 
-pub returns-clause-undone : goal.returns-clause-undone
-returns-clause-undone c =
-    let is : c.put_filter.new.out.items
-    ≡ with_filter c.args.node c.args.filter c.args.perm c.args.shared c.self.inside.edges.items
-    = c.put_filter.ensures.items
-    ∙ ap (with_filter c.args.node c.args.filter c.args.perm c.args.shared) c.as_slice.ensures.value in
-    let back : without_filter c.args.filter c.put_filter.new.out.items ≡ c.args.self.now.edges
-    = ap (without_filter c.args.filter) is
-    ∙ without_filter-with_filter c.self.inside.edges.items c.args.node c.args.filter c.args.perm c.args.shared
-    (rw (← c.self.view_is) at c.requires.lone)
-    ∙ ap (λ (g : Graph). g.edges) c.self.view_is in
-    OnOk-then (c.settle.new.edges.items ≡ c.put_filter.new.out.items)
-    (without_filter c.args.filter c.settle.new.edges.items ≡ c.args.self.now.edges) c.settle.result
-    (λ e. ap (without_filter c.args.filter) e ∙ back) c.settle.ensures.ok
+pub put_filter-requires : goal.put_filter-requires
+put_filter-requires c =
+    let few = few_edges (graph_of c.self.inside.names c.self.inside.keys c.self.inside.order.items c.self.inside.kinds c.self.inside.edges)
+    c.self.invariant.sound in
+    omega (arith, few, ap length c.copy_from.ensures)

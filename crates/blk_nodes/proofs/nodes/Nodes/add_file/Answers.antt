@@ -8,21 +8,22 @@ invariant_of-self-2 g c =
     let joined = rw (sym c.self-inside.view_is) at c.self.invariant in
     let node = c.index.ensures.value in
     let small = rw node at c.index.ensures.small in
-    rw (c.in-Ok.ensures.ok, node, c.push_reserved.ensures.items, c.reserve.ensures.items)
-    (joined_file _ c.in-Ok.node c.length.result c.args.name.bytes c.args.read_only _ joined c.in-Ok.ensures.fresh small refl)
+    rw (c.in-Ok.ensures.ok, c.node_kind-kind.ensures, node, c.push_reserved.ensures.items, c.reserve.ensures.items)
+    (joined_file _ c.in-Ok.node c.length.result c.args.name.bytes c.args.read_only _ joined c.in-Ok.ensures.lowest.free small refl
+    (rw (c.in-Ok.ensures.ok, c.node_kind-kind.ensures) at c.in-Ok.ensures.sound))
 
 pub returns-clause-disks : goal.returns-clause-disks
 returns-clause-disks g c =
     let joined = rw (sym c.self-inside.view_is) at c.self.invariant in
     let node = c.index.ensures.value in
     let small = rw node at c.index.ensures.small in
-    rw (sym c.self.view_is, sym c.self-inside.view_is, c.in-Ok.ensures.ok, node, c.push_reserved.ensures.items, c.reserve.ensures.items)
-    (file_disks _ c.in-Ok.node c.length.result c.args.name.bytes c.args.read_only _ joined c.in-Ok.ensures.fresh small refl)
+    rw (sym c.self.view_is, sym c.self-inside.view_is, c.in-Ok.ensures.ok, c.node_kind-kind.ensures, node, c.push_reserved.ensures.items, c.reserve.ensures.items)
+    (file_disks _ c.in-Ok.node c.length.result c.args.name.bytes c.args.read_only _ joined c.in-Ok.ensures.lowest.free small refl)
 
 pub returns-clause-disk : goal.returns-clause-disk
 returns-clause-disk g c =
     let joined = rw (sym c.self-inside.view_is) at c.self.invariant in
     let node = c.index.ensures.value in
     let small = rw node at c.index.ensures.small in
-    rw (c.in-Ok.ensures.ok, node, c.push_reserved.ensures.items, c.reserve.ensures.items, sym c.length.ensures)
-    (file_disk_new _ c.in-Ok.node c.length.result c.args.name.bytes c.args.read_only _ joined c.in-Ok.ensures.fresh small refl)
+    rw (c.in-Ok.ensures.ok, c.node_kind-kind.ensures, node, c.push_reserved.ensures.items, c.reserve.ensures.items, sym c.length.ensures)
+    (file_disk_new _ c.in-Ok.node c.length.result c.args.name.bytes c.args.read_only _ joined c.in-Ok.ensures.lowest.free small refl)

@@ -1,10 +1,11 @@
-use Rattle.std.proofs.Common.{◌≡◌, ◌≢◌, List, Err, refl, sym, ◌∙◌, ap, subst}
-use Rattle.blk_graph.specs.Graph.{Graph, NodeRow, HasNode}
+use Rattle.std.proofs.Common.{◌≡◌, ◌≢◌, Err, refl, sym, ◌∙◌, ap, subst}
+use Rattle.blk_graph.specs.Edits.{IsLone}
+use Rattle.blk_graph.specs.Graph.{Graph, HasNode, IsSound, with_node as with_graph_node}
 use Rattle.blk_graph.specs.Judged.{without_node}
 use Rattle.blk_graph.specs.declared.stop.GraphStop.TheVariants as graph
 use Rattle.blk_graph.proofs.ChildLemmas.{no-way-back}
 use Rattle.blk_nodes.specs.Nodes.{Nodes}
-use Rattle.blk_nodes.proofs.Additions.{added_away, has_after, ids_after, file_is_node, joined_raw}
+use Rattle.blk_nodes.proofs.Additions.{taken_back, has_after, ids_after, file_is_node, joined_raw}
 use Rattle.blk_nodes.proofs.KeptDisks.{raw_disks, raw_disk_new}
 use Rattle.blk_nodes.proofs.nodes.Nodes.add_raw.Given as given
 use Rattle.blk_nodes.proofs.nodes.Nodes.add_raw.Goals as goal
@@ -14,24 +15,33 @@ set_edge-requires-clause-child g c =
     let nodes : Nodes = record { graph = c.self.inside.graph; rows = c.self.inside.rows.items; devices = c.self.inside.devices } in
     let is_file = rw (sym c.self.view_is) at c.requires.file in
     let has = file_is_node nodes c.args.file c.self.invariant is_file in
-    rw (c.in-Ok.ensures.ok, c.file_edge.ensures) (has_after c.self.inside.graph c.in-Ok.node c.args.name.bytes c.args.file has)
+    rw (c.in-Ok.ensures.ok, c.of_node-edge.ensures)
+    (has_after c.self.inside.graph c.in-Ok.node c.args.name.bytes c.node_kind-kind.result c.args.file has)
+
+pub set_edge-requires-clause-role : goal.set_edge-requires-clause-role
+set_edge-requires-clause-role g c = rw c.of_node-edge.ensures refl
+
+pub set_edge-requires-clause-room : goal.set_edge-requires-clause-room
+set_edge-requires-clause-room g c = rw c.of_node-edge.ensures tt
 
 pub conflict_of-requires-clause-cycle : goal.conflict_of-requires-clause-cycle
 conflict_of-requires-clause-cycle g c = λ is.
     let nodes : Nodes = record { graph = c.self.inside.graph; rows = c.self.inside.rows.items; devices = c.self.inside.devices } in
     let is_file = rw (sym c.self.view_is) at c.requires.file in
     let has = file_is_node nodes c.args.file c.self.invariant is_file in
-    let apart : c.args.file ≢ c.in-Ok.node = λ same. c.in-Ok.ensures.fresh (subst (HasNode c.self.inside.graph) same has) in
-    let leads = rw c.file_edge.ensures at (c.set_edge.ensures.cycle.0 (c.in-Err-set_edge.is ∙ ap Err is)) in
+    let apart : c.args.file ≢ c.in-Ok.node = λ same. c.in-Ok.ensures.lowest.free (subst (HasNode c.self.inside.graph) same has) in
+    let leads = rw c.of_node-edge.ensures at (c.set_edge.ensures.cycle.0 (c.in-Err-set_edge.is ∙ ap Err is)) in
     no-way-back c.add_node.new.self.edges c.in-Ok.node c.args.file c.in-Ok.ensures.lone apart leads
 
 pub graph_back : (g : given.Over) (c : goal.After-conflict_of g) → c.take_back.new.graph ≡ c.self.inside.graph
 graph_back g c =
-    let kept = c.in-Err-set_edge.ensures.err ∙ c.in-Ok.ensures.ok in
+    let lone : IsLone c.self.inside.graph.edges c.in-Ok.node = rw c.in-Ok.ensures.ok at c.in-Ok.ensures.lone in
+    let sound : IsSound (with_graph_node c.self.inside.graph c.in-Ok.node c.args.name.bytes c.node_kind-kind.result)
+    = rw c.in-Ok.ensures.ok at c.in-Ok.ensures.sound in
     c.take_back.ensures
-    ∙ ap (λ (gr : Graph). let back : Graph = record { nodes = without_node c.in-Ok.node gr.nodes; edges = gr.edges } in back) kept
-    ∙ ap (λ (rows : List NodeRow). let back : Graph = record { nodes = rows; edges = c.self.inside.graph.edges } in back)
-    (added_away c.self.inside.graph.nodes c.in-Ok.node c.args.name.bytes c.in-Ok.ensures.fresh)
+    ∙ ap (without_node c.in-Ok.node) (c.in-Err-set_edge.ensures.err ∙ c.in-Ok.ensures.ok)
+    ∙ taken_back c.self.inside.graph c.in-Ok.node c.args.name.bytes c.node_kind-kind.result c.self.invariant.sound
+    c.in-Ok.ensures.lowest.free lone sound.just.refreshed
 
 pub invariant_of-self : goal.invariant_of-self
 invariant_of-self g c = rw (graph_back g c) c.self.invariant
@@ -41,9 +51,13 @@ returns-in-Err-set_edge-clause-denied g c = λ pair is.
     let same : c.conflict_of.result ≡ pair = cc in
     let stopped = c.in-Err-set_edge.is ∙ ap Err (c.conflict_of.ensures ∙ ap graph.Conflict same) in
     let first = ((c.set_edge.ensures.judged.conflict pair).0 stopped).1 in
-    let told = rw (c.in-Ok.ensures.ok, c.file_edge.ensures) at first in
+    let told = rw (c.in-Ok.ensures.ok, c.of_node-edge.ensures, c.node_kind-kind.ensures) at first in
     rw (sym c.self.view_is)
-    (record { id = c.in-Ok.node; free = c.in-Ok.ensures.fresh; first = rw (ids_after c.self.inside.graph c.in-Ok.node c.args.name.bytes) at told })
+    (record {
+      id = c.in-Ok.node;
+      lowest = c.in-Ok.ensures.lowest;
+      first = rw (ids_after c.self.inside.graph c.in-Ok.node c.args.name.bytes) at told;
+    })
 
 pub returns-in-Err-set_edge-clause-err : goal.returns-in-Err-set_edge-clause-err
 returns-in-Err-set_edge-clause-err g c = rw (graph_back g c) c.self.view_is
@@ -56,9 +70,11 @@ invariant_of-self-2 g c =
     let small = rw node at c.index.ensures.small in
     let lone = rw c.in-Ok.ensures.ok at c.in-Ok.ensures.lone in
     let within = rw (sym c.self.view_is, sym c.part.view_is) at c.requires.part in
-    rw (c.in_default-set_edge.ensures.ok, c.in-Ok.ensures.ok, c.file_edge.ensures, node)
-    (joined_raw nodes c.in-Ok.node c.args.file c.args.name.bytes c.args.read_only _ c.self.invariant c.in-Ok.ensures.fresh small lone is_file
-    c.part.inside.start c.part.inside.len refl refl within c.part.invariant)
+    let sound = rw (c.in_default-set_edge.ensures.ok, c.in-Ok.ensures.ok, c.of_node-edge.ensures, c.node_kind-kind.ensures)
+    at c.in_default-set_edge.ensures.sound in
+    rw (c.in_default-set_edge.ensures.ok, c.in-Ok.ensures.ok, c.of_node-edge.ensures, c.node_kind-kind.ensures, node)
+    (joined_raw nodes c.in-Ok.node c.args.file c.args.name.bytes _ c.self.invariant c.in-Ok.ensures.lowest.free small lone is_file
+    c.part.inside.start c.part.inside.len sound refl refl within c.part.invariant)
 
 pub returns-clause-disks : goal.returns-clause-disks
 returns-clause-disks g c =
@@ -67,8 +83,9 @@ returns-clause-disks g c =
     let node = c.index.ensures.value in
     let small = rw node at c.index.ensures.small in
     let lone = rw c.in-Ok.ensures.ok at c.in-Ok.ensures.lone in
-    rw (sym c.self.view_is, c.in_default-set_edge.ensures.ok, c.in-Ok.ensures.ok, c.file_edge.ensures, node)
-    (raw_disks nodes c.in-Ok.node c.args.file c.part.inside.start c.part.inside.len c.args.name.bytes c.args.read_only c.self.invariant c.in-Ok.ensures.fresh small lone is_file)
+    rw (sym c.self.view_is, c.in_default-set_edge.ensures.ok, c.in-Ok.ensures.ok, c.of_node-edge.ensures, c.node_kind-kind.ensures, node)
+    (raw_disks nodes c.in-Ok.node c.args.file c.part.inside.start c.part.inside.len c.args.name.bytes c.args.read_only c.self.invariant
+    c.in-Ok.ensures.lowest.free small lone is_file)
 
 pub returns-clause-disk : goal.returns-clause-disk
 returns-clause-disk g c =
@@ -77,5 +94,6 @@ returns-clause-disk g c =
     let node = c.index.ensures.value in
     let small = rw node at c.index.ensures.small in
     let lone = rw c.in-Ok.ensures.ok at c.in-Ok.ensures.lone in
-    rw (sym c.self.view_is, sym c.part.view_is, c.in_default-set_edge.ensures.ok, c.in-Ok.ensures.ok, c.file_edge.ensures, node)
-    (raw_disk_new nodes c.in-Ok.node c.args.file c.part.inside.start c.part.inside.len c.args.name.bytes c.args.read_only c.self.invariant c.in-Ok.ensures.fresh small lone is_file)
+    rw (sym c.self.view_is, sym c.part.view_is, c.in_default-set_edge.ensures.ok, c.in-Ok.ensures.ok, c.of_node-edge.ensures, c.node_kind-kind.ensures, node)
+    (raw_disk_new nodes c.in-Ok.node c.args.file c.part.inside.start c.part.inside.len c.args.name.bytes c.args.read_only c.self.invariant
+    c.in-Ok.ensures.lowest.free small lone is_file)

@@ -1,7 +1,9 @@
-use Rattle.std.proofs.Common.{sym, subst, ◌∙◌}
+use Rattle.std.proofs.Common.{◌≢◌, ℕ, sym, ap, subst, ◌∙◌}
+use Rattle.blk_base.specs.Counts.{Rose}
 use Rattle.q2_image.specs.Image.{Known, IsImageOf}
 use Rattle.q2_image.specs.Writing.{autocleared}
 use Rattle.q2_image.proofs.Autocleared.{told_image, told_disk, nothing_done, untouched}
+use Rattle.q2_image.proofs.ClearWrites.{cleared_all, cleared_part, clear_fits, rose_by_why}
 use Rattle.q2_image.proofs.image.Image.clear_autoclear.Goals as goal
 
 pub returns-in-Ok-clause-image : goal.returns-in-Ok-clause-image
@@ -24,3 +26,35 @@ returns-in-Err-clause-image g c = λ file told.
     let none = nothing_done c.in-Err.field-0 _ _ _ c.in-Err.ensures.no_space c.in-Err.ensures.failed in
     let same = untouched (g.D.Device.content c.args.dev.now) (g.D.Device.content c.write_at.new.self) c.in-Err.field-0.done none c.in-Err.ensures.written in
     c.requires.image file (sym same ∙ told)
+
+pub returns-in-Ok-clause-writes : goal.returns-in-Ok-clause-writes
+returns-in-Ok-clause-writes g c =
+    let some : c.args.self.now.header.autoclear ≢ 0 = λ none. c.if-self-eq0.false (ap (λ (k : Known). k.header.autoclear) c.self.view_is ∙ none) in
+    cleared_all g.D.Device c.args.self.now c.args.dev.now c.write_at.new.self some
+    (record {
+      content = c.in-Ok.ensures.written;
+      size = c.in-Ok.ensures.size;
+      log = c.in-Ok.ensures.log;
+      same_log = λ none. let bad : ⊥ = cc none in absurd bad;
+      flushed = c.in-Ok.ensures.flushed;
+      capacity = c.in-Ok.ensures.capacity;
+      faults = c.in-Ok.ensures.faults;
+    }) c.in-Ok.ensures.fits c.in-Ok.ensures.quiet
+
+pub returns-in-Err-clause-writes : goal.returns-in-Err-clause-writes
+returns-in-Err-clause-writes g c =
+    let some : c.args.self.now.header.autoclear ≢ 0 = λ none. c.if-self-eq0.false (ap (λ (k : Known). k.header.autoclear) c.self.view_is ∙ none) in
+    let stop = c.in-Err.field-0 in
+    let nothing = nothing_done stop _ _ _ c.in-Err.ensures.no_space c.in-Err.ensures.failed in
+    let rose = rose_by_why stop.why stop.done _ _ _ c.in-Err.ensures.no_space c.in-Err.ensures.failed (clear_fits c.args.self.now (g.D.Device.capacity c.args.dev.now) some c.requires.fits) in
+    let R : ℕ → Type 0 = λ n. Rose (g.D.Device.faults c.args.dev.now) n in
+    cleared_part g.D.Device c.args.self.now stop.done c.faults.result c.args.dev.now c.write_at.new.self some nothing
+    (record {
+      content = c.in-Err.ensures.written;
+      size = c.in-Err.ensures.size;
+      log = c.in-Err.ensures.log;
+      same_log = λ none. let bad : ⊥ = cc none in absurd bad;
+      flushed = c.in-Err.ensures.flushed;
+      capacity = c.in-Err.ensures.capacity;
+      faults = c.in-Err.ensures.faults;
+    }) (subst R (sym c.faults.ensures) rose) c.faults.ensures

@@ -6,7 +6,7 @@ use Rattle.q2_tables.specs.Linking.{CanLink, FileAfter, entry_at, link_end, tabl
 use Rattle.q2_image.specs.Image.{Known, IsImageOf, cluster_size_in}
 use Rattle.q2_image.specs.Writing.{HasEntriesBut, counts_once, MayName}
 use Rattle.q2_image.proofs.EntryWrites.{lies_apart}
-use Rattle.q2_image.proofs.LinkTold.{open_after, entry_after, spelled_after, others_after, image_after, disk_after, disk_kept, tree_by_kept}
+use Rattle.q2_image.proofs.LinkTold.{open_after, entry_after, spelled_after, others_after, image_after, disk_after, disk_kept, tree_by_kept, link_fault}
 use Rattle.q2_image.proofs.Taken.{told_too}
 use Rattle.q2_image.proofs.image.Image.map_cluster.Goals as goal
 
@@ -87,7 +87,7 @@ returns-clause-image g c = λ file told.
     let told_old = before.1 in
     let I : Known → Type 0 = IsImageOf before.0 in
     let is : I seen = subst I (sym c.self.view_is) (c.requires.image before.0 told_old) in
-    let M : Known → Type 0 = λ k. MayName before.0 k c.args.cluster c.args.table (host_of (entry_of c.args.to)) in
+    let M : Known → Type 0 = λ k. MayName 65536 before.0 k c.args.cluster c.args.table (host_of (entry_of c.args.to)) in
     let may : M seen = subst M (sym c.self.view_is) (c.requires.may before.0 told_old) in
     let spare = c.requires.spare before.0 told_old in
     let size_old = g.met.D.Device.told_size c.args.dev.now before.0 told_old in
@@ -112,7 +112,7 @@ returns-clause-disk g c =
     let told_old = told_was in
     let I : Known → Type 0 = IsImageOf old in
     let is : I seen = subst I (sym c.self.view_is) (c.requires.image old told_old) in
-    let M : Known → Type 0 = λ k. MayName old k c.args.cluster c.args.table (host_of (entry_of c.args.to)) in
+    let M : Known → Type 0 = λ k. MayName 65536 old k c.args.cluster c.args.table (host_of (entry_of c.args.to)) in
     let may : M seen = subst M (sym c.self.view_is) (c.requires.may old told_old) in
     let spare = c.requires.spare old told_old in
     let size_old = g.met.D.Device.told_size c.args.dev.now old told_old in
@@ -141,7 +141,7 @@ returns-clause-kept g c =
     let told_old = told_was in
     let I : Known → Type 0 = IsImageOf old in
     let is : I seen = subst I (sym c.self.view_is) (c.requires.image old told_old) in
-    let M : Known → Type 0 = λ k. MayName old k c.args.cluster c.args.table (host_of (entry_of c.args.to)) in
+    let M : Known → Type 0 = λ k. MayName 65536 old k c.args.cluster c.args.table (host_of (entry_of c.args.to)) in
     let may : M seen = subst M (sym c.self.view_is) (c.requires.may old told_old) in
     let spare = c.requires.spare old told_old in
     let size_old = g.met.D.Device.told_size c.args.dev.now old told_old in
@@ -152,3 +152,10 @@ returns-clause-kept g c =
     let A : Result (Unit {0}) DevStop → Type 0 = λ r. FileAfter c.link.new.self old (g.D.Device.content c.link.new.dev) (entry_at seen.tables c.args.cluster c.args.table) (cond (is_ok r) 8 0) c.args.table (table_len seen.tables c.args.table) in
     let K : Result (Unit {0}) DevStop → Type 0 = λ r. OnErr r (c.link.new.self ≡ seen.tables) in
     disk_kept seen c.args.cluster c.args.table word (entry_of c.args.to) c.is_single-single.result c.self.invariant below can c.requires.entry refl reached old new is spare c.requires.whole c.requires.near may grows bound c.link.new.self (g.D.Device.content c.link.new.dev) told_new stop (subst K err c.link.ensures.kept) (subst A err after))
+
+pub returns-clause-cause : goal.returns-clause-cause
+returns-clause-cause g c =
+    let word : ℕ = l2_spelling (entry_of c.args.to) c.is_single-single.result in
+    let F : Known → Type 0 = λ k. link_end k.tables c.args.cluster c.args.table ≤ g.D.Device.capacity c.args.dev.now in
+    link_fault g.D.Device c.self.inside.tables c.args.cluster word c.args.table c.link.result c.args.dev.now c.link.new.dev
+    (subst F (sym c.self.view_is) c.requires.fits) c.link.ensures.writes

@@ -1,9 +1,13 @@
-use Rattle.std.proofs.Common.{sym, ap, subst, ◌∙◌}
+use Rattle.std.proofs.Common.{◌≤◌, ℕ, Err, sym, ap, subst, ◌∙◌}
+use Rattle.blk_base.proofs.DeviceLemmas.{wrote-told}
+use Rattle.blk_base.specs.Device.{Writes}
+use Rattle.q2_refs.specs.Allocating.{end_of_allocation, ref_stop_of, writes_of_answer}
+use Rattle.q2_refs.specs.declared.allocating.RefStop.{RefStop}
 use Rattle.q2_format.specs.Header.{header_of}
 use Rattle.q2_format.specs.Tables.{refcount_of}
-use Rattle.q2_refs.specs.Free.{free_clusters}
+use Rattle.q2_refs.specs.Free.{free_cluster, free_clusters}
 use Rattle.q2_image.specs.Image.{Known, IsImageOf}
-use Rattle.q2_image.proofs.Taken.{told_too, image_taken, spare_stays, disk_taken, open_with_refs, ready_result, fresh_count, by_size}
+use Rattle.q2_image.proofs.Taken.{told_too, taken_fault, image_taken, spare_stays, disk_taken, open_with_refs, ready_result, fresh_count, by_size}
 use Rattle.q2_image.proofs.image.Image.take_cluster.Goals as goal
 use Rattle.q2_image.proofs.image.Image.take_cluster.Goals.{in-Ok, in-Err-Dev}
 
@@ -13,10 +17,27 @@ returns-clause-spare_stay g c = λ old new n told_old told_new spare.
     let P : Known → Type 0 = IsImageOf old in
     spare_stays old new seen c.allocate.new.self (subst P (sym c.self.view_is) (c.requires.image old told_old)) (c.allocate.ensures.keeps old new told_old told_new) (c.allocate.ensures.step new told_new) n spare
 
+pub returns-clause-told : goal.returns-clause-told
+returns-clause-told g c = wrote-told g.D.Device c.allocate.ensures.writes.made c.args.dev.now c.allocate.new.dev c.allocate.ensures.writes.wrote
+
+pub returns-clause-cause : goal.returns-clause-cause
+returns-clause-cause g c =
+    elim c.match-allocate.branch [
+      | in-Ok w ↦ rw w.result-is tt
+      | in-Err-Dev w ↦ rw w.result-is
+          (let P : Known → Type 0 = λ k. end_of_allocation k.refs (free_cluster k.refs 0) ≤ g.D.Device.capacity c.args.dev.now in
+          let fits : end_of_allocation c.self.inside.refs (free_cluster c.self.inside.refs 0) ≤ g.D.Device.capacity c.args.dev.now =
+          subst P (sym c.self.view_is) c.requires.can.fits in
+          let R : RefStop → Type 0 = λ x.
+          Writes g.D.Device (writes_of_answer c.self.inside.refs (Err x)) (ref_stop_of {A = ℕ} (Err x)) c.args.dev.now c.allocate.new.dev in
+          taken_fault g.D.Device c.self.inside.refs w.in-Err-Dev.stop c.args.dev.now c.allocate.new.dev fits
+          (subst R w.in-Err-Dev.field-0-is w.in-Err-Dev.ensures.writes))
+    ]
+
 pub returns-clause-image : goal.returns-clause-image
 returns-clause-image g c = λ file told.
     let seen : Known = record { header = c.self.inside.header; tables = c.self.inside.tables; refs = c.self.inside.refs } in
-    let before = told_too (g.D.Device.content c.args.dev.now) (g.D.Device.content c.allocate.new.dev) file c.allocate.ensures.told told in
+    let before = told_too (g.D.Device.content c.args.dev.now) (g.D.Device.content c.allocate.new.dev) file (wrote-told g.D.Device c.allocate.ensures.writes.made c.args.dev.now c.allocate.new.dev c.allocate.ensures.writes.wrote) told in
     let P : Known → Type 0 = IsImageOf before.0 in
     image_taken before.0 file seen c.allocate.new.self (subst P (sym c.self.view_is) (c.requires.image before.0 before.1)) (c.allocate.ensures.keeps before.0 file before.1 told) (c.allocate.ensures.step file told)
 

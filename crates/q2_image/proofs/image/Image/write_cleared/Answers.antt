@@ -1,7 +1,12 @@
-use Rattle.std.proofs.Common.{ℕ, ◌/◌, ◌<◌, List, length, sym, subst}
-use Rattle.blk_base.specs.Content.{with_bytes}
+use Rattle.std.proofs.Common.{ℕ, ◌/◌, ◌<◌, List, [], ◌∷◌, ◌++◌, inl, inr, length, refl, sym, subst}
+use Rattle.blk_base.specs.Content.{Write, with_bytes}
 use Rattle.blk_base.specs.Counts.{taken}
+use Rattle.blk_base.specs.Device.{Wrote}
+use Rattle.blk_base.specs.Writes.{write_of}
+use Rattle.blk_base.proofs.DeviceLemmas.{wrote-then}
 use Rattle.q2_image.specs.Image.{Known, IsOpen}
+use Rattle.q2_image.specs.Made.{clear_writes}
+use Rattle.q2_image.proofs.ClearWrites.{clear_stopped}
 use Rattle.q2_image.proofs.OwnTold.{IsOwnPlace, open_cleared, part_within, own_told_image, own_told_disk, same_at}
 use Rattle.q2_image.proofs.OwnWrites.{disk_then}
 use Rattle.q2_refs.proofs.Placing.{told_before}
@@ -35,3 +40,29 @@ returns-in-Ok-clause-disk g c = λ old new told_old told_new.
 
 pub returns-in-Err-clause-disk : goal.returns-in-Err-clause-disk
 returns-in-Err-clause-disk g c = λ old new told_old told_new. same_at old new c.args.span.start (c.in-Err.ensures.disk old new told_old told_new)
+
+pub returns-in-Ok-clause-wrote : goal.returns-in-Ok-clause-wrote
+returns-in-Ok-clause-wrote g c =
+    let image : Known = c.args.self.now in
+    let bytes : List ℕ = taken c.write_at.result c.args.bytes.now in
+    let cleared = c.in-Ok.ensures.writes in
+    let W : List Write → Type 0 = λ ws. Wrote g.D.Device ws c.args.dev.now c.clear_autoclear.new.dev in
+    let first = subst W cleared.part cleared.wrote in
+    let later : Wrote g.D.Device (write_of c.args.place bytes ∷ []) c.clear_autoclear.new.dev c.write_at.new.self = record {
+      content = c.write_at.ensures.written;
+      size = c.write_at.ensures.size;
+      log = c.write_at.ensures.log;
+      same_log = λ none. let bad : ⊥ = cc none in absurd bad;
+      flushed = c.write_at.ensures.flushed;
+      capacity = c.write_at.ensures.capacity;
+      faults = c.write_at.ensures.faults;
+    } in
+    let P : ℕ → Type 0 = λ place. Wrote g.D.Device (clear_writes image ++ write_of place bytes ∷ []) c.args.dev.now c.write_at.new.self in
+    inl (c.in-Ok.ensures.cleared, subst P c.requires.place (wrote-then g.D.Device (clear_writes image) (write_of c.args.place bytes ∷ []) _ _ _ first later))
+
+pub returns-in-Err-clause-wrote : goal.returns-in-Err-clause-wrote
+returns-in-Err-clause-wrote g c =
+    let cleared = c.in-Err.ensures.writes in
+    let at = clear_stopped c.args.self.now c.in-Err.field-0 cleared.made cleared.part in
+    let W : List Write → Type 0 = λ ws. Wrote g.D.Device ws c.args.dev.now c.clear_autoclear.new.dev in
+    inr (at.0, c.in-Err.ensures.kept, refl, subst W at.1 cleared.wrote)

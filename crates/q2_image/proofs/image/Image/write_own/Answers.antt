@@ -1,9 +1,10 @@
-use Rattle.std.proofs.Common.{sym, arith}
-use Rattle.q2_image.proofs.Mapped.{host_below}
+use Rattle.q2_image.proofs.OwnStops.{own_stops}
 use Rattle.q2_image.proofs.image.Image.write_own.Goals as goal
 
-pub overflow_add-place : goal.overflow_add-place
-overflow_add-place g c =
-    let small = host_below _ c.in-Host.host (sym c.in-Host.ensures) in
-    let size = c.cluster_size-cluster_size.ensures.number in
-    omega arith
+pub returns-clause-stops : goal.returns-clause-stops
+returns-clause-stops g c = λ file told.
+    own_stops file c.args.self.now c.args.span c.args.bytes.now (c.requires.image file told) c.if-not-own_fits.ensures.open c.requires.disk c.requires.mapped c.requires.cluster c.requires.whole
+
+pub returns-then-not-own_fits-clause-stops : goal.returns-then-not-own_fits-clause-stops
+returns-then-not-own_fits-clause-stops g c = λ file told.
+    own_stops file c.args.self.now c.args.span c.args.bytes.now (c.requires.image file told) c.if-not-own_fits.ensures.open c.requires.disk c.requires.mapped c.requires.cluster c.requires.whole

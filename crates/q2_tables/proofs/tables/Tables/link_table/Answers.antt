@@ -1,4 +1,11 @@
-use Rattle.std.proofs.Common.{◌+◌, ◌*◌, ◌/◌, ℕ, length, refl, sym, ap, ◌∙◌, arith}
+use Rattle.std.proofs.Common.{◌≢◌, ◌+◌, ◌*◌, ◌/◌, ◌%◌, ℕ, List, [], ◌∷◌, Some, length, refl, sym, ap, subst, ◌∙◌, arith}
+use Rattle.blk_base.specs.Content.{Write}
+use Rattle.blk_base.specs.Device.{Writes}
+use Rattle.blk_base.specs.Writes.{write_of}
+use Rattle.blk_base.specs.declared.fault.DevStop.{DevStop}
+use Rattle.blk_base.proofs.DeviceLemmas.{writes_then, wrote-grows}
+use Rattle.q2_tables.specs.Linking.{entry_write, new_table, link_writes}
+use Rattle.q2_tables.proofs.LinkWrites.{writes_are, table_len_few}
 use Rattle.std.proofs.Math.ListN.{length-set}
 use Rattle.std.proofs.lemmas.Result.{err_from_is_err_and}
 use Rattle.q2_format.specs.Sizes.{entries_in_cluster}
@@ -45,3 +52,30 @@ returns-clause-told g c = λ file told tree apart.
     table_seen seen c.args.self.now c.args.cluster c.args.word c.args.table (length c.as_mut_slice.result.now) file (g.D.Device.content c.write_table.new.dev) (g.D.Device.content c.write_entry.new.dev)
     c.self.view_is c.requires.can apart c.requires.some tree after (ap length c.as_mut_slice.ensures.value ∙ c.self.invariant.room)
     (c.in_ok-write_table.ensures.entry after.file after.is) c.in_ok-write_entry.ensures.written
+
+pub returns-in_err-write_entry-clause-writes : goal.returns-in_err-write_entry-clause-writes
+returns-in_err-write_entry-clause-writes g c =
+    let seen : Kept = record { c = c.self.inside.cluster_size; l1_offset = c.self.inside.l1_offset; l1 = c.self.inside.l1.items; words = c.self.inside.words.items } in
+    let n : ℕ = length c.as_mut_slice.result.now in
+    let e : ℕ = c.self.inside.cluster_size / 8 in
+    let at : ℕ = c.self.inside.l1_offset + 8 * (c.args.cluster / e) in
+    let l1 : ℕ = c.args.table + 9223372036854775808 in
+    let stop : DevStop = c.in_err-write_entry.field-0.0 in
+    let some : c.args.table ≢ 0 = λ none. omega (arith, c.requires.some) in
+    let are = writes_are seen c.args.cluster c.args.word c.args.table n (c.args.cluster % e) at l1 some (ap length c.as_mut_slice.ensures.value ∙ c.self.invariant.room) refl refl refl in
+    let p = err_from_is_err_and c.from_residual-in_err-write_entry.result c.from_residual-in_err-write_entry.ensures.1 in
+    let Q : DevStop → Type 0 = λ x. Writes g.D.Device (link_writes c.args.self.now c.args.cluster c.args.word c.args.table) (Some x) c.args.dev.now c.write_entry.new.dev in
+    let L : List Write → Type 0 = λ ws. Writes g.D.Device ws (Some stop) c.args.dev.now c.write_entry.new.dev in
+    let K : Kept → Type 0 = λ k. Writes g.D.Device (link_writes k c.args.cluster c.args.word c.args.table) (Some stop) c.args.dev.now c.write_entry.new.dev in
+    rw p.1 (subst Q (sym p.2) (subst K c.self.view_is (subst L are
+    (writes_then g.D.Device (write_of c.args.table (new_table n (c.args.cluster % e) c.args.word) ∷ []) (entry_write at l1 ∷ []) (Some stop)
+    c.args.dev.now c.write_table.new.dev c.write_entry.new.dev c.in_ok-write_table.ensures.writes c.in_err-write_entry.ensures.writes))))
+
+pub returns-clause-reaches : goal.returns-clause-reaches
+returns-clause-reaches g c =
+    let view = ap (λ (k : Kept). k.c) c.self.view_is in
+    let room = ap length c.as_mut_slice.ensures.value ∙ c.self.invariant.room in
+    let last = c.in_ok-write_entry.ensures.writes in
+    let grows = wrote-grows g.D.Device last.made c.write_table.new.dev c.write_entry.new.dev last.wrote in
+    let reaches = c.in_ok-write_table.ensures.reaches in
+    omega (arith, reaches, grows, room, view, table_len_few c.args.self.now c.args.table)

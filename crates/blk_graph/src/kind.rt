@@ -1,0 +1,44 @@
+//! What nodes and jobs are, as far as the permissions of their edges go.
+
+/// What a node is.
+#[derive(Clone, Copy, Debug, PartialEq, Eq)]
+pub enum Kind {
+    /// A file of the store, which has no node below it.
+    Protocol,
+    Raw,
+    Qcow2,
+    CopyOnRead,
+    /// The filter of a backup.
+    BeforeWrite,
+    /// The filter of a mirror.
+    Mirror,
+    /// The filter of a commit.
+    Commit,
+}
+
+/// What a node is, and whether it may be written.
+#[derive(Clone, Copy, Debug, PartialEq, Eq)]
+pub struct NodeKind {
+    pub kind: Kind,
+    pub writes: bool,
+}
+
+/// What stands at an id that no node has.
+pub const NO_KIND: NodeKind = NodeKind {
+    kind: Kind::Protocol,
+    writes: false,
+};
+
+/// What a job uses a node for.
+#[derive(Clone, Copy, Debug, PartialEq, Eq)]
+pub enum JobUse {
+    /// The target of a backup or mirror.
+    CopyTarget,
+    CommitTop,
+    /// A node strictly between the top and the base of a commit.
+    CommitBetween,
+    CommitBase,
+    StreamTop,
+    /// A node below the top of a stream, down to its base, the base among them.
+    StreamBelow,
+}

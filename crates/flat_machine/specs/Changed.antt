@@ -1,0 +1,148 @@
+-- What each kind of change of the table does to disks, files and bitmaps.
+use Rattle.std.specs.Prelude.{ℕ, ◌==◌, Bool, true, false, ◌&&◌, not, if◌then◌else◌, List, [], ◌∷◌, ◌++◌, filter, replicate, bytes_eq, codes, Option, Some, None, is_none, option_map, option_and_then, unwrap_or}
+use Rattle.q2_format.specs.Contents.{raw_disk}
+use Rattle.q2_format.specs.Created.{creation_of}
+use Rattle.blk_graph.specs.declared.kind.Kind.{Kind}
+use Rattle.blk_graph.specs.declared.kind.Kind.TheVariants.{Protocol, Raw, Qcow2}
+use Rattle.blk_graph.specs.declared.edge.Role.TheVariants.{File, Backing}
+use Rattle.qmp_codec.specs.declared.words.ImageFormat.{ImageFormat}
+use Rattle.qmp_codec.specs.declared.words.ImageFormat.TheVariants as format
+use Rattle.qmp_rules.specs.declared.rows.NodeRow.{NodeRow}
+use Rattle.qmp_rules.specs.declared.rows.BitmapRow.{BitmapRow}
+use Rattle.qmp_rules.specs.declared.change.Change.{Change}
+use Rattle.qmp_rules.specs.declared.change.Change.TheVariants as change
+use Rattle.qmp_rules.specs.Table.{Table, node_at, child}
+use Rattle.qmp_rules.specs.Changes.{changed}
+use Rattle.blk_history.specs.Fold.{run}
+use Rattle.flat_machine.specs.State.{State, Disk, Left, Content, Bytes, Unknown, Known, Mapped, MapsNone, Unsure, Image, bytes_in, bytes_at_node, content_in, filename_of, size_of}
+use Rattle.flat_machine.specs.Contents.{with_content, formatted, mapped_in, file_bytes, image_bytes}
+use Rattle.flat_machine.specs.Marking.{clean, emptied, is_dirty_of, dirty_at, where_so, merge_from}
+
+-- ---- rows
+
+-- the disk of a node is this
+abbrev pub with_bytes_of : ℕ → List ℕ → List Disk → List Disk
+with_bytes_of node bytes [] = record { node = node; bytes = bytes } ∷ []
+with_bytes_of node bytes (d ∷ disks) =
+    if d.node == node then record { node = node; bytes = bytes } ∷ disks else d ∷ with_bytes_of node bytes disks
+
+abbrev pub put : ℕ → List ℕ → State → State
+put node bytes s = record s { disks = with_bytes_of node bytes s.disks }
+
+-- this is known of a file
+abbrev pub know : List ℕ → Content → State → State
+know name content s = record s { files = with_content name content s.files }
+
+-- a command named the file for writing
+abbrev pub name_file : List ℕ → State → State
+name_file name s = record s { named = s.named ++ name ∷ [] }
+
+-- a file is made anew: no disk is left in it
+abbrev pub forget_left : List ℕ → State → State
+forget_left name s = record s { left = filter (λ l. not (bytes_eq l.file name)) s.left }
+
+abbrev pub make : List ℕ → Content → State → State
+make name content s = name_file name (know name content (forget_left name s))
+
+-- ---- nodes that are added
+
+abbrev pub filename_or : NodeRow → List ℕ
+filename_or row = unwrap_or row.filename []
+
+-- a `file` node reads as its file, and names it for writing where it may be written
+abbrev pub add_file : NodeRow → State → State
+add_file row s =
+    let added = put row.id (file_bytes row.size (content_in s.files (filename_or row))) s in
+    if row.read_only then added else name_file (filename_or row) added
+
+-- what is known of the file under a format node
+abbrev pub content_under : State → ℕ → Option Content
+content_under s file = option_and_then (content_in s.files) (filename_of s.table file)
+
+abbrev pub bytes_below : State → Option ℕ → List ℕ
+bytes_below s None = []
+bytes_below s (Some node) = bytes_at_node s node
+
+-- a raw node reads as its part of the `file` node, and a qcow2 node as the image over its backing node
+abbrev pub format_bytes : State → NodeRow → ℕ → Option ℕ → Kind → List ℕ
+format_bytes s row file backing Raw = raw_disk row.offset row.size (bytes_in s.disks file)
+format_bytes s row file backing Qcow2 = image_bytes (content_under s file) (bytes_below s backing)
+format_bytes s row file backing kind = []
+
+abbrev pub note_image : Kind → ℕ → Mapped → State → State
+note_image Qcow2 node mapped s = record s { images = s.images ++ record { node = node; mapped = mapped } ∷ [] }
+note_image kind node mapped s = s
+
+abbrev pub add_format : NodeRow → ℕ → Option ℕ → State → State
+add_format row file backing s =
+    note_image row.kind row.id (mapped_in (content_under s file)) (put row.id (format_bytes s row file backing row.kind) s)
+
+-- ---- nodes that go
+
+-- the file that a node reads by itself
+abbrev pub file_of : Table → NodeRow → Kind → Option (List ℕ)
+file_of t row Protocol = row.filename
+file_of t row Raw = option_and_then (filename_of t) (child t row.id File)
+file_of t row Qcow2 = option_and_then (filename_of t) (child t row.id File)
+file_of t row kind = None
+
+-- a settled node without a backing node leaves its disk in its file
+abbrev pub left_in : List Disk → NodeRow → List ℕ → Left
+left_in disks row file = record { file = file; kind = row.kind; offset = row.offset; bytes = bytes_in disks row.id }
+
+abbrev pub leave : Option Left → State → State
+leave None s = s
+leave (Some left) s = record s { left = s.left ++ left ∷ [] }
+
+abbrev pub left_by : State → NodeRow → Option Left
+left_by s row =
+    if row.is_settled && is_none (child s.table row.id Backing)
+    then option_map (left_in s.disks row) (file_of s.table row row.kind)
+    else None
+
+abbrev pub drop_node : ℕ → State → State
+drop_node node s = record s {
+  disks = filter (λ d. not (d.node == node)) s.disks;
+  images = filter (λ i. not (i.node == node)) s.images;
+  dirty = filter (λ d. not (d.node == node)) s.dirty;
+}
+
+abbrev pub remove_node : ℕ → State → State
+remove_node node s = drop_node node (leave (option_and_then (left_by s) (node_at s.table node)) s)
+
+-- ---- bitmaps
+
+abbrev pub add_bitmap : BitmapRow → State → State
+add_bitmap row s = record s { dirty = s.dirty ++ clean row (size_of s.table row.node) ∷ [] }
+
+-- ---- each kind of change
+
+abbrev pub format_name : ImageFormat → List ℕ
+format_name format.Raw = codes "raw"
+format_name other = codes "qcow2"
+
+-- Beside the table. A kind that isn't listed changes the table alone: what is unsettled keeps its bytes, and parents that
+-- move read the same.
+abbrev pub beside : State → Change → State
+beside s (change.MakeFile name size) = make name (Bytes (replicate size 0)) s
+beside s (change.FormatFile node name size backing_file backing_fmt) =
+    make name (formatted (creation_of size backing_file (option_map format_name backing_fmt)) (content_in s.files name)) s
+beside s (change.SpoilFile name) = make name Unknown s
+beside s (change.UseFile name) = know name Unknown s
+beside s (change.AddFile row) = add_file row s
+beside s (change.AddFormat row file backing) = add_format row file backing s
+beside s (change.RemoveNode node) = remove_node node s
+beside s (change.Attach overlay node) = put overlay (bytes_at_node s node) s
+beside s (change.AddBitmap row) = add_bitmap row s
+beside s (change.RemoveBitmap node name) = record s { dirty = filter (λ d. not (is_dirty_of node name d)) s.dirty }
+beside s (change.ClearBitmap node name) = record s { dirty = where_so (is_dirty_of node name) emptied s.dirty }
+beside s (change.MergeBitmap node name source_node source) =
+    record s { dirty = merge_from (dirty_at s.dirty source_node source) node name s.dirty }
+beside s other = s
+
+abbrev pub stepped : State → Change → State
+stepped s c = record (beside s c) { table = changed s.table c }
+
+-- the state after changes in turn
+abbrev pub all_stepped : State → List Change → State
+all_stepped = run stepped

@@ -1,0 +1,59 @@
+-- Histories that come of an opening.
+use Rattle.std.specs.Prelude.{◌≡◌, ℕ, Bool, true, List, [], ◌∷◌, ◌++◌, length, Option, Some, None}
+use Rattle.qmp_rules.specs.declared.rows.JobRow.{JobRow}
+use Rattle.qmp_rules.specs.Table.{job_at}
+use Rattle.blk_history.specs.Fold.{run}
+use Rattle.blk_history.specs.Names.{JobLine, RowNames, no_job}
+use Rattle.flat_machine.specs.State.{State, size_of}
+use Rattle.flat_machine.specs.Machine.{after, replay}
+use Rattle.flat_machine.specs.Legal.{Legal, IsAtRest}
+use Rattle.flat_machine.specs.Marks.{NoneSplits}
+use Rattle.flat_machine.specs.Courses.{Order, Wish, IsWhole}
+use Rattle.flat_machine.specs.Licence.{Counts, AreLicensed}
+use Rattle.flat_machine.specs.Opening.{start}
+use Rattle.blk_history.specs.Transcript.{transcript}
+use Rattle.flat_machine.specs.declared.opening.Opening.{Opening}
+use Rattle.blk_history.specs.declared.event.Event.{Event}
+use Rattle.blk_history.specs.declared.event.Event.TheVariants.{Start}
+
+-- ---- names of a history
+
+-- the line of a job, by its row
+abbrev pub job_line_of : State → Option JobRow → JobLine
+job_line_of s None = no_job
+job_line_of s (Some row) = record { id = row.id; kind = row.kind; size = size_of s.table row.source }
+
+-- the jobs that a history starts, in order
+abbrev pub jobs_from : State → List Event → List JobLine
+jobs_from s [] = []
+jobs_from s (Start job ∷ es) = job_line_of s (job_at s.table job) ∷ jobs_from (after s (Start job)) es
+jobs_from s (e ∷ es) = jobs_from (after s e) es
+
+abbrev pub names_of : Opening → List Event → RowNames
+names_of o h = record { guests = o.guests; jobs = jobs_from (start o) h }
+
+-- what is printed of a history
+abbrev pub transcript_of : Opening → List Event → List ℕ
+transcript_of o h = transcript (names_of o h) h
+
+-- ---- from an opening
+
+-- The history is legal from that opening, it stops behind a whole event, and no mark of it splits a request.
+pub record IsHistoryOf (o : Opening) (h : List Event) : Type 0 where
+  pub legal : Legal (start o) h
+  pub rest : IsAtRest (replay (start o) h)
+  pub marks : NoneSplits (start o) h
+
+-- These guests are the opening's, and each fault that the history names is a rise that it names once. Where the store tells
+-- its files, the history is one of that opening.
+pub record ComesOf (o : Opening) (is_told : Bool) (guests : List (List ℕ)) (opened now : Counts) (h : List Event) : Type 0 where
+  pub guests_are : guests ≡ o.guests
+  pub licensed : AreLicensed opened now h
+  pub history : is_told ≡ true → IsHistoryOf o h
+
+-- a run that came to its end: each guest has a trace, script and traces are used up, each actor is done, and no job is left
+pub record HasEnded (o : Opening) (script : List Order) (traces : List (List Wish)) (h : List Event) : Type 0 where
+  pub history : IsHistoryOf o h
+  pub guests : length traces ≡ length o.guests
+  pub whole : IsWhole script traces h
+  pub jobs : (replay (start o) h).table.jobs ≡ []

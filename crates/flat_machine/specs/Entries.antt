@@ -1,0 +1,57 @@
+-- Which entries one event makes.
+use Rattle.std.specs.Prelude.{◌≡◌, ◌≢◌, ℕ, ◌-◌, if◌then◌else◌, List, [], ◌∷◌, ◌++◌, map, Contains, AllPairs, Option, Some, None}
+use Rattle.std.specs.List.{range_with_len}
+use Rattle.qmp_rules.specs.declared.rows.JobRow.{JobRow}
+use Rattle.qmp_rules.specs.Table.{Table, job_at}
+use Rattle.blk_history.specs.Fold.{With}
+use Rattle.flat_machine.specs.State.{State}
+use Rattle.flat_machine.specs.Replies.{replied, is_accepted}
+use Rattle.flat_machine.specs.Machine.{replay}
+use Rattle.blk_history.specs.declared.event.Event.{Event}
+use Rattle.blk_history.specs.declared.event.Event.TheVariants.{Admit, Refuse, Piece, Retire, Reply, Reached, Start, Ready, End, Done}
+
+-- how many jobs the answer to a line has started
+abbrev pub new_jobs : State → List ℕ → List ℕ → ℕ
+new_jobs s given text = (replied s given text).table.started - s.table.started
+
+-- the starts of its jobs, in the order of its actions
+abbrev pub starts_of : State → List ℕ → List ℕ → List Event
+starts_of s given text = if is_accepted text then map Start (range_with_len s.table.started (new_jobs s given text)) else []
+
+abbrev pub ended_job : Event → Option ℕ
+ended_job (End job outcome offset) = Some job
+ended_job e = None
+
+-- the ends of all members of a group, each once
+pub record AreEndsOf (t : Table) (group : ℕ) (es : List Event) : Type 0 where
+  pub ends : (e : Event) → Contains es e → With (ended_job e) (λ job. With (job_at t job) (λ row. row.group ≡ Some group))
+  pub all : (row : JobRow) → Contains t.jobs row → row.group ≡ Some group → Contains (map ended_job es) (Some row.number)
+  pub once : AllPairs (λ a b. a ≢ b) (map ended_job es)
+
+-- the end of a job without a group, or those of all members of its group side by side
+abbrev pub AreEnds : Table → Option ℕ → List Event → Type 0
+AreEnds t None (e ∷ es) = es ≡ []
+AreEnds t None [] = ⊥
+AreEnds t (Some group) es = AreEndsOf t group es
+
+-- The entries of one event: an admission one or none, a piece, a retirement, an await and the end of an actor one, a command
+-- none or its reply with the starts behind it, and a turn of a job none, that it is ready, or ends.
+abbrev pub IsEvent : State → List Event → Type 0
+IsEvent s [] = Unit {0}
+IsEvent s (Reply line given command text ∷ es) = es ≡ starts_of s given text
+IsEvent s (End job outcome offset ∷ es) = With (job_at s.table job) (λ row. AreEnds s.table row.group (End job outcome offset ∷ es))
+IsEvent s (Start job ∷ es) = ⊥
+IsEvent s (e ∷ es) = es ≡ []
+
+-- events one after another
+abbrev pub AreEvents : State → List (List Event) → Type 0
+AreEvents s [] = Unit {0}
+AreEvents s (es ∷ events) = IsEvent s es × AreEvents (replay s es) events
+
+abbrev pub all_of : List (List Event) → List Event
+all_of [] = []
+all_of (es ∷ events) = es ++ all_of events
+
+-- a history's entries fall into events
+abbrev pub FallsIntoEvents : State → List Event → Type 0
+FallsIntoEvents s h = (events : List (List Event)) × (all_of events ≡ h) × AreEvents s events

@@ -1,0 +1,329 @@
+-- What the start and the end of a job do: to disks, and to the table.
+use Rattle.std.specs.Prelude.{ℕ, ◌+◌, ◌/◌, ◌==◌, Bool, true, false, ◌&&◌, ◌||◌, not, if◌then◌else◌, List, [], ◌∷◌, ◌++◌, map, filter, find, bytes_eq, Option, Some, None, is_some, option_map, option_and_then, unwrap_or}
+use Rattle.std.specs.List.{list_any}
+use Rattle.blk_bits.specs.Granules.{contains}
+use Rattle.blk_graph.specs.declared.edge.Edge.{Edge}
+use Rattle.blk_graph.specs.declared.edge.Parent.TheVariants.{Node, Job}
+use Rattle.blk_graph.specs.declared.edge.Role.TheVariants.{File, Backing as BackingRole}
+use Rattle.blk_graph.specs.declared.kind.Kind.{Kind}
+use Rattle.blk_graph.specs.declared.kind.Kind.TheVariants.{Protocol}
+use Rattle.blk_graph.specs.Edits.{is_edge, with_child, with_replaced, without_filter, without_parent}
+use Rattle.blk_graph.specs.Refreshed.{refreshed}
+use Rattle.qmp_codec.specs.declared.event.JobKind.{JobKind}
+use Rattle.qmp_codec.specs.declared.event.JobKind.TheVariants.{Stream, Commit, Mirror, Backup}
+use Rattle.qmp_codec.specs.declared.words.BitmapMode.{BitmapMode}
+use Rattle.qmp_codec.specs.declared.words.BitmapMode.TheVariants.{OnSuccess}
+use Rattle.qmp_rules.specs.declared.rows.NodeRow.{NodeRow}
+use Rattle.qmp_rules.specs.declared.rows.BitmapRow.{BitmapRow}
+use Rattle.qmp_rules.specs.declared.rows.JobRow.{JobRow}
+use Rattle.qmp_rules.specs.declared.rows.UsedBitmap.{UsedBitmap}
+use Rattle.qmp_rules.specs.Table.{Table, node_at, job_at, child, kinds_of}
+use Rattle.qmp_rules.specs.Chains.{has_id}
+use Rattle.flat_machine.specs.State.{State, Left, Mapped, MapsNone, Unsure, Image, Dirty, Begun, Ending, bytes_at_node, filename_of, size_of}
+use Rattle.flat_machine.specs.Marking.{filled, put_aside, taken_back, is_dirty_of, dirty_at, where_so, where_recording}
+use Rattle.flat_machine.specs.Changed.{put, name_file, forget_left}
+use Rattle.blk_history.specs.declared.entry.JobEnd.{JobEnd}
+use Rattle.blk_history.specs.declared.entry.JobEnd.TheVariants.{Completed, Pivoted, Copied, Failed, Cancelled}
+use Rattle.blk_history.specs.declared.entry.Cause.{Cause}
+use Rattle.blk_history.specs.declared.entry.Cause.TheVariants.{Command}
+
+-- ---- kinds of jobs and of ends
+
+-- a commit is active where it has no overlay above its top; an overlay is held for reading
+abbrev pub is_active : JobRow → Bool
+is_active row = not (list_any (λ id. true) row.read)
+
+-- it can be ready, and then goes on until it is asked to end
+abbrev pub can_be_ready : JobRow → JobKind → Bool
+can_be_ready row Mirror = true
+can_be_ready row Commit = is_active row
+can_be_ready row kind = false
+
+-- it writes its target or base
+abbrev pub writes_target : JobKind → Bool
+writes_target Stream = false
+writes_target kind = true
+
+abbrev pub is_success : JobEnd → Bool
+is_success Completed = true
+is_success Pivoted = true
+is_success Copied = true
+is_success outcome = false
+
+-- parents move
+abbrev pub is_move : JobEnd → Bool
+is_move Completed = true
+is_move Pivoted = true
+is_move outcome = false
+
+-- an end that ends the other members of its group: it failed, or a command cancelled it
+abbrev pub is_cause : JobEnd → Bool
+is_cause (Failed fault) = true
+is_cause (Cancelled Command) = true
+is_cause outcome = false
+
+-- ---- starts
+
+-- the target that a job writes
+abbrev pub written_by : JobRow → Option ℕ
+written_by row = if writes_target row.kind then row.target else None
+
+abbrev pub target_bytes : State → Option ℕ → List ℕ
+target_bytes s None = []
+target_bytes s (Some node) = bytes_at_node s node
+
+abbrev pub granules_of : State → JobRow → Option UsedBitmap → Option Dirty
+granules_of s row None = None
+granules_of s row (Some used) = dirty_at s.dirty row.source used.name
+
+-- the disks as the job finds them
+abbrev pub begin : State → JobRow → Begun
+begin s row = record {
+  job = row.number;
+  source = bytes_at_node s row.source;
+  target = target_bytes s row.target;
+  granules = granules_of s row row.bitmap;
+}
+
+-- a job holds these nodes, be it for reading: whether their images map a cluster isn't known any more
+abbrev pub unsure : List ℕ → Image → Image
+unsure nodes image = if has_id image.node nodes then record image { mapped = blurred image.mapped } else image
+  where
+    blurred : Mapped → Mapped
+    blurred MapsNone = Unsure
+    blurred mapped = mapped
+
+abbrev pub aside_by : ℕ → Option UsedBitmap → List Dirty → List Dirty
+aside_by node None ds = ds
+aside_by node (Some used) ds = where_so (is_dirty_of node used.name) put_aside ds
+
+-- the bitmap that it copies by is put aside, and those of its target or base are wholly dirty
+abbrev pub dirty_at_start : State → JobRow → Option ℕ → List Dirty
+dirty_at_start s row None = aside_by row.source row.bitmap s.dirty
+dirty_at_start s row (Some node) = where_recording s.table node filled (aside_by row.source row.bitmap s.dirty)
+
+-- the target of a backup or mirror
+abbrev pub copied_to : JobRow → JobKind → Option ℕ
+copied_to row Backup = row.target
+copied_to row Mirror = row.target
+copied_to row kind = None
+
+-- the file of a target that is a `file` node
+abbrev pub target_file : Table → Option NodeRow → Option (List ℕ)
+target_file t None = None
+target_file t (Some row) = file_name row.kind
+  where
+    file_name : Kind → Option (List ℕ)
+    file_name Protocol = row.filename
+    file_name kind = None
+
+abbrev pub unleft : Option (List ℕ) → State → State
+unleft None s = s
+unleft (Some name) s = forget_left name s
+
+abbrev pub name_if : Option (List ℕ) → State → State
+name_if None s = s
+name_if (Some name) s = name_file name s
+
+-- the file of a base that becomes writable and is a `file` node itself
+abbrev pub base_made_writable : Table → JobRow → Option (List ℕ)
+base_made_writable t row = if row.made_writable.base then option_and_then (filename_of t) row.target else None
+
+-- the file of the `file` node that becomes writable under it
+abbrev pub file_made_writable : Table → JobRow → Option (List ℕ)
+file_made_writable t row =
+    if row.made_writable.file
+    then option_and_then (filename_of t) (option_and_then (λ base. child t base File) row.target)
+    else None
+
+-- the file of the overlay in whose header a commit to an inner base writes a name
+abbrev pub overlay_file : Table → JobRow → JobKind → List ℕ → Option (List ℕ)
+overlay_file t row Commit (overlay ∷ rest) = option_and_then (filename_of t) (child t overlay File)
+overlay_file t row kind nodes = None
+
+abbrev pub named_at_start : JobRow → State → State
+named_at_start row s =
+    name_if (overlay_file s.table row row.kind row.read)
+    (name_if (file_made_writable s.table row) (name_if (base_made_writable s.table row) s))
+
+abbrev pub noted_start : State → JobRow → State
+noted_start s row = record s {
+  begun = s.begun ++ begin s row ∷ [];
+  images = map (unsure (row.held ++ row.read)) s.images;
+  dirty = dirty_at_start s row (written_by row);
+  starts = s.starts + 1;
+}
+
+abbrev pub started : State → Option JobRow → State
+started s None = s
+started s (Some row) =
+    named_at_start row (unleft (target_file s.table (option_and_then (node_at s.table) (copied_to row row.kind))) (noted_start s row))
+
+-- ---- ends: the disks
+
+-- the bytes whose places pass a test from the one list, and the others from the other
+abbrev pub mixed : (ℕ → Bool) → ℕ → List ℕ → List ℕ → List ℕ
+mixed test at (a ∷ ones) (b ∷ others) = (if test at then a else b) ∷ mixed test (at + 1) ones others
+mixed test at ones others = []
+
+-- all of the source, or the granules that the bitmap held
+abbrev pub backed_up : Begun → Option Dirty → List ℕ
+backed_up b None = b.source
+backed_up b (Some d) = mixed (λ place. contains d.set (place / d.granularity)) 0 b.source b.target
+
+abbrev pub begun_of : List Begun → ℕ → Option Begun
+begun_of begun job = find (λ b. b.job == job) begun
+
+abbrev pub copy_bytes : Option Begun → List ℕ
+copy_bytes None = []
+copy_bytes (Some b) = backed_up b b.granules
+
+-- what the target or base reads as after an end without error
+abbrev pub result_bytes : State → JobRow → JobKind → List ℕ
+result_bytes s row Backup = copy_bytes (begun_of s.begun row.number)
+result_bytes s row kind = bytes_at_node s row.source
+
+abbrev pub put_target : Option ℕ → List ℕ → State → State
+put_target None bytes s = s
+put_target (Some node) bytes s = put node bytes s
+
+abbrev pub disks_at_end : State → JobRow → JobEnd → State
+disks_at_end s row outcome = if is_success outcome then put_target (written_by row) (result_bytes s row row.kind) s else s
+
+-- the bitmap is given back: what stands aside is dropped after a success where that is its mode
+abbrev pub drops : JobEnd → BitmapMode → Bool
+drops outcome OnSuccess = is_success outcome
+drops outcome mode = false
+
+abbrev pub dirty_at_end : List Dirty → JobRow → JobEnd → Option UsedBitmap → List Dirty
+dirty_at_end ds row outcome None = ds
+dirty_at_end ds row outcome (Some used) = where_so (is_dirty_of row.source used.name) (taken_back (drops outcome used.mode)) ds
+
+-- ---- ends: the table
+
+-- the parents of the source move to the target of a mirror, or to the base of a commit
+abbrev pub moved : Option ℕ → ℕ → List Edge → List Edge
+moved None source edges = edges
+moved (Some target) source edges = with_replaced source target None edges
+
+-- the top of a stream has this backing node, or none
+abbrev pub rebased : Option ℕ → ℕ → List Edge → List Edge
+rebased None top edges = filter (λ edge. not (is_edge (Node top) BackingRole edge)) edges
+rebased (Some base) top edges = map (λ edge. if is_edge (Node top) BackingRole edge then with_child base edge else edge) edges
+
+abbrev pub moved_by : JobRow → JobKind → List Edge → List Edge
+moved_by row Stream edges = rebased row.target row.source edges
+moved_by row Backup edges = edges
+moved_by row kind edges = moved row.target row.source edges
+
+-- the job's edges and its filter are gone
+abbrev pub unfiltered : Option ℕ → List Edge → List Edge
+unfiltered None edges = edges
+unfiltered (Some filter) edges = without_filter filter edges
+
+abbrev pub edges_at_end : JobRow → JobEnd → List Edge → List Edge
+edges_at_end row outcome edges =
+    let released = unfiltered row.filter (without_parent (Job row.number) edges) in
+    if is_move outcome then moved_by row row.kind released else released
+
+abbrev pub is_filter_of : Option ℕ → NodeRow → Bool
+is_filter_of None row = false
+is_filter_of (Some id) row = row.id == id
+
+abbrev pub settle_if : Bool → Bool → Option ℕ → NodeRow → NodeRow
+settle_if so settled None row = row
+settle_if so settled (Some id) row = if so && row.id == id then record row { is_settled = settled } else row
+
+-- a backup by bitmap onto a target that was unsettled leaves it so
+abbrev pub settles_target : Option UsedBitmap → Bool
+settles_target None = true
+settles_target (Some used) = used.onto_settled
+
+-- after a pivot of a commit its top has no flat disk
+abbrev pub loses_top : JobKind → JobEnd → Bool
+loses_top Commit Pivoted = true
+loses_top kind outcome = false
+
+abbrev pub settled_at_end : JobRow → JobEnd → NodeRow → NodeRow
+settled_at_end row outcome node =
+    settle_if (loses_top row.kind outcome) false (Some row.source)
+    (settle_if (is_success outcome && settles_target row.bitmap) true (written_by row) node)
+
+-- what a commit made writable stays so after a pivot alone
+abbrev pub is_pivot : JobEnd → Bool
+is_pivot Pivoted = true
+is_pivot outcome = false
+
+abbrev pub read_only_if : Bool → Option ℕ → NodeRow → NodeRow
+read_only_if so None row = row
+read_only_if so (Some id) row = if so && row.id == id then record row { read_only = true } else row
+
+abbrev pub writable_at_end : Table → JobRow → JobEnd → NodeRow → NodeRow
+writable_at_end t row outcome node =
+    let again = not (is_pivot outcome) in
+    read_only_if (again && row.made_writable.base) row.target
+    (read_only_if (again && row.made_writable.file) (option_and_then (λ base. child t base File) row.target) node)
+
+abbrev pub node_at_end : Table → JobRow → JobEnd → NodeRow → NodeRow
+node_at_end t row outcome node = writable_at_end t row outcome (settled_at_end row outcome node)
+
+abbrev pub nodes_at_end : Table → JobRow → JobEnd → List NodeRow
+nodes_at_end t row outcome = map (node_at_end t row outcome) (filter (λ node. not (is_filter_of row.filter node)) t.nodes)
+
+abbrev pub is_number : ℕ → Option ℕ → Bool
+is_number n None = false
+is_number n (Some m) = m == n
+
+-- no job uses the bitmap
+abbrev pub bitmap_at_end : ℕ → BitmapRow → BitmapRow
+bitmap_at_end job row = if is_number job row.busy then record row { busy = None } else row
+
+-- the table without the job: its row, its edges and its filter are gone, and its moves are made
+abbrev pub table_at_end : Table → JobRow → JobEnd → Table
+table_at_end t row outcome = record t {
+  nodes = nodes_at_end t row outcome;
+  edges = refreshed (kinds_of (nodes_at_end t row outcome)) (edges_at_end row outcome t.edges);
+  jobs = filter (λ job. not (job.number == row.number)) t.jobs;
+  bitmaps = map (bitmap_at_end row.number) t.bitmaps;
+}
+
+-- ---- groups
+
+abbrev pub in_group : ℕ → JobRow → Bool
+in_group group row = is_number group row.group
+
+-- other members are in the table
+abbrev pub has_others : Table → ℕ → ℕ → Bool
+has_others t group job = list_any (λ row. in_group group row && not (row.number == job)) t.jobs
+
+abbrev pub had_cause : Option Ending → Bool
+had_cause None = false
+had_cause (Some ending) = ending.has_cause
+
+-- the group whose other members end next
+abbrev pub ending_after : State → ℕ → JobEnd → Option ℕ → Option Ending
+ending_after s job outcome None = None
+ending_after s job outcome (Some group) =
+    if has_others s.table group job
+    then Some (record { group = group; is_completed = is_success outcome; has_cause = had_cause s.ending || is_cause outcome })
+    else None
+
+abbrev pub noted_end : State → JobRow → JobEnd → State
+noted_end s row outcome = record (disks_at_end s row outcome) {
+  table = table_at_end s.table row outcome;
+  dirty = dirty_at_end s.dirty row outcome row.bitmap;
+  begun = filter (λ b. not (b.job == row.number)) s.begun;
+  ending = ending_after s row.number outcome row.group;
+}
+
+abbrev pub ended : State → Option JobRow → JobEnd → State
+ended s None outcome = s
+ended s (Some row) outcome = noted_end s row outcome
+
+-- ---- ready
+
+abbrev pub ready_row : ℕ → JobRow → JobRow
+ready_row job row = if row.number == job then record row { is_ready = true } else row
+
+abbrev pub readied : ℕ → State → State
+readied job s = record s { table = record s.table { jobs = map (ready_row job) s.table.jobs } }

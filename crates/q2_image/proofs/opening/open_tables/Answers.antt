@@ -1,0 +1,72 @@
+use Rattle.std.proofs.Common.{◌≡◌, ℕ, List, Some, None, sym, subst, ◌∙◌}
+use Rattle.std.proofs.lemmas.Result.{err_from_is_err_and}
+use Rattle.q2_format.specs.References.{cluster_bound}
+use Rattle.q2_image.specs.Loading.{counts_loaded, HasCounts}
+use Rattle.q2_image.specs.Opening.{Names, ArePlaced, uses_in, overlap_stop}
+use Rattle.q2_image.specs.Seen.{IsSeen}
+use Rattle.q2_image.proofs.Opened.{are_placed}
+use Rattle.q2_image.proofs.Order.{no_fault_cause, none_named}
+use Rattle.q2_image.proofs.Whole.{overlap_named, loaded_from, last_judged, ok_image, ok_reach, ok_reach_at, err_cause}
+use Rattle.q2_image.proofs.opening.open_tables.Goals as goal
+
+pub name_once-requires-clause-placed : goal.name_once-requires-clause-placed
+name_once-requires-clause-placed g c =
+    let here = are_placed c.args.header (g.D.Device.size c.args.dev.now) c.args.table.items c.args.tables c.requires.places c.requires.table.accepted c.requires.loaded in
+    let P : ℕ → Type 0 = λ n. ArePlaced c.args.header n c.args.table.items c.args.tables.l1 c.args.tables.words in
+    let W : List ℕ → Type 0 = λ words. ArePlaced c.args.header c.length-len.result words c.args.tables.l1 c.args.tables.words in
+    subst W (sym c.as_slice.ensures.value) (subst P (sym c.length-len.ensures) here)
+
+pub finish-requires-clause-counts : goal.finish-requires-clause-counts
+finish-requires-clause-counts g c =
+    let P : ℕ → Type 0 = λ n. HasCounts c.args.header n (counts_loaded c.args.header n) c.in_ok-refs.refs in
+    subst P (sym c.length-len.ensures) c.in_ok-refs.ensures.loaded
+
+pub finish-requires-clause-seen : goal.finish-requires-clause-seen
+finish-requires-clause-seen g c =
+    let S : List ℕ → Type 0 = λ table. IsSeen (uses_in c.args.header table c.args.tables.l1 c.args.tables.words) c.in_ok-seen.seen in
+    subst S (c.as_slice.ensures.value ∙ sym c.in_ok-refs.ensures.table) c.in_ok-seen.ensures.seen
+
+pub finish-requires-clause-once : goal.finish-requires-clause-once
+finish-requires-clause-once g c =
+    let O : List ℕ → Type 0 = λ table. overlap_stop (uses_in c.args.header table c.args.tables.l1 c.args.tables.words) (cluster_bound c.args.header c.length-len.result) ≡ None in
+    subst O (c.as_slice.ensures.value ∙ sym c.in_ok-refs.ensures.table) c.in_ok-seen.ensures.judged
+
+pub returns-in_err-seen-clause-judged : goal.returns-in_err-seen-clause-judged
+returns-in_err-seen-clause-judged g c =
+    let p = err_from_is_err_and c.from_residual.result c.from_residual.ensures.1 in
+    rw (p.1, p.2) (λ file told. overlap_named file c.args.header c.length-len.result (g.D.Device.size c.args.dev.now) c.args.table.items c.args.tables c.in_err-seen.field-0.0
+    c.length-len.ensures (g.met.D.Device.told_size c.args.dev.now file told) c.requires.places (c.requires.read file told)
+    (let O : List ℕ → Type 0 = λ table. Names (overlap_stop (uses_in c.args.header table c.args.tables.l1 c.args.tables.words) (cluster_bound c.args.header c.length-len.result)) c.in_err-seen.field-0.0 in
+    subst O c.as_slice.ensures.value c.in_err-seen.ensures.judged))
+
+pub returns-in_err-seen-clause-cause : goal.returns-in_err-seen-clause-cause
+returns-in_err-seen-clause-cause g c =
+    let p = err_from_is_err_and c.from_residual.result c.from_residual.ensures.1 in
+    rw (p.1, p.2) (no_fault_cause _ _ c.in_err-seen.field-0.0 c.in_err-seen.ensures.no_fault)
+
+pub returns-in_err-refs-clause-judged : goal.returns-in_err-refs-clause-judged
+returns-in_err-refs-clause-judged g c =
+    let p = err_from_is_err_and c.from_residual-in_err-refs.result c.from_residual-in_err-refs.ensures.1 in
+    rw (p.1, p.2) (λ file told. none_named _ c.in_err-refs.field-0.0 c.in_err-refs.ensures.stop)
+
+pub returns-clause-judged : goal.returns-clause-judged
+returns-clause-judged g c = λ file told. last_judged file c.args.header c.length-len.result c.in_ok-refs.refs c.args.tables c.finish.result
+    (loaded_from file c.args.header c.length-len.result (g.D.Device.size c.args.dev.now) c.args.table.items c.in_ok-refs.refs c.args.tables
+    c.length-len.ensures (g.met.D.Device.told_size c.args.dev.now file told) c.requires.places (c.requires.read file told)
+    (c.in_ok-refs.ensures.kept file told (c.requires.read file told).same) c.in_ok-refs.ensures.loaded) c.finish.ensures.judged
+
+pub returns-clause-image : goal.returns-clause-image
+returns-clause-image g c = ok_image c.args.header c.length-len.result c.in_ok-refs.refs c.args.tables c.finish.result
+    (λ file told. loaded_from file c.args.header c.length-len.result (g.D.Device.size c.args.dev.now) c.args.table.items c.in_ok-refs.refs c.args.tables
+    c.length-len.ensures (g.met.D.Device.told_size c.args.dev.now file told) c.requires.places (c.requires.read file told)
+    (c.in_ok-refs.ensures.kept file told (c.requires.read file told).same) c.in_ok-refs.ensures.loaded) c.finish.ensures.judged c.finish.ensures.known
+
+pub returns-clause-reach : goal.returns-clause-reach
+returns-clause-reach g c =
+    let P : ℕ → Type 0 = λ n. HasCounts c.args.header n (counts_loaded c.args.header n) c.in_ok-refs.refs in
+    let has = subst P (sym c.length-len.ensures) c.in_ok-refs.ensures.loaded in
+    ok_reach_at c.finish.result c.length-len.result (g.D.Device.size c.args.dev.now) c.length-len.ensures
+    (ok_reach c.args.header c.length-len.result c.in_ok-refs.refs c.args.tables c.finish.result has.reach c.finish.ensures.known)
+
+pub returns-clause-cause : goal.returns-clause-cause
+returns-clause-cause g c = err_cause _ _ c.finish.result c.finish.ensures.no_fault

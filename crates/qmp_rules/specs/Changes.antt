@@ -1,0 +1,105 @@
+-- What each kind of change makes of the table: a line each.
+use Rattle.std.specs.Prelude.{ℕ, ◌==◌, Bool, true, false, not, ◌&&◌, if◌then◌else◌, List, [], ◌∷◌, ◌++◌, map, filter, bytes_eq, Option, Some, None}
+use Rattle.blk_graph.specs.declared.edge.Edge.{Edge}
+use Rattle.blk_graph.specs.declared.edge.Parent.TheVariants.{Node, Guest}
+use Rattle.blk_graph.specs.declared.edge.Role.TheVariants.{File, Backing}
+use Rattle.blk_graph.specs.Edits.{with_edge, with_replaced, without_parent}
+use Rattle.blk_graph.specs.Permissions.{node_edge, drive_edge}
+use Rattle.blk_graph.specs.Refreshed.{refreshed}
+use Rattle.qmp_rules.specs.declared.change.Change.{Change}
+use Rattle.qmp_rules.specs.declared.change.Change.TheVariants as change
+use Rattle.qmp_rules.specs.declared.rows.NodeRow.{NodeRow}
+use Rattle.qmp_rules.specs.declared.rows.Device.{Device}
+use Rattle.qmp_rules.specs.declared.rows.BitmapRow.{BitmapRow}
+use Rattle.qmp_rules.specs.declared.rows.FileState.TheVariants.{Made, Formatted, Used}
+use Rattle.qmp_rules.specs.Table.{Table, with_file, kinds_of, is_bitmap}
+
+-- the table with these nodes and edges, of which each asks and shares what the edges into its parent say
+abbrev pub rewired : List NodeRow → List Edge → Table → Table
+rewired nodes edges t = record t { nodes = nodes; edges = refreshed (kinds_of nodes) edges }
+
+-- ---- nodes
+
+abbrev pub node_changed : ℕ → (NodeRow → NodeRow) → NodeRow → NodeRow
+node_changed id change row = if row.id == id then change row else row
+
+abbrev pub unsettled : NodeRow → NodeRow
+unsettled row = record row { is_settled = false }
+
+abbrev pub with_unsettled : ℕ → List NodeRow → List NodeRow
+with_unsettled id nodes = map (node_changed id unsettled) nodes
+
+abbrev pub without_row : ℕ → List NodeRow → List NodeRow
+without_row id nodes = filter (λ row. not (row.id == id)) nodes
+
+-- a format node's edges, the one to its file first
+abbrev pub backed : ℕ → Option ℕ → List Edge → List Edge
+backed id None edges = edges
+backed id (Some backing) edges = with_edge (node_edge id Backing backing) edges
+
+abbrev pub format_edges : ℕ → ℕ → Option ℕ → List Edge → List Edge
+format_edges id file backing edges = backed id backing (with_edge (node_edge id File file) edges)
+
+-- ---- bitmaps
+
+abbrev pub bitmap_changed : ℕ → List ℕ → (BitmapRow → BitmapRow) → BitmapRow → BitmapRow
+bitmap_changed node name change row = if is_bitmap node name row then change row else row
+
+abbrev pub turned : Bool → BitmapRow → BitmapRow
+turned on row = record row { enabled = on }
+
+abbrev pub with_turned : ℕ → List ℕ → Bool → List BitmapRow → List BitmapRow
+with_turned node name on rows = map (bitmap_changed node name (turned on)) rows
+
+abbrev pub without_bitmap : ℕ → List ℕ → List BitmapRow → List BitmapRow
+without_bitmap node name rows = filter (λ row. not (is_bitmap node name row)) rows
+
+abbrev pub bitmaps_but_of : ℕ → List BitmapRow → List BitmapRow
+bitmaps_but_of node rows = filter (λ row. not (row.node == node)) rows
+
+-- ---- devices and ids
+
+abbrev pub without_device : ℕ → List Device → List Device
+without_device number devices = filter (λ device. not (device.number == number)) devices
+
+abbrev pub device_edge : Device → ℕ → Edge
+device_edge device node = drive_edge device.number node (not device.read_only) device.share_rw
+
+abbrev pub without_name : List ℕ → List (List ℕ) → List (List ℕ)
+without_name name names = filter (λ other. not (bytes_eq other name)) names
+
+-- ---- changes
+
+unfoldable pub changed : Table → Change → Table
+changed t change.Negotiate = record t { negotiated = true }
+changed t (change.KeepId id) = record t { kept = t.kept ++ id ∷ [] }
+changed t (change.DropId id) = record t { kept = without_name id t.kept }
+changed t (change.MakeFile name size) = record t { files = with_file name Made t.files }
+changed t (change.FormatFile node name size backing_file backing_fmt) =
+    record t { nodes = with_unsettled node t.nodes; files = with_file name Formatted t.files }
+changed t (change.SpoilFile name) = record t { files = with_file name Used t.files }
+changed t (change.UseFile name) = record t { files = with_file name Used t.files }
+changed t (change.AddFile row) = rewired (t.nodes ++ row ∷ []) t.edges t
+changed t (change.AddFormat row file backing) =
+    rewired (with_unsettled file t.nodes ++ row ∷ []) (format_edges row.id file backing t.edges) t
+changed t (change.AddFilter row child) =
+    rewired (t.nodes ++ row ∷ []) (with_edge (node_edge row.id File child) t.edges) t
+changed t (change.RemoveNode id) =
+    record (rewired (without_row id t.nodes) (without_parent (Node id) t.edges) t) { bitmaps = bitmaps_but_of id t.bitmaps }
+changed t (change.Unsettle id) = record t { nodes = with_unsettled id t.nodes }
+changed t (change.AddDevice device node) =
+    record (rewired t.nodes (with_edge (device_edge device node) t.edges) t) { devices = t.devices ++ device ∷ [] }
+changed t (change.RemoveDevice number) =
+    record (rewired t.nodes (without_parent (Guest number) t.edges) t) { devices = without_device number t.devices }
+changed t (change.Attach overlay node) = rewired t.nodes (with_edge (node_edge overlay Backing node) t.edges) t
+changed t (change.Move from to but) = rewired t.nodes (with_replaced from to (Some (Node but)) t.edges) t
+changed t (change.AddBitmap row) = record t { bitmaps = t.bitmaps ++ row ∷ [] }
+changed t (change.RemoveBitmap node name) = record t { bitmaps = without_bitmap node name t.bitmaps }
+changed t (change.TurnBitmap node name on) = record t { bitmaps = with_turned node name on t.bitmaps }
+changed t (change.ClearBitmap node name) = t
+changed t (change.MergeBitmap node name source_node source) = t
+
+-- the table after changes, one after another
+abbrev pub all_changed : Table → List Change → Table
+all_changed t [] = t
+all_changed t (c ∷ changes) = all_changed (changed t c) changes

@@ -1,0 +1,302 @@
+-- The changes that an accepted command makes.
+use Rattle.std.specs.Prelude.{ℕ, zero, suc, ◌+◌, ◌==◌, Bool, true, false, not, ◌&&◌, if◌then◌else◌, List, [], ◌∷◌, ◌++◌, map, length, find, bytes_eq, Option, Some, None, option_map, option_and_then, unwrap_or}
+use Rattle.std.specs.List.{list_any}
+use Rattle.blk_graph.specs.declared.edge.Role.TheVariants.{File}
+use Rattle.blk_graph.specs.declared.kind.Kind.{Kind}
+use Rattle.blk_graph.specs.declared.kind.Kind.TheVariants as kind
+use Rattle.blk_graph.specs.Ids.{lowest_free}
+use Rattle.qmp_codec.specs.declared.command.Action.{Action}
+use Rattle.qmp_codec.specs.declared.command.Action.TheVariants as action
+use Rattle.qmp_codec.specs.declared.command.Command.{Command}
+use Rattle.qmp_codec.specs.declared.command.Command.TheVariants as command
+use Rattle.qmp_codec.specs.declared.bitmaps.BitmapAdd.{BitmapAdd}
+use Rattle.qmp_codec.specs.declared.bitmaps.BitmapName.{BitmapName}
+use Rattle.qmp_codec.specs.declared.bitmaps.BitmapMerge.{BitmapMerge}
+use Rattle.qmp_codec.specs.declared.nodes.InlineFile.{InlineFile}
+use Rattle.qmp_codec.specs.declared.nodes.FileRef.{FileRef}
+use Rattle.qmp_codec.specs.declared.nodes.FileRef.TheVariants as file_ref
+use Rattle.qmp_codec.specs.declared.nodes.AddRaw.{AddRaw}
+use Rattle.qmp_codec.specs.declared.nodes.AddQcow2.{AddQcow2}
+use Rattle.qmp_codec.specs.declared.nodes.Added.{Added}
+use Rattle.qmp_codec.specs.declared.nodes.Added.TheVariants as added
+use Rattle.qmp_codec.specs.declared.nodes.BlockdevAdd.{BlockdevAdd}
+use Rattle.qmp_codec.specs.declared.nodes.CreateFile.{CreateFile}
+use Rattle.qmp_codec.specs.declared.nodes.CreateQcow2.{CreateQcow2}
+use Rattle.qmp_codec.specs.declared.nodes.Created.{Created}
+use Rattle.qmp_codec.specs.declared.nodes.Created.TheVariants as created
+use Rattle.qmp_codec.specs.declared.nodes.BlockdevCreate.{BlockdevCreate}
+use Rattle.qmp_codec.specs.declared.nodes.Snapshot.{Snapshot}
+use Rattle.qmp_codec.specs.declared.nodes.DeviceAdd.{DeviceAdd}
+use Rattle.qmp_codec.specs.Commands.{Act, Cmd, SeenSources}
+use Rattle.qmp_rules.specs.declared.change.Change.{Change}
+use Rattle.qmp_rules.specs.declared.change.Change.TheVariants.{Negotiate, KeepId, DropId, MakeFile, FormatFile, SpoilFile, UseFile, AddFile, AddFormat, AddFilter, RemoveNode, Unsettle, AddDevice, RemoveDevice, Attach, Move, AddBitmap, RemoveBitmap, TurnBitmap, ClearBitmap, MergeBitmap}
+use Rattle.qmp_rules.specs.declared.rows.NodeRow.{NodeRow}
+use Rattle.qmp_rules.specs.declared.rows.Device.{Device}
+use Rattle.qmp_rules.specs.declared.rows.BitmapRow.{BitmapRow}
+use Rattle.qmp_rules.specs.declared.told.Told.{Told}
+use Rattle.qmp_rules.specs.Naming.{inline_name}
+use Rattle.qmp_rules.specs.Table.{Table, node_named, node_at, id_named, device_named, child}
+use Rattle.qmp_rules.specs.Chains.{disk_node}
+use Rattle.qmp_rules.specs.Asks.{id_or, name_of_file, is_file}
+use Rattle.qmp_rules.specs.NodeAsks.{is_read_only, backing_name}
+use Rattle.qmp_rules.specs.BitmapAsks.{source_node, source_name}
+use Rattle.qmp_rules.specs.Values.{amount_or, part_offset, part_size, flag_or_false, shares}
+
+-- ---- numbers
+
+abbrev pub ids : Table → List ℕ
+ids t = map (λ row. row.id) t.nodes
+
+abbrev pub free_id : Table → ℕ
+free_id t = lowest_free (ids t)
+
+-- the one of the node that is added after that
+abbrev pub next_free_id : Table → ℕ
+next_free_id t = lowest_free (ids t ++ free_id t ∷ [])
+
+-- the first place of a name
+abbrev pub place_from : ℕ → List ℕ → List (List ℕ) → Option ℕ
+place_from k name [] = None
+place_from k name (other ∷ names) = if bytes_eq other name then Some k else place_from (k + 1) name names
+
+-- the lowest of so many numbers from one on that no device has
+abbrev pub unused_from : ℕ → ℕ → List Device → ℕ
+unused_from zero k devices = k
+unused_from (suc more) k devices =
+    if list_any (λ device. device.number == k) devices then unused_from more (k + 1) devices else k
+
+-- a device's number: the guest's of its name, or else the lowest above those of guests that no device has
+abbrev pub device_number : Table → List ℕ → ℕ
+device_number t id = unwrap_or (place_from 0 id t.guests) (unused_from 64 (length t.guests) t.devices)
+
+-- ---- blockdev-create
+
+abbrev pub file_of_node : Table → List ℕ → List ℕ
+file_of_node t name = unwrap_or (option_map name_of_file (node_named t name)) []
+
+abbrev pub created_change : Table → Created (List ℕ) → List Change
+created_change t (created.File c) = MakeFile c.filename (amount_or 0 (Some c.size)) ∷ []
+created_change t (created.Qcow2 c) =
+    FormatFile (id_or 0 t (Some c.file)) (file_of_node t c.file) (amount_or 0 (Some c.size)) c.backing_file c.backing_fmt
+    ∷ []
+created_change t created.Unknown = []
+
+abbrev pub create_edits : Table → BlockdevCreate (List ℕ) → List Change
+create_edits t c = KeepId c.job_id ∷ created_change t c.options
+
+-- what one leaves of which a call failed: its file used, and the file node unsettled
+abbrev pub spoiled : Table → Created (List ℕ) → List Change
+spoiled t (created.File c) = SpoilFile c.filename ∷ []
+spoiled t (created.Qcow2 c) = SpoilFile (file_of_node t c.file) ∷ Unsettle (id_or 0 t (Some c.file)) ∷ []
+spoiled t created.Unknown = []
+
+-- ---- blockdev-add
+
+abbrev pub length_told : Told → ℕ
+length_told told = unwrap_or told.length 0
+
+abbrev pub file_row : ℕ → List ℕ → ℕ → Bool → List ℕ → Option ℕ → NodeRow
+file_row id name size read_only filename made_with = record {
+  id = id;
+  name = name;
+  kind = kind.Protocol;
+  size = size;
+  read_only = read_only;
+  is_settled = true;
+  filename = Some filename;
+  offset = 0;
+  made_with = made_with;
+}
+
+abbrev pub format_row : Kind → ℕ → List ℕ → ℕ → ℕ → Bool → NodeRow
+format_row driver id name size offset read_only = record {
+  id = id;
+  name = name;
+  kind = driver;
+  size = size;
+  read_only = read_only;
+  is_settled = true;
+  filename = None;
+  offset = offset;
+  made_with = None;
+}
+
+-- where a file node goes with the node over it, that node's id
+abbrev pub goes_with : ℕ → Option (List ℕ) → Option ℕ
+goes_with id None = Some id
+goes_with id (Some own) = None
+
+-- the file node that is made with the node over it, which comes next
+abbrev pub inline_row : Table → Told → List ℕ → InlineFile (List ℕ) → NodeRow
+inline_row t told name file = file_row (free_id t) (inline_name name file.node_name) (length_told told)
+    (is_read_only file.options) file.filename (goes_with (next_free_id t) file.node_name)
+
+abbrev pub size_of : Table → List ℕ → ℕ
+size_of t name = unwrap_or (option_map (λ row. row.size) (node_named t name)) 0
+
+abbrev pub raw_row : ℕ → List ℕ → ℕ → Bool → AddRaw (List ℕ) → NodeRow
+raw_row id name length read_only raw =
+    format_row kind.Raw id name (part_size raw.offset raw.size length) (part_offset raw.offset) read_only
+
+abbrev pub raw_edits : Table → Told → List ℕ → Bool → AddRaw (List ℕ) → FileRef (List ℕ) → List Change
+raw_edits t told name read_only raw (file_ref.Name file) =
+    AddFormat (raw_row (free_id t) name (size_of t file) read_only raw) (id_or 0 t (Some file)) None ∷ []
+raw_edits t told name read_only raw (file_ref.Inline file) =
+    AddFile (inline_row t told name file)
+    ∷ AddFormat (raw_row (next_free_id t) name (length_told told) read_only raw) (free_id t) None
+    ∷ []
+
+abbrev pub image_row : ℕ → Told → List ℕ → Bool → NodeRow
+image_row id told name read_only = format_row kind.Qcow2 id name (unwrap_or told.size 0) 0 read_only
+
+abbrev pub qcow2_edits : Table → Told → List ℕ → Bool → Option (List ℕ) → FileRef (List ℕ) → List Change
+qcow2_edits t told name read_only back (file_ref.Name file) =
+    AddFormat (image_row (free_id t) told name read_only) (id_or 0 t (Some file)) (option_and_then (id_named t) back) ∷ []
+qcow2_edits t told name read_only back (file_ref.Inline file) =
+    AddFile (inline_row t told name file)
+    ∷ AddFormat (image_row (next_free_id t) told name read_only) (free_id t) (option_and_then (id_named t) back)
+    ∷ []
+
+abbrev pub added_edits : Table → Told → List ℕ → Bool → Added (List ℕ) → List Change
+added_edits t told name read_only (added.File filename) =
+    AddFile (file_row (free_id t) name (length_told told) read_only filename None) ∷ []
+added_edits t told name read_only (added.Raw raw) = raw_edits t told name read_only raw raw.file
+added_edits t told name read_only (added.Qcow2 image) =
+    qcow2_edits t told name read_only (backing_name image.backing) image.file
+added_edits t told name read_only (added.CopyOnRead file) =
+    AddFilter (format_row kind.CopyOnRead (free_id t) name (size_of t file) 0 read_only) (id_or 0 t (Some file)) ∷ []
+added_edits t told name read_only added.Unknown = []
+
+abbrev pub add_edits : Table → Told → BlockdevAdd (List ℕ) → List Change
+add_edits t told c = added_edits t told c.node_name (is_read_only c.options) c.driver
+
+-- ---- blockdev-del
+
+-- the file over which a node stands: its own, or that of the file node under it
+abbrev pub name_of_file_at : Table → Option ℕ → Option (List ℕ)
+name_of_file_at t id = option_and_then (λ row. row.filename) (option_and_then (node_at t) id)
+
+abbrev pub file_under : Table → NodeRow → Option (List ℕ)
+file_under t row = elim row.kind as (λ _. Option (List ℕ)) [
+  | kind.Protocol ↦ row.filename
+  | kind.Raw ↦ name_of_file_at t (child t row.id File)
+  | kind.Qcow2 ↦ name_of_file_at t (child t row.id File)
+  | _ ↦ None
+]
+
+abbrev pub uses : Option (List ℕ) → List Change
+uses None = []
+uses (Some name) = UseFile name ∷ []
+
+abbrev pub goes_with_node : ℕ → NodeRow → Bool
+goes_with_node id row = unwrap_or (option_map (λ other. other == id) row.made_with) false
+
+abbrev pub with_inline : Table → ℕ → List Change
+with_inline t id = elim (find (goes_with_node id) t.nodes) as (λ _. List Change) [ None ↦ [] | Some row ↦ RemoveNode row.id ∷ [] ]
+
+-- the file is used before its node goes
+abbrev pub row_gone : Table → NodeRow → List Change
+row_gone t row = uses (file_under t row) ++ RemoveNode row.id ∷ with_inline t row.id
+
+abbrev pub of_row : (NodeRow → List Change) → Option NodeRow → List Change
+of_row edits None = []
+of_row edits (Some row) = edits row
+
+abbrev pub del_edits : Table → List ℕ → List Change
+del_edits t name = of_row (row_gone t) (node_named t name)
+
+-- ---- devices
+
+abbrev pub new_device : Table → DeviceAdd (List ℕ) → NodeRow → Device
+new_device t c row = record {
+  id = c.id;
+  number = device_number t c.id;
+  share_rw = shares c.share_rw;
+  read_only = row.read_only;
+}
+
+-- a guest on a file node uses its file
+abbrev pub device_uses : NodeRow → List Change
+device_uses row = if is_file row then uses row.filename else []
+
+abbrev pub device_add_edits : Table → DeviceAdd (List ℕ) → List Change
+device_add_edits t c =
+    of_row (λ row. device_uses row ++ AddDevice (new_device t c row) row.id ∷ []) (node_named t c.drive)
+
+abbrev pub device_del_edits : Table → List ℕ → List Change
+device_del_edits t id = elim (device_named t id) as (λ _. List Change) [
+  | None ↦ []
+  | Some device ↦ RemoveDevice device.number ∷ []
+]
+
+-- ---- blockdev-snapshot
+
+abbrev pub snapshot_edits : Table → Snapshot (List ℕ) → List Change
+snapshot_edits t c =
+    let node : ℕ = id_or 0 t (Some c.node) in
+    let overlay : ℕ = id_or 0 t (Some c.overlay) in
+    Attach overlay node ∷ Move node overlay overlay ∷ []
+
+-- ---- bitmaps
+
+abbrev pub bitmap_row : ℕ → BitmapAdd (List ℕ) → BitmapRow
+bitmap_row node c = record {
+  node = node;
+  name = c.name;
+  granularity = amount_or 65536 c.granularity;
+  enabled = not (flag_or_false c.disabled);
+  busy = None;
+}
+
+abbrev pub bitmap_add_edits : Table → BitmapAdd (List ℕ) → List Change
+bitmap_add_edits t c = AddBitmap (bitmap_row (id_or 0 t (Some c.node)) c) ∷ []
+
+abbrev pub bitmap_remove_edits : Table → BitmapName (List ℕ) → List Change
+bitmap_remove_edits t c = RemoveBitmap (id_or 0 t (Some c.node)) c.name ∷ []
+
+abbrev pub bitmap_turn_edits : Table → Bool → BitmapName (List ℕ) → List Change
+bitmap_turn_edits t on c = TurnBitmap (id_or 0 t (Some c.node)) c.name on ∷ []
+
+abbrev pub bitmap_clear_edits : Table → BitmapName (List ℕ) → List Change
+bitmap_clear_edits t c = ClearBitmap (id_or 0 t (Some c.node)) c.name ∷ []
+
+-- one source after another
+abbrev pub merges : Table → List ℕ → List ℕ → SeenSources → List Change
+merges t node target [] = []
+merges t node target (s ∷ sources) =
+    MergeBitmap (id_or 0 t (Some node)) target (id_or 0 t (Some (source_node node s))) (source_name s)
+    ∷ merges t node target sources
+
+abbrev pub merge_edits : Table → BitmapMerge (List ℕ) SeenSources → List Change
+merge_edits t c = merges t c.node c.target c.bitmaps
+
+-- ---- commands and actions
+
+-- What a command makes of the table once it is accepted. A transaction's actions are judged one by one and have their
+-- changes there; those of jobs come with their starts.
+unfoldable pub edits_of : Table → Told → Cmd → List Change
+edits_of t told (command.Capabilities enable) = Negotiate ∷ []
+edits_of t told (command.BlockdevCreate c) = create_edits t c
+edits_of t told (command.JobDismiss id) = DropId id ∷ []
+edits_of t told (command.BlockdevAdd c) = add_edits t told c
+edits_of t told (command.BlockdevDel name) = del_edits t name
+edits_of t told (command.DeviceAdd c) = device_add_edits t c
+edits_of t told (command.DeviceDel id) = device_del_edits t id
+edits_of t told (command.BlockdevSnapshot c) = snapshot_edits t c
+edits_of t told (command.BitmapAdd c) = bitmap_add_edits t c
+edits_of t told (command.BitmapRemove c) = bitmap_remove_edits t c
+edits_of t told (command.BitmapClear c) = bitmap_clear_edits t c
+edits_of t told (command.BitmapEnable c) = bitmap_turn_edits t true c
+edits_of t told (command.BitmapDisable c) = bitmap_turn_edits t false c
+edits_of t told (command.BitmapMerge c) = merge_edits t c
+edits_of t told _ = []
+
+unfoldable pub action_edits : Table → Act → List Change
+action_edits t (action.Snapshot c) = snapshot_edits t c
+action_edits t (action.BitmapAdd c) = bitmap_add_edits t c
+action_edits t (action.BitmapRemove c) = bitmap_remove_edits t c
+action_edits t (action.BitmapClear c) = bitmap_clear_edits t c
+action_edits t (action.BitmapEnable c) = bitmap_turn_edits t true c
+action_edits t (action.BitmapDisable c) = bitmap_turn_edits t false c
+action_edits t (action.BitmapMerge c) = merge_edits t c
+action_edits t _ = []

@@ -1,0 +1,21 @@
+//! What follows from the definitions, each law the contract of a function that does nothing.
+
+ghost use Rattle.qmp_codec.specs.Commands.{Act, Cmd};
+ghost use Rattle.qmp_rules.specs.declared.told.Told.{Told};
+ghost use Rattle.qmp_rules.specs.Asks.{Asking};
+ghost use Rattle.qmp_rules.specs.CommandAsks.{asks_of};
+ghost use Rattle.qmp_rules.specs.Order.{Ascends, action_asks, HasPlace};
+ghost use Rattle.qmp_rules.specs.Table.{Table};
+
+/// The asks of each command stand in the order of their refusals, and so do those of each action.
+#[tactic(auto, using(crate::proofs::OrderLemmas::command_asks_ascend, crate::proofs::OrderLemmas::action_asks_ascend))]
+pub fn asks_ascend()
+    ensures commands { (c : Cmd) → Ascends (asks_of c) }
+    ensures actions { (a : Act) → Ascends (action_asks a) }
+{}
+
+/// Where an ask of the line or the table is not met, the refusal has the ask's place.
+#[tactic(auto, using(crate::proofs::PlaceLemmas::has_place))]
+pub fn refusals_have_the_place_of_their_ask()
+    ensures { (t : Table) (told : Told) (asking : Asking) → HasPlace t told asking }
+{}

@@ -1,0 +1,111 @@
+//! Why a command is refused.
+
+use crate::name::Name;
+use blk_base::{DevNo, FaultFrom};
+use blk_graph::Perm;
+use q2_image::ImageStop;
+
+/// What there can be too many of.
+#[derive(Clone, Copy, Debug, PartialEq, Eq)]
+pub enum Crowd {
+    Nodes,
+    Devices,
+    Jobs,
+    Bitmaps,
+}
+
+/// What is wrong with a file of the store.
+#[derive(Clone, Copy, Debug, PartialEq, Eq)]
+pub enum FileFault {
+    Absent,
+    InUse,
+    TooLong,
+}
+
+/// Why a command is refused, with what its answer tells. They stand in the order in which they are looked for.
+#[derive(Drop)]
+pub enum Refusal {
+    /// The line is no JSON object with a text `execute`.
+    BadJson,
+    /// No command has this name.
+    UnknownCommand(Name),
+    /// Capabilities are not negotiated, or are so already.
+    Negotiation {
+        again: bool,
+    },
+    /// This member is needed and absent.
+    Missing(Name),
+    /// This member is not accepted.
+    Unexpected(Name),
+    /// The value of this member is of another kind.
+    BadType(Name),
+    /// The value of this member is none that is accepted.
+    BadValue(Name),
+    /// The value of this member is no name.
+    BadName(Name),
+    /// Nothing of that name is there.
+    NotFound {
+        name: Name,
+        is_device: bool,
+    },
+    /// There is no job of this id.
+    NotActive(Name),
+    /// Something has this name already.
+    NameTaken(Name),
+    TooMany(Crowd),
+    /// The node's driver is none that the command takes.
+    Driver(Name),
+    /// A file of the store.
+    File {
+        name: Name,
+        fault: FileFault,
+    },
+    /// The bytes of this file are not known any more.
+    FileUsed(Name),
+    /// The image in the file is refused.
+    Image(ImageStop),
+    /// The image of this node names a backing file.
+    BackingNeeded(Name),
+    /// The node has no flat disk.
+    Unsettled(Name),
+    JobHolds {
+        node: Name,
+        job: Name,
+    },
+    BitmapBusy {
+        bitmap: Name,
+        job: Name,
+    },
+    ReadOnly(Name),
+    /// The node is not below the other.
+    NotInChain(Name),
+    SizeDiffers {
+        first: Name,
+        second: Name,
+    },
+    HasBacking(Name),
+    /// The node's image maps a cluster.
+    NotEmpty(Name),
+    InUse {
+        node: Name,
+        parent: Name,
+    },
+    /// The job has still something to copy.
+    NotReady(Name),
+    /// One parent of the node asks what another doesn't share.
+    Conflict {
+        node: Name,
+        asks: Name,
+        denies: Name,
+        perm: Perm,
+    },
+    /// An action says so.
+    Aborted,
+    /// A call of a device or the store failed; its count of faults afterwards.
+    Io {
+        from: FaultFrom,
+        count: u64,
+    },
+    /// A write would end above the device's capacity.
+    NoSpace(DevNo),
+}
