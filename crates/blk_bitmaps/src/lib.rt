@@ -9,8 +9,6 @@ mod merge;
 mod row;
 mod sources;
 mod stop;
-#[cfg(test)]
-mod tests;
 
 pub use bitmaps::{Bitmaps, MOST_BITMAPS};
 pub use granularity::Granularity;

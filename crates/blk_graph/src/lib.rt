@@ -13,8 +13,6 @@ mod names;
 mod refresh;
 mod rule;
 mod stop;
-#[cfg(test)]
-mod tests;
 mod uses;
 mod walk;
 

@@ -8,8 +8,6 @@ mod history;
 mod line;
 mod rows;
 mod telling;
-#[cfg(test)]
-mod tests;
 
 pub use asked::{Asked, Awaited, Understood};
 pub use entry::{Cause, Entry, JobEnd, Refused};

@@ -5,8 +5,14 @@
 #[cfg(test)]
 mod bytes;
 #[cfg(test)]
+mod creating;
+#[cfg(test)]
 mod fakes;
 #[cfg(test)]
 mod formats;
+#[cfg(test)]
+mod opening;
+#[cfg(test)]
+mod tables;
 #[cfg(test)]
 mod writing;

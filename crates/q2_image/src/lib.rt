@@ -5,8 +5,6 @@ mod autoclear;
 mod changing;
 mod counting;
 mod create;
-#[cfg(test)]
-mod create_tests;
 mod fitting;
 mod header;
 mod image;
@@ -15,8 +13,6 @@ mod naming;
 mod opening;
 mod seen;
 mod stop;
-#[cfg(test)]
-mod tests;
 mod writing;
 
 pub use create::{CreateStop, create_image};

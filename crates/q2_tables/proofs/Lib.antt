@@ -5,6 +5,5 @@ pub mod Linked
 pub mod Written
 pub mod Links
 pub mod Apart
-pub mod SmallTables
 pub mod LinkWrites
 pub mod Loads

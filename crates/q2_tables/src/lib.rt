@@ -7,8 +7,6 @@ mod load;
 mod mapping;
 mod stop;
 mod tables;
-#[cfg(test)]
-mod tests;
 mod words;
 
 pub use load::load_tables;

@@ -13,8 +13,6 @@ mod reply;
 mod row;
 mod stop;
 mod tables;
-#[cfg(test)]
-mod tests;
 mod unknown;
 mod verb;
 mod walk;

@@ -10,8 +10,6 @@ mod ops;
 mod payload;
 mod reading;
 mod stop;
-#[cfg(test)]
-mod tests;
 mod totals;
 mod trace;
 mod writing;

@@ -1,10 +1,10 @@
 //! Tables that are loaded from a small image, those that are refused, and links.
 ghost use Rattle.std.specs.Prelude.{◌≡◌, IfOk, replicate};
 
-use crate::{Mapping, Tables, TablesStop, load_tables};
 use blk_base::{DevStop, Device};
 use blk_fakes::{FailAt, MemDevice};
 use q2_format::read_header;
+use q2_tables::{Mapping, Tables, TablesStop, load_tables};
 use std::alloc::{AllocError, Global};
 use std::test::Fail;
 

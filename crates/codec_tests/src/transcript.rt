@@ -1,11 +1,12 @@
+//! Lines of the transcript, and what a history keeps.
 ghost use Rattle.std.specs.Prelude.{◌≡◌, ◌<◌, [], ◌∷◌, length, codes, IfOk};
 ghost use Rattle.qmp_codec.specs.declared.event.JobKind.{JobKind};
 ghost use Rattle.blk_history.specs.Names.{RowNames};
 ghost use Rattle.blk_history.specs.Recorded.{event_of, PointsWithin};
 ghost use Rattle.blk_history.specs.Line.{HasName};
 
-use super::*;
 use blk_base::{Bytes, DevNo, Names1, Outcome, Room, Span, Text};
+use blk_history::{Asked, Awaited, Entry, History, JobName, Refused, Rows, Understood};
 use qmp_codec::JobKind;
 use std::test::Fail;
 use trace_codec::{Await, Op, Payload};

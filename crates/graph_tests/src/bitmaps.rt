@@ -1,5 +1,7 @@
-use crate::{BitmapStop, Bitmaps, MOST_BITMAPS, Source, Sources};
+//! Bitmaps of nodes: what writes mark, merges, and what is refused.
+
 use blk_base::{Span, Text};
+use blk_bitmaps::{BitmapStop, Bitmaps, MOST_BITMAPS, Source, Sources};
 use blk_graph::{Graph, NO_KIND, NodeId};
 use std::alloc::Global;
 use std::test::Fail;

@@ -1,7 +1,7 @@
 //! Created images byte for byte, on short and longer devices, and writes that fail.
 
-use crate::{CreateStop, create_image, open_image};
 use blk_fakes::{FailAt, MemDevice};
+use q2_image::{CreateStop, create_image, open_image};
 use std::alloc::{AllocError, Global};
 use std::test::Fail;
 

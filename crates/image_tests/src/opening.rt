@@ -1,8 +1,8 @@
 //! A small image that is opened and read, images that are refused, and failed reads.
 
-use crate::{Image, ImageStop, open_image};
 use blk_fakes::{FailAt, MemDevice};
 use q2_format::HeaderStop;
+use q2_image::{Image, ImageStop, open_image};
 use std::alloc::{AllocError, Global};
 use std::test::Fail;
 

@@ -1,9 +1,11 @@
+//! Lines of the machine protocol: commands with what they are read as, replies and events as they are printed.
+
 mod accepted;
 mod lines;
 mod refused;
 
-use super::*;
 use blk_base::Text;
+use qmp_codec::{Class, Event, EventName, JobKind, Reply, print_event, print_reply, read_command, read_id};
 use serde_json::{Value, json};
 use std::alloc::Global;
 use std::process::Abort;

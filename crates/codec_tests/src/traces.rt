@@ -1,5 +1,7 @@
-use super::*;
+//! Traces: lines that are read and written, and those that are refused.
+
 use std::test::Fail;
+use trace_codec::{Op, Ops, Payload, Totals, TraceStop, read_trace, read_trace_after, write_trace};
 
 // What a request is, its offset and length, and the byte that a write fills with.
 fn plain(op: &Op) -> (&str, u64, u64, Option<u8>) {

@@ -1,0 +1,14 @@
+//! Tests of the graph of nodes and of their bitmaps, through public calls alone. They stand here and not in the crates that they
+//! test, each of which would be proved once more with them.
+#![tactic(auto)]
+
+#[cfg(test)]
+mod bitmaps;
+#[cfg(test)]
+mod edits;
+#[cfg(test)]
+mod graphs;
+#[cfg(test)]
+mod limits;
+#[cfg(test)]
+mod permissions;
