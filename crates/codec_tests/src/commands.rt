@@ -5,7 +5,9 @@ mod lines;
 mod refused;
 
 use blk_base::Text;
-use qmp_codec::{Class, Event, EventName, JobKind, Reply, print_event, print_reply, read_command, read_id};
+use qmp_codec::{
+    Class, Event, EventName, JobKind, Reply, print_event, print_reply, read_command, read_id,
+};
 use serde_json::{Value, json};
 use std::alloc::Global;
 use std::process::Abort;

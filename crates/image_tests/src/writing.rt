@@ -545,7 +545,10 @@ fn puts_nothing_without_room(rt: HostRuntime) -> Result<(), Fail> {
     let before = created(alloc)?;
     for sectors in &WANTING {
         let capacity = PUT_LENGTH - 512 * *sectors;
-        assert!(rt; goes(alloc, &before, capacity, NONE, &NO_ROOM)?, "{sectors}");
+        assert!(rt;
+            goes(alloc, &before, capacity, NONE, &NO_ROOM)?,
+            "{sectors}"
+        );
     }
     assert!(rt; goes(alloc, &before, PUT_LENGTH, NONE, &JUST_ROOM)?);
     Ok(())

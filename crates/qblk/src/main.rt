@@ -2,37 +2,18 @@
 //! image, and writes the transcript to standard output.
 #![tactic(auto)]
 
-mod engine;
-mod flight;
-mod input;
-mod medium;
-mod opening;
-mod output;
-mod qcow2;
 mod report;
-mod requests;
-mod run;
-mod session;
-mod status;
-#[cfg(test)]
-mod tests;
-mod transfer;
-mod words;
-#[cfg(test)]
-mod writing_tests;
 
 use crate::report::{print_failure, print_status};
 use blk_base::{FaultFrom, Text};
 use blk_files::{Failure, FileStore, OutSink};
-pub use run::{qblk, run_io};
-pub use status::{InputWhy, Status};
+pub use qblk_core::{Format, InputWhy, Status, qblk, run_io};
 use std::alloc::Global;
 use std::fs::File;
 use std::io::{ErrorKind, Write};
 use std::process::ExitCode;
 use std::rt::{Env, Files};
 use std::{env, io};
-pub use words::Format;
 
 /// The words behind the program's name. Words that aren't UTF-8 are of no form.
 fn words_of<R: Env + AllocGlobal>(rt: &R, alloc: Global) -> Result<Vec<Text>, Status> {

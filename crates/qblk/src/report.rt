@@ -1,7 +1,7 @@
 //! What goes to standard error.
 
-use crate::status::Status;
 use blk_files::Failure;
+use qblk_core::Status;
 use std::alloc::{AllocError, Global};
 
 /// A text with its control characters written as escapes, so that it is one line.

@@ -1,5 +1,0 @@
-use Rattle.qblk.proofs.Kept.{admission-kept}
-use Rattle.qblk.proofs.engine.Engine.admit.Goals as goal
-
-pub returns-clause-comes : goal.returns-clause-comes
-returns-clause-comes g c = rw c.put_admission.ensures.kept (admission-kept c.args.self.now c.args.op c.put_admission.result c.requires.idle c.put_admission.ensures.judged)

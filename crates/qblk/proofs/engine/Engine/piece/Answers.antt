@@ -1,5 +1,0 @@
-use Rattle.qblk.proofs.Kept.{piece-made}
-use Rattle.qblk.proofs.engine.Engine.piece.Goals as goal
-
-pub returns-clause-comes : goal.returns-clause-comes
-returns-clause-comes g c = piece-made c.args.self.now c.put_piece.new.self c.put_piece.result c.requires c.put_piece.ensures

@@ -1,5 +1,0 @@
-use Rattle.qblk.proofs.Kept.{retirement-kept}
-use Rattle.qblk.proofs.engine.Engine.retire.Goals as goal
-
-pub returns-clause-comes : goal.returns-clause-comes
-returns-clause-comes g c = rw c.put_retirement.ensures (retirement-kept c.args.self.now c.requires.over)

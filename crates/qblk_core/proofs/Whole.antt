@@ -1,0 +1,338 @@
+-- A run seen from outside, from its parts.
+use Rattle.std.proofs.Common.{◌≡◌, ◌≢◌, ◌⊎◌, ℕ, zero, suc, ◌<◌, ◌≤◌, Bool, true, false, List, [], ◌∷◌, ◌++◌, length, take, refl, sym, ◌∙◌, ap, subst, arith, inl, inr, Option, Some, None, Ok}
+use Rattle.std.specs.Prelude.{IsUtf8, is_some, is_none, option_map, slice_index_or, IsSome}
+use Rattle.std.proofs.lemmas.Bool.{false≢true}
+use Rattle.std.proofs.lemmas.List.{take_at, take_all, append-nil}
+use Rattle.blk_base.specs.Counts.{Rose}
+use Rattle.blk_base.specs.Files.{file_at, put_file, IfTold, given_back, is_out}
+use Rattle.blk_base.specs.Stored.{IsDeviceOf, files_with_returned}
+use Rattle.blk_base.specs.Answers.{LacksFile}
+use Rattle.blk_base.specs.declared.file.File.{File}
+use Rattle.blk_base.specs.declared.fault.FaultAt.{FaultAt}
+use Rattle.blk_base.specs.declared.fault.FaultFrom.{FaultFrom}
+use Rattle.blk_base.specs.declared.fault.FaultFrom.TheVariants.{Store, Dev, Sink}
+use Rattle.blk_base.proofs.Openings.{back-opened, put-same}
+use Rattle.trace_codec.specs.Trace.{ops_of}
+use Rattle.blk_history.specs.Machine.{State, Guest, replay}
+use Rattle.blk_history.specs.Legal.{Legal}
+use Rattle.blk_history.specs.Owned.{asked_by}
+use Rattle.blk_history.specs.Licence.{RoseSince}
+use Rattle.blk_history.specs.Transcript.{transcript}
+use Rattle.qblk_core.proofs.Disks.{told_bytes}
+use Rattle.qblk_core.proofs.Quiet.{quiet}
+use Rattle.qblk_core.specs.Format.{disk_of, IsGoodImage}
+use Rattle.qblk_core.specs.declared.words.Format.{Format}
+use Rattle.qblk_core.specs.Face.{Face, state_of}
+use Rattle.q2_image.specs.Image.{Known}
+use Rattle.qblk_core.specs.Images.{HasImages}
+use Rattle.qblk_core.specs.Comes.{opening_state}
+use Rattle.qblk_core.specs.Run.{Outside, machine_of, guest_names, TellsDisk, HasImage, HasTrace, IsBadTrace, IsBadBytes, IsBadImage, IsRefusedTrace, IsRefusedInput, WasRun, FailsToOpen, FailsToFlush, IsFaulty, Answers}
+use Rattle.qblk_core.specs.Session.{IsReadOf, IsStoreStop, IsOpenStop, Seen, opening_of, IsGood, IsFlushed, IsMade, IsRefusedRead, IsRefusedImage, IsRunStop, IsUntouched, EndsAs}
+use Rattle.qblk_core.specs.declared.input.TraceRead.{TraceRead}
+use Rattle.qblk_core.specs.declared.input.TraceRead.TheVariants as reads
+use Rattle.qblk_core.specs.declared.status.InputWhy.{InputWhy}
+use Rattle.qblk_core.specs.declared.status.InputWhy.TheVariants as why
+use Rattle.qblk_core.specs.declared.status.Status.{Status}
+use Rattle.qblk_core.specs.declared.status.Status.TheVariants.{Done, Input, Fault, NoMemory}
+
+-- the device of a file that is told
+pub record IsToldAs (image : List ℕ) (d : Seen) (files : List File) (f : File) : Type 0 where
+  file : file_at image files ≡ Some f
+  content : d.content ≡ Some f.bytes
+  capacity : d.capacity ≡ f.capacity
+  flushed : d.is_flushed ≡ Some f.is_flushed
+  size : d.size ≡ length f.bytes
+
+told-as : (image : List ℕ) (d : Seen) (files : List File) → ((bytes : List ℕ) → d.content ≡ Some bytes → d.size ≡ length bytes)
+    → IsDeviceOf (Some files) image d.content d.capacity d.is_flushed → (f : File) × IsToldAs image d files f
+told-as image d files sized is = (is.0, record { file = is.1; content = is.2; capacity = is.3; flushed = is.4; size = sized is.0.bytes is.2 })
+
+-- an image that is given back untouched leaves all files as they were
+returned-untold : (image : List ℕ) (content : Option (List ℕ)) (capacity : ℕ) (flushed : Option Bool) → files_with_returned image content capacity flushed None ≡ None
+returned-untold image None capacity flushed = refl
+returned-untold image (Some bytes) capacity None = refl
+returned-untold image (Some bytes) capacity (Some flushed) = refl
+
+returned-told : (image : List ℕ) (content : Option (List ℕ)) (capacity : ℕ) (flushed : Option Bool) (files : List File) (bytes : List ℕ) (room : ℕ) (flag : Bool)
+    → content ≡ Some bytes → capacity ≡ room → flushed ≡ Some flag
+    → files_with_returned image content capacity flushed (Some files) ≡ Some (put_file (record { name = image; bytes = bytes; capacity = room; is_flushed = flag }) files)
+returned-told image content capacity flushed files bytes room flag c k f = rw (c, k, f) refl
+
+pub untouched : (image : List ℕ) (d : Seen) (files : Option (List File)) → ((bytes : List ℕ) → d.content ≡ Some bytes → d.size ≡ length bytes)
+    → IsDeviceOf files image d.content d.capacity d.is_flushed → files_with_returned image d.content d.capacity d.is_flushed files ≡ files
+untouched image d None sized is = returned-untold image d.content d.capacity d.is_flushed
+untouched image d (Some files) sized is =
+    let told = told-as image d files sized is in
+    let f = told.0 in
+    returned-told image d.content d.capacity d.is_flushed files f.bytes f.capacity f.is_flushed told.1.content told.1.capacity told.1.flushed
+    ∙ ap (λ (fs : List File). Some fs) (put-same image f files told.1.file)
+
+idle-all : (row : Guest) → row.flight ≡ None → (k : ℕ) (d : Guest) → k < 1 → (slice_index_or (row ∷ []) k d).flight ≡ None
+idle-all row is zero d below = is
+idle-all row is (suc k) d below = absurd (omega arith)
+
+-- what the device tells at the end
+told-disk : (content : Option (List ℕ)) → IsSome content → (disk : List ℕ) × (content ≡ Some disk)
+told-disk None is = absurd (false≢true is)
+told-disk (Some disk) is = (disk, refl)
+
+told-flag : (flag : Option Bool) → is_some flag ≡ true → (b : Bool) × (flag ≡ Some b)
+told-flag None is = absurd (false≢true is)
+told-flag (Some b) is = (b, refl)
+
+flag-good : (n : Seen) (faults : ℕ) (fault : Option FaultAt) (disk : List ℕ) (b : Bool) → IsFlushed n faults fault → n.content ≡ Some disk → n.is_flushed ≡ Some b → is_none fault ≡ true → b ≡ true
+flag-good n faults None disk b flushed content is none = let good = flushed disk content in cc
+flag-good n faults (Some fault) disk b flushed content is none = absurd (false≢true none)
+
+-- the machine of the image's file is that of the opening
+same-machine : (format : Format) (image : List ℕ) (known : Option Known) (size : ℕ) (d : Seen) (files : List File) (f : File) → IsToldAs image d files f → IsGood format size d.content
+    → opening_state (opening_of format known size d) ≡ machine_of format f.bytes
+same-machine format image known size d files f told good = let sized = good.sized f.bytes told.content in let content = told.content in rw (sized, content) refl
+
+tells-disk : (format : Format) (image : List ℕ) (bytes : List ℕ) (d n : Seen) (w : Face) (fault : Option FaultAt) (files : List File) (new : Option (List File)) (f : File)
+    → IsToldAs image d files f → IsMade format bytes d n w fault → new ≡ files_with_returned image n.content n.capacity n.is_flushed (Some files)
+    → TellsDisk format image w.log.events (is_none fault) files new f
+tells-disk format image bytes d n w fault files new f told made returned =
+    let machine = same-machine format image made.image made.size d files f told made.good in
+    let opened : option_map (disk_of format) d.content ≡ Some (disk_of format f.bytes) = ap (option_map (disk_of format)) told.content in
+    let disk = told-disk w.disk (made.comes.told (disk_of format f.bytes) opened) in
+    let held = told_bytes format n.content disk.0 (made.content ∙ disk.1) in
+    let content : n.content ≡ Some held.0 = held.1 in
+    let read : w.disk ≡ Some (disk_of format held.0) = disk.1 ∙ ap (λ (b : List ℕ). Some b) held.2 in
+    let flag = told-flag n.is_flushed (made.tells held.0 content) in
+    let capacity : n.capacity ≡ f.capacity = made.capacity ∙ made.comes.capacity ∙ told.capacity in
+    let L : State → Type 0 = λ s. Legal s w.log.events in
+    let N : State → Type 0 = λ s. HasImages d.capacity s made.image w.log.events w.image in
+    let C : ℕ → Type 0 = λ c. HasImages c (machine_of format f.bytes) made.image w.log.events w.image in
+    let R : State → Type 0 = λ s. replay s w.log.events ≡ state_of w in
+    let replayed : replay (machine_of format f.bytes) w.log.events ≡ state_of w = subst R machine made.comes.replay in
+    record {
+      file = told.file;
+      legal = subst L machine (made.comes.legal (disk_of format f.bytes) opened);
+      retired = rw replayed (idle-all w.guest made.idle);
+      bytes = held.0;
+      is_flushed = flag.0;
+      disk = rw replayed read;
+      sound = made.sound held.0 content;
+      flushed = flag-good n w.faults fault held.0 flag.0 made.flushed content flag.1;
+      files = returned ∙ returned-told image n.content n.capacity n.is_flushed files held.0 f.capacity flag.0 content capacity flag.1;
+      was = made.image;
+      now = w.image;
+      opened = made.known f.bytes told.content;
+      ended = made.ended held.0 content;
+      images = subst C told.capacity (subst N machine made.comes.images);
+    }
+
+-- the inputs were as they have to be
+inputs : (format : Format) (image trace bytes : List ℕ) (read : TraceRead) (d n : Seen) (w : Face) (fault : Option FaultAt) (files : List File) (f : File)
+    → IsToldAs image d files f → read ≡ reads.Whole bytes → IsReadOf trace read files → IsMade format bytes d n w fault → HasImage format image files × HasTrace trace (asked_by 0 w.log.events) files
+inputs format image trace bytes read d n w fault files f told is read-is made =
+    let P : TraceRead → Type 0 = λ r. IsReadOf trace r files in
+    let whole = subst P is read-is in
+    let same : bytes ≡ whole.0.bytes = whole.2.1 in
+    let U : List ℕ → Type 0 = λ b. IsUtf8 b × (ops_of b ≡ Ok (asked_by 0 w.log.events)) in
+    let text = subst U same (made.text, made.ops) in
+    ((f, told.file, made.good.image f.bytes told.content), (whole.0, whole.1, (whole.2.0, text.0, text.1)))
+
+-- the run, whatever of its transcript went out
+pub was-run : (format : Format) (image trace bytes : List ℕ) (read : TraceRead) (d n : Seen) (w : Face) (fault : Option FaultAt) (flushed : Bool) (old new : Outside) (k : ℕ)
+    → is_none fault ≡ flushed
+    → ((b : List ℕ) → d.content ≡ Some b → d.size ≡ length b)
+    → (is_out image old.opened ≡ true → ⊥)
+    → IsDeviceOf old.files image d.content d.capacity d.is_flushed
+    → IfTold old.files (IsReadOf trace read) → read ≡ reads.Whole bytes → IsMade format bytes d n w fault
+    → new.files ≡ files_with_returned image n.content n.capacity n.is_flushed old.files
+    → new.opened ≡ given_back image n.faults (old.opened ++ record { name = image; faults = d.faults; returned = None } ∷ [])
+    → new.sent ≡ option_map (λ s. s ++ take k (transcript guest_names w.log.events)) old.sent
+    → WasRun format image trace flushed old new (asked_by 0 w.log.events) w.log.events d.faults n.faults k
+was-run format image trace bytes read d n w fault flushed old new k flag sized none device read-is is made files opened sent =
+    let last = made.comes.licensed.last in
+    record {
+      inputs = on-told old.files (λ told is-told read-told. inputs format image trace bytes read d n w fault told (told-as image d told sized is-told).0 (told-as image d told sized is-told).1 is read-told made) device read-is;
+      run = record {
+        asked = refl;
+        opened = opened ∙ back-opened image old.opened d.faults n.faults none;
+        risen = made.comes.licensed.risen;
+        last = (last.0, last.1, let le = last.2 in let more = made.faults in omega arith);
+        quiet = λ same below. quiet d.faults last.0 w.log.events made.comes.licensed.risen last.1 (let le = last.2 in let more = made.faults in omega arith) below;
+        told = on-run old.files files device;
+      };
+      sent = sent;
+    }
+  where
+    on-told : (fs : Option (List File)) → ((told : List File) → IsDeviceOf (Some told) image d.content d.capacity d.is_flushed → IsReadOf trace read told → HasImage format image told × HasTrace trace (asked_by 0 w.log.events) told)
+        → IsDeviceOf fs image d.content d.capacity d.is_flushed → IfTold fs (IsReadOf trace read) → IfTold fs (λ told. HasImage format image told × HasTrace trace (asked_by 0 w.log.events) told)
+    on-told None f device read-is = tt
+    on-told (Some told) f device read-is = f told device read-is
+
+    on-run : (fs : Option (List File)) → new.files ≡ files_with_returned image n.content n.capacity n.is_flushed fs → IsDeviceOf fs image d.content d.capacity d.is_flushed
+        → IfTold fs (λ told. (f : File) × TellsDisk format image w.log.events flushed told new.files f)
+    on-run None files device = tt
+    on-run (Some told) files device =
+        let f = told-as image d told sized device in
+        let T : Bool → Type 0 = λ b. TellsDisk format image w.log.events b told new.files f.0 in
+        (f.0, subst T flag (tells-disk format image bytes d n w fault told new.files f.0 f.1 made files))
+
+-- how it ended
+front-taken : (old new : Option (List ℕ)) (front rest whole : List ℕ) → front ++ rest ≡ whole → new ≡ option_map (λ s. s ++ front) old → new ≡ option_map (λ s. s ++ take (length front) whole) old
+front-taken old new front rest whole is sent =
+    let same : take (length front) whole ≡ front = ap (take (length front)) (sym is) ∙ take_at front rest (length front) refl in
+    sent ∙ ap (λ (bs : List ℕ). option_map (λ s. s ++ bs) old) (sym same)
+
+whole-taken : (old new : Option (List ℕ)) (whole : List ℕ) → new ≡ option_map (λ s. s ++ whole) old → new ≡ option_map (λ s. s ++ take (length whole) whole) old
+whole-taken old new whole sent = sent ∙ ap (λ (bs : List ℕ). option_map (λ s. s ++ bs) old) (sym (take_all (length whole) whole (omega arith)))
+
+-- where nothing is left, all of it went out
+all-of : (front rest whole : List ℕ) (before now : ℕ) → front ++ rest ≡ whole → (rest ≡ []) ⊎ Rose before now → (length front ≡ length whole) ⊎ Rose before now
+all-of front rest whole before now is (inl none) =
+    let P : List ℕ → Type 0 = λ bs. front ++ bs ≡ whole in
+    inl (ap length (sym (append-nil front) ∙ subst P none is))
+all-of front rest whole before now is (inr rose) = inr rose
+
+-- the fault of the last flush is the device's
+flush-fault : (n : Seen) (faults : ℕ) (fault : FaultAt) → IsFlushed n faults (Some fault) → (fault.from ≡ Dev (record { 0 = 0 })) × Rose faults fault.count × (fault.count ≡ n.faults)
+flush-fault n faults fault flushed = flushed
+
+pub ends : (format : Format) (image trace bytes : List ℕ) (read : TraceRead) (d n : Seen) (w : Face) (fault : Option FaultAt) (old new : Outside) (status : Status)
+    → ((b : List ℕ) → d.content ≡ Some b → d.size ≡ length b)
+    → (is_out image old.opened ≡ true → ⊥)
+    → IsDeviceOf old.files image d.content d.capacity d.is_flushed
+    → IfTold old.files (IsReadOf trace read) → read ≡ reads.Whole bytes → IsMade format bytes d n w fault
+    → new.files ≡ files_with_returned image n.content n.capacity n.is_flushed old.files
+    → new.opened ≡ given_back image n.faults (old.opened ++ record { name = image; faults = d.faults; returned = None } ∷ [])
+    → EndsAs fault old.sent new.sent (transcript guest_names w.log.events) old.sink_faults new.sink_faults status
+    → Answers format image trace old new status
+ends format image trace bytes read d n w None old new Done sized none device read-is is made files opened end = (
+  asked_by 0 w.log.events,
+  w.log.events,
+  d.faults,
+  n.faults,
+  was-run format image trace bytes read d n w None true old new (length (transcript guest_names w.log.events)) refl sized none device read-is is made files opened (whole-taken old.sent new.sent _ end),
+)
+ends format image trace bytes read d n w None old new (Fault from count) sized none device read-is is made files opened end =
+    let front = end.1.part in
+    let faulty : IsFaulty format image trace old new Sink count = (
+      asked_by 0 w.log.events,
+      w.log.events,
+      d.faults,
+      n.faults,
+      length front.0,
+      was-run format image trace bytes read d n w None true old new (length front.0) refl sized none device read-is is made files opened (front-taken old.sent new.sent front.0 front.1 _ front.2 front.3),
+      (let rose = end.1.rose in let same = end.2 in omega arith),
+      end.2,
+    ) in
+    let F : FaultFrom → Type 0 = λ f. IsFaulty format image trace old new f count in
+    subst F (sym end.0) faulty
+ends format image trace bytes read d n w (Some fault) old new (Fault from count) sized none device read-is is made files opened end =
+    let flushed = made.flushed in
+    let F : FaultFrom → Type 0 = λ f. IsFaulty format image trace old new f count in
+    let same : count ≡ n.faults = end.1 ∙ flushed.2 in
+    let R : ℕ → Type 0 = λ c. WasRun format image trace false old new (asked_by 0 w.log.events) w.log.events d.faults c (length end.2) in
+    let run = was-run format image trace bytes read d n w (Some fault) false old new (length end.2) refl sized none device read-is is made files opened (front-taken old.sent new.sent end.2 end.3 _ end.4 end.5) in
+    let last = made.comes.licensed.last in
+    let S : List ℕ → Type 0 = λ cs. RoseSince cs (Some (record { dev = 0; count = count })) in
+    let failed : FailsToFlush format image trace old new count = (
+      asked_by 0 w.log.events,
+      w.log.events,
+      d.faults,
+      length end.2,
+      subst R (sym same) run,
+      subst S (sym last.1) (omega arith, (let rose = flushed.1 in let named = end.1 in let le = last.2 in omega arith)),
+      all-of end.2 end.3 _ old.sink_faults new.sink_faults end.4 end.6,
+    ) in
+    let faulty : IsFaulty format image trace old new (Dev (record { 0 = 0 })) count = (refl, inr failed) in
+    subst F (sym (end.0 ∙ flushed.0)) faulty
+ends format image trace bytes read d n w fault old new status sized none device read-is is made files opened end = absurd end
+
+-- an input that is refused
+refused-read : (trace : List ℕ) (read : TraceRead) (files : List File) (line : ℕ) (cause : InputWhy) → IsReadOf trace read files → IsRefusedRead read cause line → IsRefusedTrace cause line trace files
+refused-read trace (reads.Whole bytes) files line why.Absent is refused = absurd refused
+refused-read trace (reads.Whole bytes) files line why.TooLarge is refused = absurd refused
+refused-read trace (reads.Whole bytes) files line why.NeedsBacking is refused = absurd refused
+refused-read trace (reads.Whole bytes) files line (why.Image stop) is refused = absurd refused
+refused-read trace (reads.Whole bytes) files line why.TooLong is refused = (is.0, is.1, (let P : List ℕ → Type 0 = IsBadTrace why.TooLong line in subst P is.2.1 refused))
+refused-read trace (reads.Whole bytes) files line why.NotUtf8 is refused = (is.0, is.1, (let P : List ℕ → Type 0 = IsBadTrace why.NotUtf8 line in subst P is.2.1 refused))
+refused-read trace (reads.Whole bytes) files line why.BadLine is refused = (is.0, is.1, (let P : List ℕ → Type 0 = IsBadTrace why.BadLine line in subst P is.2.1 refused))
+refused-read trace (reads.Whole bytes) files line why.TooMany is refused = (is.0, is.1, (let P : List ℕ → Type 0 = IsBadTrace why.TooMany line in subst P is.2.1 refused))
+refused-read trace reads.Absent files line cause is refused = let P : InputWhy → Type 0 = λ c. IsRefusedTrace c line trace files in subst P (sym refused.1) (refused.0, is)
+refused-read trace reads.TooLong files line cause is refused = let P : InputWhy → Type 0 = λ c. IsRefusedTrace c line trace files in subst P (sym refused.1) (is.0, is.1, (refused.0, is.2))
+
+-- a refused image is there
+bad-image : (format : Format) (image : List ℕ) (cause : InputWhy) (files : List File) (f : File) → cause ≢ why.Absent → file_at image files ≡ Some f → IsBadBytes format cause f.bytes
+    → IsBadImage format cause image files
+bad-image format image why.Absent files f there is bad = absurd (there refl)
+bad-image format image why.NotUtf8 files f there is bad = (f, is, bad)
+bad-image format image why.TooLong files f there is bad = (f, is, bad)
+bad-image format image why.BadLine files f there is bad = (f, is, bad)
+bad-image format image why.TooMany files f there is bad = (f, is, bad)
+bad-image format image why.TooLarge files f there is bad = (f, is, bad)
+bad-image format image why.NeedsBacking files f there is bad = (f, is, bad)
+bad-image format image (why.Image stop) files f there is bad = (f, is, bad)
+
+refused-by : (format : Format) (image trace : List ℕ) (read : TraceRead) (d : Seen) (files : List File) (name : List ℕ) (line : ℕ) (cause : InputWhy)
+    → ((f : File) × IsToldAs image d files f) → IsReadOf trace read files
+    → ((name ≡ image) × (line ≡ 0) × IsRefusedImage format cause d.content)
+    ⊎ (((bytes : List ℕ) → d.content ≡ Some bytes → IsGoodImage format bytes) × (name ≡ trace) × IsRefusedRead read cause line)
+    → IsRefusedInput format image trace name line cause files
+refused-by format image trace read d files name line cause told is (inl bad) =
+    let refused = bad.2 in
+    inl (bad.0, bad.1, bad-image format image cause files told.0 refused.there told.1.file (refused.bytes told.0.bytes told.1.content))
+refused-by format image trace read d files name line cause told is (inr good) =
+    inr (good.1, (told.0, told.1.file, good.0 told.0.bytes told.1.content), refused-read trace read files line cause is good.2)
+
+-- an image that is given back as it was leaves all files as they were
+pub left : (image : List ℕ) (d n : Seen) (files : Option (List File)) → ((bytes : List ℕ) → d.content ≡ Some bytes → d.size ≡ length bytes)
+    → IsDeviceOf files image d.content d.capacity d.is_flushed → IsUntouched d n → files_with_returned image n.content n.capacity n.is_flushed files ≡ files
+left image d n files sized is same =
+    let content = same.content in
+    let capacity = same.capacity in
+    let flushed = same.is_flushed in
+    rw (content, capacity, flushed) (untouched image d files sized is)
+
+-- why a run was stopped before its requests
+pub stops : (format : Format) (image trace : List ℕ) (read : TraceRead) (d n : Seen) (old new : Outside) (status : Status)
+    → ((b : List ℕ) → d.content ≡ Some b → d.size ≡ length b)
+    → (is_out image old.opened ≡ true → ⊥)
+    → IsDeviceOf old.files image d.content d.capacity d.is_flushed
+    → IfTold old.files (IsReadOf trace read) → IsRunStop format image trace read d n status → IsUntouched d n
+    → new.files ≡ files_with_returned image n.content n.capacity n.is_flushed old.files
+    → new.opened ≡ given_back image n.faults (old.opened ++ record { name = image; faults = d.faults; returned = None } ∷ [])
+    → new.sent ≡ old.sent
+    → Answers format image trace old new status
+stops format image trace read d n old new NoMemory sized none device read-is stop same files opened sent = record { files = files ∙ left image d n old.files sized device same; sent = sent }
+stops format image trace read d n old new (Input name line cause) sized none device read-is stop same files opened sent =
+    (record { files = files ∙ left image d n old.files sized device same; sent = sent }, why-of old.files device read-is)
+  where
+    why-of : (fs : Option (List File)) → IsDeviceOf fs image d.content d.capacity d.is_flushed → IfTold fs (IsReadOf trace read) → IfTold fs (IsRefusedInput format image trace name.bytes line cause)
+    why-of None device read-is = tt
+    why-of (Some told) device read-is = refused-by format image trace read d told name.bytes line cause (told-as image d told sized device) read-is stop
+stops format image trace read d n old new (Fault from count) sized none device read-is stop same files opened sent =
+    let F : FaultFrom → Type 0 = λ f. IsFaulty format image trace old new f count in
+    let R : ℕ → Type 0 = λ c. new.opened ≡ old.opened ++ record { name = image; faults = d.faults; returned = Some c } ∷ [] in
+    let fails : FailsToOpen format image old new count = record {
+      reads = stop.0;
+      nothing = record { files = files ∙ left image d n old.files sized device same; sent = sent };
+      before = d.faults;
+      opened = subst R (sym stop.3) (opened ∙ back-opened image old.opened d.faults n.faults none);
+      rose = stop.2;
+    } in
+    let faulty : IsFaulty format image trace old new (Dev (record { 0 = 0 })) count = (refl, inl fails) in
+    subst F (sym stop.1) faulty
+stops format image trace read d n old new status sized none device read-is stop same files opened sent = absurd stop
+
+-- a store whose call failed, or want of memory
+pub store-stops : (format : Format) (image trace : List ℕ) (old new : Outside) (status : Status) → IsStoreStop old.store_faults new.store_faults status → new.files ≡ old.files → new.sent ≡ old.sent → Answers format image trace old new status
+store-stops format image trace old new NoMemory stop files sent = record { files = files; sent = sent }
+store-stops format image trace old new (Fault Store count) stop files sent = (record { files = files; sent = sent }, stop.0, stop.1)
+store-stops format image trace old new status stop files sent = absurd stop
+
+-- an image that isn't opened
+pub open-stops : (format : Format) (image trace : List ℕ) (old new : Outside) (before : ℕ) (status : Status) → IsOpenStop image old.files before new.store_faults status → old.store_faults ≤ before → new.files ≡ old.files → new.sent ≡ old.sent → Answers format image trace old new status
+open-stops format image trace old new before NoMemory stop le files sent = record { files = files; sent = sent }
+open-stops format image trace old new before (Fault Store count) stop le files sent = (record { files = files; sent = sent }, (let rose = stop.0 in omega arith), stop.1)
+open-stops format image trace old new before (Input name line cause) stop le files sent = (record { files = files; sent = sent }, absent old.files stop.3)
+  where
+    absent : (fs : Option (List File)) → IfTold fs (LacksFile image) → IfTold fs (IsRefusedInput format image trace name.bytes line cause)
+    absent None lacks = tt
+    absent (Some told) lacks = let P : InputWhy → Type 0 = λ c. IsBadImage format c image told in inl (stop.0, stop.1, subst P (sym stop.2) lacks)
+open-stops format image trace old new before status stop le files sent = absurd stop

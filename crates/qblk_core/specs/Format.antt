@@ -1,0 +1,22 @@
+-- How an image's file reads as a disk.
+use Rattle.std.specs.Prelude.{◌≡◌, ℕ, ◌≤◌, ⊤, List, [], length, None}
+use Rattle.q2_format.specs.Header.{header_of}
+use Rattle.q2_format.specs.Contents.{image_disk}
+use Rattle.q2_format.specs.Sound.{IsSound}
+use Rattle.qblk_core.specs.declared.words.Format.{Format}
+use Rattle.qblk_core.specs.declared.words.Format.TheVariants.{Raw, Qcow2}
+
+-- the disk of a file's bytes; a qcow2 image is read without a backing disk
+abbrev pub disk_of : Format → List ℕ → List ℕ
+disk_of Raw bytes = bytes
+disk_of Qcow2 bytes = image_disk bytes []
+
+-- a file that can be opened: not too large, or a sound image that names no backing file
+abbrev pub IsGoodImage : Format → List ℕ → Type 0
+IsGoodImage Raw bytes = length bytes ≤ 274877906944
+IsGoodImage Qcow2 bytes = IsSound bytes × ((header_of bytes).name ≡ None)
+
+-- what is left of it after a run: a sound image stays sound, and names no backing file
+abbrev pub IsSoundAs : Format → List ℕ → Type 0
+IsSoundAs Raw bytes = ⊤
+IsSoundAs Qcow2 bytes = IsSound bytes × ((header_of bytes).name ≡ None)

@@ -1,0 +1,106 @@
+-- How far a run of requests is.
+use Rattle.std.specs.Prelude.{◌≡◌, ℕ, ◌+◌, ◌-◌, ◌*◌, ◌/◌, ◌^◌, ◌<◌, ◌≤◌, min, max, false, [], ◌∷◌, ◌++◌, Some, None, List, length}
+use Rattle.blk_base.specs.Pieces.{end_of}
+use Rattle.blk_base.specs.declared.memory.Room.{Room}
+use Rattle.trace_codec.specs.declared.op.Op.{Op}
+use Rattle.trace_codec.specs.declared.op.Op.TheVariants.{Read, Write, Zero, Flush, Discard}
+use Rattle.trace_codec.specs.Request.{pieces_of, read_bytes_of}
+use Rattle.blk_history.specs.Fold.{With}
+use Rattle.blk_history.specs.Machine.{Flight}
+use Rattle.blk_history.specs.Legal.{IsOver}
+use Rattle.blk_history.specs.Owned.{asked_by}
+use Rattle.qblk_core.specs.Face.{Face}
+use Rattle.qblk_core.specs.Comes.{Opening, Comes}
+
+-- how many bytes the first k pieces of a read show
+abbrev pub shown_before : Op → ℕ → ℕ
+shown_before (Read span) k = min (max span.start ((span.start / 65536 + k) * 65536)) (end_of span) - span.start
+shown_before (Write span payload) k = 0
+shown_before (Zero span) k = 0
+shown_before Flush k = 0
+shown_before (Discard span) k = 0
+
+-- a request that was admitted, before its first piece, and room for what its pieces add and one entry more
+pub record CanRun (w : Face) (pieces : ℕ) (f : Flight) : Type 0 where
+  pub first : f.next ≡ 0
+  pub running : f.is_stopped ≡ false
+  pub count : pieces ≡ pieces_of f.op
+  pub numbered : pieces_of f.op < 2 ^ 32
+  pub room : pieces_of f.op < w.log.room
+  pub byte_room : read_bytes_of f.op ≤ w.log.byte_room
+
+-- k of its pieces were good
+pub record AtPiece (old now : Face) (k : ℕ) (f : Flight) : Type 0 where
+  pub flight : now.guest.flight ≡ Some (record f { next = k })
+  pub done : now.guest.done ≡ old.guest.done
+  pub asked : asked_by 0 now.log.events ≡ asked_by 0 old.log.events
+  pub room : old.log.room ≤ now.log.room + k
+  pub byte_room : old.log.byte_room ≤ now.log.byte_room + shown_before f.op k
+  pub comes : (o : Opening) → Comes o old → Comes o now
+
+-- all its pieces are done, or the last wasn't good
+pub record PiecesDone (old new : Face) (f : Flight) : Type 0 where
+  pub over : With new.guest.flight IsOver
+  pub done : new.guest.done ≡ old.guest.done
+  pub asked : asked_by 0 new.log.events ≡ asked_by 0 old.log.events
+  pub room : old.log.room ≤ new.log.room + pieces_of f.op
+  pub byte_room : old.log.byte_room ≤ new.log.byte_room + read_bytes_of f.op
+  pub comes : (o : Opening) → Comes o old → Comes o new
+
+-- room for a request
+pub record HasRoom (w : Face) (op : Op) : Type 0 where
+  pub idle : w.guest.flight ≡ None
+  pub numbered : w.guest.done + 1 < 2 ^ 32
+  pub pieces : pieces_of op < 2 ^ 32
+  pub room : pieces_of op + 2 ≤ w.log.room
+  pub byte_room : read_bytes_of op ≤ w.log.byte_room
+
+-- a request was admitted and retired, or refused
+pub record RequestDone (old new : Face) (op : Op) : Type 0 where
+  pub idle : new.guest.flight ≡ None
+  pub done : new.guest.done ≡ old.guest.done + 1
+  pub asked : asked_by 0 new.log.events ≡ asked_by 0 old.log.events ++ op ∷ []
+  pub room : old.log.room ≤ new.log.room + (pieces_of op + 2)
+  pub byte_room : old.log.byte_room ≤ new.log.byte_room + read_bytes_of op
+  pub comes : (o : Opening) → Comes o old → Comes o new
+
+-- the entries and the bytes that some requests may add
+abbrev pub entries_for : List Op → ℕ
+entries_for [] = 0
+entries_for (op ∷ ops) = (pieces_of op + 2) + entries_for ops
+
+abbrev pub bytes_for : List Op → ℕ
+bytes_for [] = 0
+bytes_for (op ∷ ops) = read_bytes_of op + bytes_for ops
+
+-- their pieces have numbers
+abbrev pub HaveNumbers : List Op → Type 0
+HaveNumbers [] = Unit {0}
+HaveNumbers (op ∷ ops) = (pieces_of op < 2 ^ 32) × HaveNumbers ops
+
+-- room for requests
+pub record HasRoomFor (w : Face) (ops : List Op) : Type 0 where
+  pub idle : w.guest.flight ≡ None
+  pub numbered : w.guest.done + length ops < 2 ^ 32
+  pub pieces : HaveNumbers ops
+  pub room : entries_for ops ≤ w.log.room
+  pub byte_room : bytes_for ops ≤ w.log.byte_room
+
+-- requests were made, in order
+pub record RequestsDone (old new : Face) (ops : List Op) : Type 0 where
+  pub idle : new.guest.flight ≡ None
+  pub asked : asked_by 0 new.log.events ≡ asked_by 0 old.log.events ++ ops
+  pub comes : (o : Opening) → Comes o old → Comes o new
+
+-- all but some of them were made
+pub record AtRequests (old now : Face) (ops rest : List Op) : Type 0 where
+  pub has : HasRoomFor now rest
+  pub asked : asked_by 0 now.log.events ++ rest ≡ asked_by 0 old.log.events ++ ops
+  pub comes : (o : Opening) → Comes o old → Comes o now
+
+-- the room that some requests need
+pub record IsRoomFor (ops : List Op) (room : Room) : Type 0 where
+  pub entries : room.entries ≡ entries_for ops
+  pub bytes : room.bytes ≡ bytes_for ops
+  pub pieces : HaveNumbers ops
+  pub count : length ops < 2 ^ 32

@@ -1,0 +1,164 @@
+-- What a run of a trace on one image is, seen from outside.
+use Rattle.std.specs.Prelude.{◌≡◌, ◌⊎◌, ℕ, ◌<◌, ◌≤◌, Bool, true, false, List, [], ◌∷◌, ◌++◌, length, take, IsUtf8, IsSome, Option, Some, option_map, Ok, Err}
+use Rattle.blk_base.specs.Counts.{Rose}
+use Rattle.blk_base.specs.Files.{file_at, put_file, IfTold}
+use Rattle.blk_base.specs.Answers.{HasFile, LacksFile}
+use Rattle.blk_base.specs.declared.file.File.{File}
+use Rattle.blk_base.specs.declared.file.Opened.{Opened}
+use Rattle.blk_base.specs.declared.fault.FaultFrom.{FaultFrom}
+use Rattle.blk_base.specs.declared.fault.FaultFrom.TheVariants.{Store, Dev, Sink}
+use Rattle.trace_codec.specs.Trace.{ops_of}
+use Rattle.trace_codec.specs.declared.op.Op.{Op}
+use Rattle.trace_codec.specs.declared.stop.TraceStop.TheVariants as stops
+use Rattle.blk_history.specs.Fold.{With}
+use Rattle.blk_history.specs.Machine.{State, disk_in, after, replay}
+use Rattle.blk_history.specs.Legal.{Legal}
+use Rattle.blk_history.specs.Owned.{asked_by, IsIdle}
+use Rattle.blk_history.specs.Licence.{counted, RoseSince, HaveRisen, NameNone}
+use Rattle.blk_history.specs.Names.{RowNames}
+use Rattle.blk_history.specs.Transcript.{transcript}
+use Rattle.blk_history.specs.declared.event.Event.{Event}
+use Rattle.q2_format.specs.Header.{header_of}
+use Rattle.q2_format.specs.Sound.{IsSound, image_refusal}
+use Rattle.q2_image.specs.Opening.{refusal_of}
+use Rattle.qblk_core.specs.Format.{disk_of, IsGoodImage, IsSoundAs}
+use Rattle.qblk_core.specs.declared.words.Format.{Format}
+use Rattle.qblk_core.specs.declared.words.Format.TheVariants.{Raw, Qcow2}
+use Rattle.qblk_core.specs.Face.{state_with, new_guest}
+use Rattle.q2_image.specs.Image.{Known}
+use Rattle.qblk_core.specs.Images.{IsKnownOf, HasImages}
+use Rattle.qblk_core.specs.declared.status.InputWhy.{InputWhy}
+use Rattle.qblk_core.specs.declared.status.InputWhy.TheVariants.{Absent, NotUtf8, TooLong, BadLine, TooMany, TooLarge, NeedsBacking, Image}
+use Rattle.qblk_core.specs.declared.status.Status.{Status}
+use Rattle.qblk_core.specs.declared.status.Status.TheVariants.{Done, Usage, Input, Fault, NoMemory}
+
+-- what is seen of a store and a sink
+pub record Outside : Type 0 where
+  pub files : Option (List File)
+  pub opened : List Opened
+  pub store_faults : ℕ
+  pub sent : Option (List ℕ)
+  pub sink_faults : ℕ
+
+-- the machine of an image whose file holds these bytes, before the first request
+abbrev pub machine_of : Format → List ℕ → State
+machine_of format bytes = let disk = disk_of format bytes in state_with (length disk) new_guest (Some disk)
+
+-- the one guest is called `disk`
+abbrev pub guest_names : RowNames
+guest_names = record { guests = (100 ∷ 105 ∷ 115 ∷ 107 ∷ []) ∷ []; jobs = [] }
+
+-- the image's file at the end reads as the flat disk of a legal history, and all else is as it was
+pub record TellsDisk (format : Format) (image : List ℕ) (h : List Event) (kept : Bool) (old : List File) (new : Option (List File)) (f : File) : Type 0 where
+  pub file : file_at image old ≡ Some f
+  pub legal : Legal (machine_of format f.bytes) h
+  pub retired : IsIdle (replay (machine_of format f.bytes) h)
+  -- the file's bytes at the end, and whether they are flushed
+  pub bytes : List ℕ
+  pub is_flushed : Bool
+  pub disk : disk_in (replay (machine_of format f.bytes) h).disks 1 ≡ Some (disk_of format bytes)
+  pub sound : IsSoundAs format bytes
+  pub flushed : kept ≡ true → is_flushed ≡ true
+  pub files : new ≡ Some (put_file (record { name = image; bytes = bytes; capacity = f.capacity; is_flushed = is_flushed }) old)
+  -- what was known of the image, from the file as it was opened to the file at the end
+  pub was : Option Known
+  pub now : Option Known
+  pub opened : IsKnownOf format f.bytes was
+  pub ended : IsKnownOf format bytes now
+  pub images : HasImages f.capacity (machine_of format f.bytes) was h now
+
+-- A history of these requests on that image: each stands once, in order, and the faults it names are rises of the
+-- device's count, each named once.
+pub record IsRun (format : Format) (image : List ℕ) (ops : List Op) (flushed : Bool) (old new : Outside) (h : List Event) (before now : ℕ) : Type 0 where
+  pub asked : asked_by 0 h ≡ ops
+  pub opened : new.opened ≡ old.opened ++ record { name = image; faults = before; returned = Some now } ∷ []
+  pub risen : HaveRisen (before ∷ []) h
+  pub last : (count : ℕ) × (counted (before ∷ []) h ≡ count ∷ []) × (count ≤ now)
+  -- where the count has not risen, no piece was stopped by a fault
+  pub quiet : now ≡ before → before < 18446744073709551615 → NameNone h
+  pub told : IfTold old.files (λ files. (f : File) × TellsDisk format image h flushed files new.files f)
+
+-- the image is there and can be opened
+abbrev pub HasImage : Format → List ℕ → List File → Type 0
+HasImage format image files = HasFile image (λ f. IsGoodImage format f.bytes) files
+
+-- the trace is there, and asks for this
+abbrev pub HasTrace : List ℕ → List Op → List File → Type 0
+HasTrace trace ops files = HasFile trace (λ f. (length f.bytes ≤ 67108864) × IsUtf8 f.bytes × (ops_of f.bytes ≡ Ok ops)) files
+
+-- why a trace's bytes are refused, and at which line
+abbrev pub IsBadTrace : InputWhy → ℕ → List ℕ → Type 0
+IsBadTrace Absent line bytes = ⊥
+IsBadTrace TooLarge line bytes = ⊥
+IsBadTrace NeedsBacking line bytes = ⊥
+IsBadTrace (Image stop) line bytes = ⊥
+IsBadTrace TooLong line bytes = (line ≡ 0) × (67108864 < length bytes)
+IsBadTrace NotUtf8 line bytes = (line ≡ 0) × (length bytes ≤ 67108864) × (IsUtf8 bytes → ⊥)
+IsBadTrace BadLine line bytes = (length bytes ≤ 67108864) × IsUtf8 bytes × (ops_of bytes ≡ Err (stops.BadLine line))
+IsBadTrace TooMany line bytes = (length bytes ≤ 67108864) × IsUtf8 bytes × (ops_of bytes ≡ Err (stops.TooMany line))
+
+-- why an image's bytes are refused: a qcow2 image by its first refusal, and then for its backing name
+abbrev pub IsBadBytes : Format → InputWhy → List ℕ → Type 0
+IsBadBytes Raw TooLarge bytes = 274877906944 < length bytes
+IsBadBytes Qcow2 NeedsBacking bytes = IsSound bytes × IsSome (header_of bytes).name
+IsBadBytes Qcow2 (Image stop) bytes = With (refusal_of stop) (λ refusal. image_refusal bytes ≡ Some refusal)
+IsBadBytes format why bytes = ⊥
+
+abbrev pub IsBadImage : Format → InputWhy → List ℕ → List File → Type 0
+IsBadImage format Absent image files = LacksFile image files
+IsBadImage format why image files = HasFile image (λ f. IsBadBytes format why f.bytes) files
+
+abbrev pub IsRefusedTrace : InputWhy → ℕ → List ℕ → List File → Type 0
+IsRefusedTrace Absent line trace files = (line ≡ 0) × LacksFile trace files
+IsRefusedTrace why line trace files = HasFile trace (λ f. IsBadTrace why line f.bytes) files
+
+-- why an input is refused: the image before the trace
+abbrev pub IsRefusedInput : Format → List ℕ → List ℕ → List ℕ → ℕ → InputWhy → List File → Type 0
+IsRefusedInput format image trace name line why files =
+    ((name ≡ image) × (line ≡ 0) × IsBadImage format why image files)
+    ⊎ ((name ≡ trace) × HasImage format image files × IsRefusedTrace why line trace files)
+
+-- nothing was written: neither to a file nor to the sink
+pub record NothingWritten (old new : Outside) : Type 0 where
+  pub files : new.files ≡ old.files
+  pub sent : new.sent ≡ old.sent
+
+-- the requests were made, and of the transcript the first n bytes went out
+pub record WasRun (format : Format) (image trace : List ℕ) (flushed : Bool) (old new : Outside) (ops : List Op) (h : List Event) (before now n : ℕ) : Type 0 where
+  pub inputs : IfTold old.files (λ files. HasImage format image files × HasTrace trace ops files)
+  pub run : IsRun format image ops flushed old new h before now
+  pub sent : new.sent ≡ option_map (λ s. s ++ take n (transcript guest_names h)) old.sent
+
+-- all of it went out
+abbrev pub IsDone : Format → List ℕ → List ℕ → Outside → Outside → Type 0
+IsDone format image trace old new = (ops : List Op) × (h : List Event) × (before : ℕ) × (now : ℕ) × WasRun format image trace true old new ops h before now (length (transcript guest_names h))
+
+-- the device failed while a qcow2 image was opened
+pub record FailsToOpen (format : Format) (image : List ℕ) (old new : Outside) (count : ℕ) : Type 0 where
+  pub reads : format ≡ Qcow2
+  pub nothing : NothingWritten old new
+  pub before : ℕ
+  pub opened : new.opened ≡ old.opened ++ record { name = image; faults = before; returned = Some count } ∷ []
+  pub rose : Rose before count
+
+-- the device failed in the last flush, after which the transcript goes out nevertheless: a rise that no entry names
+abbrev pub FailsToFlush : Format → List ℕ → List ℕ → Outside → Outside → ℕ → Type 0
+FailsToFlush format image trace old new count = (ops : List Op) × (h : List Event) × (before : ℕ) × (n : ℕ)
+    × WasRun format image trace false old new ops h before count n
+    × RoseSince (counted (before ∷ []) h) (Some (record { dev = 0; count = count }))
+    × ((n ≡ length (transcript guest_names h)) ⊎ Rose old.sink_faults new.sink_faults)
+
+-- the first fault: while the inputs were read, while the image was opened, in the last flush, or while the transcript went out
+abbrev pub IsFaulty : Format → List ℕ → List ℕ → Outside → Outside → FaultFrom → ℕ → Type 0
+IsFaulty format image trace old new Store count = NothingWritten old new × Rose old.store_faults count × (count ≡ new.store_faults)
+IsFaulty format image trace old new (Dev dev) count = (dev.0 ≡ 0) × (FailsToOpen format image old new count ⊎ FailsToFlush format image trace old new count)
+IsFaulty format image trace old new Sink count = (ops : List Op) × (h : List Event) × (before : ℕ) × (now : ℕ) × (n : ℕ)
+    × WasRun format image trace true old new ops h before now n × Rose old.sink_faults count × (count ≡ new.sink_faults)
+
+-- why a run on an image ended so
+abbrev pub Answers : Format → List ℕ → List ℕ → Outside → Outside → Status → Type 0
+Answers format image trace old new Done = IsDone format image trace old new
+Answers format image trace old new Usage = ⊥
+Answers format image trace old new (Input name line why) = NothingWritten old new × IfTold old.files (IsRefusedInput format image trace name.bytes line why)
+Answers format image trace old new (Fault from count) = IsFaulty format image trace old new from count
+Answers format image trace old new NoMemory = NothingWritten old new

@@ -1,0 +1,20 @@
+//! The calls of the program, on any store and any sink: its words, a trace run on an image, the transcript, how a run ended.
+#![tactic(auto)]
+
+mod engine;
+mod flight;
+mod input;
+mod medium;
+mod opening;
+mod output;
+mod qcow2;
+mod requests;
+mod run;
+mod session;
+mod status;
+mod transfer;
+mod words;
+
+pub use run::{qblk, run_io};
+pub use status::{InputWhy, Status};
+pub use words::Format;

@@ -1,0 +1,78 @@
+//! The transcript goes out.
+ghost use Rattle.std.specs.Prelude.{◌≡◌, ◌<◌, ◌≤◌, ◌++◌, [], length, OnOk, OnErr, option_map};
+ghost use Rattle.blk_history.specs.Line.{At};
+ghost use Rattle.blk_history.specs.Transcript.{line_of, transcript};
+ghost use Rattle.qblk_core.specs.Comes.{HaveLines};
+ghost use Rattle.qblk_core.specs.Run.{guest_names};
+ghost use Rattle.blk_base.specs.Written.{memory_of};
+ghost use Rattle.qblk_core.specs.Output.{IsBuffer, SendsPart, SendsFront};
+
+use crate::input::CHUNK;
+use blk_base::{Sink, SinkFault, Text};
+use blk_history::{History, Rows};
+
+/// Puts what the text holds, and empties it.
+fn send<K: Sink>(line: &mut Text, out: &mut K) -> Result<(), SinkFault>
+    ensures sent { OnOk result (K.sent out.new ≡ option_map (λ s. s ++ line.old.bytes) (K.sent out.old)) }
+    ensures empty { OnOk result (line.new.bytes ≡ []) }
+    ensures memory { OnOk result (memory_of line.new ≡ memory_of line.old) }
+    ensures failed { OnErr result (SendsFront (K.sent out.old) (K.sent out.new) line.old.bytes (K.faults out.old) (K.faults out.new)) }
+    ensures faults { K.faults out.old ≤ K.faults out.new }
+{
+    match out.put(line.as_str().as_bytes()) {
+        Ok(()) => {
+            line.clear();
+            Ok(())
+        }
+        Err(fault) => Err(fault),
+    }
+}
+
+/// Writes the line of the entry at a place, and puts what the text holds where that is much.
+fn send_line<K: Sink>(
+    history: &History,
+    at: u64,
+    names: &Rows,
+    line: &mut Text,
+    out: &mut K,
+) -> Result<(), SinkFault>
+    requires within { at < length history.now.events }
+    requires lines { HaveLines history.now.events }
+    requires named { names.now ≡ guest_names }
+    requires buffer { IsBuffer line.old }
+    ensures ok { At history.now.events at (λ e. OnOk result (SendsPart (K.sent out.old) (K.sent out.new) (line.old.bytes ++ line_of guest_names e) line.new)) }
+    ensures failed { At history.now.events at (λ e. OnErr result (SendsFront (K.sent out.old) (K.sent out.new) (line.old.bytes ++ line_of guest_names e) (K.faults out.old) (K.faults out.new))) }
+    ensures faults { K.faults out.old ≤ K.faults out.new }
+{
+    history.line(at, names, line).unwrap();
+    if line.len() < CHUNK {
+        return Ok(());
+    }
+    send(line, out)
+}
+
+/// Writes all lines of a history, and puts them. The text comes empty, with room for 64 KiB and the longest line.
+pub(crate) fn send_transcript<K: Sink>(
+    history: &History,
+    names: &Rows,
+    line: &mut Text,
+    out: &mut K,
+) -> Result<(), SinkFault>
+    requires lines { HaveLines history.now.events }
+    requires named { names.now ≡ guest_names }
+    requires empty { line.old.bytes ≡ [] }
+    requires buffer { IsBuffer line.old }
+    ensures ok { OnOk result (K.sent out.new ≡ option_map (λ s. s ++ transcript guest_names history.now.events) (K.sent out.old)) }
+    ensures failed { OnErr result (SendsFront (K.sent out.old) (K.sent out.new) (transcript guest_names history.now.events) (K.faults out.old) (K.faults out.new)) }
+    ensures faults { K.faults out.old ≤ K.faults out.new }
+{
+    for at in 0..history.len() {
+        if let Err(fault) = send_line(history, at, names, line, out) {
+            return Err(fault);
+        }
+    }
+    if line.is_empty() {
+        return Ok(());
+    }
+    send(line, out)
+}

@@ -1,0 +1,55 @@
+//! The calls of the program.
+ghost use Rattle.std.specs.Prelude.{◌≡◌, List, ℕ};
+ghost use Rattle.qblk_core.specs.Words.{IsIo, texts_of};
+ghost use Rattle.qblk_core.specs.Run.{Answers};
+ghost use Rattle.qblk_core.specs.declared.words.Format.{Format};
+ghost use Rattle.qblk_core.specs.Session.{NoneOut};
+
+use crate::session::run_on;
+use crate::status::Status;
+use crate::words::io_words;
+use blk_base::{Sink, Store, Text};
+use std::alloc::Global;
+
+/// Runs the trace of `io FORMAT IMAGE TRACE` on the image, and puts the transcript.
+pub fn run_io<S: Store, K: Sink>(
+    alloc: Global,
+    words: &[Text],
+    store: S,
+    out: &mut K,
+) -> (Status, S)
+    requires form { (format : Format) × (image : List ℕ) × (trace : List ℕ) × IsIo (texts_of words.now) format image trace }
+    requires none_out { NoneOut (S.opened store) }
+    ensures ended { (format : Format) (image trace : List ℕ) → IsIo (texts_of words.now) format image trace → Answers format image trace
+        (record { files = S.files store; opened = S.opened store; store_faults = S.faults store; sent = K.sent out.old; sink_faults = K.faults out.old })
+        (record { files = S.files result.1; opened = S.opened result.1; store_faults = S.faults result.1; sent = K.sent out.new; sink_faults = K.faults out.new }) result.0 }
+    ensures back { NoneOut (S.opened result.1) }
+{
+    let mut store = store;
+    let status = match io_words(words) {
+        Some(io) => run_on(alloc, io.format, io.image, io.trace, &mut store, out),
+        None => unreachable!(),
+    };
+    (status, store)
+}
+
+/// Does what the words say, on the files of a store. They come without the program's name.
+pub fn qblk<S: Store, K: Sink>(alloc: Global, words: &[Text], store: S, out: &mut K) -> (Status, S)
+    requires { NoneOut (S.opened store) }
+
+    // `io FORMAT IMAGE TRACE`
+    ensures io { (format : Format) (image trace : List ℕ) → IsIo (texts_of words.now) format image trace → Answers format image trace
+        (record { files = S.files store; opened = S.opened store; store_faults = S.faults store; sent = K.sent out.old; sink_faults = K.faults out.old })
+        (record { files = S.files result.1; opened = S.opened result.1; store_faults = S.faults result.1; sent = K.sent out.new; sink_faults = K.faults out.new }) result.0 }
+
+    // all other words: nothing is done
+    ensures usage { ((format : Format) (image trace : List ℕ) → IsIo (texts_of words.now) format image trace → ⊥) → (result.0 ≡ Status.Usage) × (result.1 ≡ store) × (out.new ≡ out.old) }
+
+    // whatever the words: no device is left out
+    ensures back { NoneOut (S.opened result.1) }
+{
+    if io_words(words).is_none() {
+        return (Status::Usage, store);
+    }
+    run_io(alloc, words, store, out)
+}

@@ -1,0 +1,216 @@
+//! A run of a trace on one image, from its inputs to the transcript.
+ghost use Rattle.std.specs.Prelude.{◌≡◌, ◌≤◌, List, ℕ, MatchResult, IfOk, IfErr, OnErr, None, [], ◌∷◌, ◌++◌};
+ghost use Rattle.blk_base.specs.Files.{IfTold};
+ghost use Rattle.blk_base.specs.Stored.{IsDeviceOf};
+ghost use Rattle.blk_base.specs.declared.file.Opened.{Opened};
+ghost use Rattle.qblk_core.specs.Session.{NoneOut, IsReadOf, IsStoreStop, IsOpenStop, IsMade, IsRunStop, IsUntouched, EndsAs, ended_as, failed_as};
+ghost use Rattle.qblk_core.specs.Opened.{IsImageStatus};
+ghost use Rattle.blk_history.specs.Transcript.{transcript};
+ghost use Rattle.qblk_core.specs.Comes.{HaveLines};
+ghost use Rattle.qblk_core.specs.Face.{Face};
+ghost use Rattle.qblk_core.specs.Run.{guest_names, Answers};
+
+use crate::engine::Engine;
+use crate::input::{MAX_TRACE, Prepared, TraceRead, judge, refused};
+use crate::opening::{MediumStop, open_medium};
+use crate::output::send_transcript;
+use crate::requests::run_requests;
+use crate::status::{InputWhy, Status};
+use crate::transfer::DEVICE;
+use crate::words::Format;
+use blk_base::{Device, FaultAt, FaultFrom, Sink, Store, StoreStop, Text};
+use blk_history::{History, Rows};
+use std::alloc::Global;
+
+/// The history of a run, what its transcript is written with, and the fault of the last flush.
+struct Made {
+    history: History,
+    names: Rows,
+    line: Text,
+    fault: Option<FaultAt>,
+}
+
+/// The fault of a store's call that failed.
+fn store_fault<S: Store>(store: &S) -> Status
+    ensures { result ≡ Status.Fault FaultFrom.Store (S.faults store.now) }
+{
+    Status::Fault {
+        from: FaultFrom::Store,
+        count: store.faults(),
+    }
+}
+
+/// Reads the file of a trace, where it isn't too long.
+fn read_trace_file<S: Store>(store: &mut S, name: &str) -> Result<TraceRead, Status>
+    requires { NoneOut (S.opened store.old) }
+    ensures read { IfOk result (λ read. IfTold (S.files store.old) (IsReadOf name.now read)) }
+    ensures stop { IfErr result (IsStoreStop (S.faults store.old) (S.faults store.new)) }
+    ensures files { S.files store.new ≡ S.files store.old }
+    ensures opened { S.opened store.new ≡ S.opened store.old }
+    ensures faults { S.faults store.old ≤ S.faults store.new }
+{
+    match store.read_all(name, MAX_TRACE) {
+        Ok(bytes) => Ok(TraceRead::Whole(bytes)),
+        Err(StoreStop::Absent) => Ok(TraceRead::Absent),
+        Err(StoreStop::TooLong) => Ok(TraceRead::TooLong),
+        Err(StoreStop::Failed) => Err(store_fault(store)),
+        Err(StoreStop::NoMemory) => Err(Status::NoMemory),
+        Err(StoreStop::InUse) => unreachable!(),
+    }
+}
+
+/// Opens the image.
+fn open_image<S: Store>(alloc: Global, store: &mut S, name: &str) -> Result<S::Dev, Status>
+    requires { NoneOut (S.opened store.old) }
+    ensures device { IfOk result (λ dev. IsDeviceOf (S.files store.old) name.now (S.Dev.content dev) (S.Dev.capacity dev) (S.Dev.is_flushed dev)) }
+    ensures opened { MatchResult result
+        (λ dev. S.opened store.new ≡ S.opened store.old ++ record { name = name.now; faults = S.Dev.faults dev; returned = None } ∷ [])
+        (λ _. S.opened store.new ≡ S.opened store.old) }
+    ensures stop { IfErr result (IsOpenStop name.now (S.files store.old) (S.faults store.old) (S.faults store.new)) }
+    ensures files { S.files store.new ≡ S.files store.old }
+    ensures faults { S.faults store.old ≤ S.faults store.new }
+{
+    match store.open_file(name) {
+        Ok(device) => Ok(device),
+        Err(StoreStop::Absent) => Err(refused(alloc, name, 0, InputWhy::Absent)),
+        Err(StoreStop::Failed) => Err(store_fault(store)),
+        Err(StoreStop::NoMemory) => Err(Status::NoMemory),
+        Err(StoreStop::InUse | StoreStop::TooLong) => unreachable!(),
+    }
+}
+
+/// The status of an image that isn't opened.
+fn image_status(alloc: Global, image: &str, stop: MediumStop) -> Status
+    ensures { IsImageStatus image.now stop result }
+{
+    match stop {
+        MediumStop::Refused(why) => refused(alloc, image, 0, why),
+        MediumStop::Io { count } => Status::Fault {
+            from: FaultFrom::Dev(DEVICE),
+            count,
+        },
+        MediumStop::NoMemory => Status::NoMemory,
+    }
+}
+
+/// Makes the requests of a trace on an image, and flushes it. A refused input leaves what the device holds.
+fn make_run<D: Device>(
+    alloc: Global,
+    format: Format,
+    image: &str,
+    trace: &str,
+    read: TraceRead,
+    device: D,
+) -> (Result<Made, Status>, D)
+    ensures made { IfOk result.0 (λ made. (bytes : List ℕ) × (w : Face) × (read ≡ TraceRead.Whole bytes)
+        × IsMade format bytes
+        (record { content = D.content device; is_flushed = D.is_flushed device; faults = D.faults device; capacity = D.capacity device; size = D.size device })
+        (record { content = D.content result.1; is_flushed = D.is_flushed result.1; faults = D.faults result.1; capacity = D.capacity result.1; size = D.size result.1 }) w made.fault
+        × (made.history ≡ w.log) × (made.names ≡ guest_names) × (made.line.bytes ≡ []) × (393476 ≤ made.line.spare)) }
+    ensures stop { IfErr result.0 (IsRunStop format image.now trace.now read
+        (record { content = D.content device; is_flushed = D.is_flushed device; faults = D.faults device; capacity = D.capacity device; size = D.size device })
+        (record { content = D.content result.1; is_flushed = D.is_flushed result.1; faults = D.faults result.1; capacity = D.capacity result.1; size = D.size result.1 })) }
+    ensures untouched { OnErr result.0 (IsUntouched
+        (record { content = D.content device; is_flushed = D.is_flushed device; faults = D.faults device; capacity = D.capacity device; size = D.size device })
+        (record { content = D.content result.1; is_flushed = D.is_flushed result.1; faults = D.faults result.1; capacity = D.capacity result.1; size = D.size result.1 })) }
+{
+    let medium = match open_medium(alloc, format, device) {
+        Ok(medium) => medium,
+        Err((stop, device)) => return (Err(image_status(alloc, image, stop)), device),
+    };
+    let Prepared {
+        ops,
+        history,
+        buffer,
+        names,
+        line,
+    } = match judge(alloc, trace, read) {
+        Ok(prepared) => prepared,
+        Err(status) => return (Err(status), medium.into_device()),
+    };
+    let mut engine = Engine::new(medium, history, buffer);
+    run_requests(&mut engine, ops);
+    let (device, history, fault) = engine.finish();
+    let made = Made {
+        history,
+        names,
+        line,
+        fault,
+    };
+    (Ok(made), device)
+}
+
+/// Puts the transcript, and tells how the run ended: by its first fault, where one came.
+fn write_out<K: Sink>(made: Made, out: &mut K) -> Status
+    requires lines { HaveLines made.history.events }
+    requires named { made.names ≡ guest_names }
+    requires empty { made.line.bytes ≡ [] }
+    requires room { 393476 ≤ made.line.spare }
+    ensures { EndsAs made.fault (K.sent out.old) (K.sent out.new) (transcript guest_names made.history.events) (K.faults out.old) (K.faults out.new) result }
+{
+    let Made {
+        history,
+        names,
+        mut line,
+        fault,
+    } = made;
+    match send_transcript(&history, &names, &mut line, out) {
+        Ok(()) => ended(fault),
+        Err(_) => failed(fault, out.faults()),
+    }
+}
+
+/// How a run ended whose transcript is out.
+fn ended(fault: Option<FaultAt>) -> Status
+    ensures { result ≡ ended_as fault }
+{
+    match fault {
+        None => Status::Done,
+        Some(FaultAt { from, count }) => Status::Fault { from, count },
+    }
+}
+
+/// How a run ended at which a put failed.
+fn failed(fault: Option<FaultAt>, count: u64) -> Status
+    ensures { result ≡ failed_as fault count }
+{
+    match fault {
+        None => Status::Fault {
+            from: FaultFrom::Sink,
+            count,
+        },
+        Some(FaultAt { from, count }) => Status::Fault { from, count },
+    }
+}
+
+/// Runs a trace on an image: reads the trace, opens the image, makes the requests, flushes and gives the image back, and
+/// puts the transcript.
+pub(crate) fn run_on<S: Store, K: Sink>(
+    alloc: Global,
+    format: Format,
+    image: &str,
+    trace: &str,
+    store: &mut S,
+    out: &mut K,
+) -> Status
+    requires { NoneOut (S.opened store.old) }
+    ensures ended { Answers format image.now trace.now
+        (record { files = S.files store.old; opened = S.opened store.old; store_faults = S.faults store.old; sent = K.sent out.old; sink_faults = K.faults out.old })
+        (record { files = S.files store.new; opened = S.opened store.new; store_faults = S.faults store.new; sent = K.sent out.new; sink_faults = K.faults out.new }) result }
+    ensures back { NoneOut (S.opened store.new) }
+{
+    let read = match read_trace_file(store, trace) {
+        Ok(read) => read,
+        Err(status) => return status,
+    };
+    let device = match open_image(alloc, store, image) {
+        Ok(device) => device,
+        Err(status) => return status,
+    };
+    let (made, device) = make_run(alloc, format, image, trace, read, device);
+    store.give_back(image, device);
+    match made {
+        Ok(made) => write_out(made, out),
+        Err(status) => status,
+    }
+}

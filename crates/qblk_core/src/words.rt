@@ -1,0 +1,72 @@
+//! The words of the program.
+ghost use Rattle.std.specs.Prelude.{◌≡◌, List, ℕ, bytes_eq, MatchOption};
+ghost use Rattle.qblk_core.specs.Words.{is_file_name, format_of, IsIo, texts_of};
+ghost use Rattle.qblk_core.specs.declared.words.Format.{Format};
+
+use blk_base::Text;
+
+/// How an image's file is read as a disk.
+#[derive(Clone, Copy, Debug, PartialEq, Eq)]
+pub enum Format {
+    /// The file's bytes are the disk's.
+    Raw,
+    /// The file is a qcow2 image of version 3.
+    Qcow2,
+}
+
+/// Whether a word names a file: 1 to 1,023 bytes without a zero byte, the first no `-`.
+fn names_file(word: &str) -> bool
+    ensures { result ≡ is_file_name word.now }
+{
+    let bytes = word.as_bytes();
+    !bytes.is_empty() && bytes.len() < 1024 && bytes[0] != b'-' && !bytes.contains(&0)
+}
+
+/// Whether a word is this one.
+fn is_word(word: &Text, text: &str) -> bool
+    ensures { result ≡ bytes_eq word.now.bytes text.now }
+{
+    word.as_str() == text
+}
+
+/// The format that a word names.
+fn format_named(word: &Text) -> Option<Format>
+    ensures { result ≡ format_of word.now.bytes }
+{
+    if is_word(word, "raw") {
+        Some(Format::Raw)
+    } else if is_word(word, "qcow2") {
+        Some(Format::Qcow2)
+    } else {
+        None
+    }
+}
+
+/// The words of the form `io FORMAT IMAGE TRACE`.
+#[derive(Clone, Copy, Debug)]
+pub(crate) struct IoWords<'a> {
+    pub format: Format,
+    pub image: &'a str,
+    pub trace: &'a str,
+}
+
+/// The format, the image and the trace of the form `io FORMAT IMAGE TRACE`.
+pub(crate) fn io_words(words: &[Text]) -> Option<IoWords<'_>>
+    ensures { MatchOption result ((format : Format) (image trace : List ℕ) → IsIo (texts_of words.now) format image trace → ⊥)
+        (λ io. IsIo (texts_of words.now) io.format io.image.now io.trace.now) }
+{
+    let [io, format, image, trace] = words else {
+        return None;
+    };
+    let format = format_named(format)?;
+    let image = image.as_str();
+    let trace = trace.as_str();
+    if is_word(io, "io") && names_file(image) && names_file(trace) {
+        return Some(IoWords {
+            format,
+            image,
+            trace,
+        });
+    }
+    None
+}
