@@ -1,6 +1,6 @@
 -- Histories that come of an opening.
 use Rattle.std.specs.Prelude.{◌≡◌, ℕ, Bool, true, List, [], ◌∷◌, ◌++◌, length, Option, Some, None}
-use Rattle.qmp_rules.specs.declared.rows.JobRow.{JobRow}
+use Rattle.qmp_rules.specs.declared.rows.JobRecord.{JobRecord}
 use Rattle.qmp_rules.specs.Table.{job_at}
 use Rattle.blk_history.specs.Fold.{run}
 use Rattle.blk_history.specs.Names.{JobLine, RowNames, no_job}
@@ -19,7 +19,7 @@ use Rattle.blk_history.specs.declared.event.Event.TheVariants.{Start}
 -- ---- names of a history
 
 -- the line of a job, by its row
-abbrev pub job_line_of : State → Option JobRow → JobLine
+abbrev pub job_line_of : State → Option JobRecord → JobLine
 job_line_of s None = no_job
 job_line_of s (Some row) = record { id = row.id; kind = row.kind; size = size_of s.table row.source }
 

@@ -1,7 +1,7 @@
 -- Which entries one event makes.
 use Rattle.std.specs.Prelude.{◌≡◌, ◌≢◌, ℕ, ◌-◌, if◌then◌else◌, List, [], ◌∷◌, ◌++◌, map, Contains, AllPairs, Option, Some, None}
 use Rattle.std.specs.List.{range_with_len}
-use Rattle.qmp_rules.specs.declared.rows.JobRow.{JobRow}
+use Rattle.qmp_rules.specs.declared.rows.JobRecord.{JobRecord}
 use Rattle.qmp_rules.specs.Table.{Table, job_at}
 use Rattle.blk_history.specs.Fold.{With}
 use Rattle.flat_machine.specs.State.{State}
@@ -25,7 +25,7 @@ ended_job e = None
 -- the ends of all members of a group, each once
 pub record AreEndsOf (t : Table) (group : ℕ) (es : List Event) : Type 0 where
   pub ends : (e : Event) → Contains es e → With (ended_job e) (λ job. With (job_at t job) (λ row. row.group ≡ Some group))
-  pub all : (row : JobRow) → Contains t.jobs row → row.group ≡ Some group → Contains (map ended_job es) (Some row.number)
+  pub all : (row : JobRecord) → Contains t.jobs row → row.group ≡ Some group → Contains (map ended_job es) (Some row.number)
   pub once : AllPairs (λ a b. a ≢ b) (map ended_job es)
 
 -- the end of a job without a group, or those of all members of its group side by side

@@ -17,7 +17,7 @@ use Rattle.qmp_codec.specs.declared.nodes.Added.{Added}
 use Rattle.qmp_codec.specs.declared.nodes.Added.TheVariants as added
 use Rattle.qmp_codec.specs.declared.nodes.Created.{Created}
 use Rattle.qmp_codec.specs.declared.nodes.Created.TheVariants as created
-use Rattle.qmp_rules.specs.declared.rows.JobRow.{JobRow}
+use Rattle.qmp_rules.specs.declared.rows.JobRecord.{JobRecord}
 use Rattle.qmp_rules.specs.Table.{Table, id_named, job_at}
 use Rattle.qmp_rules.specs.Chains.{reaches}
 use Rattle.blk_history.specs.Fold.{With}
@@ -84,7 +84,7 @@ IsCalledBy t sources before source c = ⊥
 -- ---- ends of jobs: the fault that the job met
 
 -- a job meets a fault once, of a device that one of its nodes reaches
-pub record MayMeet (t : Table) (sources : Sources) (row : JobRow) (fault : Fault) : Type 0 where
+pub record MayMeet (t : Table) (sources : Sources) (row : JobRecord) (fault : Fault) : Type 0 where
   pub first : sources.met_by row.number ≡ None
   pub node : ℕ
   pub own : Contains (row.held ++ row.read) node

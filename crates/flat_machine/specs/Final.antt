@@ -6,7 +6,7 @@ use Rattle.blk_graph.specs.declared.edge.Role.TheVariants.{File as FileRole, Bac
 use Rattle.blk_graph.specs.declared.kind.Kind.{Kind}
 use Rattle.blk_graph.specs.declared.kind.Kind.TheVariants.{Protocol, Raw, Qcow2}
 use Rattle.q2_format.specs.Contents.{file_disk, raw_disk, image_disk}
-use Rattle.qmp_rules.specs.declared.rows.NodeRow.{NodeRow}
+use Rattle.qmp_rules.specs.declared.rows.NodeRecord.{NodeRecord}
 use Rattle.qmp_rules.specs.Table.{Table, has_name, node_at, child}
 use Rattle.qmp_rules.specs.Chains.{filtered, is_settled}
 use Rattle.blk_history.specs.Fold.{With}
@@ -35,7 +35,7 @@ below_as reads (Some node) = reads node
 
 -- A `file` node is its file, `raw` its part of the `file` node, qcow2 the image in the file over what the backing node reads
 -- as, and a filter what its child does.
-abbrev pub row_bytes : List File → Table → (ℕ → List ℕ) → NodeRow → Kind → List ℕ
+abbrev pub row_bytes : List File → Table → (ℕ → List ℕ) → NodeRecord → Kind → List ℕ
 row_bytes files t reads row Protocol = file_disk row.size (bytes_under files t row.id)
 row_bytes files t reads row Raw = raw_disk row.offset row.size (below_as reads (child t row.id FileRole))
 row_bytes files t reads row Qcow2 =

@@ -9,7 +9,7 @@ use Rattle.qmp_codec.specs.declared.event.JobKind.{JobKind}
 use Rattle.qmp_codec.specs.declared.event.JobKind.TheVariants.{Stream, Commit, Mirror, Backup}
 use Rattle.qmp_rules.specs.declared.rows.Asked.{Asked}
 use Rattle.qmp_rules.specs.declared.rows.Asked.TheVariants as asked
-use Rattle.qmp_rules.specs.declared.rows.JobRow.{JobRow}
+use Rattle.qmp_rules.specs.declared.rows.JobRecord.{JobRecord}
 use Rattle.qmp_rules.specs.Table.{Table, id_named, device_named, job_at}
 use Rattle.qmp_rules.specs.Chains.{has_id, disk_node}
 use Rattle.blk_history.specs.Fold.{Each, With}
@@ -39,18 +39,18 @@ snapshot_marks t (Ok (command.BlockdevSnapshot c)) = ids_of (id_named t c.node)
 snapshot_marks t (Ok (command.Transaction c)) = action_marks t c.actions
 snapshot_marks t line = []
 
-abbrev pub start_marks : JobRow → JobKind → List ℕ
+abbrev pub start_marks : JobRecord → JobKind → List ℕ
 start_marks row Backup = row.source ∷ []
 start_marks row kind = []
 
-abbrev pub end_marks : JobRow → JobKind → JobEnd → List ℕ
+abbrev pub end_marks : JobRecord → JobKind → JobEnd → List ℕ
 end_marks row Mirror Pivoted = row.source ∷ []
 end_marks row Mirror Copied = row.source ∷ []
 end_marks row Commit Completed = row.source ∷ []
 end_marks row Commit Pivoted = row.source ∷ []
 end_marks row kind outcome = []
 
-abbrev pub of_job : Option JobRow → (JobRow → List ℕ) → List ℕ
+abbrev pub of_job : Option JobRecord → (JobRecord → List ℕ) → List ℕ
 of_job None f = []
 of_job (Some row) f = f row
 
@@ -98,7 +98,7 @@ ends_by asked.Nothing = false
 ends_by asked.Stop = false
 
 -- A mirror or an active commit that is asked to end must drain its source. No guest is on the top of another commit.
-abbrev pub must_drain : JobRow → Bool
+abbrev pub must_drain : JobRecord → Bool
 must_drain row = can_be_ready row row.kind && ends_by row.asked
 
 -- ---- drains that stand

@@ -1,2 +1,11 @@
 pub mod OrderLemmas
 pub mod PlaceLemmas
+pub mod AskLists
+pub mod ChainLemmas
+pub mod FirstLemmas
+pub mod RoomLemmas
+pub mod EditLemmas
+pub mod JudgeLemmas
+pub mod ReachLemmas
+pub mod ClashLemmas
+pub mod ItemLemmas

@@ -8,8 +8,8 @@ use Rattle.qmp_rules.specs.declared.ask.JobNodes.TheVariants.{Stream, Commit, Co
 use Rattle.qmp_rules.specs.declared.refusal.Refusal.{Refusal}
 use Rattle.qmp_rules.specs.declared.refusal.Refusal.TheVariants as refusal
 use Rattle.blk_graph.specs.declared.edge.Role.TheVariants.{Backing}
-use Rattle.qmp_rules.specs.declared.rows.NodeRow.{NodeRow}
-use Rattle.qmp_rules.specs.declared.rows.JobRow.{JobRow}
+use Rattle.qmp_rules.specs.declared.rows.NodeRecord.{NodeRecord}
+use Rattle.qmp_rules.specs.declared.rows.JobRecord.{JobRecord}
 use Rattle.qmp_rules.specs.declared.rows.BitmapRow.{BitmapRow}
 use Rattle.qmp_rules.specs.declared.told.Told.{Told}
 use Rattle.qmp_rules.specs.Table.{Table, job_id, node_at, node_named, id_named, job_named, bitmap_named, child, first_into}
@@ -46,7 +46,7 @@ at_either : (p : ℕ) (a b : Option Refusal) → At p a → At p b → At p (or_
 at_either p None b ha hb = hb
 at_either p (Some r) b ha hb = ha
 
-at_held : (t : Table) (id : ℕ) (job : Option JobRow) → At 19 (held_by t id job)
+at_held : (t : Table) (id : ℕ) (job : Option JobRecord) → At 19 (held_by t id job)
 at_held t id None = at_none 19
 at_held t id (Some job) = at_some 19 _ refl
 
@@ -79,7 +79,7 @@ at_chain t (Commit device base top) = at_either 22 _ _
     (at_refused 22 _ _ refl)
 at_chain t (Copy device target) = at_none 22
 
-at_differ : (a b : Option NodeRow) → At 23 (differ a b)
+at_differ : (a b : Option NodeRecord) → At 23 (differ a b)
 at_differ None b = at_none 23
 at_differ (Some a) None = at_none 23
 at_differ (Some a) (Some b) = at_refused 23 _ _ refl

@@ -19,8 +19,8 @@ use Rattle.qmp_rules.specs.declared.refusal.Crowd.TheVariants.{Nodes, Devices, J
 use Rattle.qmp_rules.specs.declared.refusal.FileFault.TheVariants.{InUse, TooLong}
 use Rattle.qmp_rules.specs.declared.refusal.Refusal.{Refusal}
 use Rattle.qmp_rules.specs.declared.refusal.Refusal.TheVariants as refusal
-use Rattle.qmp_rules.specs.declared.rows.NodeRow.{NodeRow}
-use Rattle.qmp_rules.specs.declared.rows.JobRow.{JobRow}
+use Rattle.qmp_rules.specs.declared.rows.NodeRecord.{NodeRecord}
+use Rattle.qmp_rules.specs.declared.rows.JobRecord.{JobRecord}
 use Rattle.qmp_rules.specs.declared.rows.BitmapRow.{BitmapRow}
 use Rattle.qmp_rules.specs.declared.rows.FileState.{FileState}
 use Rattle.qmp_rules.specs.declared.rows.FileState.TheVariants.{Made, Formatted, Used}
@@ -65,18 +65,18 @@ takes drivers.FileRawOrQcow2 kind.Qcow2 = true
 takes _ _ = false
 
 -- a file node
-abbrev pub is_file : NodeRow → Bool
+abbrev pub is_file : NodeRecord → Bool
 is_file row = takes drivers.File row.kind
 
-abbrev pub file_node : Table → List ℕ → Option NodeRow
+abbrev pub file_node : Table → List ℕ → Option NodeRecord
 file_node t name = option_and_then (λ row. if is_file row then Some row else None) (node_named t name)
 
 -- the name of the file that a node stands for
-abbrev pub name_of_file : NodeRow → List ℕ
+abbrev pub name_of_file : NodeRecord → List ℕ
 name_of_file row = unwrap_or row.filename []
 
 -- a node stands for the file
-abbrev pub stands_for : List ℕ → NodeRow → Bool
+abbrev pub stands_for : List ℕ → NodeRecord → Bool
 stands_for name row = unwrap_or (option_map (λ filename. bytes_eq filename name) row.filename) false
 
 -- the bytes of a file that is in this state are not known to a node over it: to none of one that was used, and to a raw one
@@ -96,10 +96,10 @@ in_use t name edge = option_map (λ e. refusal.InUse name (parent_name t e.paren
 abbrev pub in_use_at : Table → List ℕ → ℕ → Option Refusal
 in_use_at t name id = in_use t name (first_into id t.edges)
 
-abbrev pub held_by : Table → ℕ → Option JobRow → Option Refusal
+abbrev pub held_by : Table → ℕ → Option JobRecord → Option Refusal
 held_by t id job = option_map (λ row. refusal.JobHolds (name_at t id) row.id) job
 
-abbrev pub sizes_differ : NodeRow → NodeRow → Option Refusal
+abbrev pub sizes_differ : NodeRecord → NodeRecord → Option Refusal
 sizes_differ a b = refused (not (a.size == b.size)) (refusal.SizeDiffers a.name b.name)
 
 -- ---- bitmaps
@@ -180,7 +180,7 @@ not_in_chain t (Commit device base top) = or_else
     (refusal.NotInChain (name_at t (top_of t (Commit device base top)))))
 not_in_chain t (Copy device target) = None
 
-abbrev pub differ : Option NodeRow → Option NodeRow → Option Refusal
+abbrev pub differ : Option NodeRecord → Option NodeRecord → Option Refusal
 differ (Some a) (Some b) = sizes_differ a b
 differ _ _ = None
 
@@ -192,10 +192,10 @@ sizes t (Commit device base top) = differ
 sizes t (Copy device target) = differ (node_named t device) (node_named t target)
 
 -- the sources that a target may not reach: its own, then those of mirrors
-abbrev pub is_mirror : JobRow → Bool
+abbrev pub is_mirror : JobRecord → Bool
 is_mirror job = elim job.kind as (λ _. Bool) [ job_kind.Mirror ↦ true | _ ↦ false ]
 
-abbrev pub mirrored : List JobRow → List ℕ
+abbrev pub mirrored : List JobRecord → List ℕ
 mirrored [] = []
 mirrored (job ∷ jobs) = if is_mirror job then job.source ∷ mirrored jobs else mirrored jobs
 
@@ -222,14 +222,14 @@ in_the_way t (Copy device target) = first_reached t (id_or 0 t (Some target)) (i
 -- ---- files
 
 -- the part of a file node begins, or ends, past the file
-abbrev pub part_begins : Option Amount → NodeRow → Option Refusal
+abbrev pub part_begins : Option Amount → NodeRecord → Option Refusal
 part_begins offset row = refused (not (begins_within offset row.size)) (refusal.BadValue (codes "offset"))
 
-abbrev pub part_ends : Option Amount → Option Amount → NodeRow → Option Refusal
+abbrev pub part_ends : Option Amount → Option Amount → NodeRecord → Option Refusal
 part_ends offset size row = refused (not (ends_within offset size row.size)) (refusal.BadValue (codes "size"))
 
 -- it is too long; of a file that was used this isn't said
-abbrev pub part_too_long : Table → Option Amount → Option Amount → NodeRow → Option Refusal
+abbrev pub part_too_long : Table → Option Amount → Option Amount → NodeRecord → Option Refusal
 part_too_long t offset size row = refused
     (not (part_fits offset size row.size || is_lost false (file_state t (name_of_file row))))
     (refusal.File (name_of_file row) TooLong)

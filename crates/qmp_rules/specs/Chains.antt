@@ -9,8 +9,8 @@ use Rattle.blk_graph.specs.declared.edge.Role.TheVariants.{File, Backing, Filter
 use Rattle.blk_graph.specs.declared.kind.Kind.{Kind}
 use Rattle.blk_graph.specs.declared.kind.Kind.TheVariants.{Protocol, Raw, Qcow2, CopyOnRead, BeforeWrite, Mirror, Commit}
 use Rattle.blk_graph.specs.Edges.{same_parent, same_role}
-use Rattle.qmp_rules.specs.declared.rows.NodeRow.{NodeRow}
-use Rattle.qmp_rules.specs.declared.rows.JobRow.{JobRow}
+use Rattle.qmp_rules.specs.declared.rows.NodeRecord.{NodeRecord}
+use Rattle.qmp_rules.specs.declared.rows.JobRecord.{JobRecord}
 use Rattle.qmp_rules.specs.Table.{Table, node_at, child}
 
 abbrev pub has_id : ℕ → List ℕ → Bool
@@ -106,7 +106,7 @@ reaches t from to = leads 64 t.edges from to
 abbrev pub is_over : Table → ℕ → ℕ → Bool
 is_over t node id = has_id node (below t (disk_node t id))
 
-abbrev pub unsettled_over : Table → ℕ → NodeRow → NodeRow
+abbrev pub unsettled_over : Table → ℕ → NodeRecord → NodeRecord
 unsettled_over t node row = if is_over t node row.id then record row { is_settled = false } else row
 
 -- A guest's write changes a node: every other node that reaches it by backing edges has no flat disk any more.
@@ -115,16 +115,16 @@ written_under node t = record t { nodes = map (unsettled_over t node) t.nodes }
 
 -- ---- holders
 
-abbrev pub holds_so : ℕ → JobRow → Bool
+abbrev pub holds_so : ℕ → JobRecord → Bool
 holds_so id job = has_id id job.held
 
-abbrev pub holds_any : ℕ → JobRow → Bool
+abbrev pub holds_any : ℕ → JobRecord → Bool
 holds_any id job = has_id id job.held || has_id id job.read
 
 -- the first job that holds a node, be it for reading
-abbrev pub holder : Table → ℕ → Option JobRow
+abbrev pub holder : Table → ℕ → Option JobRecord
 holder t id = find (holds_any id) t.jobs
 
 -- the first that holds it for itself
-abbrev pub keeper : Table → ℕ → Option JobRow
+abbrev pub keeper : Table → ℕ → Option JobRecord
 keeper t id = find (holds_so id) t.jobs

@@ -8,38 +8,38 @@ use Rattle.blk_graph.specs.Permissions.{idle_uses, node_edge, drive_edge, job_ed
 use Rattle.blk_graph.specs.Refreshed.{refreshed}
 use Rattle.qmp_rules.specs.declared.change.Change.{Change}
 use Rattle.qmp_rules.specs.declared.change.Change.TheVariants as change
-use Rattle.qmp_rules.specs.declared.rows.NodeRow.{NodeRow}
+use Rattle.qmp_rules.specs.declared.rows.NodeRecord.{NodeRecord}
 use Rattle.qmp_rules.specs.declared.rows.Device.{Device}
 use Rattle.qmp_rules.specs.declared.rows.Asked.{Asked}
 use Rattle.qmp_rules.specs.declared.rows.Asked.TheVariants as asked
-use Rattle.qmp_rules.specs.declared.rows.JobRow.{JobRow}
+use Rattle.qmp_rules.specs.declared.rows.JobRecord.{JobRecord}
 use Rattle.qmp_rules.specs.declared.rows.UsedBitmap.{UsedBitmap}
 use Rattle.qmp_rules.specs.declared.rows.BitmapRow.{BitmapRow}
 use Rattle.qmp_rules.specs.declared.rows.FileState.TheVariants.{Made, Formatted, Used}
 use Rattle.qmp_rules.specs.Table.{Table, with_file, kinds_of, is_bitmap}
 
 -- the table with these nodes and edges, of which each asks and shares what the edges into its parent say
-abbrev pub rewired : List NodeRow → List Edge → Table → Table
+abbrev pub rewired : List NodeRecord → List Edge → Table → Table
 rewired nodes edges t = record t { nodes = nodes; edges = refreshed (kinds_of nodes) edges }
 
 -- ---- nodes
 
-abbrev pub node_changed : ℕ → (NodeRow → NodeRow) → NodeRow → NodeRow
+abbrev pub node_changed : ℕ → (NodeRecord → NodeRecord) → NodeRecord → NodeRecord
 node_changed id change row = if row.id == id then change row else row
 
-abbrev pub unsettled : NodeRow → NodeRow
+abbrev pub unsettled : NodeRecord → NodeRecord
 unsettled row = record row { is_settled = false }
 
-abbrev pub with_unsettled : ℕ → List NodeRow → List NodeRow
+abbrev pub with_unsettled : ℕ → List NodeRecord → List NodeRecord
 with_unsettled id nodes = map (node_changed id unsettled) nodes
 
-abbrev pub writable : NodeRow → NodeRow
+abbrev pub writable : NodeRecord → NodeRecord
 writable row = record row { read_only = false }
 
-abbrev pub with_writable : ℕ → List NodeRow → List NodeRow
+abbrev pub with_writable : ℕ → List NodeRecord → List NodeRecord
 with_writable id nodes = map (node_changed id writable) nodes
 
-abbrev pub without_row : ℕ → List NodeRow → List NodeRow
+abbrev pub without_row : ℕ → List NodeRecord → List NodeRecord
 without_row id nodes = filter (λ row. not (row.id == id)) nodes
 
 -- a format node's edges, the one to its file first
@@ -83,7 +83,7 @@ abbrev pub followed : Asked → Asked → Asked
 followed asked.Stop new = asked.Stop
 followed old new = new
 
-abbrev pub asked_for : ℕ → Asked → JobRow → JobRow
+abbrev pub asked_for : ℕ → Asked → JobRecord → JobRecord
 asked_for number new job = if job.number == number then record job { asked = followed job.asked new } else job
 
 -- ---- devices and ids

@@ -39,12 +39,12 @@ use Rattle.qmp_codec.specs.declared.nodes.DeviceAdd.{DeviceAdd}
 use Rattle.qmp_codec.specs.Commands.{Act, Cmd, SeenSources}
 use Rattle.qmp_rules.specs.declared.change.Change.{Change}
 use Rattle.qmp_rules.specs.declared.change.Change.TheVariants.{Negotiate, KeepId, DropId, MakeFile, FormatFile, SpoilFile, UseFile, AddFile, AddFormat, AddFilter, RemoveNode, Unsettle, MakeWritable, PutFilter, UseNode, StartJob, AskJob, AddDevice, RemoveDevice, Attach, Move, AddBitmap, RemoveBitmap, TurnBitmap, ClearBitmap, MergeBitmap}
-use Rattle.qmp_rules.specs.declared.rows.NodeRow.{NodeRow}
+use Rattle.qmp_rules.specs.declared.rows.NodeRecord.{NodeRecord}
 use Rattle.qmp_rules.specs.declared.rows.Device.{Device}
 use Rattle.qmp_rules.specs.declared.rows.Asked.{Asked}
 use Rattle.qmp_rules.specs.declared.rows.Asked.TheVariants as asked
 use Rattle.qmp_rules.specs.declared.rows.BitmapRow.{BitmapRow}
-use Rattle.qmp_rules.specs.declared.rows.JobRow.{JobRow}
+use Rattle.qmp_rules.specs.declared.rows.JobRecord.{JobRecord}
 use Rattle.qmp_rules.specs.declared.rows.MadeWritable.{MadeWritable}
 use Rattle.qmp_rules.specs.declared.rows.UsedBitmap.{UsedBitmap}
 use Rattle.qmp_rules.specs.declared.ask.JobNodes.TheVariants.{Stream, Commit, Copy}
@@ -111,7 +111,7 @@ spoiled t created.Unknown = []
 abbrev pub length_told : Told → ℕ
 length_told told = unwrap_or told.length 0
 
-abbrev pub file_row : ℕ → List ℕ → ℕ → Bool → List ℕ → Option ℕ → NodeRow
+abbrev pub file_row : ℕ → List ℕ → ℕ → Bool → List ℕ → Option ℕ → NodeRecord
 file_row id name size read_only filename made_with = record {
   id = id;
   name = name;
@@ -124,7 +124,7 @@ file_row id name size read_only filename made_with = record {
   made_with = made_with;
 }
 
-abbrev pub format_row : Kind → ℕ → List ℕ → ℕ → ℕ → Bool → NodeRow
+abbrev pub format_row : Kind → ℕ → List ℕ → ℕ → ℕ → Bool → NodeRecord
 format_row driver id name size offset read_only = record {
   id = id;
   name = name;
@@ -143,14 +143,14 @@ goes_with id None = Some id
 goes_with id (Some own) = None
 
 -- the file node that is made with the node over it, which comes next
-abbrev pub inline_row : Table → Told → List ℕ → InlineFile (List ℕ) → NodeRow
+abbrev pub inline_row : Table → Told → List ℕ → InlineFile (List ℕ) → NodeRecord
 inline_row t told name file = file_row (free_id t) (inline_name name file.node_name) (length_told told)
     (is_read_only file.options) file.filename (goes_with (next_free_id t) file.node_name)
 
 abbrev pub size_of : Table → List ℕ → ℕ
 size_of t name = unwrap_or (option_map (λ row. row.size) (node_named t name)) 0
 
-abbrev pub raw_row : ℕ → List ℕ → ℕ → Bool → AddRaw (List ℕ) → NodeRow
+abbrev pub raw_row : ℕ → List ℕ → ℕ → Bool → AddRaw (List ℕ) → NodeRecord
 raw_row id name length read_only raw =
     format_row kind.Raw id name (part_size raw.offset raw.size length) (part_offset raw.offset) read_only
 
@@ -162,7 +162,7 @@ raw_edits t told name read_only raw (file_ref.Inline file) =
     ∷ AddFormat (raw_row (next_free_id t) name (length_told told) read_only raw) (free_id t) None
     ∷ []
 
-abbrev pub image_row : ℕ → Told → List ℕ → Bool → NodeRow
+abbrev pub image_row : ℕ → Told → List ℕ → Bool → NodeRecord
 image_row id told name read_only = format_row kind.Qcow2 id name (unwrap_or told.size 0) 0 read_only
 
 abbrev pub qcow2_edits : Table → Told → List ℕ → Bool → Option (List ℕ) → FileRef (List ℕ) → List Change
@@ -192,7 +192,7 @@ add_edits t told c = added_edits t told c.node_name (is_read_only c.options) c.d
 abbrev pub name_of_file_at : Table → Option ℕ → Option (List ℕ)
 name_of_file_at t id = option_and_then (λ row. row.filename) (option_and_then (node_at t) id)
 
-abbrev pub file_under : Table → NodeRow → Option (List ℕ)
+abbrev pub file_under : Table → NodeRecord → Option (List ℕ)
 file_under t row = elim row.kind as (λ _. Option (List ℕ)) [
   | kind.Protocol ↦ row.filename
   | kind.Raw ↦ name_of_file_at t (child t row.id File)
@@ -204,17 +204,17 @@ abbrev pub uses : Option (List ℕ) → List Change
 uses None = []
 uses (Some name) = UseFile name ∷ []
 
-abbrev pub goes_with_node : ℕ → NodeRow → Bool
+abbrev pub goes_with_node : ℕ → NodeRecord → Bool
 goes_with_node id row = unwrap_or (option_map (λ other. other == id) row.made_with) false
 
 abbrev pub with_inline : Table → ℕ → List Change
 with_inline t id = elim (find (goes_with_node id) t.nodes) as (λ _. List Change) [ None ↦ [] | Some row ↦ RemoveNode row.id ∷ [] ]
 
 -- the file is used before its node goes
-abbrev pub row_gone : Table → NodeRow → List Change
+abbrev pub row_gone : Table → NodeRecord → List Change
 row_gone t row = uses (file_under t row) ++ RemoveNode row.id ∷ with_inline t row.id
 
-abbrev pub of_row : (NodeRow → List Change) → Option NodeRow → List Change
+abbrev pub of_row : (NodeRecord → List Change) → Option NodeRecord → List Change
 of_row edits None = []
 of_row edits (Some row) = edits row
 
@@ -223,7 +223,7 @@ del_edits t name = of_row (row_gone t) (node_named t name)
 
 -- ---- devices
 
-abbrev pub new_device : Table → DeviceAdd (List ℕ) → NodeRow → Device
+abbrev pub new_device : Table → DeviceAdd (List ℕ) → NodeRecord → Device
 new_device t c row = record {
   id = c.id;
   number = device_number t c.id;
@@ -232,7 +232,7 @@ new_device t c row = record {
 }
 
 -- a guest on a file node uses its file
-abbrev pub device_uses : NodeRow → List Change
+abbrev pub device_uses : NodeRecord → List Change
 device_uses row = if is_file row then uses row.filename else []
 
 abbrev pub device_add_edits : Table → DeviceAdd (List ℕ) → List Change
@@ -292,7 +292,7 @@ abbrev pub next_slot : Table → ℕ
 next_slot t = lowest_free (map (λ job. job.slot) t.jobs)
 
 -- the row of a job, without what some kinds alone have
-abbrev pub new_job : Table → Option ℕ → List ℕ → JobKind → Nodes1 → JobRow
+abbrev pub new_job : Table → Option ℕ → List ℕ → JobKind → Nodes1 → JobRecord
 new_job t group id what nodes = record {
   id = id;
   number = t.started;
@@ -312,7 +312,7 @@ new_job t group id what nodes = record {
 }
 
 -- its filter is the node that is added next
-abbrev pub filtered_job : Table → JobRow → JobRow
+abbrev pub filtered_job : Table → JobRecord → JobRecord
 filtered_job t job = record job { filter = Some (free_id t) }
 
 abbrev pub filter_name : Kind → List ℕ → List ℕ
@@ -321,10 +321,10 @@ filter_name kind.Commit id = codes "#commit:" ++ id
 filter_name driver id = codes "#cbw:" ++ id
 
 -- as large as the node under it, and read-only where that is
-abbrev pub filter_row : Table → Kind → List ℕ → NodeRow → NodeRow
+abbrev pub filter_row : Table → Kind → List ℕ → NodeRecord → NodeRecord
 filter_row t driver id row = format_row driver (free_id t) (filter_name driver id) row.size 0 row.read_only
 
-abbrev pub filter_edits : Table → Kind → JobRow → List Change
+abbrev pub filter_edits : Table → Kind → JobRecord → List Change
 filter_edits t driver job = of_row (λ row. PutFilter (filter_row t driver job.id row) row.id ∷ []) (node_at t job.source)
 
 -- a job on a file node uses its file
@@ -336,12 +336,12 @@ file_used t node = of_row device_uses (option_and_then (node_at t) node)
 abbrev pub uses_as : ℕ → JobUse → List ℕ → List Change
 uses_as slot what nodes = map (UseNode slot what) nodes
 
-abbrev pub stream_job : Table → StreamCommand (List ℕ) → JobRow
+abbrev pub stream_job : Table → StreamCommand (List ℕ) → JobRecord
 stream_job t c = record (new_job t None c.job_id job_kind.Stream (stream_nodes c)) { backing_file = c.backing_file }
 
 abbrev pub stream_edits : Table → StreamCommand (List ℕ) → List Change
 stream_edits t c =
-    let job : JobRow = stream_job t c in
+    let job : JobRecord = stream_job t c in
     StartJob job ∷ UseNode job.slot StreamTop job.source ∷ uses_as job.slot StreamBelow job.read
 
 -- ---- block-commit
@@ -360,7 +360,7 @@ abbrev pub writable_if : Bool → Option ℕ → List Change
 writable_if true (Some id) = MakeWritable id ∷ []
 writable_if _ _ = []
 
-abbrev pub base_edits : Table → JobRow → List Change
+abbrev pub base_edits : Table → JobRecord → List Change
 base_edits t job =
     writable_if job.made_writable.file (file_below t job.target) ++ writable_if job.made_writable.base job.target
 
@@ -370,15 +370,15 @@ up_to top [] = []
 up_to top (id ∷ ids) = if id == top then [] else id ∷ up_to top ids
 
 -- It reads one of the nodes that the commit writes, or may leave without their disks, and not through the top.
-abbrev pub reads_one_of : Table → ℕ → List ℕ → NodeRow → Bool
+abbrev pub reads_one_of : Table → ℕ → List ℕ → NodeRecord → Bool
 reads_one_of t top nodes row = list_any (λ id. has_id id nodes) (up_to top (chain t (disk_node t row.id)))
 
 -- the base, and the nodes strictly between it and the top
-abbrev pub under_top : JobRow → List ℕ
+abbrev pub under_top : JobRecord → List ℕ
 under_top job = drop 1 job.held
 
 -- what has no flat disk from then on
-abbrev pub commit_unsettles : Table → JobRow → List Change
+abbrev pub commit_unsettles : Table → JobRecord → List Change
 commit_unsettles t job =
     map (λ row. Unsettle row.id) (filter (reads_one_of t job.source (under_top job)) t.nodes)
 
@@ -386,18 +386,18 @@ abbrev pub is_base : Option ℕ → ℕ → Bool
 is_base None id = false
 is_base (Some base) id = base == id
 
-abbrev pub commit_uses : JobRow → List Change
+abbrev pub commit_uses : JobRecord → List Change
 commit_uses job =
     map (λ id. UseNode job.slot (if is_base job.target id then CommitBase else CommitBetween) id) (under_top job)
 
-abbrev pub commit_job : Table → CommitCommand (List ℕ) → JobRow
+abbrev pub commit_job : Table → CommitCommand (List ℕ) → JobRecord
 commit_job t c =
-    let job : JobRow = new_job t None c.job_id job_kind.Commit (commit_nodes c) in
-    let made : JobRow = record job { made_writable = to_be_written t job.target; backing_file = c.backing_file } in
+    let job : JobRecord = new_job t None c.job_id job_kind.Commit (commit_nodes c) in
+    let made : JobRecord = record job { made_writable = to_be_written t job.target; backing_file = c.backing_file } in
     if is_active t c.device c.top_node then filtered_job t made else made
 
 -- a commit of the device itself has a filter over its top
-abbrev pub commit_filter : Table → JobRow → List Change
+abbrev pub commit_filter : Table → JobRecord → List Change
 commit_filter t job = if_filtered job.filter
   where
     if_filtered : Option ℕ → List Change
@@ -406,7 +406,7 @@ commit_filter t job = if_filtered job.filter
 
 abbrev pub commit_edits : Table → CommitCommand (List ℕ) → List Change
 commit_edits t c =
-    let job : JobRow = commit_job t c in
+    let job : JobRecord = commit_job t c in
     commit_unsettles t job ++ file_used t job.target ++ base_edits t job ++ commit_filter t job
     ++ StartJob job ∷ UseNode job.slot CommitTop job.source ∷ commit_uses job
 
@@ -416,15 +416,15 @@ abbrev pub target_edits : Table → Option ℕ → List Change
 target_edits t None = []
 target_edits t (Some target) = Unsettle target ∷ file_used t (Some target)
 
-abbrev pub uses_target : JobRow → Option ℕ → List Change
+abbrev pub uses_target : JobRecord → Option ℕ → List Change
 uses_target job None = []
 uses_target job (Some target) = UseNode job.slot CopyTarget target ∷ []
 
-abbrev pub copy_edits : Table → Kind → JobRow → List Change
+abbrev pub copy_edits : Table → Kind → JobRecord → List Change
 copy_edits t driver job =
     target_edits t job.target ++ filter_edits t driver job ++ StartJob job ∷ uses_target job job.target
 
-abbrev pub mirror_job : Table → Mirror (List ℕ) → JobRow
+abbrev pub mirror_job : Table → Mirror (List ℕ) → JobRecord
 mirror_job t c = filtered_job t (new_job t None c.job_id job_kind.Mirror (Copy c.device c.target))
 
 abbrev pub mirror_edits : Table → Mirror (List ℕ) → List Change
@@ -437,7 +437,7 @@ used_bitmap t c name = record {
   onto_settled = is_settled t (id_or 0 t (Some c.target));
 }
 
-abbrev pub backup_job : Table → Option ℕ → Backup (List ℕ) → JobRow
+abbrev pub backup_job : Table → Option ℕ → Backup (List ℕ) → JobRecord
 backup_job t group c =
     record (filtered_job t (new_job t group c.job_id job_kind.Backup (Copy c.device c.target))) {
       bitmap = option_map (used_bitmap t c) c.bitmap;
@@ -453,10 +453,10 @@ abbrev pub leaves_copy : Bool → Bool → JobKind → Bool
 leaves_copy false true job_kind.Mirror = true
 leaves_copy force is_ready what = false
 
-abbrev pub asked_by_cancel : Bool → JobRow → Asked
+abbrev pub asked_by_cancel : Bool → JobRecord → Asked
 asked_by_cancel force job = if leaves_copy force job.is_ready job.kind then asked.Leave else asked.Stop
 
-abbrev pub ask_edits : Table → List ℕ → (JobRow → Asked) → List Change
+abbrev pub ask_edits : Table → List ℕ → (JobRecord → Asked) → List Change
 ask_edits t id ask = elim (job_named t id) as (λ _. List Change) [ None ↦ [] | Some job ↦ AskJob job.number (ask job) ∷ [] ]
 
 abbrev pub cancel_edits : Table → List ℕ → Option Bool → List Change

@@ -29,15 +29,17 @@ job_values options =
 abbrev pub stream_nodes : StreamCommand (List ℕ) → Nodes1
 stream_nodes c = Stream c.device c.base_node
 
-abbrev pub stream_asks : StreamCommand (List ℕ) → List Asking
-stream_asks c =
-    on_error_value (codes "on-error") c.on_error
-    ∷ job_values c.options
-    ++ Named (codes "job-id") (Some c.job_id)
+abbrev pub stream_names : StreamCommand (List ℕ) → List Asking
+stream_names c =
+    Named (codes "job-id") (Some c.job_id)
     ∷ Named (codes "device") (Some c.device)
     ∷ Named (codes "base-node") c.base_node
     ∷ FileNamed (codes "backing-file") c.backing_file
-    ∷ Found (Some c.device)
+    ∷ []
+
+abbrev pub stream_rest : StreamCommand (List ℕ) → List Asking
+stream_rest c =
+    Found (Some c.device)
     ∷ Found c.base_node
     ∷ FreshJob c.job_id
     ∷ RoomForJob
@@ -49,6 +51,10 @@ stream_asks c =
     ∷ InChain (stream_nodes c)
     ∷ []
 
+abbrev pub stream_asks : StreamCommand (List ℕ) → List Asking
+stream_asks c =
+    on_error_value (codes "on-error") c.on_error ∷ job_values c.options ++ stream_names c ++ stream_rest c
+
 -- ---- block-commit
 
 abbrev pub commit_nodes : CommitCommand (List ℕ) → Nodes1
@@ -58,16 +64,18 @@ commit_nodes c = Commit c.device c.base_node c.top_node
 abbrev pub commit_filters : CommitCommand (List ℕ) → ℕ
 commit_filters c = if option_map_or (λ top. bytes_eq top c.device) c.top_node true then 1 else 0
 
-abbrev pub commit_asks : CommitCommand (List ℕ) → List Asking
-commit_asks c =
-    on_error_value (codes "on-error") c.on_error
-    ∷ job_values c.options
-    ++ Named (codes "job-id") (Some c.job_id)
+abbrev pub commit_names : CommitCommand (List ℕ) → List Asking
+commit_names c =
+    Named (codes "job-id") (Some c.job_id)
     ∷ Named (codes "device") (Some c.device)
     ∷ Named (codes "base-node") c.base_node
     ∷ Named (codes "top-node") c.top_node
     ∷ FileNamed (codes "backing-file") c.backing_file
-    ∷ Found (Some c.device)
+    ∷ []
+
+abbrev pub commit_rest : CommitCommand (List ℕ) → List Asking
+commit_rest c =
+    Found (Some c.device)
     ∷ Found c.base_node
     ∷ Found c.top_node
     ∷ FreshJob c.job_id
@@ -84,23 +92,38 @@ commit_asks c =
     ∷ Clear (commit_nodes c)
     ∷ []
 
+abbrev pub commit_asks : CommitCommand (List ℕ) → List Asking
+commit_asks c =
+    on_error_value (codes "on-error") c.on_error ∷ job_values c.options ++ commit_names c ++ commit_rest c
+
 -- ---- blockdev-mirror and blockdev-backup
 
 abbrev pub is_other : List ℕ → List ℕ → Bool
 is_other target device = not (bytes_eq target device)
 
-abbrev pub mirror_asks : Mirror (List ℕ) → List Asking
-mirror_asks c =
+-- what a mirror itself takes
+abbrev pub mirror_choices : Mirror (List ℕ) → List Asking
+mirror_choices c =
     Good (codes "target") (is_other c.target c.device)
     ∷ Good (codes "sync") (is_full c.sync)
     ∷ Good (codes "copy-mode") (absent_or is_copy_mode c.copy_mode)
     ∷ on_error_value (codes "on-source-error") c.on_source_error
     ∷ on_error_value (codes "on-target-error") c.on_target_error
-    ∷ job_values c.options
-    ++ Named (codes "job-id") (Some c.job_id)
+    ∷ []
+
+abbrev pub mirror_values : Mirror (List ℕ) → List Asking
+mirror_values c = mirror_choices c ++ job_values c.options
+
+abbrev pub mirror_names : Mirror (List ℕ) → List Asking
+mirror_names c =
+    Named (codes "job-id") (Some c.job_id)
     ∷ Named (codes "device") (Some c.device)
     ∷ Named (codes "target") (Some c.target)
-    ∷ Found (Some c.device)
+    ∷ []
+
+abbrev pub mirror_rest : Mirror (List ℕ) → List Asking
+mirror_rest c =
+    Found (Some c.device)
     ∷ Found (Some c.target)
     ∷ FreshJob c.job_id
     ∷ RoomForNodes 1
@@ -115,15 +138,21 @@ mirror_asks c =
     ∷ Clear (Copy c.device c.target)
     ∷ []
 
-abbrev pub backup_values : Backup (List ℕ) → List Asking
-backup_values c =
+abbrev pub mirror_asks : Mirror (List ℕ) → List Asking
+mirror_asks c = mirror_values c ++ mirror_names c ++ mirror_rest c
+
+abbrev pub backup_choices : Backup (List ℕ) → List Asking
+backup_choices c =
     Good (codes "target") (is_other c.target c.device)
     ∷ Good (codes "sync") (is_sync c.sync)
     ∷ Good (codes "bitmap") (is_bitmap_for c.sync c.bitmap)
     ∷ Good (codes "bitmap-mode") (is_mode_for c.sync c.bitmap_mode)
     ∷ on_error_value (codes "on-source-error") c.on_source_error
     ∷ on_error_value (codes "on-target-error") c.on_target_error
-    ∷ job_values c.options
+    ∷ []
+
+abbrev pub backup_values : Backup (List ℕ) → List Asking
+backup_values c = backup_choices c ++ job_values c.options
 
 abbrev pub backup_names : Backup (List ℕ) → List Asking
 backup_names c =

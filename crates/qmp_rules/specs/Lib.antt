@@ -16,3 +16,6 @@ pub mod Looks
 pub mod Order
 pub mod Seen
 pub mod Room
+pub mod Reach
+pub mod Prepared
+pub mod Printed

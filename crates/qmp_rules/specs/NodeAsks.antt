@@ -216,12 +216,14 @@ added_rest name read_only (added.Qcow2 image) = qcow2_rest name read_only (backi
 added_rest name read_only (added.CopyOnRead file) = copy_on_read_rest name file
 added_rest name read_only added.Unknown = []
 
+abbrev pub add_values : BlockdevAdd (List ℕ) → List Asking
+add_values c = Good (codes "driver") (is_added c.driver) ∷ option_values c.options ++ added_values c.driver
+
+abbrev pub add_names : BlockdevAdd (List ℕ) → List Asking
+add_names c = Named (codes "node-name") (Some c.node_name) ∷ added_names c.driver
+
 abbrev pub add_asks : BlockdevAdd (List ℕ) → List Asking
-add_asks c =
-    Good (codes "driver") (is_added c.driver) ∷ option_values c.options
-    ++ added_values c.driver
-    ++ Named (codes "node-name") (Some c.node_name) ∷ added_names c.driver
-    ++ added_rest c.node_name (is_read_only c.options) c.driver
+add_asks c = add_values c ++ add_names c ++ added_rest c.node_name (is_read_only c.options) c.driver
 
 -- ---- blockdev-del
 

@@ -4,8 +4,8 @@ use Rattle.serde_json.specs.Data.{Data, boolean, number, unsigned, string, array
 use Rattle.blk_graph.specs.declared.kind.Kind.{Kind}
 use Rattle.blk_graph.specs.declared.kind.Kind.TheVariants as kind
 use Rattle.qmp_codec.specs.Events.{kind_text}
-use Rattle.qmp_rules.specs.declared.rows.NodeRow.{NodeRow}
-use Rattle.qmp_rules.specs.declared.rows.JobRow.{JobRow}
+use Rattle.qmp_rules.specs.declared.rows.NodeRecord.{NodeRecord}
+use Rattle.qmp_rules.specs.declared.rows.JobRecord.{JobRecord}
 use Rattle.qmp_rules.specs.declared.rows.BitmapRow.{BitmapRow}
 use Rattle.qmp_rules.specs.Table.{Table, node_at}
 use Rattle.qmp_rules.specs.Chains.{disk_node}
@@ -22,7 +22,7 @@ abbrev pub status_text : Bool → List ℕ
 status_text false = codes "running"
 status_text true = codes "ready"
 
-abbrev pub job_data : Table → JobRow → Data
+abbrev pub job_data : Table → JobRecord → Data
 job_data t job =
     object (member (codes "auto-dismiss") (boolean true)
     (member (codes "auto-finalize") (boolean true)
@@ -38,7 +38,7 @@ job_data t job =
     (member (codes "type") (string (kind_text job.kind))
     no_members))))))))))))
 
-abbrev pub jobs_items : Table → List JobRow → Items
+abbrev pub jobs_items : Table → List JobRecord → Items
 jobs_items t [] = no_items
 jobs_items t (job ∷ jobs) = item (job_data t job) (jobs_items t jobs)
 
@@ -79,13 +79,13 @@ is_job_filter kind.Mirror = true
 is_job_filter kind.Commit = true
 is_job_filter _ = false
 
-abbrev pub shown_read_only : Table → NodeRow → Bool
+abbrev pub shown_read_only : Table → NodeRecord → Bool
 shown_read_only t row =
     if is_job_filter row.kind
     then unwrap_or (option_map (λ below. below.read_only) (node_at t (disk_node t row.id))) row.read_only
     else row.read_only
 
-abbrev pub node_data : Table → List ℕ → NodeRow → Data
+abbrev pub node_data : Table → List ℕ → NodeRecord → Data
 node_data t counts row =
     object (member (codes "dirty-bitmaps") (array (bitmap_items row.id t.bitmaps counts))
     (member (codes "drv") (string (driver_text row.kind))
@@ -94,7 +94,7 @@ node_data t counts row =
     (member (codes "size") (amount_data row.size)
     no_members)))))
 
-abbrev pub nodes_items : Table → List ℕ → List NodeRow → Items
+abbrev pub nodes_items : Table → List ℕ → List NodeRecord → Items
 nodes_items t counts [] = no_items
 nodes_items t counts (row ∷ rows) = item (node_data t counts row) (nodes_items t counts rows)
 

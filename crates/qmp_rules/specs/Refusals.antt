@@ -76,55 +76,51 @@ perm_text Read = codes "consistent-read"
 perm_text Write = codes "write"
 perm_text Unchanged = codes "write-unchanged"
 
-abbrev pub source_text : FaultFrom → List ℕ
-source_text from.Store = codes "store"
-source_text (from.Dev dev) = codes "dev" ++ decimal dev.0
-source_text from.Sink = codes "sink"
-
 abbrev pub negotiation_text : Bool → List ℕ
 negotiation_text false = codes "capabilities are not negotiated"
 negotiation_text true = codes "capabilities are negotiated already"
 
-abbrev pub node_text : List ℕ → List ℕ → List ℕ
-node_text node rest = codes "node " ++ node ++ codes " " ++ rest
-
-abbrev pub member_text : List ℕ → List ℕ → List ℕ
-member_text member rest = codes "member " ++ member ++ codes " " ++ rest
+-- a call of a device or of the store
+abbrev pub io_text : FaultFrom → ℕ → List ℕ
+io_text from.Store count = codes "io store " ++ decimal count
+io_text (from.Dev dev) count = codes "io dev" ++ decimal dev.0 ++ codes " " ++ decimal count
+io_text from.Sink count = codes "io sink " ++ decimal count
 
 -- the words of the answer
 abbrev pub refusal_text : Refusal → List ℕ
 refusal_text refusal.BadJson = codes "the line is not a JSON command"
 refusal_text (refusal.UnknownCommand name) = codes "command " ++ name ++ codes " is not known"
 refusal_text (refusal.Negotiation again) = negotiation_text again
-refusal_text (refusal.Missing member) = member_text member (codes "is missing")
-refusal_text (refusal.Unexpected member) = member_text member (codes "is not accepted")
-refusal_text (refusal.BadType member) = member_text member (codes "has the wrong type")
-refusal_text (refusal.BadValue member) = member_text member (codes "has a value that is not accepted")
-refusal_text (refusal.BadName member) = member_text member (codes "is not a name")
+refusal_text (refusal.Missing member) = codes "member " ++ member ++ codes " is missing"
+refusal_text (refusal.Unexpected member) = codes "member " ++ member ++ codes " is not accepted"
+refusal_text (refusal.BadType member) = codes "member " ++ member ++ codes " has the wrong type"
+refusal_text (refusal.BadValue member) = codes "member " ++ member ++ codes " has a value that is not accepted"
+refusal_text (refusal.BadName member) = codes "member " ++ member ++ codes " is not a name"
 refusal_text (refusal.NotFound name is_device) = name ++ codes " is not found"
 refusal_text (refusal.NotActive job) = codes "no job " ++ job
 refusal_text (refusal.NameTaken name) = codes "name " ++ name ++ codes " is taken"
 refusal_text (refusal.TooMany crowd) = codes "too many " ++ crowd_text crowd
-refusal_text (refusal.Driver node) = node_text node (codes "has the wrong driver")
+refusal_text (refusal.Driver node) = codes "node " ++ node ++ codes " has the wrong driver"
 refusal_text (refusal.File name fault) = codes "file " ++ name ++ codes " " ++ file_fault_text fault
 refusal_text (refusal.FileUsed name) = codes "file " ++ name ++ codes " was used before"
 refusal_text (refusal.Image stop) = codes "image refused: " ++ stop_text stop
-refusal_text (refusal.BackingNeeded node) = node_text node (codes "needs a backing member")
-refusal_text (refusal.Unsettled node) = node_text node (codes "is not settled")
-refusal_text (refusal.JobHolds node job) = node_text node (codes "is held by job ") ++ job
+refusal_text (refusal.BackingNeeded node) = codes "node " ++ node ++ codes " needs a backing member"
+refusal_text (refusal.Unsettled node) = codes "node " ++ node ++ codes " is not settled"
+refusal_text (refusal.JobHolds node job) = codes "node " ++ node ++ codes " is held by job " ++ job
 refusal_text (refusal.BitmapBusy bitmap job) = codes "bitmap " ++ bitmap ++ codes " is in use by job " ++ job
-refusal_text (refusal.ReadOnly node) = node_text node (codes "is read-only")
-refusal_text (refusal.NotInChain node) = node_text node (codes "is not in the chain")
-refusal_text (refusal.SizeDiffers first second) = codes "nodes " ++ first ++ codes " and " ++ second ++ codes " differ in size"
-refusal_text (refusal.HasBacking node) = node_text node (codes "has a backing node")
-refusal_text (refusal.NotEmpty node) = node_text node (codes "holds clusters")
-refusal_text (refusal.InUse node parent) = node_text node (codes "is in use by ") ++ parent
+refusal_text (refusal.ReadOnly node) = codes "node " ++ node ++ codes " is read-only"
+refusal_text (refusal.NotInChain node) = codes "node " ++ node ++ codes " is not in the chain"
+refusal_text (refusal.SizeDiffers first second) =
+    codes "nodes " ++ first ++ codes " and " ++ second ++ codes " differ in size"
+refusal_text (refusal.HasBacking node) = codes "node " ++ node ++ codes " has a backing node"
+refusal_text (refusal.NotEmpty node) = codes "node " ++ node ++ codes " holds clusters"
+refusal_text (refusal.InUse node parent) = codes "node " ++ node ++ codes " is in use by " ++ parent
 refusal_text (refusal.NotReady job) = codes "job " ++ job ++ codes " is not ready"
 refusal_text (refusal.Conflict node asks denies perm) =
     codes "permission conflict on node " ++ node ++ codes ": " ++ asks ++ codes " asks " ++ perm_text perm
     ++ codes ", " ++ denies ++ codes " does not share it"
 refusal_text refusal.Aborted = codes "the transaction was aborted"
-refusal_text (refusal.Io source count) = codes "io " ++ source_text source ++ codes " " ++ decimal count
+refusal_text (refusal.Io source count) = io_text source count
 refusal_text (refusal.NoSpace dev) = codes "nospace dev" ++ decimal dev.0
 
 abbrev pub refusal_class : Refusal → Class

@@ -1,12 +1,48 @@
 -- A table with the room that it has for more.
-use Rattle.std.specs.Prelude.{ℕ, ◌-◌, ◌/◌, ◌≤◌, min, length}
+use Rattle.std.specs.Prelude.{ℕ, ◌+◌, ◌*◌, ◌^◌, ◌<◌, ◌≤◌, length}
 use Rattle.qmp_rules.specs.Table.{Table}
 
--- the table, and how many changes may be made without taking memory
+-- how many rows more there is memory for, of each kind
+pub record Spare : Type 0 where
+  pub nodes : ℕ
+  pub devices : ℕ
+  pub jobs : ℕ
+  pub bitmaps : ℕ
+  pub files : ℕ
+  pub kept : ℕ
+
 pub record Roomy : Type 0 where
   pub table : Table
-  pub room : ℕ
+  pub spare : Spare
 
--- the least of the spare places in lists of rows, and of edges, of which a change makes two at most
-unfoldable pub room_of : ℕ → ℕ → ℕ → ℕ → ℕ → ℕ → ℕ
-room_of nodes edges devices bitmaps files kept = min nodes (min ((2048 - edges) / 2) (min devices (min bitmaps (min files kept))))
+-- So many changes can be made without taking memory: each adds a row of a kind at most, and two edges. Numbers of jobs have
+-- 32 bits.
+pub record HasRoom (changes : ℕ) (names : Roomy) : Type 0 where
+  pub nodes : changes ≤ names.spare.nodes
+  pub edges : length names.table.edges + 2 * changes ≤ 2048
+  pub devices : changes ≤ names.spare.devices
+  pub jobs : changes ≤ names.spare.jobs
+  pub bitmaps : changes ≤ names.spare.bitmaps
+  pub files : changes ≤ names.spare.files
+  pub kept : changes ≤ names.spare.kept
+  pub starts : names.table.started + changes < 2 ^ 32
+
+-- what one change takes of the room at most
+pub record TakesLittle (old new : Roomy) : Type 0 where
+  pub nodes : old.spare.nodes ≤ new.spare.nodes + 1
+  pub edges : length new.table.edges ≤ length old.table.edges + 2
+  pub devices : old.spare.devices ≤ new.spare.devices + 1
+  pub jobs : old.spare.jobs ≤ new.spare.jobs + 1
+  pub bitmaps : old.spare.bitmaps ≤ new.spare.bitmaps + 1
+  pub files : old.spare.files ≤ new.spare.files + 1
+  pub kept : old.spare.kept ≤ new.spare.kept + 1
+  pub starts : new.table.started ≤ old.table.started + 1
+
+-- the table may be another one, and there is as much memory
+pub record KeepsSpare (old new : Roomy) : Type 0 where
+  pub nodes : old.spare.nodes ≤ new.spare.nodes
+  pub devices : old.spare.devices ≤ new.spare.devices
+  pub jobs : old.spare.jobs ≤ new.spare.jobs
+  pub bitmaps : old.spare.bitmaps ≤ new.spare.bitmaps
+  pub files : old.spare.files ≤ new.spare.files
+  pub kept : old.spare.kept ≤ new.spare.kept

@@ -9,9 +9,9 @@ use Rattle.blk_graph.specs.declared.kind.Kind.{Kind}
 use Rattle.blk_graph.specs.declared.kind.NodeKind.{NodeKind}
 use Rattle.blk_graph.specs.Edits.{child_of}
 use Rattle.blk_graph.specs.Refreshed.{no_kind}
-use Rattle.qmp_rules.specs.declared.rows.NodeRow.{NodeRow}
+use Rattle.qmp_rules.specs.declared.rows.NodeRecord.{NodeRecord}
 use Rattle.qmp_rules.specs.declared.rows.Device.{Device}
-use Rattle.qmp_rules.specs.declared.rows.JobRow.{JobRow}
+use Rattle.qmp_rules.specs.declared.rows.JobRecord.{JobRecord}
 use Rattle.qmp_rules.specs.declared.rows.BitmapRow.{BitmapRow}
 use Rattle.qmp_rules.specs.declared.rows.FileRow.{FileRow}
 use Rattle.qmp_rules.specs.declared.rows.FileState.{FileState}
@@ -20,11 +20,11 @@ use Rattle.qmp_rules.specs.declared.rows.FileState.{FileState}
 -- their starts. The names of the guests never change: the guest of a number is the device of its name. Requests of guests
 -- stand beside the table, since no command looks at them or changes them.
 pub record Table : Type 0 where
-  pub nodes : List NodeRow
+  pub nodes : List NodeRecord
   pub edges : List Edge
   pub guests : List (List ℕ)
   pub devices : List Device
-  pub jobs : List JobRow
+  pub jobs : List JobRecord
   -- how many jobs were started so far
   pub started : ℕ
   pub bitmaps : List BitmapRow
@@ -52,13 +52,13 @@ opening_table guests = record {
 
 -- ---- rows by name and by number
 
-abbrev pub node_named : Table → List ℕ → Option NodeRow
+abbrev pub node_named : Table → List ℕ → Option NodeRecord
 node_named t name = find (λ row. bytes_eq row.name name) t.nodes
 
 abbrev pub id_named : Table → List ℕ → Option ℕ
 id_named t name = option_map (λ row. row.id) (node_named t name)
 
-abbrev pub node_at : Table → ℕ → Option NodeRow
+abbrev pub node_at : Table → ℕ → Option NodeRecord
 node_at t id = find (λ row. row.id == id) t.nodes
 
 abbrev pub device_named : Table → List ℕ → Option Device
@@ -67,14 +67,14 @@ device_named t name = find (λ device. bytes_eq device.id name) t.devices
 abbrev pub device_at : Table → ℕ → Option Device
 device_at t number = find (λ device. device.number == number) t.devices
 
-abbrev pub job_named : Table → List ℕ → Option JobRow
+abbrev pub job_named : Table → List ℕ → Option JobRecord
 job_named t name = find (λ job. bytes_eq job.id name) t.jobs
 
-abbrev pub job_at : Table → ℕ → Option JobRow
+abbrev pub job_at : Table → ℕ → Option JobRecord
 job_at t number = find (λ job. job.number == number) t.jobs
 
 -- the job in a slot, of which each holds one at most
-abbrev pub job_in : Table → ℕ → Option JobRow
+abbrev pub job_in : Table → ℕ → Option JobRecord
 job_in t slot = find (λ job. job.slot == slot) t.jobs
 
 abbrev pub is_bitmap : ℕ → List ℕ → BitmapRow → Bool
@@ -131,13 +131,13 @@ child t id role = child_of (Node id) role t.edges
 abbrev pub first_into : ℕ → List Edge → Option Edge
 first_into id edges = find (λ edge. edge.child == id) edges
 
-abbrev pub kind_in : NodeRow → NodeKind
+abbrev pub kind_in : NodeRecord → NodeKind
 kind_in row = record { kind = row.kind; writes = not row.read_only }
 
 -- the kinds of the nodes, by id
-abbrev pub kinds_from : List NodeKind → List NodeRow → List NodeKind
+abbrev pub kinds_from : List NodeKind → List NodeRecord → List NodeKind
 kinds_from kinds [] = kinds
 kinds_from kinds (row ∷ rows) = kinds_from (slice_set kinds row.id (kind_in row)) rows
 
-abbrev pub kinds_of : List NodeRow → List NodeKind
+abbrev pub kinds_of : List NodeRecord → List NodeKind
 kinds_of rows = kinds_from (replicate 64 no_kind) rows

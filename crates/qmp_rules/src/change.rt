@@ -1,9 +1,11 @@
 //! What commands do to the table: one kind of change each.
+ghost use Rattle.std.specs.Prelude.{◌≡◌, ◌==◌, ◌∷◌, [], IfNone, IfSome, length};
 
 use crate::name::Name;
-use crate::rows::{Asked, BitmapRow, Device, JobRow, NodeRow};
+use crate::rows::{Asked, BitmapRow, Device, JobRecord, NodeRecord};
 use blk_graph::{JobUse, NodeId};
 use qmp_codec::ImageFormat;
+use std::marker::Model;
 
 /// A change of the table.
 #[derive(Drop)]
@@ -31,16 +33,16 @@ pub enum Change {
     /// What the file's node read as is its last disk, and the file's length is not known.
     UseFile(Name),
     /// A node over a file of the store.
-    AddFile(NodeRow),
+    AddFile(NodeRecord),
     /// A format node over a file node, with a backing node where it has one. The file node is unsettled for good.
     AddFormat {
-        row: NodeRow,
+        row: NodeRecord,
         file: NodeId,
         backing: Option<NodeId>,
     },
     /// A node that reads as its child.
     AddFilter {
-        row: NodeRow,
+        row: NodeRecord,
         child: NodeId,
     },
     /// The node goes, with its edges and bitmaps.
@@ -51,7 +53,7 @@ pub enum Change {
     MakeWritable(NodeId),
     /// A job's filter: all that used the node use the filter in its place.
     PutFilter {
-        row: NodeRow,
+        row: NodeRecord,
         node: NodeId,
     },
     /// The job of the slot uses the node so.
@@ -61,7 +63,7 @@ pub enum Change {
         node: NodeId,
     },
     /// A job begins, and uses the bitmap that it copies by.
-    StartJob(JobRow),
+    StartJob(JobRecord),
     /// The job of this number is asked for that, unless it was to end cancelled.
     AskJob {
         number: u32,
@@ -104,4 +106,50 @@ pub enum Change {
         source_node: NodeId,
         source: Name,
     },
+}
+
+/// Changes, in order.
+#[derive(Drop)]
+pub struct Edits {
+    // The last one first, so that each is taken from the end.
+    changes: Vec<Change>,
+}
+
+impl Model for Edits {
+    ghost use Rattle.std.specs.Prelude.{List, reverse};
+    ghost use Rattle.qmp_rules.specs.declared.change.Change.{Change as Edit};
+
+    ghost Value = { List Edit };
+
+    ghost view = { λ edits. reverse edits.changes.items };
+}
+
+impl Edits {
+    /// The changes of a vector, which is taken over with its memory.
+    pub(crate) fn new(mut changes: Vec<Change>) -> Self
+        ensures { result ≡ changes.items }
+    {
+        changes.reverse();
+        Edits { changes }
+    }
+
+    pub fn len(&self) -> usize
+        ensures { result ≡ length self.now }
+    {
+        self.changes.len()
+    }
+
+    pub fn is_empty(&self) -> bool
+        ensures { result ≡ (length self.now == 0) }
+    {
+        self.changes.is_empty()
+    }
+
+    /// Takes the first change.
+    pub(crate) fn next(&mut self) -> Option<Change>
+        ensures some { IfSome result (λ change. self.old ≡ change ∷ self.new) }
+        ensures none { IfNone result (self.old ≡ []) }
+    {
+        self.changes.pop()
+    }
 }

@@ -4,6 +4,7 @@ use crate::name::Name;
 use blk_base::{DevNo, FaultFrom};
 use blk_graph::Perm;
 use q2_image::ImageStop;
+use std::alloc::AllocError;
 
 /// What there can be too many of.
 #[derive(Clone, Copy, Debug, PartialEq, Eq)]
@@ -108,4 +109,46 @@ pub enum Refusal {
     },
     /// A write would end above the device's capacity.
     NoSpace(DevNo),
+}
+
+impl Clone for Refusal {
+    ghost use Rattle.std.specs.Prelude.{◌≡◌};
+
+    ghost is_clone = { λ refusal copy. copy ≡ refusal };
+
+    fn clone(&self) -> Result<Self, AllocError> {
+        match self {
+            Refusal::BadJson => Ok(Refusal::BadJson),
+            Refusal::UnknownCommand(name) => Ok(Refusal::UnknownCommand(name.clone()?)),
+            Refusal::Negotiation { again } => Ok(Refusal::Negotiation { again: *again }),
+            Refusal::Missing(name) => Ok(Refusal::Missing(name.clone()?)),
+            Refusal::Unexpected(name) => Ok(Refusal::Unexpected(name.clone()?)),
+            Refusal::BadType(name) => Ok(Refusal::BadType(name.clone()?)),
+            Refusal::BadValue(name) => Ok(Refusal::BadValue(name.clone()?)),
+            Refusal::BadName(name) => Ok(Refusal::BadName(name.clone()?)),
+            Refusal::NotFound { name, is_device } => Ok(Refusal::NotFound { name: name.clone()?, is_device: *is_device }),
+            Refusal::NotActive(name) => Ok(Refusal::NotActive(name.clone()?)),
+            Refusal::NameTaken(name) => Ok(Refusal::NameTaken(name.clone()?)),
+            Refusal::TooMany(value) => Ok(Refusal::TooMany(*value)),
+            Refusal::Driver(name) => Ok(Refusal::Driver(name.clone()?)),
+            Refusal::File { name, fault } => Ok(Refusal::File { name: name.clone()?, fault: *fault }),
+            Refusal::FileUsed(name) => Ok(Refusal::FileUsed(name.clone()?)),
+            Refusal::Image(value) => Ok(Refusal::Image(*value)),
+            Refusal::BackingNeeded(name) => Ok(Refusal::BackingNeeded(name.clone()?)),
+            Refusal::Unsettled(name) => Ok(Refusal::Unsettled(name.clone()?)),
+            Refusal::JobHolds { node, job } => Ok(Refusal::JobHolds { node: node.clone()?, job: job.clone()? }),
+            Refusal::BitmapBusy { bitmap, job } => Ok(Refusal::BitmapBusy { bitmap: bitmap.clone()?, job: job.clone()? }),
+            Refusal::ReadOnly(name) => Ok(Refusal::ReadOnly(name.clone()?)),
+            Refusal::NotInChain(name) => Ok(Refusal::NotInChain(name.clone()?)),
+            Refusal::SizeDiffers { first, second } => Ok(Refusal::SizeDiffers { first: first.clone()?, second: second.clone()? }),
+            Refusal::HasBacking(name) => Ok(Refusal::HasBacking(name.clone()?)),
+            Refusal::NotEmpty(name) => Ok(Refusal::NotEmpty(name.clone()?)),
+            Refusal::InUse { node, parent } => Ok(Refusal::InUse { node: node.clone()?, parent: parent.clone()? }),
+            Refusal::NotReady(name) => Ok(Refusal::NotReady(name.clone()?)),
+            Refusal::Conflict { node, asks, denies, perm } => Ok(Refusal::Conflict { node: node.clone()?, asks: asks.clone()?, denies: denies.clone()?, perm: *perm }),
+            Refusal::Aborted => Ok(Refusal::Aborted),
+            Refusal::Io { from, count } => Ok(Refusal::Io { from: *from, count: *count }),
+            Refusal::NoSpace(value) => Ok(Refusal::NoSpace(*value)),
+        }
+    }
 }

@@ -1,13 +1,34 @@
 //! The rows of the names table.
+ghost use Rattle.std.specs.Prelude.{◌≡◌, IfOk};
 
 use crate::name::Name;
 use blk_graph::{Kind, NodeId};
 use qmp_codec::{BitmapMode, JobKind};
+use std::alloc::AllocError;
 use std::marker::Model;
+
+/// A copy of a name that may be absent.
+fn copied(name: &Option<Name>) -> Result<Option<Name>, AllocError>
+    ensures { IfOk result (λ copy. copy ≡ name.now) }
+{
+    match name {
+        Some(name) => Ok(Some(name.clone()?)),
+        None => Ok(None),
+    }
+}
+
+fn copied_use(used: &Option<UsedBitmap>) -> Result<Option<UsedBitmap>, AllocError>
+    ensures { IfOk result (λ copy. copy ≡ used.now) }
+{
+    match used {
+        Some(used) => Ok(Some(used.clone()?)),
+        None => Ok(None),
+    }
+}
 
 /// A node, and what commands have made of it.
 #[derive(Drop)]
-pub struct NodeRow {
+pub struct NodeRecord {
     pub id: NodeId,
     pub name: Name,
     pub kind: Kind,
@@ -24,6 +45,26 @@ pub struct NodeRow {
     pub made_with: Option<NodeId>,
 }
 
+impl Clone for NodeRecord {
+    ghost use Rattle.std.specs.Prelude.{◌≡◌};
+
+    ghost is_clone = { λ row copy. copy ≡ row };
+
+    fn clone(&self) -> Result<Self, AllocError> {
+        Ok(NodeRecord {
+            id: self.id,
+            name: self.name.clone()?,
+            kind: self.kind,
+            size: self.size,
+            read_only: self.read_only,
+            is_settled: self.is_settled,
+            filename: copied(&self.filename)?,
+            offset: self.offset,
+            made_with: self.made_with,
+        })
+    }
+}
+
 /// A device that is there. It may be that of a guest.
 #[derive(Drop)]
 pub struct Device {
@@ -33,6 +74,21 @@ pub struct Device {
     pub share_rw: bool,
     /// Whether its node was read-only when it was attached.
     pub read_only: bool,
+}
+
+impl Clone for Device {
+    ghost use Rattle.std.specs.Prelude.{◌≡◌};
+
+    ghost is_clone = { λ row copy. copy ≡ row };
+
+    fn clone(&self) -> Result<Self, AllocError> {
+        Ok(Device {
+            id: self.id.clone()?,
+            number: self.number,
+            share_rw: self.share_rw,
+            read_only: self.read_only,
+        })
+    }
 }
 
 /// Nodes by their ids, in order.
@@ -47,6 +103,18 @@ impl Model for NodeList {
     ghost Value = { List ℕ };
 
     ghost view = { λ n. n.ids.items };
+}
+
+impl Clone for NodeList {
+    ghost use Rattle.std.specs.Prelude.{◌≡◌};
+
+    ghost is_clone = { λ list copy. copy ≡ list };
+
+    fn clone(&self) -> Result<Self, AllocError> {
+        Ok(NodeList {
+            ids: self.ids.clone()?,
+        })
+    }
 }
 
 impl NodeList {
@@ -88,6 +156,20 @@ pub struct UsedBitmap {
     pub onto_settled: bool,
 }
 
+impl Clone for UsedBitmap {
+    ghost use Rattle.std.specs.Prelude.{◌≡◌};
+
+    ghost is_clone = { λ row copy. copy ≡ row };
+
+    fn clone(&self) -> Result<Self, AllocError> {
+        Ok(UsedBitmap {
+            name: self.name.clone()?,
+            mode: self.mode,
+            onto_settled: self.onto_settled,
+        })
+    }
+}
+
 /// What an end of a commit makes read-only again.
 #[derive(Clone, Copy, Debug, PartialEq, Eq)]
 pub struct MadeWritable {
@@ -97,7 +179,7 @@ pub struct MadeWritable {
 
 /// A job, from its start to its end.
 #[derive(Drop)]
-pub struct JobRow {
+pub struct JobRecord {
     pub id: Name,
     /// How many jobs of the run were started before it.
     pub number: u32,
@@ -123,6 +205,32 @@ pub struct JobRow {
     pub backing_file: Option<Name>,
 }
 
+impl Clone for JobRecord {
+    ghost use Rattle.std.specs.Prelude.{◌≡◌};
+
+    ghost is_clone = { λ row copy. copy ≡ row };
+
+    fn clone(&self) -> Result<Self, AllocError> {
+        Ok(JobRecord {
+            id: self.id.clone()?,
+            number: self.number,
+            slot: self.slot,
+            kind: self.kind,
+            is_ready: self.is_ready,
+            group: self.group,
+            asked: self.asked,
+            source: self.source,
+            target: self.target,
+            filter: self.filter,
+            held: self.held.clone()?,
+            read: self.read.clone()?,
+            bitmap: copied_use(&self.bitmap)?,
+            made_writable: self.made_writable,
+            backing_file: copied(&self.backing_file)?,
+        })
+    }
+}
+
 /// A dirty bitmap; which granules are dirty is kept elsewhere.
 #[derive(Drop)]
 pub struct BitmapRow {
@@ -133,6 +241,22 @@ pub struct BitmapRow {
     pub enabled: bool,
     /// The number of the job that uses it.
     pub busy: Option<u32>,
+}
+
+impl Clone for BitmapRow {
+    ghost use Rattle.std.specs.Prelude.{◌≡◌};
+
+    ghost is_clone = { λ row copy. copy ≡ row };
+
+    fn clone(&self) -> Result<Self, AllocError> {
+        Ok(BitmapRow {
+            node: self.node,
+            name: self.name.clone()?,
+            granularity: self.granularity,
+            enabled: self.enabled,
+            busy: self.busy,
+        })
+    }
 }
 
 /// What became of a file. One without a row is as it was found.
@@ -151,4 +275,17 @@ pub enum FileState {
 pub struct FileRow {
     pub name: Name,
     pub state: FileState,
+}
+
+impl Clone for FileRow {
+    ghost use Rattle.std.specs.Prelude.{◌≡◌};
+
+    ghost is_clone = { λ row copy. copy ≡ row };
+
+    fn clone(&self) -> Result<Self, AllocError> {
+        Ok(FileRow {
+            name: self.name.clone()?,
+            state: self.state,
+        })
+    }
 }

@@ -1,7 +1,12 @@
 //! What a command's answer takes from elsewhere than the table.
 
+ghost use Rattle.std.specs.Prelude.{◌≡◌};
+ghost use Rattle.qmp_rules.specs.Asks.{same_look};
+ghost use Rattle.qmp_rules.specs.Table.{has_name};
+
 use crate::refusal::Refusal;
 use blk_base::Names1;
+use std::alloc::Global;
 use std::marker::Model;
 
 /// What the store's files decide, in the order of the refusals.
@@ -21,6 +26,14 @@ pub enum Look {
     Size,
     /// Whether a file node could be formatted.
     Format,
+}
+
+impl Look {
+    pub(crate) fn is(self, other: Look) -> bool
+        ensures { result ≡ same_look self other }
+    {
+        self == other
+    }
 }
 
 /// A refusal that the files decide. A failed call stands in the place of what it would have told.
@@ -57,4 +70,51 @@ pub struct Told {
     pub mapped: Names1,
     /// For each bitmap of the table how many bytes its dirty granules have.
     pub dirty: Amounts,
+}
+
+impl Amounts {
+    ghost use Rattle.std.specs.Prelude.{◌≡◌};
+
+    /// The numbers of a vector, which is taken over with its memory.
+    pub fn new(values: Vec<u64>) -> Self
+        ensures { result ≡ values.items }
+    {
+        Amounts { values }
+    }
+
+    pub fn as_slice(&self) -> &[u64]
+        ensures { result.now ≡ self.now }
+    {
+        self.values.as_slice()
+    }
+}
+
+impl Told {
+    ghost use Rattle.std.specs.Prelude.{◌≡◌};
+    ghost use Rattle.qmp_rules.specs.Answers.{untold};
+
+    /// That nothing is told.
+    pub fn nothing(alloc: Global) -> Self
+        ensures { result ≡ untold }
+    {
+        Told {
+            length: None,
+            size: None,
+            stopped: None,
+            mapped: Names1::from_vec(Vec::new(alloc)),
+            dirty: Amounts::new(Vec::new(alloc)),
+        }
+    }
+
+    /// Whether the image of this node maps a cluster.
+    pub(crate) fn is_mapped(&self, node: &str) -> bool
+        ensures { result ≡ has_name node.now self.now.mapped }
+    {
+        for place in 0..self.mapped.len() {
+            if self.mapped.name_at(place) == node {
+                return true;
+            }
+        }
+        false
+    }
 }

@@ -1,0 +1,27 @@
+-- Lists that are gone through while the asks of each part are put.
+use Rattle.std.proofs.Common.{◌≡◌, ℕ, ◌+◌, ◌<◌, ◌≤◌, List, [], ◌∷◌, ◌++◌, length, get_or, drop, sym, ap, subst, ◌∙◌, append_assoc, append-nil, Result}
+use Rattle.std.specs.Prelude.{OnOk}
+use Rattle.std.proofs.lemmas.List.{at_drop_more, at_drop_all}
+use Rattle.qmp_rules.specs.Asks.{Asking}
+
+module _ {X : Type 0} where
+  -- the asks of one more part are put
+  pub put_step : (f : List X → List Asking) (one : List Asking) (xs : List X) (i : ℕ) (x : X) (old new whole : List Asking)
+      → i < length xs → x ≡ get_or xs i x → f (x ∷ drop (i + 1) xs) ≡ one ++ f (drop (i + 1) xs)
+      → new ≡ old ++ one → old ++ f (drop i xs) ≡ whole → new ++ f (drop (i + 1) xs) ≡ whole
+  put_step f one xs i x old new whole within is splits put before =
+      ap (λ a. a ++ f (drop (i + 1) xs)) put
+      ∙ append_assoc old one (f (drop (i + 1) xs))
+      ∙ ap (λ a. old ++ a) (sym splits ∙ ap (λ y. f (y ∷ drop (i + 1) xs)) is ∙ sym (at_drop_more f xs i x within))
+      ∙ before
+
+  -- all are
+  pub put_end : (f : List X → List Asking) (xs : List X) (i : ℕ) (old whole : List Asking)
+      → length xs ≤ i → f [] ≡ [] → old ++ f (drop i xs) ≡ whole → old ≡ whole
+  put_end f xs i old whole past none before =
+      sym (append-nil old) ∙ ap (λ a. old ++ a) (sym none ∙ sym (at_drop_all f xs i past)) ∙ before
+
+-- what is put, as it is called
+pub put_as : {R E : Type 0} → (r : Result R E) (old new more asks : List Asking) → more ≡ asks
+    → OnOk r (new ≡ old ++ more) → OnOk r (new ≡ old ++ asks)
+put_as r old new more asks e h = subst (λ (l : List Asking). OnOk r (new ≡ old ++ l)) e h

@@ -1,0 +1,60 @@
+-- Asks one by one, until the first that is not met.
+use Rattle.std.proofs.Common.{◌≡◌, ℕ, ◌+◌, ◌<◌, ◌≤◌, List, [], ◌∷◌, ◌++◌, length, get_or, drop, Option, Some, None, refl, sym, ap, ◌∙◌, is_some, true, false}
+use Rattle.std.specs.Borrow.{Bor}
+use Rattle.std.proofs.lemmas.List.{at_drop_more, at_drop_all}
+use Rattle.qmp_rules.specs.declared.ask.Ask.{Ask}
+use Rattle.qmp_rules.specs.declared.refusal.Refusal.{Refusal}
+use Rattle.qmp_rules.specs.declared.told.Told.{Told}
+use Rattle.qmp_rules.specs.Table.{Table}
+use Rattle.qmp_rules.specs.Refusals.{or_else}
+use Rattle.qmp_rules.specs.Asks.{Asking, holds, first}
+use Rattle.qmp_rules.specs.Seen.{seen_ask, seen_asks}
+
+abbrev pub Given : Type 0
+Given = Ask (Bor (List ℕ))
+
+-- what is left of the list begins with this ask
+first_here : (t : Table) (told : Told) (asks : List Given) (i : ℕ) (a : Given) → i < length asks → a ≡ get_or asks i a
+    → first t told (seen_asks (drop i asks))
+    ≡ or_else (holds t told (seen_ask a)) (first t told (seen_asks (drop (i + 1) asks)))
+first_here t told asks i a within is =
+    at_drop_more (λ rest. first t told (seen_asks rest)) asks i a within
+    ∙ ap (λ b. or_else (holds t told (seen_ask b)) (first t told (seen_asks (drop (i + 1) asks)))) (sym is)
+
+else_met : (found rest : Option Refusal) → is_some found ≡ false → or_else found rest ≡ rest
+else_met None rest h = refl
+else_met (Some cause) rest h = cc
+
+else_unmet : (found rest : Option Refusal) → is_some found ≡ true → or_else found rest ≡ found
+else_unmet None rest h = cc
+else_unmet (Some cause) rest h = refl
+
+pub first_met : (t : Table) (told : Told) (asks : List Given) (i : ℕ) (a : Given) (found : Option Refusal) → i < length asks
+    → a ≡ get_or asks i a → found ≡ holds t told (seen_ask a) → is_some found ≡ false
+    → first t told (seen_asks (drop i asks)) ≡ first t told (seen_asks (drop (i + 1) asks))
+first_met t told asks i a found within is looked none =
+    first_here t told asks i a within is
+    ∙ ap (λ f. or_else f (first t told (seen_asks (drop (i + 1) asks)))) (sym looked)
+    ∙ else_met found (first t told (seen_asks (drop (i + 1) asks))) none
+
+pub first_unmet : (t : Table) (told : Told) (asks : List Given) (i : ℕ) (a : Given) (found : Option Refusal) → i < length asks
+    → a ≡ get_or asks i a → found ≡ holds t told (seen_ask a) → is_some found ≡ true
+    → first t told (seen_asks (drop i asks)) ≡ found
+first_unmet t told asks i a found within is looked some =
+    first_here t told asks i a within is
+    ∙ ap (λ f. or_else f (first t told (seen_asks (drop (i + 1) asks)))) (sym looked)
+    ∙ else_unmet found (first t told (seen_asks (drop (i + 1) asks))) some
+
+pub first_end : (t : Table) (told : Told) (asks : List Given) (i : ℕ) → length asks ≤ i
+    → first t told (seen_asks (drop i asks)) ≡ None
+first_end t told asks i past = at_drop_all (λ rest. first t told (seen_asks rest)) asks i past
+
+-- lists one behind the other
+pub first-append : (t : Table) (told : Told) (xs ys : List Asking)
+    → first t told (xs ++ ys) ≡ or_else (first t told xs) (first t told ys)
+first-append t told [] ys = refl
+first-append t told (x ∷ xs) ys = elim (holds t told x)
+    as (λ found. or_else found (first t told (xs ++ ys)) ≡ or_else (or_else found (first t told xs)) (first t told ys)) [
+  | None ↦ first-append t told xs ys
+  | Some cause ↦ refl
+]

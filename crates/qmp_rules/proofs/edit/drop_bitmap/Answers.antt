@@ -1,0 +1,10 @@
+use Rattle.std.proofs.Common.{rules}
+use Rattle.std.specs.Prelude.{not}
+use Rattle.qmp_rules.specs.Table.{is_bitmap}
+use Rattle.std.proofs.lemmas.Fn.{filter_same}
+use Rattle.qmp_rules.proofs.edit.drop_bitmap.Goals as goal
+
+pub returns-clause-items : goal.returns-clause-items
+returns-clause-items c =
+    filter_same _ (λ row. not (is_bitmap c.args.node c.args.name.now row)) _ (λ x b f' t. search rules) c.args.rows.now.items
+    c.retain.new.self.items c.retain.ensures.filtered

@@ -1,0 +1,10 @@
+-- Why nothing is prepared.
+use Rattle.std.specs.Prelude.{◌≡◌, Option, Some}
+use Rattle.qmp_rules.specs.declared.judge.PrepareStop.{PrepareStop}
+use Rattle.qmp_rules.specs.declared.judge.PrepareStop.TheVariants.{Refused, NoMemory}
+use Rattle.qmp_rules.specs.declared.refusal.Refusal.{Refusal}
+
+-- for this first refusal of the command, or for want of memory
+abbrev pub IsRefusedFor : Option Refusal → PrepareStop → Type 0
+IsRefusedFor first (Refused cause) = first ≡ Some cause
+IsRefusedFor first NoMemory = Unit {0}

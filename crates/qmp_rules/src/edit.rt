@@ -1,0 +1,217 @@
+//! The edits of lists of rows, each made in place.
+ghost use Rattle.std.specs.Prelude.{◌≡◌, ◌<◌, ◌≤◌, ◌+◌, [], Some, map, length, vec_capacity, vec_len};
+ghost use Rattle.qmp_rules.specs.Changes.{asked_for, bitmap_changed, bitmaps_but_of, followed, node_changed, turned, unsettled, with_turned, with_unsettled, with_writable, without_bitmap, without_device, without_name, without_row, writable};
+ghost use Rattle.qmp_rules.specs.Table.{has_file, in_state, kind_in, kinds_of, with_file};
+
+use crate::find;
+use crate::name::Name;
+use crate::rows::{Asked, BitmapRow, Device, FileRow, FileState, JobRecord, NodeRecord};
+use blk_graph::{MOST_NODES, NO_KIND, NodeId, NodeKind};
+
+fn unsettle_one(row: &mut NodeRecord, id: NodeId)
+    ensures { row.new ≡ node_changed id unsettled row.old }
+{
+    if row.id == id {
+        row.is_settled = false;
+    }
+}
+
+pub(crate) fn unsettle(rows: &mut Vec<NodeRecord>, id: NodeId)
+    ensures items { rows.new.items ≡ with_unsettled id rows.old.items }
+    ensures count { vec_len rows.new ≡ vec_len rows.old }
+    ensures capacity { vec_capacity rows.new ≡ vec_capacity rows.old }
+{
+    for i in 0..rows.len() {
+        unsettle_one(&mut rows[i], id);
+    }
+}
+
+fn make_writable_one(row: &mut NodeRecord, id: NodeId)
+    ensures { row.new ≡ node_changed id writable row.old }
+{
+    if row.id == id {
+        row.read_only = false;
+    }
+}
+
+pub(crate) fn make_writable(rows: &mut Vec<NodeRecord>, id: NodeId)
+    ensures items { rows.new.items ≡ with_writable id rows.old.items }
+    ensures count { vec_len rows.new ≡ vec_len rows.old }
+    ensures capacity { vec_capacity rows.new ≡ vec_capacity rows.old }
+{
+    for i in 0..rows.len() {
+        make_writable_one(&mut rows[i], id);
+    }
+}
+
+pub(crate) fn drop_node(rows: &mut Vec<NodeRecord>, id: NodeId)
+    ensures items { rows.new.items ≡ without_row id rows.old.items }
+    ensures count { vec_len rows.new ≤ vec_len rows.old }
+    ensures capacity { vec_capacity rows.new ≡ vec_capacity rows.old }
+{
+    rows.retain(|row| row.id != id);
+}
+
+fn kind_in(row: &NodeRecord) -> NodeKind
+    ensures { result ≡ kind_in row.now }
+{
+    NodeKind {
+        kind: row.kind,
+        writes: !row.read_only,
+    }
+}
+
+fn no_kinds() -> [NodeKind; MOST_NODES]
+    ensures { result ≡ kinds_of [] }
+{
+    [NO_KIND; MOST_NODES]
+}
+
+/// The kinds of the nodes, by id.
+pub(crate) fn kinds_of(rows: &[NodeRecord]) -> [NodeKind; MOST_NODES]
+    ensures kinds { result ≡ kinds_of rows.now }
+    ensures count { length result ≡ 64 }
+{
+    let mut kinds = no_kinds();
+    for row in rows {
+        kinds[row.id.index()] = kind_in(row);
+    }
+    kinds
+}
+
+pub(crate) fn drop_device(rows: &mut Vec<Device>, number: u32)
+    ensures items { rows.new.items ≡ without_device number rows.old.items }
+    ensures count { vec_len rows.new ≤ vec_len rows.old }
+    ensures capacity { vec_capacity rows.new ≡ vec_capacity rows.old }
+{
+    rows.retain(|device| device.number != number);
+}
+
+fn turn_one(row: &mut BitmapRow, node: NodeId, name: &str, on: bool)
+    ensures { row.new ≡ bitmap_changed node name.now (turned on) row.old }
+{
+    if find::is_bitmap(row, node, name) {
+        row.enabled = on;
+    }
+}
+
+pub(crate) fn turn_bitmap(rows: &mut Vec<BitmapRow>, node: NodeId, name: &str, on: bool)
+    ensures items { rows.new.items ≡ with_turned node name.now on rows.old.items }
+    ensures count { vec_len rows.new ≡ vec_len rows.old }
+    ensures capacity { vec_capacity rows.new ≡ vec_capacity rows.old }
+{
+    for i in 0..rows.len() {
+        turn_one(&mut rows[i], node, name, on);
+    }
+}
+
+fn take_one(row: &mut BitmapRow, node: NodeId, name: &str, job: u32)
+    ensures { row.new ≡ bitmap_changed node name.now (λ row. record row { busy = Some job }) row.old }
+{
+    if find::is_bitmap(row, node, name) {
+        row.busy = Some(job);
+    }
+}
+
+/// The bitmap is used by the job from now on.
+pub(crate) fn take_bitmap(rows: &mut Vec<BitmapRow>, node: NodeId, name: &str, job: u32)
+    ensures items { rows.new.items
+        ≡ map (bitmap_changed node name.now (λ row. record row { busy = Some job })) rows.old.items }
+    ensures count { vec_len rows.new ≡ vec_len rows.old }
+    ensures capacity { vec_capacity rows.new ≡ vec_capacity rows.old }
+{
+    for i in 0..rows.len() {
+        take_one(&mut rows[i], node, name, job);
+    }
+}
+
+pub(crate) fn drop_bitmap(rows: &mut Vec<BitmapRow>, node: NodeId, name: &str)
+    ensures items { rows.new.items ≡ without_bitmap node name.now rows.old.items }
+    ensures count { vec_len rows.new ≤ vec_len rows.old }
+    ensures capacity { vec_capacity rows.new ≡ vec_capacity rows.old }
+{
+    rows.retain(|row| !find::is_bitmap(row, node, name));
+}
+
+pub(crate) fn drop_bitmaps_of(rows: &mut Vec<BitmapRow>, node: NodeId)
+    ensures items { rows.new.items ≡ bitmaps_but_of node rows.old.items }
+    ensures count { vec_len rows.new ≤ vec_len rows.old }
+    ensures capacity { vec_capacity rows.new ≡ vec_capacity rows.old }
+{
+    rows.retain(|row| row.node != node);
+}
+
+pub(crate) fn drop_name(names: &mut Vec<Name>, name: &str)
+    ensures items { names.new.items ≡ without_name name.now names.old.items }
+    ensures count { vec_len names.new ≤ vec_len names.old }
+    ensures capacity { vec_capacity names.new ≡ vec_capacity names.old }
+{
+    names.retain(|other| other.as_str() != name);
+}
+
+fn followed(old: Asked, new: Asked) -> Asked
+    ensures { result ≡ followed old new }
+{
+    match old {
+        Asked::Stop => Asked::Stop,
+        Asked::Nothing | Asked::Complete | Asked::Leave => new,
+    }
+}
+
+fn ask_one(row: &mut JobRecord, number: u32, asked: Asked)
+    ensures { row.new ≡ asked_for number asked row.old }
+{
+    if row.number == number {
+        row.asked = followed(row.asked, asked);
+    }
+}
+
+pub(crate) fn ask_job(rows: &mut Vec<JobRecord>, number: u32, asked: Asked)
+    ensures items { rows.new.items ≡ map (asked_for number asked) rows.old.items }
+    ensures count { vec_len rows.new ≡ vec_len rows.old }
+    ensures capacity { vec_capacity rows.new ≡ vec_capacity rows.old }
+{
+    for i in 0..rows.len() {
+        ask_one(&mut rows[i], number, asked);
+    }
+}
+
+fn set_one(row: &mut FileRow, name: &str, state: FileState)
+    ensures { row.new ≡ in_state name.now state row.old }
+{
+    if row.name.as_str() == name {
+        row.state = state;
+    }
+}
+
+fn set_there(rows: &mut Vec<FileRow>, name: &str, state: FileState)
+    ensures items { rows.new.items ≡ map (in_state name.now state) rows.old.items }
+    ensures count { vec_len rows.new ≡ vec_len rows.old }
+    ensures capacity { vec_capacity rows.new ≡ vec_capacity rows.old }
+{
+    for i in 0..rows.len() {
+        set_one(&mut rows[i], name, state);
+    }
+}
+
+#[tactic(auto, unfolding(crate::specs::Table::has_file))]
+fn has_file(rows: &[FileRow], name: &str) -> bool
+    ensures { result ≡ has_file name.now rows.now }
+{
+    rows.iter().any(|row| row.name.as_str() == name)
+}
+
+/// The file is in the state from now on.
+#[tactic(auto, unfolding(crate::specs::Table::with_file))]
+pub(crate) fn set_file(rows: &mut Vec<FileRow>, name: Name, state: FileState)
+    requires { vec_len rows.old < vec_capacity rows.old }
+    ensures items { rows.new.items ≡ with_file name state rows.old.items }
+    ensures count { vec_len rows.new ≤ vec_len rows.old + 1 }
+    ensures capacity { vec_capacity rows.new ≡ vec_capacity rows.old }
+{
+    if has_file(rows.as_slice(), name.as_str()) {
+        set_there(rows, name.as_str(), state);
+    } else {
+        rows.push_reserved(FileRow { name, state });
+    }
+}
