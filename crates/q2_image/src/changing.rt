@@ -8,8 +8,8 @@ ghost use Rattle.q2_format.specs.Entry.{host_of, is_single};
 ghost use Rattle.q2_format.specs.declared.entries.L2Entry.TheVariants.{Zero, Host};
 ghost use Rattle.q2_image.specs.Image.{IsImageOf, IsOpen, clusters_in, cluster_size_in, word_in, entry_in};
 ghost use Rattle.q2_image.specs.Reading.{IsHost, IsWithinCluster};
-ghost use Rattle.blk_base.specs.Device.{AtEachStopOf};
-ghost use Rattle.q2_image.specs.Made.{own_writes, WroteOwn, UnlessFull, IsOwnPart};
+ghost use Rattle.blk_base.specs.Device.{AtEachStopOf, stop_of};
+ghost use Rattle.q2_image.specs.Made.{ChangesImage, IsOldOrWith, MakesSteps, put_steps, put_writes, zero_steps, zero_writes, own_writes, WroteOwn, UnlessFull, IsOwnPart};
 ghost use Rattle.q2_image.specs.Writing.{IsDiskWith, IsSameDisk, HasEntriesBut, StaysTaken, IsSpelled, AreClusterZeros, PutFits, ZeroFits, needs_host, HasWriteCause, IsFault, IsOwnStop, IsFailedOwn, own_place, own_end, autoclear_end, autocleared, ClearsFirst, HasHeaderOf};
 
 use crate::image::Image;
@@ -36,6 +36,9 @@ impl Image {
         requires image { (file : List ℕ) → D.content dev.old ≡ Some file → IsImageOf file self.old }
 
         // the image
+        ensures changes { ChangesImage D.Device self.old (put_steps self.old cluster bytes.now) result self.new dev.old dev.new }
+        ensures stops { PutFits self.old cluster (D.capacity dev.old) → AtEachStopOf D.Device (IsOldOrWith (cluster * cluster_size_in self.old) bytes.now)
+            (put_writes self.old cluster bytes.now) dev.old }
         ensures mapped { OnOk result (IsHost (entry_in self.new cluster)) }
         ensures spelled { OnOk result (IsSpelled self.new cluster) }
         ensures single { OnOk result (needs_host self.old cluster ≡ true → is_single (word_in self.new cluster) ≡ true) }
@@ -73,6 +76,9 @@ impl Image {
         requires image { (file : List ℕ) → D.content dev.old ≡ Some file → IsImageOf file self.old }
 
         // the image
+        ensures changes { ChangesImage D.Device self.old (zero_steps self.old cluster) result self.new dev.old dev.new }
+        ensures stops { ZeroFits self.old cluster (D.capacity dev.old) → (zeros : List ℕ) → AreClusterZeros (cluster_size_in self.old) zeros
+            → AtEachStopOf D.Device (IsOldOrWith (cluster * cluster_size_in self.old) zeros) (zero_writes self.old cluster) dev.old }
         ensures mapped { OnOk result (entry_in self.new cluster ≡ Zero (host_of (entry_in self.old cluster))) }
         ensures spelled { OnOk result (IsSpelled self.new cluster) }
         ensures unmapped { OnErr result (word_in self.new cluster ≡ word_in self.old cluster) }
@@ -177,6 +183,7 @@ impl Image {
         requires whole { length bytes.now ≡ 65536 }
         requires fits { PutFits self.old cluster (D.capacity dev.old) }
         requires image { (file : List ℕ) → D.content dev.old ≡ Some file → IsImageOf file self.old }
+        ensures steps { MakesSteps D.Device self.old (put_steps self.old cluster bytes.now) (stop_of result) self.new dev.old dev.new }
         ensures mapped { OnOk result (IsHost (entry_in self.new cluster)) }
         ensures spelled { OnOk result (IsSpelled self.new cluster) }
         ensures single { OnOk result (needs_host self.old cluster ≡ true → is_single (word_in self.new cluster) ≡ true) }
@@ -204,6 +211,7 @@ impl Image {
         requires below { cluster < length self.old.tables.words }
         requires fits { ZeroFits self.old cluster (D.capacity dev.old) }
         requires image { (file : List ℕ) → D.content dev.old ≡ Some file → IsImageOf file self.old }
+        ensures steps { MakesSteps D.Device self.old (zero_steps self.old cluster) (stop_of result) self.new dev.old dev.new }
         ensures mapped { OnOk result (entry_in self.new cluster ≡ Zero (host_of (entry_in self.old cluster))) }
         ensures spelled { OnOk result (IsSpelled self.new cluster) }
         ensures unmapped { OnErr result (word_in self.new cluster ≡ word_in self.old cluster) }
