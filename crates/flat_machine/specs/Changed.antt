@@ -7,7 +7,10 @@ use Rattle.blk_graph.specs.declared.kind.Kind.TheVariants.{Protocol, Raw, Qcow2}
 use Rattle.blk_graph.specs.declared.edge.Role.TheVariants.{File, Backing}
 use Rattle.qmp_codec.specs.declared.words.ImageFormat.{ImageFormat}
 use Rattle.qmp_codec.specs.declared.words.ImageFormat.TheVariants as format
+use Rattle.qmp_codec.specs.declared.event.JobKind.{JobKind}
+use Rattle.qmp_codec.specs.declared.event.JobKind.TheVariants.{Commit}
 use Rattle.qmp_rules.specs.declared.rows.NodeRow.{NodeRow}
+use Rattle.qmp_rules.specs.declared.rows.JobRow.{JobRow}
 use Rattle.qmp_rules.specs.declared.rows.BitmapRow.{BitmapRow}
 use Rattle.qmp_rules.specs.declared.change.Change.{Change}
 use Rattle.qmp_rules.specs.declared.change.Change.TheVariants as change
@@ -40,6 +43,10 @@ name_file name s = record s { named = s.named ++ name ∷ [] }
 -- a file is made anew: no disk is left in it
 abbrev pub forget_left : List ℕ → State → State
 forget_left name s = record s { left = filter (λ l. not (bytes_eq l.file name)) s.left }
+
+abbrev pub name_if : Option (List ℕ) → State → State
+name_if None s = s
+name_if (Some name) s = name_file name s
 
 abbrev pub make : List ℕ → Content → State → State
 make name content s = name_file name (know name content (forget_left name s))
@@ -115,6 +122,17 @@ remove_node node s = drop_node node (leave (option_and_then (left_by s) (node_at
 abbrev pub add_bitmap : BitmapRow → State → State
 add_bitmap row s = record s { dirty = s.dirty ++ clean row (size_of s.table row.node) ∷ [] }
 
+-- ---- jobs
+
+-- the file of the overlay in whose header a commit to an inner base writes a name
+abbrev pub overlay_file : Table → JobRow → JobKind → Option (List ℕ)
+overlay_file t row Commit = written_under row.read
+  where
+    written_under : List ℕ → Option (List ℕ)
+    written_under [] = None
+    written_under (overlay ∷ rest) = option_and_then (filename_of t) (child t overlay File)
+overlay_file t row kind = None
+
 -- ---- each kind of change
 
 abbrev pub format_name : ImageFormat → List ℕ
@@ -122,7 +140,7 @@ format_name format.Raw = codes "raw"
 format_name other = codes "qcow2"
 
 -- Beside the table. A kind that isn't listed changes the table alone: what is unsettled keeps its bytes, and parents that
--- move read the same.
+-- move read the same. What the start of a job finds is kept from its own entry on.
 abbrev pub beside : State → Change → State
 beside s (change.MakeFile name size) = make name (Bytes (replicate size 0)) s
 beside s (change.FormatFile node name size backing_file backing_fmt) =
@@ -132,6 +150,8 @@ beside s (change.UseFile name) = know name Unknown s
 beside s (change.AddFile row) = add_file row s
 beside s (change.AddFormat row file backing) = add_format row file backing s
 beside s (change.RemoveNode node) = remove_node node s
+beside s (change.MakeWritable node) = name_if (filename_of s.table node) s
+beside s (change.StartJob row) = name_if (overlay_file s.table row row.kind) s
 beside s (change.Attach overlay node) = put overlay (bytes_at_node s node) s
 beside s (change.AddBitmap row) = add_bitmap row s
 beside s (change.RemoveBitmap node name) = record s { dirty = filter (λ d. not (is_dirty_of node name d)) s.dirty }

@@ -19,9 +19,9 @@ use Rattle.qmp_rules.specs.declared.rows.JobRow.{JobRow}
 use Rattle.qmp_rules.specs.declared.rows.UsedBitmap.{UsedBitmap}
 use Rattle.qmp_rules.specs.Table.{Table, node_at, job_at, child, kinds_of}
 use Rattle.qmp_rules.specs.Chains.{has_id}
-use Rattle.flat_machine.specs.State.{State, Left, Mapped, MapsNone, Unsure, Image, Dirty, Begun, Ending, bytes_at_node, filename_of, size_of}
+use Rattle.flat_machine.specs.State.{State, Left, Mapped, MapsNone, Unsure, Image, Dirty, Begun, Ending, bytes_at_node, size_of}
 use Rattle.flat_machine.specs.Marking.{filled, put_aside, taken_back, is_dirty_of, dirty_at, where_so, where_recording}
-use Rattle.flat_machine.specs.Changed.{put, name_file, forget_left}
+use Rattle.flat_machine.specs.Changed.{put, forget_left}
 use Rattle.blk_history.specs.declared.entry.JobEnd.{JobEnd}
 use Rattle.blk_history.specs.declared.entry.JobEnd.TheVariants.{Completed, Pivoted, Copied, Failed, Cancelled}
 use Rattle.blk_history.specs.declared.entry.Cause.{Cause}
@@ -121,31 +121,6 @@ abbrev pub unleft : Option (List ℕ) → State → State
 unleft None s = s
 unleft (Some name) s = forget_left name s
 
-abbrev pub name_if : Option (List ℕ) → State → State
-name_if None s = s
-name_if (Some name) s = name_file name s
-
--- the file of a base that becomes writable and is a `file` node itself
-abbrev pub base_made_writable : Table → JobRow → Option (List ℕ)
-base_made_writable t row = if row.made_writable.base then option_and_then (filename_of t) row.target else None
-
--- the file of the `file` node that becomes writable under it
-abbrev pub file_made_writable : Table → JobRow → Option (List ℕ)
-file_made_writable t row =
-    if row.made_writable.file
-    then option_and_then (filename_of t) (option_and_then (λ base. child t base File) row.target)
-    else None
-
--- the file of the overlay in whose header a commit to an inner base writes a name
-abbrev pub overlay_file : Table → JobRow → JobKind → List ℕ → Option (List ℕ)
-overlay_file t row Commit (overlay ∷ rest) = option_and_then (filename_of t) (child t overlay File)
-overlay_file t row kind nodes = None
-
-abbrev pub named_at_start : JobRow → State → State
-named_at_start row s =
-    name_if (overlay_file s.table row row.kind row.read)
-    (name_if (file_made_writable s.table row) (name_if (base_made_writable s.table row) s))
-
 abbrev pub noted_start : State → JobRow → State
 noted_start s row = record s {
   begun = s.begun ++ begin s row ∷ [];
@@ -154,10 +129,11 @@ noted_start s row = record s {
   starts = s.starts + 1;
 }
 
+-- The reply that made the job's row stands before: what is left here is what the job finds and holds.
 abbrev pub started : State → Option JobRow → State
 started s None = s
 started s (Some row) =
-    named_at_start row (unleft (target_file s.table (option_and_then (node_at s.table) (copied_to row row.kind))) (noted_start s row))
+    unleft (target_file s.table (option_and_then (node_at s.table) (copied_to row row.kind))) (noted_start s row)
 
 -- ---- ends: the disks
 
@@ -223,7 +199,7 @@ unfiltered (Some filter) edges = without_filter filter edges
 
 abbrev pub edges_at_end : JobRow → JobEnd → List Edge → List Edge
 edges_at_end row outcome edges =
-    let released = unfiltered row.filter (without_parent (Job row.number) edges) in
+    let released = unfiltered row.filter (without_parent (Job row.slot) edges) in
     if is_move outcome then moved_by row row.kind released else released
 
 abbrev pub is_filter_of : Option ℕ → NodeRow → Bool

@@ -10,8 +10,10 @@ pub mod Legal
 pub mod Entries
 pub mod Courses
 pub mod Script
+pub mod Traces
 pub mod Marks
 pub mod Licence
+pub mod EventLicence
 pub mod Blocked
 pub mod Opening
 pub mod Final

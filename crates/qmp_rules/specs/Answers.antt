@@ -8,6 +8,9 @@ use Rattle.qmp_codec.specs.declared.command.Action.{Action}
 use Rattle.qmp_codec.specs.declared.command.Action.TheVariants as action
 use Rattle.qmp_codec.specs.declared.command.Command.{Command}
 use Rattle.qmp_codec.specs.declared.command.Command.TheVariants as command
+use Rattle.qmp_codec.specs.declared.command.Transaction.{Transaction}
+use Rattle.qmp_codec.specs.declared.words.CompletionMode.{CompletionMode}
+use Rattle.qmp_codec.specs.declared.words.CompletionMode.TheVariants.{Grouped}
 use Rattle.qmp_codec.specs.declared.nodes.Added.{Added}
 use Rattle.qmp_codec.specs.declared.nodes.Added.TheVariants as added
 use Rattle.qmp_codec.specs.declared.stop.CodecStop.TheVariants as stop
@@ -51,10 +54,15 @@ abbrev pub rewires : Cmd → Bool
 rewires (command.BlockdevAdd c) = is_joined c.driver
 rewires (command.DeviceAdd c) = true
 rewires (command.BlockdevSnapshot c) = true
+rewires (command.BlockStream c) = true
+rewires (command.BlockCommit c) = true
+rewires (command.BlockdevMirror c) = true
+rewires (command.BlockdevBackup c) = true
 rewires _ = false
 
 abbrev pub action_rewires : Act → Bool
 action_rewires (action.Snapshot c) = true
+action_rewires (action.Backup c) = true
 action_rewires _ = false
 
 -- the edges as the changes make them break it
@@ -64,18 +72,27 @@ conflict_after true t changes = conflict_in (all_changed t changes)
 
 -- ---- actions of a transaction, each judged by the table as the ones before it leave it
 
-abbrev pub action_refusal : Table → Told → Act → Option Refusal
-action_refusal t told a =
-    or_else (first t told (action_rest a)) (conflict_after (action_rewires a) t (action_edits t a))
+-- the jobs of a grouped transaction have the number of its first one
+abbrev pub is_grouped : Option CompletionMode → Bool
+is_grouped (Some Grouped) = true
+is_grouped mode = false
 
-abbrev pub actions_refusal : Table → Told → List Act → Option Refusal
-actions_refusal t told [] = None
-actions_refusal t told (a ∷ actions) =
-    or_else (action_refusal t told a) (actions_refusal (all_changed t (action_edits t a)) told actions)
+abbrev pub group_of : Table → Transaction (List Act) → Option ℕ
+group_of t c = if is_grouped c.completion_mode then Some t.started else None
 
-abbrev pub actions_edits : Table → List Act → List Change
-actions_edits t [] = []
-actions_edits t (a ∷ actions) = action_edits t a ++ actions_edits (all_changed t (action_edits t a)) actions
+abbrev pub action_refusal : Table → Told → Option ℕ → Act → Option Refusal
+action_refusal t told group a =
+    or_else (first t told (action_rest a)) (conflict_after (action_rewires a) t (action_edits t group a))
+
+abbrev pub actions_refusal : Table → Told → Option ℕ → List Act → Option Refusal
+actions_refusal t told group [] = None
+actions_refusal t told group (a ∷ actions) =
+    or_else (action_refusal t told group a) (actions_refusal (all_changed t (action_edits t group a)) told group actions)
+
+abbrev pub actions_edits : Table → Option ℕ → List Act → List Change
+actions_edits t group [] = []
+actions_edits t group (a ∷ actions) =
+    action_edits t group a ++ actions_edits (all_changed t (action_edits t group a)) group actions
 
 -- ---- commands
 
@@ -91,7 +108,7 @@ out_of_turn _ _ = None
 
 -- behind the asks: what the actions ask of the table, or what the edges break
 abbrev pub refusal_behind : Table → Told → Cmd → Option Refusal
-refusal_behind t told (command.Transaction c) = actions_refusal t told c.actions
+refusal_behind t told (command.Transaction c) = actions_refusal t told (group_of t c) c.actions
 refusal_behind t told c = conflict_after (rewires c) t (edits_of t untold c)
 
 -- the first refusal of a command that holds
@@ -102,7 +119,7 @@ refusal_of t told c =
     (or_else (first t told (asks_of c)) (refusal_behind t told c)))
 
 abbrev pub command_edits : Table → Told → Cmd → List Change
-command_edits t told (command.Transaction c) = actions_edits t c.actions
+command_edits t told (command.Transaction c) = actions_edits t (group_of t c) c.actions
 command_edits t told c = edits_of t told c
 
 -- what a command gives: of most nothing

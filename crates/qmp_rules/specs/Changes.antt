@@ -1,15 +1,19 @@
 -- What each kind of change makes of the table: a line each.
-use Rattle.std.specs.Prelude.{ℕ, ◌==◌, Bool, true, false, not, ◌&&◌, if◌then◌else◌, List, [], ◌∷◌, ◌++◌, map, filter, bytes_eq, Option, Some, None}
+use Rattle.std.specs.Prelude.{ℕ, ◌+◌, ◌==◌, Bool, true, false, not, ◌&&◌, if◌then◌else◌, List, [], ◌∷◌, ◌++◌, map, filter, bytes_eq, Option, Some, None}
 use Rattle.blk_graph.specs.declared.edge.Edge.{Edge}
 use Rattle.blk_graph.specs.declared.edge.Parent.TheVariants.{Node, Guest}
 use Rattle.blk_graph.specs.declared.edge.Role.TheVariants.{File, Backing}
-use Rattle.blk_graph.specs.Edits.{with_edge, with_replaced, without_parent}
-use Rattle.blk_graph.specs.Permissions.{node_edge, drive_edge}
+use Rattle.blk_graph.specs.Edits.{with_edge, with_filter, with_replaced, without_parent}
+use Rattle.blk_graph.specs.Permissions.{idle_uses, node_edge, drive_edge, job_edge}
 use Rattle.blk_graph.specs.Refreshed.{refreshed}
 use Rattle.qmp_rules.specs.declared.change.Change.{Change}
 use Rattle.qmp_rules.specs.declared.change.Change.TheVariants as change
 use Rattle.qmp_rules.specs.declared.rows.NodeRow.{NodeRow}
 use Rattle.qmp_rules.specs.declared.rows.Device.{Device}
+use Rattle.qmp_rules.specs.declared.rows.Asked.{Asked}
+use Rattle.qmp_rules.specs.declared.rows.Asked.TheVariants as asked
+use Rattle.qmp_rules.specs.declared.rows.JobRow.{JobRow}
+use Rattle.qmp_rules.specs.declared.rows.UsedBitmap.{UsedBitmap}
 use Rattle.qmp_rules.specs.declared.rows.BitmapRow.{BitmapRow}
 use Rattle.qmp_rules.specs.declared.rows.FileState.TheVariants.{Made, Formatted, Used}
 use Rattle.qmp_rules.specs.Table.{Table, with_file, kinds_of, is_bitmap}
@@ -28,6 +32,12 @@ unsettled row = record row { is_settled = false }
 
 abbrev pub with_unsettled : ℕ → List NodeRow → List NodeRow
 with_unsettled id nodes = map (node_changed id unsettled) nodes
+
+abbrev pub writable : NodeRow → NodeRow
+writable row = record row { read_only = false }
+
+abbrev pub with_writable : ℕ → List NodeRow → List NodeRow
+with_writable id nodes = map (node_changed id writable) nodes
 
 abbrev pub without_row : ℕ → List NodeRow → List NodeRow
 without_row id nodes = filter (λ row. not (row.id == id)) nodes
@@ -56,6 +66,25 @@ without_bitmap node name rows = filter (λ row. not (is_bitmap node name row)) r
 
 abbrev pub bitmaps_but_of : ℕ → List BitmapRow → List BitmapRow
 bitmaps_but_of node rows = filter (λ row. not (row.node == node)) rows
+
+-- the bitmap of a job's source that the job copies by, where it does
+abbrev pub busy_by : ℕ → Option UsedBitmap → ℕ → List BitmapRow → List BitmapRow
+busy_by job None source rows = rows
+busy_by job (Some used) source rows = map (bitmap_changed source used.name (λ row. record row { busy = Some job })) rows
+
+-- ---- jobs
+
+-- the parents of a node have the filter in its place, and the filter has the node
+abbrev pub filtered_edges : ℕ → ℕ → List Edge → List Edge
+filtered_edges filter node edges = with_filter node filter idle_uses.perm idle_uses.shared edges
+
+-- what is still to follow of what a job is asked: once it is to end cancelled, no later command changes that
+abbrev pub followed : Asked → Asked → Asked
+followed asked.Stop new = asked.Stop
+followed old new = new
+
+abbrev pub asked_for : ℕ → Asked → JobRow → JobRow
+asked_for number new job = if job.number == number then record job { asked = followed job.asked new } else job
 
 -- ---- devices and ids
 
@@ -87,6 +116,15 @@ changed t (change.AddFilter row child) =
 changed t (change.RemoveNode id) =
     record (rewired (without_row id t.nodes) (without_parent (Node id) t.edges) t) { bitmaps = bitmaps_but_of id t.bitmaps }
 changed t (change.Unsettle id) = record t { nodes = with_unsettled id t.nodes }
+changed t (change.MakeWritable id) = rewired (with_writable id t.nodes) t.edges t
+changed t (change.PutFilter row node) = rewired (t.nodes ++ row ∷ []) (filtered_edges row.id node t.edges) t
+changed t (change.UseNode slot what node) = rewired t.nodes (with_edge (job_edge slot what node) t.edges) t
+changed t (change.StartJob row) = record t {
+  jobs = t.jobs ++ row ∷ [];
+  started = t.started + 1;
+  bitmaps = busy_by row.number row.bitmap row.source t.bitmaps;
+}
+changed t (change.AskJob number new) = record t { jobs = map (asked_for number new) t.jobs }
 changed t (change.AddDevice device node) =
     record (rewired t.nodes (with_edge (device_edge device node) t.edges) t) { devices = t.devices ++ device ∷ [] }
 changed t (change.RemoveDevice number) =

@@ -1,14 +1,23 @@
 -- The changes that an accepted command makes.
-use Rattle.std.specs.Prelude.{ℕ, zero, suc, ◌+◌, ◌==◌, Bool, true, false, not, ◌&&◌, if◌then◌else◌, List, [], ◌∷◌, ◌++◌, map, length, find, bytes_eq, Option, Some, None, option_map, option_and_then, unwrap_or}
+use Rattle.std.specs.Prelude.{ℕ, zero, suc, ◌+◌, ◌==◌, Bool, true, false, not, ◌&&◌, if◌then◌else◌, List, [], ◌∷◌, ◌++◌, map, filter, drop, length, find, bytes_eq, codes, Option, Some, None, option_map, option_and_then, unwrap_or}
 use Rattle.std.specs.List.{list_any}
 use Rattle.blk_graph.specs.declared.edge.Role.TheVariants.{File}
 use Rattle.blk_graph.specs.declared.kind.Kind.{Kind}
 use Rattle.blk_graph.specs.declared.kind.Kind.TheVariants as kind
+use Rattle.blk_graph.specs.declared.kind.JobUse.{JobUse}
+use Rattle.blk_graph.specs.declared.kind.JobUse.TheVariants.{CopyTarget, CommitTop, CommitBetween, CommitBase, StreamTop, StreamBelow}
 use Rattle.blk_graph.specs.Ids.{lowest_free}
 use Rattle.qmp_codec.specs.declared.command.Action.{Action}
 use Rattle.qmp_codec.specs.declared.command.Action.TheVariants as action
 use Rattle.qmp_codec.specs.declared.command.Command.{Command}
 use Rattle.qmp_codec.specs.declared.command.Command.TheVariants as command
+use Rattle.qmp_codec.specs.declared.event.JobKind.{JobKind}
+use Rattle.qmp_codec.specs.declared.event.JobKind.TheVariants as job_kind
+use Rattle.qmp_codec.specs.declared.words.BitmapMode.TheVariants.{OnSuccess}
+use Rattle.qmp_codec.specs.declared.jobs.Stream.{Stream as StreamCommand}
+use Rattle.qmp_codec.specs.declared.jobs.Commit.{Commit as CommitCommand}
+use Rattle.qmp_codec.specs.declared.jobs.Mirror.{Mirror}
+use Rattle.qmp_codec.specs.declared.jobs.Backup.{Backup}
 use Rattle.qmp_codec.specs.declared.bitmaps.BitmapAdd.{BitmapAdd}
 use Rattle.qmp_codec.specs.declared.bitmaps.BitmapName.{BitmapName}
 use Rattle.qmp_codec.specs.declared.bitmaps.BitmapMerge.{BitmapMerge}
@@ -29,15 +38,22 @@ use Rattle.qmp_codec.specs.declared.nodes.Snapshot.{Snapshot}
 use Rattle.qmp_codec.specs.declared.nodes.DeviceAdd.{DeviceAdd}
 use Rattle.qmp_codec.specs.Commands.{Act, Cmd, SeenSources}
 use Rattle.qmp_rules.specs.declared.change.Change.{Change}
-use Rattle.qmp_rules.specs.declared.change.Change.TheVariants.{Negotiate, KeepId, DropId, MakeFile, FormatFile, SpoilFile, UseFile, AddFile, AddFormat, AddFilter, RemoveNode, Unsettle, AddDevice, RemoveDevice, Attach, Move, AddBitmap, RemoveBitmap, TurnBitmap, ClearBitmap, MergeBitmap}
+use Rattle.qmp_rules.specs.declared.change.Change.TheVariants.{Negotiate, KeepId, DropId, MakeFile, FormatFile, SpoilFile, UseFile, AddFile, AddFormat, AddFilter, RemoveNode, Unsettle, MakeWritable, PutFilter, UseNode, StartJob, AskJob, AddDevice, RemoveDevice, Attach, Move, AddBitmap, RemoveBitmap, TurnBitmap, ClearBitmap, MergeBitmap}
 use Rattle.qmp_rules.specs.declared.rows.NodeRow.{NodeRow}
 use Rattle.qmp_rules.specs.declared.rows.Device.{Device}
+use Rattle.qmp_rules.specs.declared.rows.Asked.{Asked}
+use Rattle.qmp_rules.specs.declared.rows.Asked.TheVariants as asked
 use Rattle.qmp_rules.specs.declared.rows.BitmapRow.{BitmapRow}
+use Rattle.qmp_rules.specs.declared.rows.JobRow.{JobRow}
+use Rattle.qmp_rules.specs.declared.rows.MadeWritable.{MadeWritable}
+use Rattle.qmp_rules.specs.declared.rows.UsedBitmap.{UsedBitmap}
+use Rattle.qmp_rules.specs.declared.ask.JobNodes.TheVariants.{Stream, Commit, Copy}
 use Rattle.qmp_rules.specs.declared.told.Told.{Told}
 use Rattle.qmp_rules.specs.Naming.{inline_name}
-use Rattle.qmp_rules.specs.Table.{Table, node_named, node_at, id_named, device_named, child}
-use Rattle.qmp_rules.specs.Chains.{disk_node}
-use Rattle.qmp_rules.specs.Asks.{id_or, name_of_file, is_file}
+use Rattle.qmp_rules.specs.Table.{Table, node_named, node_at, id_named, device_named, job_named, child}
+use Rattle.qmp_rules.specs.Chains.{disk_node, is_settled, has_id, chain}
+use Rattle.qmp_rules.specs.Asks.{Nodes1, id_or, name_of_file, is_file, top_of, base_of, held_nodes, read_nodes, is_active}
+use Rattle.qmp_rules.specs.JobAsks.{stream_nodes, commit_nodes}
 use Rattle.qmp_rules.specs.NodeAsks.{is_read_only, backing_name}
 use Rattle.qmp_rules.specs.BitmapAsks.{source_node, source_name}
 use Rattle.qmp_rules.specs.Values.{amount_or, part_offset, part_size, flag_or_false, shares}
@@ -270,10 +286,189 @@ merges t node target (s ∷ sources) =
 abbrev pub merge_edits : Table → BitmapMerge (List ℕ) SeenSources → List Change
 merge_edits t c = merges t c.node c.target c.bitmaps
 
+-- ---- jobs that begin
+
+abbrev pub next_slot : Table → ℕ
+next_slot t = lowest_free (map (λ job. job.slot) t.jobs)
+
+-- the row of a job, without what some kinds alone have
+abbrev pub new_job : Table → Option ℕ → List ℕ → JobKind → Nodes1 → JobRow
+new_job t group id what nodes = record {
+  id = id;
+  number = t.started;
+  slot = next_slot t;
+  kind = what;
+  is_ready = false;
+  group = group;
+  asked = asked.Nothing;
+  source = top_of t nodes;
+  target = base_of t nodes;
+  filter = None;
+  held = held_nodes t nodes;
+  read = read_nodes t nodes;
+  bitmap = None;
+  made_writable = record { base = false; file = false };
+  backing_file = None;
+}
+
+-- its filter is the node that is added next
+abbrev pub filtered_job : Table → JobRow → JobRow
+filtered_job t job = record job { filter = Some (free_id t) }
+
+abbrev pub filter_name : Kind → List ℕ → List ℕ
+filter_name kind.Mirror id = codes "#mirror:" ++ id
+filter_name kind.Commit id = codes "#commit:" ++ id
+filter_name driver id = codes "#cbw:" ++ id
+
+-- as large as the node under it, and read-only where that is
+abbrev pub filter_row : Table → Kind → List ℕ → NodeRow → NodeRow
+filter_row t driver id row = format_row driver (free_id t) (filter_name driver id) row.size 0 row.read_only
+
+abbrev pub filter_edits : Table → Kind → JobRow → List Change
+filter_edits t driver job = of_row (λ row. PutFilter (filter_row t driver job.id row) row.id ∷ []) (node_at t job.source)
+
+-- a job on a file node uses its file
+abbrev pub file_used : Table → Option ℕ → List Change
+file_used t node = of_row device_uses (option_and_then (node_at t) node)
+
+-- ---- block-stream: the top, and the nodes below it down to the base
+
+abbrev pub uses_as : ℕ → JobUse → List ℕ → List Change
+uses_as slot what nodes = map (UseNode slot what) nodes
+
+abbrev pub stream_job : Table → StreamCommand (List ℕ) → JobRow
+stream_job t c = record (new_job t None c.job_id job_kind.Stream (stream_nodes c)) { backing_file = c.backing_file }
+
+abbrev pub stream_edits : Table → StreamCommand (List ℕ) → List Change
+stream_edits t c =
+    let job : JobRow = stream_job t c in
+    StartJob job ∷ UseNode job.slot StreamTop job.source ∷ uses_as job.slot StreamBelow job.read
+
+-- ---- block-commit
+
+-- A base that is read-only may be written while the job runs, with the `file` node under it.
+abbrev pub reads_only : Table → Option ℕ → Bool
+reads_only t node = unwrap_or (option_map (λ row. row.read_only) (option_and_then (node_at t) node)) false
+
+abbrev pub file_below : Table → Option ℕ → Option ℕ
+file_below t base = option_and_then (λ id. child t id File) base
+
+abbrev pub to_be_written : Table → Option ℕ → MadeWritable
+to_be_written t base = record { base = reads_only t base; file = reads_only t (file_below t base) }
+
+abbrev pub writable_if : Bool → Option ℕ → List Change
+writable_if true (Some id) = MakeWritable id ∷ []
+writable_if _ _ = []
+
+abbrev pub base_edits : Table → JobRow → List Change
+base_edits t job =
+    writable_if job.made_writable.file (file_below t job.target) ++ writable_if job.made_writable.base job.target
+
+-- what a node reads one after another, as far as the top of the commit
+abbrev pub up_to : ℕ → List ℕ → List ℕ
+up_to top [] = []
+up_to top (id ∷ ids) = if id == top then [] else id ∷ up_to top ids
+
+-- It reads one of the nodes that the commit writes, or may leave without their disks, and not through the top.
+abbrev pub reads_one_of : Table → ℕ → List ℕ → NodeRow → Bool
+reads_one_of t top nodes row = list_any (λ id. has_id id nodes) (up_to top (chain t (disk_node t row.id)))
+
+-- the base, and the nodes strictly between it and the top
+abbrev pub under_top : JobRow → List ℕ
+under_top job = drop 1 job.held
+
+-- what has no flat disk from then on
+abbrev pub commit_unsettles : Table → JobRow → List Change
+commit_unsettles t job =
+    map (λ row. Unsettle row.id) (filter (reads_one_of t job.source (under_top job)) t.nodes)
+
+abbrev pub is_base : Option ℕ → ℕ → Bool
+is_base None id = false
+is_base (Some base) id = base == id
+
+abbrev pub commit_uses : JobRow → List Change
+commit_uses job =
+    map (λ id. UseNode job.slot (if is_base job.target id then CommitBase else CommitBetween) id) (under_top job)
+
+abbrev pub commit_job : Table → CommitCommand (List ℕ) → JobRow
+commit_job t c =
+    let job : JobRow = new_job t None c.job_id job_kind.Commit (commit_nodes c) in
+    let made : JobRow = record job { made_writable = to_be_written t job.target; backing_file = c.backing_file } in
+    if is_active t c.device c.top_node then filtered_job t made else made
+
+-- a commit of the device itself has a filter over its top
+abbrev pub commit_filter : Table → JobRow → List Change
+commit_filter t job = if_filtered job.filter
+  where
+    if_filtered : Option ℕ → List Change
+    if_filtered None = []
+    if_filtered (Some id) = filter_edits t kind.Commit job
+
+abbrev pub commit_edits : Table → CommitCommand (List ℕ) → List Change
+commit_edits t c =
+    let job : JobRow = commit_job t c in
+    commit_unsettles t job ++ file_used t job.target ++ base_edits t job ++ commit_filter t job
+    ++ StartJob job ∷ UseNode job.slot CommitTop job.source ∷ commit_uses job
+
+-- ---- blockdev-mirror and blockdev-backup: the target has no flat disk from then on
+
+abbrev pub target_edits : Table → Option ℕ → List Change
+target_edits t None = []
+target_edits t (Some target) = Unsettle target ∷ file_used t (Some target)
+
+abbrev pub uses_target : JobRow → Option ℕ → List Change
+uses_target job None = []
+uses_target job (Some target) = UseNode job.slot CopyTarget target ∷ []
+
+abbrev pub copy_edits : Table → Kind → JobRow → List Change
+copy_edits t driver job =
+    target_edits t job.target ++ filter_edits t driver job ++ StartJob job ∷ uses_target job job.target
+
+abbrev pub mirror_job : Table → Mirror (List ℕ) → JobRow
+mirror_job t c = filtered_job t (new_job t None c.job_id job_kind.Mirror (Copy c.device c.target))
+
+abbrev pub mirror_edits : Table → Mirror (List ℕ) → List Change
+mirror_edits t c = copy_edits t kind.Mirror (mirror_job t c)
+
+abbrev pub used_bitmap : Table → Backup (List ℕ) → List ℕ → UsedBitmap
+used_bitmap t c name = record {
+  name = name;
+  mode = unwrap_or c.bitmap_mode OnSuccess;
+  onto_settled = is_settled t (id_or 0 t (Some c.target));
+}
+
+abbrev pub backup_job : Table → Option ℕ → Backup (List ℕ) → JobRow
+backup_job t group c =
+    record (filtered_job t (new_job t group c.job_id job_kind.Backup (Copy c.device c.target))) {
+      bitmap = option_map (used_bitmap t c) c.bitmap;
+    }
+
+abbrev pub backup_edits : Table → Option ℕ → Backup (List ℕ) → List Change
+backup_edits t group c = copy_edits t kind.BeforeWrite (backup_job t group c)
+
+-- ---- block-job-cancel and block-job-complete
+
+-- A mirror that is ready and is cancelled without force leaves its copy behind; every other cancel is final.
+abbrev pub leaves_copy : Bool → Bool → JobKind → Bool
+leaves_copy false true job_kind.Mirror = true
+leaves_copy force is_ready what = false
+
+abbrev pub asked_by_cancel : Bool → JobRow → Asked
+asked_by_cancel force job = if leaves_copy force job.is_ready job.kind then asked.Leave else asked.Stop
+
+abbrev pub ask_edits : Table → List ℕ → (JobRow → Asked) → List Change
+ask_edits t id ask = elim (job_named t id) as (λ _. List Change) [ None ↦ [] | Some job ↦ AskJob job.number (ask job) ∷ [] ]
+
+abbrev pub cancel_edits : Table → List ℕ → Option Bool → List Change
+cancel_edits t id force = ask_edits t id (asked_by_cancel (flag_or_false force))
+
+abbrev pub complete_edits : Table → List ℕ → List Change
+complete_edits t id = ask_edits t id (λ job. asked.Complete)
+
 -- ---- commands and actions
 
 -- What a command makes of the table once it is accepted. A transaction's actions are judged one by one and have their
--- changes there; those of jobs come with their starts.
+-- changes there.
 unfoldable pub edits_of : Table → Told → Cmd → List Change
 edits_of t told (command.Capabilities enable) = Negotiate ∷ []
 edits_of t told (command.BlockdevCreate c) = create_edits t c
@@ -283,6 +478,12 @@ edits_of t told (command.BlockdevDel name) = del_edits t name
 edits_of t told (command.DeviceAdd c) = device_add_edits t c
 edits_of t told (command.DeviceDel id) = device_del_edits t id
 edits_of t told (command.BlockdevSnapshot c) = snapshot_edits t c
+edits_of t told (command.BlockStream c) = stream_edits t c
+edits_of t told (command.BlockCommit c) = commit_edits t c
+edits_of t told (command.BlockdevMirror c) = mirror_edits t c
+edits_of t told (command.BlockdevBackup c) = backup_edits t None c
+edits_of t told (command.BlockJobCancel job force) = cancel_edits t job force
+edits_of t told (command.BlockJobComplete job) = complete_edits t job
 edits_of t told (command.BitmapAdd c) = bitmap_add_edits t c
 edits_of t told (command.BitmapRemove c) = bitmap_remove_edits t c
 edits_of t told (command.BitmapClear c) = bitmap_clear_edits t c
@@ -291,12 +492,14 @@ edits_of t told (command.BitmapDisable c) = bitmap_turn_edits t false c
 edits_of t told (command.BitmapMerge c) = merge_edits t c
 edits_of t told _ = []
 
-unfoldable pub action_edits : Table → Act → List Change
-action_edits t (action.Snapshot c) = snapshot_edits t c
-action_edits t (action.BitmapAdd c) = bitmap_add_edits t c
-action_edits t (action.BitmapRemove c) = bitmap_remove_edits t c
-action_edits t (action.BitmapClear c) = bitmap_clear_edits t c
-action_edits t (action.BitmapEnable c) = bitmap_turn_edits t true c
-action_edits t (action.BitmapDisable c) = bitmap_turn_edits t false c
-action_edits t (action.BitmapMerge c) = merge_edits t c
-action_edits t _ = []
+-- an action's, of a transaction whose jobs have this group
+unfoldable pub action_edits : Table → Option ℕ → Act → List Change
+action_edits t group (action.Snapshot c) = snapshot_edits t c
+action_edits t group (action.Backup c) = backup_edits t group c
+action_edits t group (action.BitmapAdd c) = bitmap_add_edits t c
+action_edits t group (action.BitmapRemove c) = bitmap_remove_edits t c
+action_edits t group (action.BitmapClear c) = bitmap_clear_edits t c
+action_edits t group (action.BitmapEnable c) = bitmap_turn_edits t true c
+action_edits t group (action.BitmapDisable c) = bitmap_turn_edits t false c
+action_edits t group (action.BitmapMerge c) = merge_edits t c
+action_edits t group _ = []

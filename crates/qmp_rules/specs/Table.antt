@@ -73,6 +73,10 @@ job_named t name = find (λ job. bytes_eq job.id name) t.jobs
 abbrev pub job_at : Table → ℕ → Option JobRow
 job_at t number = find (λ job. job.number == number) t.jobs
 
+-- the job in a slot, of which each holds one at most
+abbrev pub job_in : Table → ℕ → Option JobRow
+job_in t slot = find (λ job. job.slot == slot) t.jobs
+
 abbrev pub is_bitmap : ℕ → List ℕ → BitmapRow → Bool
 is_bitmap node name row = (row.node == node) && bytes_eq row.name name
 
@@ -102,7 +106,7 @@ with_file name state rows =
     if has_file name rows then map (in_state name state) rows
     else rows ++ record { name = name; state = state } ∷ []
 
--- ---- names of what an edge comes from
+-- ---- names of what an edge comes from: a node, a guest by its number, or a job by its slot
 
 abbrev pub name_at : Table → ℕ → List ℕ
 name_at t id = unwrap_or (option_map (λ row. row.name) (node_at t id)) []
@@ -116,7 +120,7 @@ job_id t number = unwrap_or (option_map (λ job. job.id) (job_at t number)) []
 abbrev pub parent_name : Table → Parent → List ℕ
 parent_name t (Node id) = name_at t id
 parent_name t (Guest number) = device_id t number
-parent_name t (Job number) = job_id t number
+parent_name t (Job slot) = unwrap_or (option_map (λ job. job.id) (job_in t slot)) []
 
 -- ---- edges and kinds
 

@@ -1,8 +1,8 @@
 //! What commands do to the table: one kind of change each.
 
 use crate::name::Name;
-use crate::rows::{BitmapRow, Device, NodeRow};
-use blk_graph::NodeId;
+use crate::rows::{Asked, BitmapRow, Device, JobRow, NodeRow};
+use blk_graph::{JobUse, NodeId};
 use qmp_codec::ImageFormat;
 
 /// A change of the table.
@@ -47,6 +47,26 @@ pub enum Change {
     RemoveNode(NodeId),
     /// The node has no flat disk any more.
     Unsettle(NodeId),
+    /// The node may be written from now on.
+    MakeWritable(NodeId),
+    /// A job's filter: all that used the node use the filter in its place.
+    PutFilter {
+        row: NodeRow,
+        node: NodeId,
+    },
+    /// The job of the slot uses the node so.
+    UseNode {
+        slot: u32,
+        what: JobUse,
+        node: NodeId,
+    },
+    /// A job begins, and uses the bitmap that it copies by.
+    StartJob(JobRow),
+    /// The job of this number is asked for that, unless it was to end cancelled.
+    AskJob {
+        number: u32,
+        asked: Asked,
+    },
     AddDevice {
         device: Device,
         node: NodeId,

@@ -15,6 +15,7 @@ mod trace;
 mod writing;
 
 pub use awaiting::{Await, first_await, read_await};
+pub use line::Line;
 pub use op::{Op, Payload};
 pub use ops::Ops;
 pub use stop::TraceStop;

@@ -15,7 +15,7 @@ pub(crate) const MAX_LENGTH: u64 = 2 * 1024 * 1024;
 
 /// What a line says.
 #[derive(Debug, Drop)]
-pub(crate) enum Line {
+pub enum Line {
     /// Nothing: it is empty, or a comment.
     Passed,
     /// It asks for this.
