@@ -19,3 +19,5 @@ pub mod Opening
 pub mod Final
 pub mod Comes
 pub mod Unique
+pub mod Agreement
+pub mod Performing

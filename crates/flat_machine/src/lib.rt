@@ -2,7 +2,9 @@
 #![tactic(auto)]
 
 mod blocked;
+mod laws;
 mod opening;
 
 pub use blocked::Waits;
+pub use laws::changes_keep_disks;
 pub use opening::Opening;

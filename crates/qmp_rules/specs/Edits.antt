@@ -100,10 +100,10 @@ created_change t created.Unknown = []
 abbrev pub create_edits : Table → BlockdevCreate (List ℕ) → List Change
 create_edits t c = KeepId c.job_id ∷ created_change t c.options
 
--- what one leaves of which a call failed: its file used, and the file node unsettled
+-- what one leaves of which a call failed: the file node unsettled, and then its file used
 abbrev pub spoiled : Table → Created (List ℕ) → List Change
 spoiled t (created.File c) = SpoilFile c.filename ∷ []
-spoiled t (created.Qcow2 c) = SpoilFile (file_of_node t c.file) ∷ Unsettle (id_or 0 t (Some c.file)) ∷ []
+spoiled t (created.Qcow2 c) = Unsettle (id_or 0 t (Some c.file)) ∷ SpoilFile (file_of_node t c.file) ∷ []
 spoiled t created.Unknown = []
 
 -- ---- blockdev-add

@@ -1,0 +1,3 @@
+pub mod Finds
+pub mod Agreeing
+pub mod Kept
