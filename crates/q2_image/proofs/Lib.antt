@@ -31,3 +31,4 @@ pub mod StepsMade
 pub mod Changes
 pub mod LinkStops
 pub mod PutStops
+pub mod CreateStops

@@ -132,6 +132,7 @@ impl Image {
         // why each answer comes
         ensures fits { OnOk result (own_end self.old span ≤ D.capacity dev.old) }
         ensures stop { IfErr result (IsOwnStop (own_place self.old span) (own_end self.old span) (D.capacity dev.old) (length bytes.now) (D.faults dev.old) (D.faults dev.new)) }
+        ensures quiet { OnOk result (D.faults dev.new ≡ D.faults dev.old) }
         ensures untouched { IfErr result (λ stop. stop.why ≡ why.NoSpace → (self.new ≡ self.old) × (D.content dev.new ≡ D.content dev.old)
             × (D.log dev.new ≡ D.log dev.old) × (D.is_flushed dev.new ≡ D.is_flushed dev.old) × (D.size dev.new ≡ D.size dev.old)
             × (D.faults dev.new ≡ D.faults dev.old)) }
@@ -157,6 +158,7 @@ impl Image {
         ensures known { self.new ≡ self.old }
         ensures flushed { D.is_flushed dev.new ≡ option_map (λ f. is_ok result || f) (D.is_flushed dev.old) }
         ensures cause { IfErr result (IsFault (D.faults dev.old) (D.faults dev.new)) }
+        ensures quiet { OnOk result (D.faults dev.new ≡ D.faults dev.old) }
         ensures content { D.content dev.new ≡ D.content dev.old }
         ensures size { D.size dev.new ≡ D.size dev.old }
         ensures capacity { D.capacity dev.new ≡ D.capacity dev.old }
@@ -254,6 +256,7 @@ impl Image {
         ensures disk { (old new : List ℕ) → D.content dev.old ≡ Some old → D.content dev.new ≡ Some new → IsDiskWith old new span.start (taken result bytes.now) }
         ensures wrote { WroteOwn D.Device self.old self.new span (taken result bytes.now) dev.old dev.new }
         ensures stop { IfErr result (IsFailedOwn place (length bytes.now) (D.faults dev.old) (D.faults dev.new)) }
+        ensures quiet { OnOk result (D.faults dev.new ≡ D.faults dev.old) }
         ensures told { is_some (D.content dev.new) ≡ is_some (D.content dev.old) }
         ensures faults { D.faults dev.old ≤ D.faults dev.new }
         ensures capacity { D.capacity dev.new ≡ D.capacity dev.old }

@@ -1,6 +1,6 @@
 //! Reading and judging an image's header.
 
-ghost use Rattle.std.specs.Prelude.{◌≡◌, ◌≤◌, ◌+◌, ◌<◌, ◌^◌, ℕ, Bool, false, List, length, Some, None, Option, IfOk, IfErr, IfSome};
+ghost use Rattle.std.specs.Prelude.{◌≡◌, ◌≤◌, ◌+◌, ◌<◌, ◌^◌, ℕ, Bool, false, List, length, Some, None, Option, IfOk, IfErr, IfSome, OnOk};
 ghost use Rattle.blk_base.specs.Content.{bytes_at};
 ghost use Rattle.q2_format.specs.Sizes.{cluster_size};
 ghost use Rattle.q2_format.specs.Header.{header_of, header_refusal, IsWithinLimits, CanBeRead};
@@ -27,6 +27,7 @@ fn read_first_cluster<D: Device>(alloc: Global, dev: &mut D) -> Result<Vec<u8>, 
     ensures read { IfOk result (λ cluster. (file : List ℕ) → D.content dev.old ≡ Some file → cluster.items ≡ bytes_at file 0 65536) }
     ensures stop { IfErr result (λ stop. refusal_of stop ≡ None) }
     ensures cause { IfErr result (HasCause (D.faults dev.old) (D.faults dev.new)) }
+    ensures quiet { OnOk result (D.faults dev.new ≡ D.faults dev.old) }
     ensures content { D.content dev.new ≡ D.content dev.old }
     ensures size { D.size dev.new ≡ D.size dev.old }
     ensures capacity { D.capacity dev.new ≡ D.capacity dev.old }
@@ -51,6 +52,7 @@ pub(crate) fn open_header<D: Device>(alloc: Global, dev: &mut D) -> Result<Heade
     ensures limits { IfOk result (λ h. IsWithinLimits h (D.size dev.old)) }
     ensures readable { IfOk result (λ h. CanBeRead h (D.size dev.old)) }
     ensures cause { IfErr result (HasCause (D.faults dev.old) (D.faults dev.new)) }
+    ensures quiet { OnOk result (D.faults dev.new ≡ D.faults dev.old) }
     ensures content { D.content dev.new ≡ D.content dev.old }
     ensures size { D.size dev.new ≡ D.size dev.old }
     ensures capacity { D.capacity dev.new ≡ D.capacity dev.old }

@@ -22,7 +22,7 @@ returns-in_err-check_places-clause-judged g c =
 pub returns-in_err-check_places-clause-cause : goal.returns-in_err-check_places-clause-cause
 returns-in_err-check_places-clause-cause g c =
     let p = err_from_is_err_and c.from_residual-in_err-check_places.result c.from_residual-in_err-check_places.ensures.1 in
-    rw (p.1, p.2) (no_fault_cause _ _ c.in_err-check_places.field-0.0 c.in_err-check_places.ensures.no_fault)
+    rw (p.1, p.2) (no_fault_cause _ _ c.in_err-check_places.field-0.0 c.in_ok-header.ensures.quiet c.in_err-check_places.ensures.no_fault)
 
 pub open_tables-requires-clause-read : goal.open_tables-requires-clause-read
 open_tables-requires-clause-read g c = λ file told.
