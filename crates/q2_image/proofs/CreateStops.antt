@@ -1,12 +1,12 @@
 -- The writes that make an image, wherever they stop: the file is as before, or no image.
-use Rattle.std.proofs.Common.{◌≡◌, ℕ, ◌+◌, ◌%◌, ◌<◌, ◌≤◌, ◌⊎◌, inl, inr, List, [], ◌∷◌, ◌++◌, length, take, drop, replicate, get_or, refl, sym, ap, subst, ◌∙◌, arith}
+use Rattle.std.proofs.Common.{◌≡◌, ℕ, ◌+◌, ◌≤◌, inl, inr, List, [], ◌∷◌, length, take, replicate, get_or, refl, sym, ap, subst, ◌∙◌, arith}
 use Rattle.std.proofs.lemmas.List.{get_or-replicate, length-replicate, length-take-le}
-use Rattle.blk_base.specs.Content.{Write, with_bytes, size_with, after_writes}
-use Rattle.blk_base.specs.Writes.{write_of, AtEachStop}
+use Rattle.blk_base.specs.Content.{Write, with_bytes, size_with}
+use Rattle.blk_base.specs.Writes.{AtEachStop}
 use Rattle.blk_base.proofs.Contents.{get_or-with_bytes_inside, get_or-with_bytes_outside, length-with_bytes}
 use Rattle.blk_base.proofs.WriteLists.{at_each_stop-one, at_each_stop-sector, at_each_stop-then, at_each_stop-weaker}
 use Rattle.q2_format.specs.Created.{Creation}
-use Rattle.q2_image.specs.Creating.{AreStages, IsBeforeOrNone, IsOfHeader, LacksHeader}
+use Rattle.q2_image.specs.Creating.{AreStages, IsBeforeOrNone, LacksHeader}
 use Rattle.q2_image.proofs.Creations.{headless_refused}
 
 grows : (size offset : ℕ) (xs : List ℕ) → size ≤ size_with size offset xs
