@@ -25,7 +25,8 @@ use Rattle.q2_image.specs.Writing.{AreClusterZeros, IsSameDisk, IsSpare, IsIdle,
 use Rattle.q2_image.proofs.Autocleared.{cleared_image, cleared_disk}
 use Rattle.q2_image.proofs.Changes.{fill_are}
 use Rattle.q2_image.proofs.HostUses.{held_by, size_in, zero_entry}
-use Rattle.q2_image.proofs.LinkStops.{IsBetween, link_stops, reaching}
+use Rattle.q2_tables.proofs.LinkStops.{reaching}
+use Rattle.q2_image.proofs.LinkStops.{IsBetween, link_stops}
 use Rattle.q2_image.proofs.OwnStops.{behind_clear, same_disk_as}
 use Rattle.q2_image.proofs.OwnTold.{open_cleared}
 use Rattle.q2_image.proofs.OwnWrites.{disk_then}
