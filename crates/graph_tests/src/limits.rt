@@ -1,9 +1,7 @@
 //! As many nodes and edges as there may be, names, and lists of edges apart from a graph.
 use crate::graphs::{Answer, hold, kinds, link, nodes, nth, remove};
 use blk_base::Text;
-use blk_graph::{
-    EdgeList, Graph, GraphStop, JobUse, Kind, MOST_OUTSIDE, NO_KIND, NodeId, Parent, Role,
-};
+use blk_graph::{EdgeList, Graph, GraphStop, JobUse, Kind, NO_KIND, NodeId, Parent, Role};
 use std::alloc::Global;
 use std::test::Fail;
 
@@ -75,25 +73,29 @@ fn a_chain_of_all_nodes(rt: HostRuntime) -> Result<(), Fail> {
     Ok(())
 }
 
-/// Jobs that hold all nodes, as far as there is room.
+/// Each of 16 jobs holds all nodes, and one of them twice.
 fn held(alloc: Global) -> Result<Graph, Fail> {
     let mut graph = nodes(alloc, 64)?;
-    for job in 0..28 {
+    for job in 0..16 {
+        let mut answer = hold(&mut graph, job, JobUse::StreamTop, 63);
         for node in 0..64 {
-            if hold(&mut graph, job, JobUse::StreamBelow, node) != Answer::Done {
-                return Err(Fail::new("no edge"));
+            if answer == Answer::Done {
+                answer = hold(&mut graph, job, JobUse::StreamBelow, node);
             }
+        }
+        if answer != Answer::Done {
+            return Err(Fail::new("no edge"));
         }
     }
     Ok(graph)
 }
 
 #[test]
-fn as_many_edges_as_there_may_be(rt: HostRuntime) -> Result<(), Fail> {
+fn jobs_hold_all_nodes(rt: HostRuntime) -> Result<(), Fail> {
     let mut graph = held(rt.alloc())?;
-    assert!(rt; graph.edges().len() == MOST_OUTSIDE && !graph.has_room(Parent::Guest(0)));
+    assert!(rt; graph.edges().len() == 16 * 65);
     graph.clear_edges(Parent::Job(7));
-    assert!(rt; graph.edges().len() == MOST_OUTSIDE - 64 && graph.has_room(Parent::Guest(0)));
+    assert!(rt; graph.edges().len() == 15 * 65);
     Ok(())
 }
 

@@ -1,6 +1,6 @@
 use Rattle.std.proofs.Common.{◌≡◌, ◌++◌, take, drop, map, vec_capacity, vec_len}
 use Rattle.blk_graph.specs.Edits.{moved}
-use Rattle.blk_graph.proofs.edit.move_all.Given as goal
+use Rattle.blk_graph.proofs.edit.move_each.Given as goal
 
 abbrev pub invariant-loop-i : goal.invariant-loop-i
 invariant-loop-i l = record {
