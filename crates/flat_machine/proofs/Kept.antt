@@ -29,6 +29,16 @@ use Rattle.flat_machine.specs.Performing.{ReadSame, HeldSame, Nothing, IsQuiet, 
 use Rattle.flat_machine.proofs.Finds.{find-map, bytes_eq-same}
 use Rattle.flat_machine.proofs.Agreeing.{HadDisk, RowsBut, rows_same, rows_pushed, rows_filter, rows_mapped, rows_dropped, less_unsettled, same_unsettled, less_writable, same_writable, disks_kept, disks_but, disks_put, disks_dropped, known_kept, known_put, absent_kept, absent_put, unchanged_kept, unchanged_named, left_kept, left_forgot}
 
+own_node : (t : Table) (id : ℕ) (more : ℕ) → filtered t id ≡ None → disk_from (suc more) t id ≡ id
+own_node t id more none = rw (none, disk_from) refl
+
+-- a node that is no filter reads by itself
+pub own_disk : (t : Table) (id : ℕ) (row : NodeRow) → node_at t id ≡ Some row → filter_role row.kind ≡ None → disk_node t id ≡ id
+unfolding disk_node
+own_disk t id row found own =
+    let none : filtered t id ≡ None = rw (found, own) refl in
+    own_node t id 63 none
+
 module _ (opening : List ℕ → Option (List ℕ)) where
   -- nothing beside the table changes
   pub quiet_keeps : (s now : State) (old new : Contents) → RowsBut Nothing s now → now.disks ≡ s.disks → now.files ≡ s.files
@@ -132,16 +142,6 @@ module _ (opening : List ℕ → Option (List ℕ)) where
       ]
 
   -- ---- a format node
-
-  own_node : (t : Table) (id : ℕ) (more : ℕ) → filtered t id ≡ None → disk_from (suc more) t id ≡ id
-  own_node t id more none = rw (none, disk_from) refl
-
-  -- a node that is no filter reads by itself
-  own_disk : (t : Table) (id : ℕ) (row : NodeRow) → node_at t id ≡ Some row → filter_role row.kind ≡ None → disk_node t id ≡ id
-  unfolding disk_node
-  own_disk t id row found own =
-      let none : filtered t id ≡ None = rw (found, own) refl in
-      own_node t id 63 none
 
   backing_bytes : (s : State) (old : Contents) (id : ℕ) → ReadAsDisks s old → (found : Option NodeRow) → node_at s.table id ≡ found
       → With found HasDisk → old.reads id ≡ bytes_at_node s id

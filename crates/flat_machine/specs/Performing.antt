@@ -62,7 +62,6 @@ Can s (change.AddFile row) = CanAddFile s row
 Can s (change.AddFormat row file backing) = CanAddFormat s row file backing
 Can s (change.AddFilter row child) = CanAddFilter s row
 Can s (change.PutFilter row node) = CanAddFilter s row
-Can s (change.FormatFile node name size backing_file backing_fmt) = filename_of s.table node ≡ Some name
 Can s (change.Attach overlay node) = With (node_at s.table node) HasDisk
 Can s c = Unit {0}
 
