@@ -18,16 +18,26 @@ use Rattle.qmp_rules.specs.declared.change.Change.{Change}
 use Rattle.qmp_rules.specs.declared.change.Change.TheVariants as change
 use Rattle.qmp_rules.specs.Table.{Table, node_at, child}
 use Rattle.qmp_rules.specs.Chains.{filter_role, filtered, disk_from, disk_node}
-use Rattle.qmp_rules.specs.Changes.{changed, node_changed, unsettled, writable, with_unsettled}
+use Rattle.qmp_rules.specs.Changes.{changed, node_changed, unsettled, writable, with_unsettled, stands_over, lost_with}
 use Rattle.blk_history.specs.Fold.{With}
 use Rattle.flat_machine.specs.State.{State, Content, Bytes, Blank, Unknown, Left, Mapped, bytes_in, bytes_at_node, content_in, filename_of}
 use Rattle.flat_machine.specs.Contents.{file_bytes, image_bytes, formatted, length_in, mapped_in, with_content}
 use Rattle.flat_machine.specs.Changed.{put, make, name_file, name_if, stepped, all_stepped, filename_or, content_under, bytes_below, format_bytes, format_name, know_if, note_image, add_format, with_bytes_of, leave, left_in, left_by, file_of, overlay_file}
 use Rattle.flat_machine.specs.Final.{read_as}
 use Rattle.flat_machine.specs.Agreement.{Contents, HasDisk, ReadAsDisks, IsBlank, IsAsKnown, AreAsKnown, AreAbsent, IsLeftAs, AreUnchanged, Agrees}
-use Rattle.flat_machine.specs.Performing.{ReadSame, HeldSame, Nothing, IsQuiet, Puts, Removes, Makes, IsFresh, IsWholly, IsReadable, CanRead, IsBacking, CanAddFile, CanAddFormat, CanAddFilter, NoneReads, Can, Performed, AllCan, AllPerformed, held_bytes, below_as, format_as, IsFormatted}
-use Rattle.flat_machine.proofs.Finds.{find-map}
+use Rattle.flat_machine.specs.Performing.{ReadSame, HeldSame, Nothing, IsQuiet, Puts, Removes, Makes, IsFresh, IsWholly, IsReadable, CanRead, IsBacking, CanAddFile, CanAddFormat, CanAddFilter, Can, Performed, AllCan, AllPerformed, held_bytes, below_as, format_as, IsFormatted}
+use Rattle.flat_machine.proofs.Finds.{find-map, bytes_eq-same}
 use Rattle.flat_machine.proofs.Agreeing.{HadDisk, RowsBut, rows_same, rows_pushed, rows_filter, rows_mapped, rows_dropped, less_unsettled, same_unsettled, less_writable, same_writable, disks_kept, disks_but, disks_put, disks_dropped, known_kept, known_put, absent_kept, absent_put, unchanged_kept, unchanged_named, left_kept, left_forgot}
+
+own_node : (t : Table) (id : ℕ) (more : ℕ) → filtered t id ≡ None → disk_from (suc more) t id ≡ id
+own_node t id more none = rw (none, disk_from) refl
+
+-- a node that is no filter reads by itself
+pub own_disk : (t : Table) (id : ℕ) (row : NodeRow) → node_at t id ≡ Some row → filter_role row.kind ≡ None → disk_node t id ≡ id
+unfolding disk_node
+own_disk t id row found own =
+    let none : filtered t id ≡ None = rw (found, own) refl in
+    own_node t id 63 none
 
 module _ (opening : List ℕ → Option (List ℕ)) where
   -- nothing beside the table changes
@@ -132,16 +142,6 @@ module _ (opening : List ℕ → Option (List ℕ)) where
       ]
 
   -- ---- a format node
-
-  own_node : (t : Table) (id : ℕ) (more : ℕ) → filtered t id ≡ None → disk_from (suc more) t id ≡ id
-  own_node t id more none = rw (none, disk_from) refl
-
-  -- a node that is no filter reads by itself
-  own_disk : (t : Table) (id : ℕ) (row : NodeRow) → node_at t id ≡ Some row → filter_role row.kind ≡ None → disk_node t id ≡ id
-  unfolding disk_node
-  own_disk t id row found own =
-      let none : filtered t id ≡ None = rw (found, own) refl in
-      own_node t id 63 none
 
   backing_bytes : (s : State) (old : Contents) (id : ℕ) → ReadAsDisks s old → (found : Option NodeRow) → node_at s.table id ≡ found
       → With found HasDisk → old.reads id ≡ bytes_at_node s id
@@ -444,16 +444,47 @@ module _ (opening : List ℕ → Option (List ℕ)) where
         length_is = blank_length s old name bytes image (content_in s.files name) h refl is.length_is;
       }
 
-  spoil_keeps : (s : State) (name : List ℕ) (old new : Contents) → NoneReads s name → Performed s (change.SpoilFile name) old new
+  -- a node over a spoiled file has no disk
+  same_lost : (name : List ℕ) (row : NodeRow) → (lost_with name row).id ≡ row.id
+  same_lost name row = by_test (stands_over name row.filename)
+    where
+      by_test : (b : Bool) → (cond b (unsettled row) row).id ≡ row.id
+      by_test true = refl
+      by_test false = refl
+
+  less_lost : (name : List ℕ) (row : NodeRow) → HasDisk (lost_with name row) → HasDisk row
+  less_lost name row = by_test (stands_over name row.filename)
+    where
+      by_test : (b : Bool) → HasDisk (cond b (unsettled row) row) → HasDisk row
+      by_test true h = absurd (let settled = h.settled in cc)
+      by_test false h = h
+
+  spoiled_node : (s : State) (name : List ℕ) (node : ℕ) (row : NodeRow) → find (λ r. r.id == node) (map (lost_with name) s.table.nodes) ≡ Some row
+      → HasDisk row → filename_of s.table node ≡ Some name → ⊥
+  spoiled_node s name node row found disk over =
+      let of_old = sym (find-map (λ r. r.id == node) (lost_with name) (λ r. ap (λ k. k == node) (same_lost name r)) s.table.nodes) ∙ found in
+      by_row (node_at s.table node) over of_old
+    where
+      by_test : (r : NodeRow) (b : Bool) → b ≡ true → cond b (unsettled r) r ≡ row → ⊥
+      by_test r true t is = let settled = disk.settled in cc
+      by_test r false t is = cc
+
+      by_name : (r : NodeRow) (filename : Option (List ℕ)) → filename ≡ Some name → cond (stands_over name filename) (unsettled r) r ≡ row → ⊥
+      by_name r filename e is =
+          by_test r (stands_over name filename) (ap (stands_over name) e ∙ bytes_eq-same name) is
+
+      by_row : (was : Option NodeRow) → option_and_then (λ r. r.filename) was ≡ Some name → option_map (lost_with name) was ≡ Some row → ⊥
+      by_row None e k = cc
+      by_row (Some r) e k = by_name r r.filename e cc
+
+  spoil_keeps : (s : State) (name : List ℕ) (old new : Contents) → Performed s (change.SpoilFile name) old new
       → Agrees opening s old → Agrees opening (stepped s (change.SpoilFile name)) new
   unfolding changed
-  spoil_keeps s name old new can did h =
+  spoil_keeps s name old new did h =
       let t : Table = changed s.table (change.SpoilFile name) in
-      made_keeps s t name Unknown (λ node. filename_of s.table node ≡ Some name) old new (rows_same s (record s { table = t }) refl)
-      (λ node row found disk over. can node row found (named_by node row found over) disk) did tt h
-    where
-      named_by : (node : ℕ) (row : NodeRow) → node_at s.table node ≡ Some row → filename_of s.table node ≡ Some name → row.filename ≡ Some name
-      named_by node row found over = subst (λ r. option_and_then (λ x. x.filename) r ≡ Some name) found over
+      made_keeps s t name Unknown (λ node. filename_of s.table node ≡ Some name) old new
+      (rows_mapped s (record s { table = t }) (lost_with name) (same_lost name) (less_lost name) refl)
+      (λ node row found disk over. spoiled_node s name node row found disk over) did tt h
 
   use_keeps : (s : State) (name : List ℕ) (old new : Contents) → IsQuiet old new → Agrees opening s old
       → Agrees opening (stepped s (change.UseFile name)) new
@@ -503,7 +534,7 @@ module _ (opening : List ℕ → Option (List ℕ)) where
   change_keeps s (change.MakeFile name size) old new can did h = make_file_keeps s name size old new did h
   change_keeps s (change.FormatFile node name size backing_file backing_fmt) old new can did h =
       format_file_keeps s node name size backing_file backing_fmt old new did h
-  change_keeps s (change.SpoilFile name) old new can did h = spoil_keeps s name old new can did h
+  change_keeps s (change.SpoilFile name) old new can did h = spoil_keeps s name old new did h
   change_keeps s (change.UseFile name) old new can did h = use_keeps s name old new did h
   change_keeps s (change.AddFile row) old new can did h = add_file_keeps s row old new can did h
   change_keeps s (change.AddFormat row file backing) old new can did h = add_format_keeps s row file backing old new can did h

@@ -1,3 +1,6 @@
 pub mod Finds
 pub mod Agreeing
 pub mod Kept
+pub mod Fresh
+pub mod Asked
+pub mod Accepted

@@ -21,3 +21,4 @@ pub mod Comes
 pub mod Unique
 pub mod Agreement
 pub mod Performing
+pub mod Standing

@@ -57,17 +57,11 @@ pub record CanAddFilter (s : State) (row : NodeRow) : Type 0 where
   pub fresh : IsFresh s row
   pub filter : IsSome (filter_role row.kind)
 
--- no node with a flat disk stands for the file
-abbrev pub NoneReads : State → List ℕ → Type 0
-NoneReads s name = (node : ℕ) (row : NodeRow) → node_at s.table node ≡ Some row → row.filename ≡ Some name → HasDisk row → ⊥
-
 abbrev pub Can : State → Change → Type 0
 Can s (change.AddFile row) = CanAddFile s row
 Can s (change.AddFormat row file backing) = CanAddFormat s row file backing
 Can s (change.AddFilter row child) = CanAddFilter s row
 Can s (change.PutFilter row node) = CanAddFilter s row
-Can s (change.FormatFile node name size backing_file backing_fmt) = filename_of s.table node ≡ Some name
-Can s (change.SpoilFile name) = NoneReads s name
 Can s (change.Attach overlay node) = With (node_at s.table node) HasDisk
 Can s c = Unit {0}
 

@@ -1,9 +1,14 @@
 //! What follows from the definitions, each law the contract of a function that does nothing.
 
-ghost use Rattle.std.specs.Prelude.{ℕ, List, Option};
+ghost use Rattle.std.specs.Prelude.{◌≡◌, ℕ, List, Option, None};
+ghost use Rattle.qmp_codec.specs.Commands.{Cmd};
+ghost use Rattle.qmp_rules.specs.declared.told.Told.{Told};
+ghost use Rattle.qmp_rules.specs.Answers.{refusal_of, command_edits};
 ghost use Rattle.qmp_rules.specs.declared.change.Change.{Change};
 ghost use Rattle.flat_machine.specs.State.{State};
 ghost use Rattle.flat_machine.specs.Changed.{stepped, all_stepped};
+ghost use Rattle.flat_machine.specs.Sights.{IsTold, expected};
+ghost use Rattle.flat_machine.specs.Standing.{Stands};
 ghost use Rattle.flat_machine.specs.Agreement.{Contents, Agrees};
 ghost use Rattle.flat_machine.specs.Performing.{Can, Performed, AllCan, AllPerformed};
 
@@ -14,4 +19,10 @@ pub fn changes_keep_disks()
         → Can s c → Performed s c old new → Agrees opening s old → Agrees opening (stepped s c) new }
     ensures changes { (opening : List ℕ → Option (List ℕ)) (changes : List Change) (s : State) (old new : Contents)
         → AllCan s changes → AllPerformed s changes old new → Agrees opening s old → Agrees opening (all_stepped s changes) new }
+{}
+
+/// Where nothing that may be told refuses a command, its changes can be made, one after another.
+pub fn accepted_changes_can_be_made()
+    ensures { (s : State) (told : Told) (c : Cmd) → Stands s → IsTold s c told
+        → refusal_of s.table told c ≡ None → AllCan s (command_edits s.table (expected s c) c) }
 {}
