@@ -339,7 +339,7 @@ readable_under s name row stands found driver lone lost = by_name row.filename r
         (stands.files filename row (record { there = there; filename = is }))
 
 -- a `file` node that is added changes no file
-added_files : (row : NodeRow) (s : State) → (add_file row s).files ≡ s.files
+pub added_files : (row : NodeRow) (s : State) → (add_file row s).files ≡ s.files
 added_files row s = by_flag row.read_only
   where
     with_disk : State

@@ -206,11 +206,11 @@ module _ (opening : List ℕ → Option (List ℕ)) where
       between = record s { table = record s.table { nodes = with_unsettled file s.table.nodes } }
 
   -- the state beside the table, whatever images are noted
-  record IsWithFormat (s now : State) (name : Option (List ℕ)) (id : ℕ) (bytes : List ℕ) : Type 0 where
-    disks : now.disks ≡ with_bytes_of id bytes s.disks
-    files : now.files ≡ (know_if name Unknown s).files
-    left : now.left ≡ s.left
-    named : now.named ≡ s.named
+  pub record IsWithFormat (s now : State) (name : Option (List ℕ)) (id : ℕ) (bytes : List ℕ) : Type 0 where
+    pub disks : now.disks ≡ with_bytes_of id bytes s.disks
+    pub files : now.files ≡ (know_if name Unknown s).files
+    pub left : now.left ≡ s.left
+    pub named : now.named ≡ s.named
 
   record IsNoted (s now : State) : Type 0 where
     disks : now.disks ≡ s.disks
@@ -227,7 +227,7 @@ module _ (opening : List ℕ → Option (List ℕ)) where
   noted Mirror id mapped s = record { disks = refl; files = refl; left = refl; named = refl }
   noted Commit id mapped s = record { disks = refl; files = refl; left = refl; named = refl }
 
-  with_format : (name : Option (List ℕ)) (driver : Kind) (id : ℕ) (mapped : Mapped) (bytes : List ℕ) (s : State) (t : Table)
+  pub with_format : (name : Option (List ℕ)) (driver : Kind) (id : ℕ) (mapped : Mapped) (bytes : List ℕ) (s : State) (t : Table)
       → IsWithFormat s (record (know_if name Unknown (note_image driver id mapped (put id bytes s))) { table = t }) name id bytes
   with_format None driver id mapped bytes s t =
       let same = noted driver id mapped (put id bytes s) in
@@ -311,12 +311,12 @@ module _ (opening : List ℕ → Option (List ℕ)) where
       by_settled true settled (Some id) none e = absurd cc
       by_settled false settled backing none e = absurd cc
 
-  record IsLeftAlone (s now : State) : Type 0 where
-    disks : now.disks ≡ s.disks
-    files : now.files ≡ s.files
-    named : now.named ≡ s.named
+  pub record IsLeftAlone (s now : State) : Type 0 where
+    pub disks : now.disks ≡ s.disks
+    pub files : now.files ≡ s.files
+    pub named : now.named ≡ s.named
 
-  left_alone : (gone : Option Left) (s : State) → IsLeftAlone s (leave gone s)
+  pub left_alone : (gone : Option Left) (s : State) → IsLeftAlone s (leave gone s)
   left_alone None s = record { disks = refl; files = refl; named = refl }
   left_alone (Some gone) s = record { disks = refl; files = refl; named = refl }
 

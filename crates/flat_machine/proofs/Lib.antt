@@ -4,3 +4,5 @@ pub mod Kept
 pub mod Fresh
 pub mod Asked
 pub mod Accepted
+pub mod Tables
+pub mod StandingKept

@@ -22,3 +22,4 @@ pub mod Unique
 pub mod Agreement
 pub mod Performing
 pub mod Standing
+pub mod Suiting

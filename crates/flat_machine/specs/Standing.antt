@@ -46,16 +46,16 @@ abbrev pub HaveNames : Table → Type 0
 HaveNames t = (row : NodeRow) → Contains t.nodes row → row.kind ≡ Protocol → IsSome row.filename
 
 -- a format node is over the `file` node
-pub record IsUnder (t : Table) (file : ℕ) : Type 0 where
+pub record IsUnder (edges : List Edge) (file : ℕ) : Type 0 where
   pub edge : Edge
-  pub there : Contains t.edges edge
+  pub there : Contains edges edge
   pub over : edge.role ≡ File
   pub child : edge.child ≡ file
 
 -- why a `file` node has no flat disk: its file was used or formatted, or a format node is over it
 abbrev pub IsLostBy : Table → List ℕ → NodeRow → Type 0
 IsLostBy t name row =
-    (file_state t name ≡ Some Used) ⊎ ((file_state t name ≡ Some Formatted) ⊎ IsUnder t row.id)
+    (file_state t name ≡ Some Used) ⊎ ((file_state t name ≡ Some Formatted) ⊎ IsUnder t.edges row.id)
 
 abbrev pub LostHaveCause : Table → Type 0
 LostHaveCause t = (name : List ℕ) (row : NodeRow) → StandsFor t name row → row.is_settled ≡ false → IsLostBy t name row
@@ -79,7 +79,7 @@ IsOfState (Some Used) content = Unit {0}
 
 -- so it is with each file of which there is word, but for one under a format node
 abbrev pub IsOpen : Table → List ℕ → Type 0
-IsOpen t name = (row : NodeRow) → StandsFor t name row → IsUnder t row.id → ⊥
+IsOpen t name = (row : NodeRow) → StandsFor t name row → IsUnder t.edges row.id → ⊥
 
 abbrev pub FilesAreOfState : State → Type 0
 FilesAreOfState s = (name : List ℕ) (content : Content) → content_in s.files name ≡ Some content → IsOpen s.table name
