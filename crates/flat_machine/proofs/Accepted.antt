@@ -60,13 +60,13 @@ use Rattle.flat_machine.proofs.Asked.{none-both, NoneHolds, none-holds, none-beh
 
 -- ---- ids
 
-free_fresh : (t : Table) → length t.nodes + 1 ≤ 64 → node_at t (free_id t) ≡ None
+pub free_fresh : (t : Table) → length t.nodes + 1 ≤ 64 → node_at t (free_id t) ≡ None
 free_fresh t room =
     let same : length (ids t) ≡ length t.nodes = simp length-map in
     let few : length (ids t) < 64 = omega arith in
     free-row (free_id t) t.nodes (lowest_free-free (ids t) few)
 
-next_fresh : (t : Table) (row : NodeRow) → row.id ≡ free_id t → length t.nodes + 2 ≤ 64
+pub next_fresh : (t : Table) (row : NodeRow) → row.id ≡ free_id t → length t.nodes + 2 ≤ 64
     → find (λ r. r.id == next_free_id t) (t.nodes ++ row ∷ []) ≡ None
 next_fresh t row is room =
     let same : length (ids t) ≡ length t.nodes = simp length-map in
@@ -102,7 +102,7 @@ told_absent s c filename stopped (inr (inr too_large)) begin end large opened = 
 -- ---- files that are known
 
 -- no row stands for a file for which no node does
-none-over : (t : Table) (name : List ℕ) → list_any (stands_for name) t.nodes ≡ false → (row : NodeRow) → StandsFor t name row → ⊥
+pub none-over : (t : Table) (name : List ℕ) → list_any (stands_for name) t.nodes ≡ false → (row : NodeRow) → StandsFor t name row → ⊥
 none-over t name none row over = by_rows t.nodes none over.there
   where
     this : (r : NodeRow) → r ≡ row → stands_for name r ≡ true
@@ -141,7 +141,7 @@ wholly_known s name stands none lost (Some content) is there =
 -- ---- rows by name
 
 -- a row that has a name is found by its id
-row_at : (s : State) (name : List ℕ) (row : NodeRow) → Stands s → node_named s.table name ≡ Some row → node_at s.table row.id ≡ Some row
+pub row_at : (s : State) (name : List ℕ) (row : NodeRow) → Stands s → node_named s.table name ≡ Some row → node_at s.table row.id ≡ Some row
 row_at s name row stands found =
     stands.apart row (find-Some (λ r. bytes_eq r.name name) s.table.nodes row found).0
 
@@ -155,7 +155,7 @@ no_filter BeforeWrite h = absurd cc
 no_filter Mirror h = absurd cc
 no_filter Commit h = absurd cc
 
-is_protocol : (kind : Kind) → takes drivers.File kind ≡ true → kind ≡ Protocol
+pub is_protocol : (kind : Kind) → takes drivers.File kind ≡ true → kind ≡ Protocol
 is_protocol Protocol h = refl
 is_protocol Raw h = absurd cc
 is_protocol Qcow2 h = absurd cc
@@ -212,30 +212,30 @@ file_disk_there s name row stands found driver lone lost =
 -- ---- additions: a file that is opened is there
 
 -- it is not opened where a node stands for it or it was used
-opened : (t : Table) (name : List ℕ) → list_any (stands_for name) t.nodes ≡ false → is_lost false (file_state t name) ≡ false
+pub opened : (t : Table) (name : List ℕ) → list_any (stands_for name) t.nodes ≡ false → is_lost false (file_state t name) ≡ false
     → is_unopened t name ≡ false
 opened t name none lost = rw (none, lost) refl
 
-file_told_absent : (s : State) (c : BlockdevAdd (List ℕ)) (filename : List ℕ) → c.driver ≡ added.File filename
+pub file_told_absent : (s : State) (c : BlockdevAdd (List ℕ)) (filename : List ℕ) → c.driver ≡ added.File filename
     → is_unopened s.table filename ≡ false → content_in s.files filename ≡ None
     → (told_by s (command.BlockdevAdd c)).stopped ≡ absent filename
 unfolding add_told
 file_told_absent s c filename driver closed none = rw (driver, closed, none) refl
 
-raw_told_absent : (s : State) (c : BlockdevAdd (List ℕ)) (raw : AddRaw (List ℕ)) (file : InlineFile (List ℕ)) → c.driver ≡ added.Raw raw
+pub raw_told_absent : (s : State) (c : BlockdevAdd (List ℕ)) (raw : AddRaw (List ℕ)) (file : InlineFile (List ℕ)) → c.driver ≡ added.Raw raw
     → raw.file ≡ file_ref.Inline file → is_unopened s.table file.filename ≡ false → content_in s.files file.filename ≡ None
     → (told_by s (command.BlockdevAdd c)).stopped ≡ absent file.filename
 unfolding add_told
 raw_told_absent s c raw file driver inline closed none = rw (driver, inline, closed, none) refl
 
-qcow2_told_absent : (s : State) (c : BlockdevAdd (List ℕ)) (image : AddQcow2 (List ℕ)) (file : InlineFile (List ℕ))
+pub qcow2_told_absent : (s : State) (c : BlockdevAdd (List ℕ)) (image : AddQcow2 (List ℕ)) (file : InlineFile (List ℕ))
     → c.driver ≡ added.Qcow2 image → image.file ≡ file_ref.Inline file → is_unopened s.table file.filename ≡ false
     → content_in s.files file.filename ≡ None → (told_by s (command.BlockdevAdd c)).stopped ≡ absent file.filename
 unfolding add_told
 qcow2_told_absent s c image file driver inline closed none = rw (driver, inline, closed, none) refl
 
 -- no refusal says that it is absent
-opened_there : (s : State) (c : BlockdevAdd (List ℕ)) (told : Told) (filename : List ℕ)
+pub opened_there : (s : State) (c : BlockdevAdd (List ℕ)) (told : Told) (filename : List ℕ)
     → MayStop s (command.BlockdevAdd c) (told_by s (command.BlockdevAdd c)).stopped told.stopped
     → (content_in s.files filename ≡ None → (told_by s (command.BlockdevAdd c)).stopped ≡ absent filename)
     → (content_in s.files filename ≡ None → may_be_large s (command.BlockdevAdd c) ≡ false)
@@ -251,7 +251,7 @@ opened_there s c told filename may tells large quiet = by_content (content_in s.
 
 -- ---- what is asked of a backing node
 
-backing_there : (s : State) (told : Told) (back : Option (List ℕ)) → Stands s → holds s.table told (ask.Found back) ≡ None
+pub backing_there : (s : State) (told : Told) (back : Option (List ℕ)) → Stands s → holds s.table told (ask.Found back) ≡ None
     → holds s.table told (ask.Drives back drivers.FileRawOrQcow2) ≡ None → holds s.table told (ask.Settled back) ≡ None
     → (node : ℕ) → option_and_then (id_named s.table) back ≡ Some node → With (node_at s.table node) HasDisk
 backing_there s told None stands found drives settled node is = absurd cc
@@ -269,7 +269,7 @@ backing_there s told (Some name) stands found drives settled node is = by_row (f
         id_is : node_named s.table name ≡ Some named.0 → named.0.id ≡ node
         id_is e = let of_name = rw e at is in cc
 
-backing_can : (s : State) (told : Told) (back : Option (List ℕ)) → Stands s → holds s.table told (ask.Found back) ≡ None
+pub backing_can : (s : State) (told : Told) (back : Option (List ℕ)) → Stands s → holds s.table told (ask.Found back) ≡ None
     → holds s.table told (ask.Drives back drivers.FileRawOrQcow2) ≡ None → holds s.table told (ask.Settled back) ≡ None
     → IsBacking s (option_and_then (id_named s.table) back)
 backing_can s told back stands found drives settled = by_node (option_and_then (id_named s.table) back) refl
@@ -279,7 +279,7 @@ backing_can s told back stands found drives settled = by_node (option_and_then (
     by_node (Some node) e = backing_there s told back stands found drives settled node e
 
 -- it is there with one node more
-backing_longer : (s : State) (row : NodeRow) (t : Table) → t.nodes ≡ s.table.nodes ++ row ∷ [] → (now : State) → now.table ≡ t
+pub backing_longer : (s : State) (row : NodeRow) (t : Table) → t.nodes ≡ s.table.nodes ++ row ∷ [] → (now : State) → now.table ≡ t
     → (backing : Option ℕ) → IsBacking s backing → IsBacking now backing
 backing_longer s row t nodes now same None h = tt
 backing_longer s row t nodes now same (Some node) h = by_row (node_at s.table node) refl h
@@ -292,13 +292,13 @@ backing_longer s row t nodes now same (Some node) h = by_row (node_at s.table no
     by_row (Some r) e disk = rw (longer r e) disk
 
 -- what is lost to a raw node is more
-less_lost : (is_raw : Bool) (state : Option FileState) → is_lost is_raw state ≡ false → is_lost false state ≡ false
+pub less_lost : (is_raw : Bool) (state : Option FileState) → is_lost is_raw state ≡ false → is_lost false state ≡ false
 less_lost is_raw None h = refl
 less_lost is_raw (Some Made) h = refl
 less_lost is_raw (Some Formatted) h = refl
 less_lost is_raw (Some Used) h = absurd cc
 
-looked_at : (t : Table) (told : Told) (what : Look) → holds t told (ask.Files what) ≡ None → told_at what told.stopped ≡ None
+pub looked_at : (t : Table) (told : Told) (what : Look) → holds t told (ask.Files what) ≡ None → told_at what told.stopped ≡ None
 unfolding holds
 looked_at t told what h = h
 
@@ -357,7 +357,7 @@ readable_whole (Some content) h = subst IsReadable (sym h.1) tt
 
 module _ (s : State) (told : Told) (c : BlockdevAdd (List ℕ)) (name : List ℕ) (read_only : Bool) (stands : Stands s)
     (may : MayStop s (command.BlockdevAdd c) (told_by s (command.BlockdevAdd c)).stopped told.stopped) where
-  file_can : (filename : List ℕ) → c.driver ≡ added.File filename
+  pub file_can : (filename : List ℕ) → c.driver ≡ added.File filename
       → NoneHolds s.table told (added_rest name read_only (added.File filename))
       → (len : ℕ) (flag : Bool) (own : List ℕ) → CanAddFile s (file_row (free_id s.table) own len flag filename None)
   file_can filename driver asks len flag own =
@@ -373,7 +373,7 @@ module _ (s : State) (told : Told) (c : BlockdevAdd (List ℕ)) (name : List ℕ
         known = wholly_known s filename stands closed known (content_in s.files filename) refl there;
       }
 
-  inline_can : (file : InlineFile (List ℕ)) (is_raw : Bool)
+  pub inline_can : (file : InlineFile (List ℕ)) (is_raw : Bool)
       → (content_in s.files file.filename ≡ None → is_unopened s.table file.filename ≡ false
       → (told_by s (command.BlockdevAdd c)).stopped ≡ absent file.filename)
       → (content_in s.files file.filename ≡ None → may_be_large s (command.BlockdevAdd c) ≡ false)
@@ -392,7 +392,7 @@ module _ (s : State) (told : Told) (c : BlockdevAdd (List ℕ)) (name : List ℕ
       }
 
   -- the `file` node that was added before a format node
-  inline_under : (now : State) (row : NodeRow) → now.table.nodes ≡ s.table.nodes ++ row ∷ [] → row.id ≡ free_id s.table
+  pub inline_under : (now : State) (row : NodeRow) → now.table.nodes ≡ s.table.nodes ++ row ∷ [] → row.id ≡ free_id s.table
       → length s.table.nodes + 1 ≤ 64 → node_at now.table (free_id s.table) ≡ Some row
   inline_under now row nodes is room =
       rw nodes (found-new (λ r. r.id == free_id s.table) s.table.nodes row (free_fresh s.table room) (eq-eqb row.id (free_id s.table) is))

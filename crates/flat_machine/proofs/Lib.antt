@@ -6,3 +6,4 @@ pub mod Asked
 pub mod Accepted
 pub mod Tables
 pub mod StandingKept
+pub mod Suited
