@@ -7,3 +7,4 @@ pub mod Accepted
 pub mod Tables
 pub mod StandingKept
 pub mod Suited
+pub mod Openings

@@ -6,6 +6,9 @@ ghost use Rattle.qmp_rules.specs.declared.told.Told.{Told};
 ghost use Rattle.qmp_rules.specs.Answers.{refusal_of, command_edits};
 ghost use Rattle.qmp_rules.specs.declared.change.Change.{Change};
 ghost use Rattle.flat_machine.specs.State.{State};
+ghost use Rattle.flat_machine.specs.Opening.{start};
+ghost use Rattle.flat_machine.specs.Suiting.{AllSuit};
+ghost use Rattle.flat_machine.specs.declared.opening.Opening.{Opening};
 ghost use Rattle.flat_machine.specs.Changed.{stepped, all_stepped};
 ghost use Rattle.flat_machine.specs.Sights.{IsTold, expected};
 ghost use Rattle.flat_machine.specs.Standing.{Stands};
@@ -25,4 +28,10 @@ pub fn changes_keep_disks()
 pub fn accepted_changes_can_be_made()
     ensures { (s : State) (told : Told) (c : Cmd) → Stands s → IsTold s c told
         → refusal_of s.table told c ≡ None → AllCan s (command_edits s.table (expected s c) c) }
+{}
+
+/// What holds of the tables of every state holds at the beginning, and changes that suit it leave it.
+pub fn tables_stand()
+    ensures beginning { (o : Opening) → Stands (start o) }
+    ensures changes { (changes : List Change) (s : State) → AllSuit s changes → Stands s → Stands (all_stepped s changes) }
 {}
