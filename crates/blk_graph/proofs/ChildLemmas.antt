@@ -1,8 +1,8 @@
 -- The child of a parent's edge of a role.
-use Rattle.std.proofs.Common.{◌≡◌, ◌≢◌, ◌==◌, ℕ, Bool, true, false, ◌&&◌, not, cond, List, [], ◌∷◌, ◌++◌, Option, Some, None, refl, sym, ap, ◌∙◌, subst, inl, inr}
+use Rattle.std.proofs.Common.{◌≡◌, ◌≢◌, ◌==◌, ℕ, Bool, true, false, not, cond, List, [], ◌∷◌, ◌++◌, Option, Some, None, refl, sym, ap, ◌∙◌, subst, inl, inr}
 use Rattle.std.proofs.lemmas.Bool.{eqb-true}
 use Rattle.std.specs.Prelude.{IfSome}
-use Rattle.std.specs.List.{Contains, find, filter}
+use Rattle.std.specs.List.{Contains, find}
 use Rattle.std.specs.Option.{option_map}
 use Rattle.blk_graph.specs.declared.edge.Edge.{Edge}
 use Rattle.blk_graph.specs.declared.edge.Parent.{Parent}
@@ -16,7 +16,7 @@ use Rattle.blk_graph.specs.declared.edge.Parent.TheVariants.{Node}
 use Rattle.blk_graph.specs.Graph.{Graph, HasNode, HasParent, IsSound}
 use Rattle.blk_graph.proofs.CycleLemmas.{same_parent-true, and-left, takes_place-parent}
 use Rattle.blk_graph.proofs.InverseLemmas.{same_parent-false, same_parent-refl, find-push}
-use Rattle.blk_graph.proofs.Members.{find-Some, Contains-here, Contains-there}
+use Rattle.blk_graph.proofs.Members.{find-Some, filter-all, Contains-here, Contains-there}
 use Rattle.blk_graph.proofs.RuleLemmas.{find-none}
 
 -- an edge of a list leads from a parent to a child
@@ -46,20 +46,16 @@ pub child-node : (graph : Graph) (parent : Parent) (role : Role) (found : Option
 child-node graph parent role None sound is = tt
 child-node graph parent role (Some child) sound is =
     let e = child-edge parent role graph.edges child (sym is) in
-    rw (← e.to) (sound.fit.children e.edge e.there)
+    rw (← e.to) (sound.fit.each e.edge e.there).child
 
 -- what isn't a node has no edges
 pub lone-absent : (graph : Graph) (id : ℕ) → IsSound graph → (HasNode graph id → ⊥) → IsLone graph.edges id
 lone-absent graph id sound absent = record {
-  enters = λ e there at. absent (subst (HasNode graph) at (sound.fit.children e there));
-  leaves = λ e there from. absent (subst (HasParent graph) from (sound.fit.parents e there));
+  enters = λ e there at. absent (subst (HasNode graph) at (sound.fit.each e there).child);
+  leaves = λ e there from. absent (subst (HasParent graph) from (sound.fit.each e there).parent);
 }
 
 -- removing it leaves the edges
-filter-all : (p : Edge → Bool) (edges : List Edge) → ((e : Edge) → Contains edges e → p e ≡ true) → filter p edges ≡ edges
-filter-all p [] each = refl
-filter-all p (e ∷ edges) each = rw (each e (Contains-here e edges)) (ap (λ (es : List Edge). e ∷ es) (filter-all p edges (λ other there. each other (Contains-there e edges other there))))
-
 pub lone-removed : (id : ℕ) (edges : List Edge) → IsLone edges id → without_parent (Node id) edges ≡ edges
 lone-removed id edges lone = filter-all (λ e. not (same_parent e.parent (Node id))) edges (λ e there. rw (same_parent-false e.parent (Node id) (lone.leaves e there)) refl)
 

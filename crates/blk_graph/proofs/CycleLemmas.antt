@@ -7,11 +7,11 @@ use Rattle.blk_graph.specs.declared.edge.Edge.{Edge}
 use Rattle.blk_graph.specs.declared.edge.Parent.{Parent}
 use Rattle.blk_graph.specs.declared.edge.Parent.TheVariants.{Node, Guest, Job}
 use Rattle.blk_graph.specs.Edges.{same_parent, same_role}
-use Rattle.blk_graph.specs.Edits.{takes_place, with_edge, replaced, with_replaced}
+use Rattle.blk_graph.specs.Edits.{takes_place, with_edge, replaced, with_replaced, with_moved}
 use Rattle.blk_graph.specs.Paths.{IsPath, Reaches, IsAcyclic, HasCycle, LeadsBack}
 use Rattle.blk_graph.proofs.Members.{Contains-here, Contains-there, Contains-cases, Contains-nil, Contains-map}
 use Rattle.blk_graph.proofs.PathLemmas.{Reaches-edge, Reaches-joined, Reaches-last, Reaches-through}
-use Rattle.blk_graph.proofs.EditLemmas.{Contains-with_edge, Contains-with_edge_new, replaced-cases}
+use Rattle.blk_graph.proofs.EditLemmas.{Contains-with_edge, Contains-with_edge_new, replaced-cases, moved-cases, Contains-with_moved}
 
 -- all that is new where an edge is set leads to its child
 pub new_leads-with_edge : (new : Edge) (edges : List Edge) (e : Edge) → Contains (with_edge new edges) e
@@ -37,6 +37,18 @@ IsAcyclic-with_replaced from to but edges acyclic none node cycle =
     elim (replaced-cases from to but r.0) [
       | inl leads ↦ inr (ap (λ (x : Edge). x.child) r.2 ∙ leads)
       | inr same ↦ inl (rw (r.2 ∙ same) r.1)
+    ])
+    acyclic node cycle)
+
+-- and so do those that are moved
+pub IsAcyclic-with_moved : (from to : ℕ) (edges : List Edge) → IsAcyclic edges
+    → (Reaches (with_moved from to edges) to to → ⊥) → IsAcyclic (with_moved from to edges)
+IsAcyclic-with_moved from to edges acyclic none node cycle =
+    none (Reaches-through (with_moved from to edges) edges to
+    (λ e h. let r = Contains-with_moved from to edges e h in
+    elim (moved-cases from to r.0) [
+      | inl at ↦ inr (ap (λ (x : Edge). x.child) (r.2 ∙ at.1))
+      | inr away ↦ inl (rw (r.2 ∙ away.1) r.1)
     ])
     acyclic node cycle)
 

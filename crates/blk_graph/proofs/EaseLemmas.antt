@@ -1,5 +1,5 @@
 -- Edges that are removed leave no edge that asks more or shares less, so the permission rule is kept.
-use Rattle.std.proofs.Common.{◌≡◌, ◌≢◌, ◌⊎◌, ◌<◌, ℕ, zero, suc, ◌+◌, List, [], ◌∷◌, length, map, get_or, refl, sym, ◌∙◌, ap, subst, inl, inr, arith, Bool, true, false, cond, Option, Some, None}
+use Rattle.std.proofs.Common.{◌≡◌, ◌≢◌, ◌⊎◌, ◌<◌, ℕ, List, [], ◌∷◌, map, get_or, refl, sym, ◌∙◌, subst, inl, inr, arith, Bool, true, false, cond, Option, Some, None}
 use Rattle.std.specs.Prelude.{◌==◌, ◌&&◌, ◌||◌, not}
 use Rattle.std.specs.List.{Contains, AllPairs, filter, slice_get}
 use Rattle.std.proofs.lemmas.Option.{slice_get_within, slice_get-get_or, get_or_from_slice_get}
@@ -9,7 +9,6 @@ use Rattle.blk_graph.specs.declared.edge.Parent.{Parent}
 use Rattle.blk_graph.specs.declared.edge.Parent.TheVariants.{Node, Guest, Job}
 use Rattle.blk_graph.specs.declared.edge.Perm.{Perm}
 use Rattle.blk_graph.specs.declared.edge.Perm.TheVariants.{Read, Write, Unchanged}
-use Rattle.blk_graph.specs.declared.edge.Perms.{Perms}
 use Rattle.blk_graph.specs.declared.edge.Role.{Role}
 use Rattle.blk_graph.specs.declared.edge.Role.TheVariants.{File, Backing, Filtered}
 use Rattle.blk_graph.specs.declared.edge.Uses.{Uses}
@@ -18,7 +17,7 @@ use Rattle.blk_graph.specs.declared.kind.Kind.TheVariants.{Raw, Qcow2, CopyOnRea
 use Rattle.blk_graph.specs.declared.kind.NodeKind.{NodeKind}
 use Rattle.blk_graph.specs.Edges.{holds, IsWithin}
 use Rattle.blk_graph.specs.Permissions.{perms, idle_uses, derived_uses, uses_by}
-use Rattle.blk_graph.specs.Refreshed.{kind_at, joined, uses_into, with_uses, ruled, ruled_from, turned, refreshed, IsRefreshed}
+use Rattle.blk_graph.specs.Refreshed.{kind_at, joined, uses_into, with_uses, ruled, ruled_from, refreshed, IsRefreshed}
 use Rattle.blk_graph.specs.Rule.{KeepsPermissions}
 use Rattle.blk_graph.proofs.Members.{Contains-here, Contains-there, Contains-cases}
 use Rattle.blk_graph.proofs.RefreshLemmas.{refreshed-by}
@@ -59,7 +58,7 @@ both_right true b h = h
 both_right false b h = absurd cc
 
 -- one more edge weighs more
-joined-lighter : (e : Edge) (uses : Uses) → IsLighter uses (joined e uses)
+pub joined-lighter : (e : Edge) (uses : Uses) → IsLighter uses (joined e uses)
 joined-lighter e uses = record {
   asks = λ perm. asks perm;
   shares = λ perm. shares perm;
@@ -93,7 +92,7 @@ joined-easier a b u v easier lighter = record {
     shares Unchanged =
         both_within b.shared.unchanged v.shared.unchanged a.shared.unchanged u.shared.unchanged (easier.shares Unchanged) (lighter.shares Unchanged)
 
-lighter-trans : (a b c : Uses) → IsLighter a b → IsLighter b c → IsLighter a c
+pub lighter-trans : (a b c : Uses) → IsLighter a b → IsLighter b c → IsLighter a c
 lighter-trans a b c h k = record {
   asks = λ perm is. k.asks perm (h.asks perm is);
   shares = λ perm is. h.shares perm (k.shares perm is);
@@ -170,7 +169,7 @@ IsEased [] old = Unit {0}
 IsEased (a ∷ new) [] = ⊥
 IsEased (a ∷ new) (b ∷ old) = (IsEasier a b × IsEased new old) ⊎ IsEased (a ∷ new) old
 
-idle-lighter : (uses : Uses) → IsLighter idle_uses uses
+pub idle-lighter : (uses : Uses) → IsLighter idle_uses uses
 idle-lighter uses = record { asks = λ perm. asks perm; shares = λ perm. shares perm }
   where
     asks : (perm : Perm) → holds idle_uses.perm perm ≡ true → holds uses.perm perm ≡ true
@@ -183,7 +182,7 @@ idle-lighter uses = record { asks = λ perm. asks perm; shares = λ perm. shares
     shares Write h = refl
     shares Unchanged h = refl
 
-uses_into-eased : (n : ℕ) (new old : List Edge) → IsEased new old → IsLighter (uses_into new n) (uses_into old n)
+pub uses_into-eased : (n : ℕ) (new old : List Edge) → IsEased new old → IsLighter (uses_into new n) (uses_into old n)
 uses_into-eased n [] old h = idle-lighter (uses_into old n)
 uses_into-eased n (a ∷ new) [] h = absurd h
 uses_into-eased n (a ∷ new) (b ∷ old) (inl h) =
@@ -201,7 +200,7 @@ uses_into-eased n (a ∷ new) (b ∷ old) (inr h) = by_test (b.child == n) (uses
     by_test false ih = ih
 
 -- a list that is ruled by lighter uses is eased, where the other stays under its own
-eased_ruled : (kinds : List NodeKind) (f g : ℕ → Uses) → ((n : ℕ) → IsLighter (f n) (g n)) → (new old : List Edge)
+pub eased_ruled : (kinds : List NodeKind) (f g : ℕ → Uses) → ((n : ℕ) → IsLighter (f n) (g n)) → (new old : List Edge)
     → ((e : Edge) → Contains old e → ruled kinds g e ≡ e) → IsEased new old → IsEased (map (ruled kinds f) new) old
 eased_ruled kinds f g lighter [] old stays h = tt
 eased_ruled kinds f g lighter (a ∷ new) [] stays h = absurd h
@@ -220,6 +219,10 @@ eased_refreshed kinds new old stays =
 easier-refl : (e : Edge) → IsEasier e e
 easier-refl e = record { parent = refl; role = refl; child = refl; asks = λ perm is. is; shares = λ perm is. is }
 
+pub eased-refl : (edges : List Edge) → IsEased edges edges
+eased-refl [] = tt
+eased-refl (e ∷ edges) = inl (easier-refl e, eased-refl edges)
+
 eased-skip : (b : Edge) (new old : List Edge) → IsEased new old → IsEased new (b ∷ old)
 eased-skip b [] old h = tt
 eased-skip b (a ∷ new) old h = inr h
@@ -233,7 +236,7 @@ eased_filter p (e ∷ edges) = by_test (p e) (eased_filter p edges)
     by_test false ih = eased-skip e (filter p edges) edges ih
 
 -- two edges of one child agree, whichever of them asks
-abbrev Agree : Edge → Edge → Type 0
+abbrev pub Agree : Edge → Edge → Type 0
 Agree a b = a.child ≡ b.child → IsWithin a.perm b.shared × IsWithin b.perm a.shared
 
 agree-easier : (a b x y : Edge) → IsEasier a x → IsEasier b y → Agree x y → Agree a b
@@ -253,7 +256,7 @@ eased-Contains (a ∷ new) (b ∷ old) (inl h) e there = elim (Contains-cases a 
 eased-Contains (a ∷ new) (b ∷ old) (inr h) e there =
     let r = eased-Contains (a ∷ new) old h e there in (r.0, Contains-there b old r.0 r.1, r.2)
 
-eased_pairs : (new old : List Edge) → IsEased new old → AllPairs Agree old → AllPairs Agree new
+pub eased_pairs : (new old : List Edge) → IsEased new old → AllPairs Agree old → AllPairs Agree new
 eased_pairs [] old h pairs = λ i j d below within. absurd (omega (arith, within))
 eased_pairs (a ∷ new) [] h pairs = absurd h
 eased_pairs (a ∷ new) (b ∷ old) (inl h) pairs =
@@ -263,7 +266,7 @@ eased_pairs (a ∷ new) (b ∷ old) (inl h) pairs =
     (eased_pairs new old h.1 (tail_pairs Agree b old pairs))
 eased_pairs (a ∷ new) (b ∷ old) (inr h) pairs = eased_pairs (a ∷ new) old h (tail_pairs Agree b old pairs)
 
-agree-pairs : (edges : List Edge) → KeepsPermissions edges → AllPairs Agree edges
+pub agree-pairs : (edges : List Edge) → KeepsPermissions edges → AllPairs Agree edges
 agree-pairs edges rule i j d below within =
     let at_i : slice_get edges i ≡ Some (get_or edges i d) = slice_get-get_or edges i d (omega (arith, below, within)) in
     let at_j : slice_get edges j ≡ Some (get_or edges j d) = slice_get-get_or edges j d within in
@@ -274,7 +277,7 @@ agree-pairs edges rule i j d below within =
       rule j i (get_or edges j d) (get_or edges i d) at_j at_i back (sym same),
     )
 
-pairs-agree : (edges : List Edge) → AllPairs Agree edges → KeepsPermissions edges
+pub pairs-agree : (edges : List Edge) → AllPairs Agree edges → KeepsPermissions edges
 pairs-agree edges pairs i j asking other at_i at_j differ same =
     let is_i : get_or edges i asking ≡ asking = get_or_from_slice_get edges i asking asking at_i in
     let is_j : get_or edges j asking ≡ other = get_or_from_slice_get edges j other asking at_j in

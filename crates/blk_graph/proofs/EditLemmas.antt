@@ -1,14 +1,21 @@
 -- What the edited lists contain, and that they keep the graph without cycles.
-use Rattle.std.proofs.Common.{◌≡◌, ◌≢◌, ◌⊎◌, ℕ, ◌+◌, ◌≤◌, List, [], ◌∷◌, length, map, refl, ◌∙◌, ap, inl, inr, arith, Bool, true, false, cond, Option, Some, None}
+use Rattle.std.proofs.Common.{◌≡◌, ◌≢◌, ◌⊎◌, ℕ, ◌≤◌, List, [], ◌∷◌, length, arith, refl, ap, inl, inr, Bool, true, false, cond, Option}
 use Rattle.std.specs.Prelude.{◌==◌, ◌&&◌, not}
-use Rattle.std.specs.List.{Contains, filter, find}
-use Rattle.std.proofs.lemmas.Bool.{eqb-true, eqb-false}
-use Rattle.std.proofs.lemmas.List.{length-append, length-map}
+use Rattle.std.specs.List.{Contains, filter, list_any}
+use Rattle.std.proofs.lemmas.Bool.{eqb-true, eqb-false, ne_eqb}
+use Rattle.std.proofs.lemmas.List.{length-map}
 use Rattle.blk_graph.specs.declared.edge.Edge.{Edge}
-use Rattle.blk_graph.specs.declared.edge.Perms.{Perms}
 use Rattle.blk_graph.specs.declared.edge.Parent.{Parent}
-use Rattle.blk_graph.specs.Edits.{takes_place, with_edge, with_child, stays, replaced, moved, filter_edge, with_filter, is_filters, but_filters, without_filter}
-use Rattle.blk_graph.proofs.Members.{Contains-here, Contains-there, Contains-cases, Contains-map, Contains-filter, find-Some}
+use Rattle.blk_graph.specs.declared.edge.Role.TheVariants.{Between}
+use Rattle.blk_graph.specs.Edges.{same_role}
+use Rattle.blk_graph.specs.Edits.{takes_place, with_edge, with_child, stays, replaced, moved, is_edge, is_between, is_double, but_doubles, with_moved}
+use Rattle.blk_graph.proofs.Members.{Contains-here, Contains-there, Contains-cases, Contains-map, Contains-filter, filter-all, list_any-none}
+
+-- one edge is another but for what it asks and shares
+pub record IsSameEdge (a b : Edge) : Type 0 where
+  pub parent : a.parent ≡ b.parent
+  pub role : a.role ≡ b.role
+  pub child : a.child ≡ b.child
 
 -- an edge of the list with a new edge is that edge, or was there
 pub Contains-with_edge : (new : Edge) (edges : List Edge) (e : Edge) → Contains (with_edge new edges) e
@@ -42,15 +49,6 @@ Contains-with_edge_new new (old ∷ edges) = by_test (takes_place new old) (Cont
         → Contains (cond b (new ∷ edges) (old ∷ with_edge new edges)) new
     by_test true ih = Contains-here new edges
     by_test false ih = Contains-there old (with_edge new edges) new ih
-
-pub length-with_edge : (new : Edge) (edges : List Edge) → length (with_edge new edges) ≤ length edges + 1
-length-with_edge new [] = omega arith
-length-with_edge new (old ∷ edges) = by_test (takes_place new old) (length-with_edge new edges)
-  where
-    by_test : (b : Bool) → length (with_edge new edges) ≤ length edges + 1
-        → length (cond b (new ∷ edges) (old ∷ with_edge new edges)) ≤ length (old ∷ edges) + 1
-    by_test true ih = omega arith
-    by_test false ih = omega (arith, ih)
 
 -- a moved edge has its parent and one of two children
 pub moved-parent : (from to : ℕ) (e : Edge) → (moved from to e).parent ≡ e.parent
@@ -86,84 +84,41 @@ replaced-cases from to but e = by_test (e.child == from && not (stays but e.pare
     by_test true = inl refl
     by_test false = inr refl
 
-pub length-with_filter : (node over : ℕ) (perm shared : Perms) (edges : List Edge)
-    → length (with_filter node over perm shared edges) ≡ length edges + 1
-length-with_filter node over perm shared edges =
-    omega (arith, length-append (map (moved node over) edges) (filter_edge over node perm shared ∷ []), length-map edges (moved node over))
-
-pub length-filter-le : {X : Type 0} (p : X → Bool) (xs : List X) → length (filter p xs) ≤ length xs
-length-filter-le p [] = omega arith
-length-filter-le {X} p (x ∷ xs) = by_test (p x) (length-filter-le p xs)
+pub length-with_moved : (from to : ℕ) (edges : List Edge) → length (with_moved from to edges) ≤ length edges
+length-with_moved from to edges =
+    omega (
+      arith,
+      length-map (but_doubles from to edges) (moved from to),
+      length-filter-le (λ edge. not (is_double edges from to edge)) edges,
+    )
   where
-    by_test : (b : Bool) → length (filter p xs) ≤ length xs
-        → length (cond b (x ∷ filter p xs) (filter p xs)) ≤ length (x ∷ xs)
-    by_test true ih = omega (arith, ih)
-    by_test false ih = omega (arith, ih)
+    length-filter-le : (p : Edge → Bool) (xs : List Edge) → length (filter p xs) ≤ length xs
+    length-filter-le p [] = omega arith
+    length-filter-le p (x ∷ xs) = by_test (p x) (length-filter-le p xs)
+      where
+        by_test : (b : Bool) → length (filter p xs) ≤ length xs → length (cond b (x ∷ filter p xs) (filter p xs)) ≤ length (x ∷ xs)
+        by_test true ih = omega (arith, ih)
+        by_test false ih = omega (arith, ih)
 
--- an edge of the list without a filter has the ends of edges that were there
-pub record HasOldEnds (edges : List Edge) (e : Edge) : Type 0 where
-  pub from : Edge
-  pub to : Edge
-  pub from_there : Contains edges from
-  pub to_there : Contains edges to
-  pub parent : e.parent ≡ from.parent
-  pub role : e.role ≡ from.role
-  pub child : e.child ≡ to.child
+-- a moved edge was there
+pub Contains-with_moved : (from to : ℕ) (edges : List Edge) (e : Edge) → Contains (with_moved from to edges) e
+    → (x : Edge) × Contains edges x × (e ≡ moved from to x)
+Contains-with_moved from to edges e h =
+    let r = Contains-map (moved from to) (but_doubles from to edges) e h in
+    (r.0, (Contains-filter (λ edge. not (is_double edges from to edge)) edges r.0 r.1).0, r.2)
 
-pub HasOldEnds-without_filter : (node : ℕ) (edges : List Edge) (e : Edge)
-    → Contains (without_filter node edges) e → HasOldEnds edges e
-HasOldEnds-without_filter node edges e h = by_found (find (is_filters node) edges) refl h
+-- where no edge leads to the other node, none is doubled
+pub but_doubles-none : (from to : ℕ) (edges : List Edge) → ((e : Edge) → Contains edges e → e.child ≢ to)
+    → but_doubles from to edges ≡ edges
+but_doubles-none from to edges none =
+    filter-all (λ edge. not (is_double edges from to edge)) edges
+    (λ e h. single (not (from == to) && e.child == from && same_role e.role Between) (list_any (is_between e.parent to) edges)
+    (list_any-none (is_between e.parent to) edges
+    (λ x there. last_false (is_edge e.parent Between x) (x.child == to) (ne_eqb x.child to (none x there)))))
   where
-    by_child : (b : Bool) (x : Edge) (to : ℕ) → (cond b (with_child to x) x).role ≡ x.role
-    by_child true x to = refl
-    by_child false x to = refl
+    last_false : (a b : Bool) → b ≡ false → (a && b) ≡ false
+    last_false true b h = h
+    last_false false b h = refl
 
-    by_found : (found : Option Edge) → find (is_filters node) edges ≡ found
-        → Contains (elim found as (λ _. List Edge) [
-          | None ↦ edges
-          | Some edge ↦ map (moved node edge.child) (but_filters node edges)
-        ]) e → HasOldEnds edges e
-    by_found None is k = record { from = e; to = e; from_there = k; to_there = k; parent = refl; role = refl; child = refl }
-    by_found (Some edge) is k =
-        let r = Contains-map (moved node edge.child) (but_filters node edges) e k in
-        let was : Contains edges r.0 = (Contains-filter (λ other. not (is_filters node other)) edges r.0 r.1).0 in
-        let own : Contains edges edge = (find-Some (is_filters node) edges edge is).0 in
-        let from : e.parent ≡ r.0.parent
-        = ap (λ (x : Edge). x.parent) r.2 ∙ moved-parent node edge.child r.0 in
-        let role : e.role ≡ r.0.role
-        = ap (λ (x : Edge). x.role) r.2 ∙ by_child (r.0.child == node) r.0 edge.child in
-        elim (moved-cases node edge.child r.0) [
-          | inl at ↦ record {
-            from = r.0;
-            to = edge;
-            from_there = was;
-            to_there = own;
-            parent = from;
-            role = role;
-            child = ap (λ (x : Edge). x.child) (r.2 ∙ at.1);
-          }
-          | inr away ↦ record {
-            from = r.0;
-            to = r.0;
-            from_there = was;
-            to_there = was;
-            parent = from;
-            role = role;
-            child = ap (λ (x : Edge). x.child) (r.2 ∙ away.1);
-          }
-        ]
-
-pub length-without_filter : (node : ℕ) (edges : List Edge) → length (without_filter node edges) ≤ length edges
-length-without_filter node edges = by_found (find (is_filters node) edges)
-  where
-    by_found : (found : Option Edge) → length (elim found as (λ _. List Edge) [
-      | None ↦ edges
-      | Some edge ↦ map (moved node edge.child) (but_filters node edges)
-    ]) ≤ length edges
-    by_found None = omega arith
-    by_found (Some edge) =
-        omega (
-          arith,
-          length-map (but_filters node edges) (moved node edge.child),
-          length-filter-le (λ other. not (is_filters node other)) edges,
-        )
+    single : (a b : Bool) → b ≡ false → not (a && b) ≡ true
+    single a b h = ap not (last_false a b h)

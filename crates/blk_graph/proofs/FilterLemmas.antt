@@ -1,5 +1,5 @@
 -- Filters: set above a node, and taken away again.
-use Rattle.std.proofs.Common.{◌≡◌, ◌≢◌, ◌⊎◌, ℕ, List, [], ◌∷◌, map, refl, sym, ◌∙◌, ap, inl, inr, cond, Option, Some, None}
+use Rattle.std.proofs.Common.{◌≡◌, ◌≢◌, ◌⊎◌, ℕ, List, [], ◌∷◌, refl, sym, ◌∙◌, ap, inl, inr, cond, Option, Some, None}
 use Rattle.std.specs.Prelude.{not, ◌==◌}
 use Rattle.std.specs.List.{Contains, filter, find}
 use Rattle.std.proofs.lemmas.Bool.{ne_eqb, eq-eqb}
@@ -9,11 +9,11 @@ use Rattle.blk_graph.specs.declared.edge.Perms.{Perms}
 use Rattle.blk_graph.specs.declared.edge.Parent.TheVariants.{Node}
 use Rattle.blk_graph.specs.declared.edge.Role.TheVariants.{Filtered}
 use Rattle.blk_graph.specs.Edges.{same_parent, same_role}
-use Rattle.blk_graph.specs.Edits.{IsLone, moved, filter_edge, with_filter, is_filters, without_filter}
+use Rattle.blk_graph.specs.Edits.{IsLone, with_moved, filter_edge, with_filter, is_filters, but_filters, without_filter}
 use Rattle.blk_graph.specs.Paths.{IsPath, Reaches, IsAcyclic}
-use Rattle.blk_graph.proofs.Members.{Contains-map, Contains-filter, find-Some}
+use Rattle.blk_graph.proofs.Members.{Contains-filter, find-Some}
 use Rattle.blk_graph.proofs.PathLemmas.{Reaches-edge, Reaches-joined, IsAcyclic-covered}
-use Rattle.blk_graph.proofs.EditLemmas.{moved-parent, moved-cases}
+use Rattle.blk_graph.proofs.EditLemmas.{moved-parent, moved-cases, Contains-with_moved}
 use Rattle.blk_graph.proofs.CycleLemmas.{and-left, same_parent-true}
 
 -- where each node stood before the filter was set
@@ -33,9 +33,9 @@ module _ (edges : List Edge) (node filter : ℕ) (perm shared : Perms)
       → e.parent ≡ Node a
       → ((a ≡ filter) × (e.child ≡ node)) ⊎ Reaches edges (behind node filter a) (behind node filter e.child)
   filter_step a e h k =
-      elim (Contains-push_cases (map (moved node filter) edges) (filter_edge filter node perm shared) e h) [
+      elim (Contains-push_cases (with_moved node filter edges) (filter_edge filter node perm shared) e h) [
         | inl was ↦
-            let r = Contains-map (moved node filter) edges e was in
+            let r = Contains-with_moved node filter edges e was in
             let parent : r.0.parent ≡ Node a = sym (moved-parent node filter r.0) ∙ ap (λ (x : Edge). x.parent) (sym r.2) ∙ k in
             let from : behind node filter a ≡ a
             = behind-other node filter a (λ same. lone.leaves r.0 r.1 (parent ∙ ap Node same)) in
@@ -95,7 +95,7 @@ module _ (edges : List Edge) (filter_node : ℕ) where
       by_found : (found : Option Edge) → find (is_filters filter_node) edges ≡ found
           → IsAcyclic (elim found as (λ _. List Edge) [
             | None ↦ edges
-            | Some edge ↦ map (moved filter_node edge.child) (filter (λ other. not (is_filters filter_node other)) edges)
+            | Some edge ↦ with_moved filter_node edge.child (but_filters filter_node edges)
           ])
       by_found None e = acyclic
       by_found (Some edge) e =
@@ -104,10 +104,9 @@ module _ (edges : List Edge) (filter_node : ℕ) where
           = same_parent-true edge.parent (Node filter_node)
           (and-left (same_parent edge.parent (Node filter_node)) (same_role edge.role Filtered) is.1) in
           IsAcyclic-covered
-          (map (moved filter_node edge.child) (filter (λ other. not (is_filters filter_node other)) edges)) edges
+          (with_moved filter_node edge.child (but_filters filter_node edges)) edges
           (λ a x h k.
-          let r = Contains-map (moved filter_node edge.child)
-          (filter (λ other. not (is_filters filter_node other)) edges) x h in
+          let r = Contains-with_moved filter_node edge.child (but_filters filter_node edges) x h in
           let was : Contains edges r.0
           = (Contains-filter (λ other. not (is_filters filter_node other)) edges r.0 r.1).0 in
           let from : r.0.parent ≡ Node a

@@ -8,9 +8,9 @@ use Rattle.blk_graph.specs.declared.edge.Perms.{Perms}
 use Rattle.blk_graph.specs.declared.edge.Parent.{Parent}
 use Rattle.blk_graph.specs.declared.edge.Parent.TheVariants.{Node, Guest, Job}
 use Rattle.blk_graph.specs.Edges.{same_parent}
-use Rattle.blk_graph.specs.Edits.{with_child, IsLone, moved, filter_edge, with_filter, is_filters, without_filter, touches}
+use Rattle.blk_graph.specs.Edits.{with_child, IsLone, moved, with_moved, filter_edge, with_filter, is_filters, but_filters, without_filter, touches}
 use Rattle.blk_graph.proofs.Members.{Contains-here, Contains-there, Contains-map}
-use Rattle.blk_graph.proofs.EditLemmas.{moved-parent, moved-cases}
+use Rattle.blk_graph.proofs.EditLemmas.{moved-parent, moved-cases, but_doubles-none}
 use Rattle.blk_graph.proofs.CycleLemmas.{same_parent-true}
 
 module _ {X : Type 0} (p : X → Bool) (y : X) (last : p y ≡ true) where
@@ -65,11 +65,13 @@ map-moved_back node over (e ∷ edges) lone =
     (moved-back node over e (lone e (Contains-here e edges)))
     ∙ ap (λ xs. e ∷ xs) (map-moved_back node over edges (λ x h. lone x (Contains-there e edges x h)))
 
-pub without_filter-with_filter : (edges : List Edge) (node over : ℕ) (perm shared : Perms)
+pub without_filter-with_filter : (edges : List Edge) (node over : ℕ) (perm shared : Perms) → over ≢ node
     → IsLone edges over → without_filter over (with_filter node over perm shared edges) ≡ edges
-without_filter-with_filter edges node over perm shared lone =
+without_filter-with_filter edges node over perm shared differ lone =
     let new : Edge = filter_edge over node perm shared in
     let others : List Edge = map (moved node over) edges in
+    let all_moved : with_moved node over edges ≡ others
+    = ap (map (moved node over)) (but_doubles-none node over edges lone.enters) in
     let none : (e : Edge) → Contains others e → is_filters over e ≡ false
     = λ e h.
     let r = Contains-map (moved node over) edges e h in
@@ -77,14 +79,23 @@ without_filter-with_filter edges node over perm shared lone =
     = λ is. lone.leaves r.0 r.1
     (sym (moved-parent node over r.0) ∙ ap (λ (x : Edge). x.parent) (sym r.2) ∙ is) in
     rw (same_parent-false e.parent (Node over) parent) refl in
+    let away : (e : Edge) → Contains others e → e.child ≢ node
+    = λ e h is.
+    let r = Contains-map (moved node over) edges e h in
+    elim (moved-cases node over r.0) [
+      | inl at ↦ differ (sym (ap (λ (x : Edge). x.child) (r.2 ∙ at.1)) ∙ is)
+      | inr other ↦ other.0 (sym (ap (λ (x : Edge). x.child) (r.2 ∙ other.1)) ∙ is)
+    ] in
     let is_last : is_filters over new ≡ true = rw (same_parent-refl (Node over)) refl in
     let rest : List Edge → Option Edge → List Edge
     = λ all found. elim found as (λ _. List Edge) [
       | None ↦ all
-      | Some edge ↦ map (moved over edge.child) (filter (λ other. not (is_filters over other)) all)
+      | Some edge ↦ with_moved over edge.child (but_filters over all)
     ] in
-    ap (rest (others ++ new ∷ [])) (find-push (is_filters over) new is_last others none)
-    ∙ ap (map (moved over node)) (filter-push (is_filters over) new is_last others none)
+    ap (λ es. without_filter over (es ++ new ∷ [])) all_moved
+    ∙ ap (rest (others ++ new ∷ [])) (find-push (is_filters over) new is_last others none)
+    ∙ ap (with_moved over node) (filter-push (is_filters over) new is_last others none)
+    ∙ ap (map (moved over node)) (but_doubles-none over node others away)
     ∙ map-moved_back node over edges lone.enters
 
 -- edges that don't touch the node leave it alone

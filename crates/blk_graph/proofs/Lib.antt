@@ -18,4 +18,11 @@ pub mod RefreshLemmas
 pub mod EaseLemmas
 pub mod ListLemmas
 pub mod IdLemmas
-pub mod RoomLemmas
+pub mod ListedLemmas
+pub mod FitLemmas
+pub mod DoubleLemmas
+pub mod DraftLemmas
+pub mod ClearLemmas
+pub mod AlikeLemmas
+pub mod TakeOutLemmas
+pub mod OverLemmas

@@ -1,7 +1,7 @@
 -- The place that a new edge takes, and how long edited lists are.
-use Rattle.std.proofs.Common.{◌≡◌, ℕ, zero, suc, ◌+◌, ◌<◌, ◌≤◌, List, [], ◌∷◌, ◌++◌, length, take, drop, set, get_or, refl, sym, ◌∙◌, ap, arith, Bool, true, false, cond}
-use Rattle.std.specs.Prelude.{◌↔◌, not, Some, None, Option, Result, Ok, Err, IsOk, IsNone}
-use Rattle.std.specs.List.{filter, Contains}
+use Rattle.std.proofs.Common.{◌≡◌, ℕ, zero, suc, ◌<◌, List, [], ◌∷◌, ◌++◌, length, take, drop, set, get_or, refl, ap, arith, true, false}
+use Rattle.std.specs.Prelude.{◌↔◌, Some, None}
+use Rattle.std.specs.List.{Contains}
 use Rattle.blk_graph.specs.declared.edge.Edge.{Edge}
 use Rattle.blk_graph.specs.declared.edge.Conflict.{Conflict}
 use Rattle.blk_graph.specs.Edits.{takes_place, with_edge}

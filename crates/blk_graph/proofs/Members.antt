@@ -1,6 +1,7 @@
 -- What a list contains, element by element.
 use Rattle.std.proofs.Common.{◌≡◌, ◌⊎◌, ℕ, zero, suc, ◌<◌, List, [], ◌∷◌, Bool, true, false, cond, Some, length, get_or, map, refl, sym, ◌∙◌, ap, inl, inr, arith}
-use Rattle.std.specs.List.{Contains, filter, find}
+use Rattle.std.specs.List.{Contains, filter, find, list_any}
+use Rattle.std.specs.Prelude.{◌||◌}
 
 module _ {X : Type 0} where
   pub Contains-here : (x : X) (xs : List X) → Contains (x ∷ xs) x
@@ -63,3 +64,36 @@ find-Some {X} p (y ∷ xs) x h = by_test (p y) refl (find-Some p xs x) h
         → cond b (Some y) (find p xs) ≡ Some x → Contains (y ∷ xs) x × (p x ≡ true)
     by_test true t ih k = let same : x ≡ y = cc in (rw same (Contains-here y xs), ap p same ∙ t)
     by_test false t ih k = let r = ih k in (Contains-there y xs x r.0, r.1)
+
+-- where each element passes, a filter keeps all
+pub filter-all : {X : Type 0} (p : X → Bool) (xs : List X) → ((x : X) → Contains xs x → p x ≡ true) → filter p xs ≡ xs
+filter-all p [] each = refl
+filter-all p (x ∷ xs) each =
+    rw (each x (Contains-here x xs)) (ap (λ ys. x ∷ ys) (filter-all p xs (λ y h. each y (Contains-there x xs y h))))
+
+-- tests that agree keep the same
+pub filter-same : {X : Type 0} (p q : X → Bool) (xs : List X) → ((x : X) → Contains xs x → p x ≡ q x) → filter p xs ≡ filter q xs
+filter-same p q [] each = refl
+filter-same {X} p q (x ∷ xs) each =
+    rw (each x (Contains-here x xs)) (by_test (q x) (filter-same p q xs (λ y h. each y (Contains-there x xs y h))))
+  where
+    by_test : (b : Bool) → filter p xs ≡ filter q xs → cond b (x ∷ filter p xs) (filter p xs) ≡ cond b (x ∷ filter q xs) (filter q xs)
+    by_test true ih = ap (λ ys. x ∷ ys) ih
+    by_test false ih = ih
+
+pub list_any-there : {X : Type 0} (p : X → Bool) (xs : List X) (x : X) → Contains xs x → p x ≡ true → list_any p xs ≡ true
+list_any-there p [] x h is = absurd (Contains-nil x h)
+list_any-there {X} p (y ∷ xs) x h is = by_cases (λ there. list_any-there p xs x there is) (Contains-cases y xs x h)
+  where
+    or-right : (a b : Bool) → b ≡ true → (a || b) ≡ true
+    or-right true b k = refl
+    or-right false b k = k
+
+    by_cases : (Contains xs x → list_any p xs ≡ true) → (x ≡ y) ⊎ Contains xs x → (p y || list_any p xs) ≡ true
+    by_cases ih (inl here) = let first : p y ≡ true = ap p (sym here) ∙ is in rw first refl
+    by_cases ih (inr there) = or-right (p y) (list_any p xs) (ih there)
+
+pub list_any-none : {X : Type 0} (p : X → Bool) (xs : List X) → ((x : X) → Contains xs x → p x ≡ false) → list_any p xs ≡ false
+list_any-none p [] each = refl
+list_any-none p (x ∷ xs) each =
+    rw (each x (Contains-here x xs)) (list_any-none p xs (λ y h. each y (Contains-there x xs y h)))

@@ -17,8 +17,8 @@ use Rattle.blk_graph.specs.declared.edge.Parent.{Parent}
 use Rattle.blk_graph.specs.declared.edge.Parent.TheVariants.{Node, Guest, Job}
 use Rattle.blk_graph.specs.Edges.{same_parent}
 use Rattle.blk_graph.specs.Edits.{without_parent, IsLone}
-use Rattle.blk_graph.specs.Permissions.{uses_by}
-use Rattle.blk_graph.specs.Refreshed.{no_kind, kind_at, uses_into, with_uses, ruled, ruled_from, refreshed}
+use Rattle.blk_graph.specs.Permissions.{uses_by, has_role}
+use Rattle.blk_graph.specs.Refreshed.{no_kind, kind_at, IsOf, IsByTable, uses_into, with_uses, ruled, ruled_from, refreshed}
 use Rattle.blk_graph.specs.declared.edge.Uses.{Uses}
 use Rattle.blk_graph.specs.declared.kind.NodeKind.{NodeKind}
 use Rattle.blk_graph.specs.Graph.{NodeRow, Graph, HasNode, HasParent, HasName, DifferentNames, IsJust, IsSound, no_graph}
@@ -45,12 +45,9 @@ IsSound-none = record {
   small = λ id h. absurd (Contains-nil id h);
   kinds = refl;
   vacant = λ id h. get_or-replicate 64 id no_kind;
-  few_outside = omega arith;
   fit = record {
-    parents = λ e h. absurd (Contains-nil e h);
-    children = λ e h. absurd (Contains-nil e h);
-    owners = λ e h. absurd (Contains-nil e h);
-    roles = λ i j d below within. absurd (omega (arith, within));
+    each = λ e h. absurd (Contains-nil e h);
+    places = λ i j d below within. absurd (omega (arith, within));
   };
   just = record {
     acyclic = λ node cycle. absurd (Contains-nil cycle.first cycle.path.0);
@@ -90,6 +87,16 @@ ruled-kinds kinds node kind above e differ = by_parent e.parent differ
         ap (λ k. with_uses e (uses_by k e.role (above n))) (kind_at-other kinds node n kind (λ is. differ (ap Node is)))
     by_parent (Guest n) differ = refl
     by_parent (Job n) differ = refl
+
+table-kinds : (kinds : List NodeKind) (node : ℕ) (kind : NodeKind) (e : Edge) → e.parent ≢ Node node → IsByTable kinds e
+    → IsByTable (set kinds node kind) e
+table-kinds kinds node kind e differ h = by_parent e.parent differ h
+  where
+    by_parent : (p : Parent) → p ≢ Node node → IsOf kinds e p → IsOf (set kinds node kind) e p
+    by_parent (Node n) differ own =
+        ap (λ k. has_role k.kind e.role) (kind_at-other kinds node n kind (λ is. differ (ap Node is))) ∙ own
+    by_parent (Guest n) differ own = own
+    by_parent (Job n) differ own = own
 
 IsJust-kinds : (kinds : List NodeKind) (node : ℕ) (kind : NodeKind) (edges : List Edge)
     → ((e : Edge) → Contains edges e → e.parent ≢ Node node) → IsJust kinds edges → IsJust (set kinds node kind) edges
@@ -200,8 +207,8 @@ not_member order key none = by_test (list_any (nat_eq key) order) refl
 -- a node of one graph is one of another
 HasParent-kept : (g h : Graph) → ((n : ℕ) → HasNode g n → HasNode h n) → (parent : Parent) → HasParent g parent → HasParent h parent
 HasParent-kept g h kept (Node n) is = kept n is
-HasParent-kept g h kept (Guest n) is = tt
-HasParent-kept g h kept (Job n) is = tt
+HasParent-kept g h kept (Guest n) is = is
+HasParent-kept g h kept (Job n) is = is
 
 -- the names differ where a node with a new one is added
 names-added : (rows : List NodeRow) (new : NodeRow) → DifferentNames rows
@@ -285,12 +292,14 @@ IsKept-added old new keys order kinds edges id key text kind room kept few free 
         kinds = length-set kinds id kind ∙ kept.sound.kinds;
         vacant = λ x none. kind_at-other kinds id x kind (λ same. none (subst (HasNode after) (sym same) new_there))
             ∙ kept.sound.vacant x (λ h. none (stays x h));
-        few_outside = kept.sound.few_outside;
         fit = record {
-          parents = λ e h. HasParent-kept before after stays e.parent (kept.sound.fit.parents e h);
-          children = λ e h. stays e.child (kept.sound.fit.children e h);
-          owners = kept.sound.fit.owners;
-          roles = kept.sound.fit.roles;
+          each = λ e h. let own = kept.sound.fit.each e h in
+              record {
+                parent = HasParent-kept before after stays e.parent own.parent;
+                child = stays e.child own.child;
+                table = table-kinds kinds id kind e (lone.leaves e h) own.table;
+              };
+          places = kept.sound.fit.places;
         };
         just = IsJust-kinds kinds id kind edges lone.leaves kept.sound.just;
       };
@@ -384,8 +393,8 @@ no_child_from_None node edges none e h =
 HasParent-unless : (g h : Graph) (node : ℕ) → ((n : ℕ) → n ≢ node → HasNode g n → HasNode h n) → (parent : Parent)
     → parent ≢ Node node → HasParent g parent → HasParent h parent
 HasParent-unless g h node kept (Node n) apart is = kept n (λ e. apart (ap Node e)) is
-HasParent-unless g h node kept (Guest n) apart is = tt
-HasParent-unless g h node kept (Job n) apart is = tt
+HasParent-unless g h node kept (Guest n) apart is = is
+HasParent-unless g h node kept (Job n) apart is = is
 
 filter-Contains : (p : ℕ → Bool) (xs : List ℕ) (x : ℕ) → Contains xs x → p x ≡ true → Contains (filter p xs) x
 filter-Contains p [] x h passes = absurd (Contains-nil x h)
@@ -441,12 +450,14 @@ IsKept-removed old new keys order kinds edges node room kept there no_child no_p
           | inl same ↦ rw same (set-default kinds node no_kind)
           | inr other ↦ kind_at-other kinds node x no_kind other ∙ kept.sound.vacant x (λ h. none (stays x other h))
         ];
-        few_outside = kept.sound.few_outside;
         fit = record {
-          parents = λ e h. HasParent-unless before after node stays e.parent (no_parent e h) (kept.sound.fit.parents e h);
-          children = λ e h. stays e.child (no_child e h) (kept.sound.fit.children e h);
-          owners = kept.sound.fit.owners;
-          roles = kept.sound.fit.roles;
+          each = λ e h. let own = kept.sound.fit.each e h in
+              record {
+                parent = HasParent-unless before after node stays e.parent (no_parent e h) own.parent;
+                child = stays e.child (no_child e h) own.child;
+                table = table-kinds kinds node no_kind e (no_parent e h) own.table;
+              };
+          places = kept.sound.fit.places;
         };
         just = IsJust-kinds kinds node no_kind edges no_parent kept.sound.just;
       };

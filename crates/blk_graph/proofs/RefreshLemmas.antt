@@ -1,5 +1,5 @@
 -- What nodes' edges ask and share changes nothing else of a list, and without cycles no turn more would change it.
-use Rattle.std.proofs.Common.{◌≡◌, ℕ, zero, suc, ◌+◌, ◌-◌, ◌≤◌, List, [], ◌∷◌, ◌++◌, length, map, refl, sym, ◌∙◌, ap, inl, inr, arith, Bool, true, false, cond, Option, Some, None}
+use Rattle.std.proofs.Common.{◌≡◌, ℕ, zero, suc, ◌≤◌, List, [], ◌∷◌, ◌++◌, length, map, refl, sym, ◌∙◌, ap, arith, Bool, true, false, cond, Option, Some, None}
 use Rattle.std.specs.Prelude.{◌==◌, ◌&&◌}
 use Rattle.std.specs.List.{Contains, AllPairs, find}
 use Rattle.std.specs.Option.{option_map}
@@ -11,22 +11,17 @@ use Rattle.blk_graph.specs.declared.edge.Parent.TheVariants.{Node, Guest, Job}
 use Rattle.blk_graph.specs.declared.edge.Role.{Role}
 use Rattle.blk_graph.specs.declared.edge.Uses.{Uses}
 use Rattle.blk_graph.specs.declared.kind.NodeKind.{NodeKind}
-use Rattle.blk_graph.specs.Edges.{same_parent, same_role, DifferInRole}
+use Rattle.blk_graph.specs.Edges.{same_parent, same_role, may_have, HasNumber, DifferInPlace, MayStand, IsListed}
 use Rattle.blk_graph.specs.Edits.{is_edge, child_of}
-use Rattle.blk_graph.specs.Graph.{Graph, HasParent, HasNode, ids, IsFit}
-use Rattle.blk_graph.specs.Paths.{IsPath, Reaches, IsAcyclic}
+use Rattle.blk_graph.specs.Paths.{IsPath, IsAcyclic}
 use Rattle.blk_graph.specs.Permissions.{uses_by}
 use Rattle.blk_graph.specs.Refreshed.{kind_at, joined, uses_into, with_uses, ruled, ruled_from, turned, turned_by, refreshed, IsRefreshed}
 use Rattle.blk_graph.proofs.Members.{Contains-here, Contains-there, Contains-map, map-Contains}
 use Rattle.blk_graph.proofs.PathLemmas.{IsPath-append, Reaches-edge, IsAcyclic-covered}
 use Rattle.blk_graph.proofs.LengthLemmas.{length-IsPath}
-use Rattle.blk_graph.proofs.RoleLemmas.{map_pairs, kept_apart, owner_kept}
-
--- one edge is another but for what it asks and shares
-pub record IsSameEdge (a b : Edge) : Type 0 where
-  pub parent : a.parent ≡ b.parent
-  pub role : a.role ≡ b.role
-  pub child : a.child ≡ b.child
+use Rattle.blk_graph.proofs.EditLemmas.{IsSameEdge}
+use Rattle.blk_graph.proofs.IdLemmas.{below, below-there, length-below}
+use Rattle.blk_graph.proofs.RoleLemmas.{EachIs, map_pairs, kept_apart}
 
 with_uses-same : (e : Edge) (uses : Option Uses) → IsSameEdge (with_uses e uses) e
 with_uses-same e None = record { parent = refl; role = refl; child = refl }
@@ -74,29 +69,31 @@ pub length-refreshed : (kinds : List NodeKind) (edges : List Edge) → length (r
 length-refreshed kinds edges =
     refreshed-by kinds (λ now. length now ≡ length edges) (λ now h. length-turned kinds now ∙ h) edges refl
 
-IsFit-turned : (g : Graph) (kinds : List NodeKind) (edges : List Edge) → IsFit g edges → IsFit g (turned kinds edges)
-IsFit-turned g kinds edges fit =
-    let f : Edge → Edge = ruled kinds (uses_into edges) in
-    record {
-      parents = λ e h. let r = Contains-map f edges e h in
-          let is : e.parent ≡ r.0.parent = ap (λ (x : Edge). x.parent) r.2 ∙ (ruled-same kinds (uses_into edges) r.0).parent in
-          rw is (fit.parents r.0 r.1);
-      children = λ e h. let r = Contains-map f edges e h in
-          let is : e.child ≡ r.0.child = ap (λ (x : Edge). x.child) r.2 ∙ (ruled-same kinds (uses_into edges) r.0).child in
-          rw is (fit.children r.0 r.1);
-      owners = λ e h. let r = Contains-map f edges e h in
-          let same = ruled-same kinds (uses_into edges) r.0 in
-          let parent : e.parent ≡ r.0.parent = ap (λ (x : Edge). x.parent) r.2 ∙ same.parent in
-          let role : e.role ≡ r.0.role = ap (λ (x : Edge). x.role) r.2 ∙ same.role in
-          owner_kept e r.0 parent role (fit.owners r.0 r.1);
-      roles = map_pairs DifferInRole f
-          (λ a b. let p = ruled-same kinds (uses_into edges) a in let q = ruled-same kinds (uses_into edges) b in
-          kept_apart a b (f a) (f b) p.parent p.role q.parent q.role)
-          edges fit.roles;
-    }
+-- what is true of each edge, whatever it asks and shares
+pub EachIs-turned : (P : Edge → Type 0) (kinds : List NodeKind) (edges : List Edge)
+    → ((e : Edge) → P e → P (ruled kinds (uses_into edges) e)) → EachIs P edges → EachIs P (turned kinds edges)
+EachIs-turned P kinds edges keeps each = λ e h.
+    let r = Contains-map (ruled kinds (uses_into edges)) edges e h in rw r.2 (keeps r.0 (each r.0 r.1))
 
-pub IsFit-refreshed : (g : Graph) (kinds : List NodeKind) (edges : List Edge) → IsFit g edges → IsFit g (refreshed kinds edges)
-IsFit-refreshed g kinds = refreshed-by kinds (IsFit g) (IsFit-turned g kinds)
+pub AllPairs-turned : (kinds : List NodeKind) (edges : List Edge) → AllPairs DifferInPlace edges → AllPairs DifferInPlace (turned kinds edges)
+AllPairs-turned kinds edges =
+    let f : Edge → Edge = ruled kinds (uses_into edges) in
+    map_pairs DifferInPlace f edges
+    (λ a b at_a at_b. kept_apart a b (f a) (f b) (ruled-same kinds (uses_into edges) a) (ruled-same kinds (uses_into edges) b))
+
+stands_same : (a b : Edge) → IsSameEdge a b → MayStand b → MayStand a
+stands_same a b same stands = record {
+  role = ap (λ p. may_have p a.role) same.parent ∙ ap (may_have b.parent) same.role ∙ stands.role;
+  number = rw same.parent stands.number;
+  child = rw same.child stands.child;
+}
+
+pub IsListed-turned : (kinds : List NodeKind) (edges : List Edge) → IsListed edges → IsListed (turned kinds edges)
+IsListed-turned kinds edges listed = record {
+  each = EachIs-turned MayStand kinds edges
+      (λ e. stands_same (ruled kinds (uses_into edges) e) e (ruled-same kinds (uses_into edges) e)) listed.each;
+  places = AllPairs-turned kinds edges listed.places;
+}
 
 IsAcyclic-turned : (kinds : List NodeKind) (edges : List Edge) → IsAcyclic edges → IsAcyclic (turned kinds edges)
 IsAcyclic-turned kinds edges =
@@ -148,7 +145,7 @@ uses_into-mapped f n child (e ∷ edges) stays =
     by_test false is ih = ih
 
 -- a path of so many edges ends at a node
-abbrev EndsAt : List Edge → ℕ → ℕ → Type 0
+abbrev pub EndsAt : List Edge → ℕ → ℕ → Type 0
 EndsAt edges zero n = Unit {0}
 EndsAt edges (suc k) n =
     (e : Edge) × (p : ℕ) × Contains edges e × (e.child ≡ n) × (e.parent ≡ Node p) × EndsAt edges k p
@@ -165,7 +162,7 @@ path_of edges (suc k) n h =
       omega (arith, r.3, length-append r.1 (h.0 ∷ [])),
     )
 
-EndsAt-mapped : (f : Edge → Edge) → ((e : Edge) → IsSameEdge (f e) e) → (edges : List Edge) (k n : ℕ) → EndsAt edges k n
+pub EndsAt-mapped : (f : Edge → Edge) → ((e : Edge) → IsSameEdge (f e) e) → (edges : List Edge) (k n : ℕ) → EndsAt edges k n
     → EndsAt (map f edges) k n
 EndsAt-mapped f same edges zero n h = tt
 EndsAt-mapped f same edges (suc k) n h = (
@@ -230,24 +227,33 @@ refreshed_after kinds edges k none e there =
       ends,
     ))
 
-IsFit-turned_by : (g : Graph) (kinds : List NodeKind) (edges : List Edge) → IsFit g edges → (k : ℕ) → IsFit g (turned_by k kinds edges)
-IsFit-turned_by g kinds edges fit zero = fit
-IsFit-turned_by g kinds edges fit (suc k) = IsFit-turned g kinds (turned_by k kinds edges) (IsFit-turned_by g kinds edges fit k)
+pub IsListed-turned_by : (kinds : List NodeKind) (edges : List Edge) → IsListed edges → (k : ℕ) → IsListed (turned_by k kinds edges)
+IsListed-turned_by kinds edges listed zero = listed
+IsListed-turned_by kinds edges listed (suc k) = IsListed-turned kinds (turned_by k kinds edges) (IsListed-turned_by kinds edges listed k)
 
-IsAcyclic-turned_by : (kinds : List NodeKind) (edges : List Edge) → IsAcyclic edges → (k : ℕ) → IsAcyclic (turned_by k kinds edges)
+pub IsAcyclic-turned_by : (kinds : List NodeKind) (edges : List Edge) → IsAcyclic edges → (k : ℕ) → IsAcyclic (turned_by k kinds edges)
 IsAcyclic-turned_by kinds edges acyclic zero = acyclic
 IsAcyclic-turned_by kinds edges acyclic (suc k) =
     IsAcyclic-turned kinds (turned_by k kinds edges) (IsAcyclic-turned_by kinds edges acyclic k)
 
-pub IsRefreshed-refreshed : (g : Graph) (kinds : List NodeKind) (edges : List Edge) → length (ids g) ≤ 64 → IsFit g edges
-    → IsAcyclic edges → IsRefreshed kinds (refreshed kinds edges)
+-- no path of a list without cycles has 64 edges
+pub no_long_path : (edges : List Edge) (from to : ℕ) (path : List Edge) → IsListed edges → IsAcyclic edges → IsPath edges from path to
+    → length path ≤ 63
+no_long_path edges from to path listed acyclic is =
+    let short = length-IsPath edges (below 64) from to path acyclic (λ e h. below-there 64 e.child (listed.each e h).child)
+    (λ e a h parent. let number : HasNumber e.parent = (listed.each e h).number in below-there 64 a (rw parent at number)) is in
+    omega (arith, short, length-below 64)
+
+-- so after as many turns no path of 64 edges ends anywhere
+pub no_ends : (kinds : List NodeKind) (edges : List Edge) → IsListed edges → IsAcyclic edges
+    → (n : ℕ) → EndsAt (turned_by 63 kinds edges) (suc 63) n → ⊥
+no_ends kinds edges listed acyclic n ends =
+    let path = path_of (turned_by 63 kinds edges) (suc 63) n ends in
+    let short = no_long_path (turned_by 63 kinds edges) path.0 n path.1 (IsListed-turned_by kinds edges listed 63)
+    (IsAcyclic-turned_by kinds edges acyclic 63) path.2 in
+    omega (arith, short, path.3)
+
+pub IsRefreshed-refreshed : (kinds : List NodeKind) (edges : List Edge) → IsListed edges → IsAcyclic edges
+    → IsRefreshed kinds (refreshed kinds edges)
 unfolding refreshed
-IsRefreshed-refreshed g kinds edges few fit acyclic = refreshed_after kinds edges 63 none
-  where
-    none : (n : ℕ) → EndsAt (turned_by 63 kinds edges) (suc 63) n → ⊥
-    none n ends =
-        let path = path_of (turned_by 63 kinds edges) (suc 63) n ends in
-        let fit' : IsFit g (turned_by 63 kinds edges) = IsFit-turned_by g kinds edges fit 63 in
-        let short = length-IsPath (turned_by 63 kinds edges) (ids g) path.0 n path.1 (IsAcyclic-turned_by kinds edges acyclic 63) fit'.children
-        (λ e a m is. let p : HasParent g e.parent = fit'.parents e m in rw is at p) path.2 in
-        omega (arith, short, path.3, few)
+IsRefreshed-refreshed kinds edges listed acyclic = refreshed_after kinds edges 63 (no_ends kinds edges listed acyclic)

@@ -1,5 +1,5 @@
 -- Who makes an edge, what it is for, and what it asks and shares.
-use Rattle.std.specs.Prelude.{◌≡◌, ◌≢◌, ◌==◌, ℕ, ◌<◌, Bool, true, false, not, List, length, filter, IsTrue}
+use Rattle.std.specs.Prelude.{◌≡◌, ◌≢◌, ◌==◌, ◌<◌, Bool, true, false, List, AllPairs, Contains, IsTrue}
 use Rattle.blk_graph.specs.declared.edge.Parent.{Parent}
 use Rattle.blk_graph.specs.declared.edge.Parent.TheVariants.{Node, Guest, Job}
 use Rattle.blk_graph.specs.declared.edge.Role.{Role}
@@ -32,11 +32,7 @@ same_role Between Between = true
 same_role Base Base = true
 same_role _ _ = false
 
--- of one parent no two edges have the same role, but for the role Between
-abbrev pub DifferInRole : Edge → Edge → Type 0
-DifferInRole a b = a.parent ≡ b.parent → a.role ≡ b.role → a.role ≡ Between
-
--- and those of the role Between lead to different children
+-- of one parent no two edges have the same role, but of the role Between, and those lead to different children
 abbrev pub DifferInPlace : Edge → Edge → Type 0
 DifferInPlace a b = a.parent ≡ b.parent → a.role ≡ b.role → (a.role ≡ Between) × (a.child ≢ b.child)
 
@@ -62,19 +58,20 @@ may_have (Job _) Between = true
 may_have (Job _) Base = true
 may_have _ _ = false
 
-abbrev pub is_node : Parent → Bool
-is_node (Node _) = true
-is_node _ = false
+-- nodes have numbers below 64, guests below 80, jobs below 16
+abbrev pub HasNumber : Parent → Type 0
+HasNumber (Node node) = node < 64
+HasNumber (Guest guest) = guest < 80
+HasNumber (Job job) = job < 16
 
--- the edges of guests and jobs
-abbrev pub is_outside : Edge → Bool
-is_outside edge = not (is_node edge.parent)
+-- an edge that may stand in a list
+pub record MayStand (edge : Edge) : Type 0 where
+  pub role : may_have edge.parent edge.role ≡ true
+  pub number : HasNumber edge.parent
+  pub child : edge.child < 64
 
-abbrev pub outside_count : List Edge → ℕ
-outside_count edges = length (filter is_outside edges)
-
--- A node's edge has room in every graph. Of guests' and jobs' edges there are 1,792 at most: 64 guests have 64, and 16 jobs
--- in a graph of 64 nodes 1,072.
-abbrev pub HasRoom : List Edge → Parent → Type 0
-HasRoom edges (Node _) = Unit {0}
-HasRoom edges _ = outside_count edges < 1792
+-- What is true of every list of edges. So it has 1,344 at most: three of each node, one of each guest, and of each job three
+-- and one of the role Between to each node.
+pub record IsListed (edges : List Edge) : Type 0 where
+  pub each : (edge : Edge) → Contains edges edge → MayStand edge
+  pub places : AllPairs DifferInPlace edges

@@ -1,13 +1,15 @@
 -- The edited lists of edges.
 use Rattle.std.specs.Prelude.{◌≢◌, Contains, ℕ, ◌==◌, Bool, ◌&&◌, ◌||◌, not, if◌then◌else◌, List, [], ◌∷◌, ◌++◌, map, filter, find, Option, Some, None}
+use Rattle.std.specs.List.{list_any}
 use Rattle.blk_graph.specs.declared.edge.Edge.{Edge}
 use Rattle.blk_graph.specs.declared.edge.Perms.{Perms}
 use Rattle.blk_graph.specs.declared.edge.Parent.{Parent}
 use Rattle.blk_graph.specs.declared.edge.Parent.TheVariants.{Node}
 use Rattle.std.specs.Option.{option_map}
 use Rattle.blk_graph.specs.declared.edge.Role.{Role}
-use Rattle.blk_graph.specs.declared.edge.Role.TheVariants.{Between, Filtered}
+use Rattle.blk_graph.specs.declared.edge.Role.TheVariants.{Backing, Between, Filtered}
 use Rattle.blk_graph.specs.Edges.{same_parent, same_role, is_job}
+use Rattle.blk_graph.specs.Permissions.{node_edge}
 
 -- whether a new edge takes an old one's place: a parent has one edge of a role, but of the role
 -- Between one to each child
@@ -43,8 +45,17 @@ abbrev pub replaced : ℕ → ℕ → Option Parent → Edge → Edge
 replaced from to but edge =
     if edge.child == from && not (stays but edge.parent) then with_child to edge else edge
 
+-- the child that a parent then has in place of one
+abbrev pub child_after : ℕ → ℕ → Option Parent → Parent → ℕ → ℕ
+child_after from to but parent child = if child == from && not (stays but parent) then to else child
+
 abbrev pub with_replaced : ℕ → ℕ → Option Parent → List Edge → List Edge
 with_replaced from to but edges = map (replaced from to but) edges
+
+-- all parents of a node but jobs have the overlay as child, and the overlay has the node
+abbrev pub with_over : ℕ → ℕ → List Edge → List Edge
+with_over node overlay edges =
+    with_replaced node overlay (Some (Node overlay)) (with_edge (node_edge overlay Backing node) edges)
 
 -- no edge enters or leaves the node
 pub record IsLone (edges : List Edge) (node : ℕ) : Type 0 where
@@ -59,8 +70,22 @@ touches node edge = edge.child == node || same_parent edge.parent (Node node)
 abbrev pub moved : ℕ → ℕ → Edge → Edge
 moved from to edge = if edge.child == from then with_child to edge else edge
 
+-- an edge of a parent, of the role Between, to a child
+abbrev pub is_between : Parent → ℕ → Edge → Bool
+is_between parent child edge = is_edge parent Between edge && edge.child == child
+
+-- an edge whose parent has one of its role where it would be moved to, as only one of the role Between can
+abbrev pub is_double : List Edge → ℕ → ℕ → Edge → Bool
+is_double edges from to edge = not (from == to) && edge.child == from && same_role edge.role Between
+    && list_any (is_between edge.parent to) edges
+
+-- such an edge goes
+abbrev pub but_doubles : ℕ → ℕ → List Edge → List Edge
+but_doubles from to edges = filter (λ edge. not (is_double edges from to edge)) edges
+
+-- all edges into one node lead to another, and of the role Between a parent still has one to each child
 abbrev pub with_moved : ℕ → ℕ → List Edge → List Edge
-with_moved from to edges = map (moved from to) edges
+with_moved from to edges = map (moved from to) (but_doubles from to edges)
 
 -- a filter's edge to its child
 abbrev pub filter_edge : ℕ → ℕ → Perms → Perms → Edge

@@ -1,13 +1,13 @@
 -- What a contract sees of a graph.
-use Rattle.std.specs.Prelude.{◌≡◌, ℕ, ◌-◌, ◌<◌, ◌≤◌, List, [], ◌∷◌, ◌++◌, length, map, replicate, slice_set, AllPairs, Contains, nat_eq, true}
+use Rattle.std.specs.Prelude.{◌≡◌, ℕ, ◌-◌, ◌<◌, ◌≤◌, List, [], ◌∷◌, ◌++◌, length, map, replicate, slice_set, AllPairs, Contains, nat_eq}
 use Rattle.std.specs.List.{IsDistinct}
 use Rattle.blk_graph.specs.declared.edge.Edge.{Edge}
 use Rattle.blk_graph.specs.declared.edge.Parent.{Parent}
 use Rattle.blk_graph.specs.declared.edge.Parent.TheVariants.{Node, Guest, Job}
 use Rattle.blk_graph.specs.declared.kind.NodeKind.{NodeKind}
-use Rattle.blk_graph.specs.Edges.{DifferInRole, may_have, outside_count}
+use Rattle.blk_graph.specs.Edges.{DifferInPlace}
 use Rattle.blk_graph.specs.Paths.{IsAcyclic, IsPath}
-use Rattle.blk_graph.specs.Refreshed.{no_kind, kind_at, IsRefreshed}
+use Rattle.blk_graph.specs.Refreshed.{no_kind, kind_at, IsByTable, IsRefreshed}
 use Rattle.blk_graph.specs.Rule.{KeepsPermissions}
 
 -- a node, and its name as bytes
@@ -39,11 +39,11 @@ with_node graph id name kind = record graph {
 abbrev pub HasNode : Graph → ℕ → Type 0
 HasNode graph node = Contains (ids graph) node
 
--- a node that makes edges is one of the graph's; guests and jobs always may
+-- a node that makes edges is one of the graph's; there are 80 guests and 16 jobs at most
 abbrev pub HasParent : Graph → Parent → Type 0
 HasParent graph (Node node) = HasNode graph node
-HasParent graph (Guest _) = Unit {0}
-HasParent graph (Job _) = Unit {0}
+HasParent graph (Guest guest) = guest < 80
+HasParent graph (Job job) = job < 16
 
 -- a node of the graph has this name
 abbrev pub HasName : Graph → List ℕ → Type 0
@@ -53,12 +53,16 @@ HasName graph name = Contains (map (λ row. row.name) graph.nodes) name
 abbrev pub DifferentNames : List NodeRow → Type 0
 DifferentNames nodes = (a b : NodeRow) → Contains nodes a → Contains nodes b → a.name ≡ b.name → a.id ≡ b.id
 
--- the edges join nodes of the graph, and those of one parent differ
+-- an edge that may stand in a graph
+pub record FitsIn (graph : Graph) (edge : Edge) : Type 0 where
+  pub parent : HasParent graph edge.parent
+  pub child : HasNode graph edge.child
+  pub table : IsByTable graph.kinds edge
+
+-- each edge may stand in the graph, and those of one parent differ
 pub record IsFit (graph : Graph) (edges : List Edge) : Type 0 where
-  pub parents : (edge : Edge) → Contains edges edge → HasParent graph edge.parent
-  pub children : (edge : Edge) → Contains edges edge → HasNode graph edge.child
-  pub owners : (edge : Edge) → Contains edges edge → may_have edge.parent edge.role ≡ true
-  pub roles : AllPairs DifferInRole edges
+  pub each : (edge : Edge) → Contains edges edge → FitsIn graph edge
+  pub places : AllPairs DifferInPlace edges
 
 -- each of a graph's edges is as those into its parent say, and all keep the permission rule
 pub record IsJust (kinds : List NodeKind) (edges : List Edge) : Type 0 where
@@ -74,7 +78,6 @@ pub record IsSound (graph : Graph) : Type 0 where
   pub small : (id : ℕ) → HasNode graph id → id < 64
   pub kinds : length graph.kinds ≡ 64
   pub vacant : (id : ℕ) → (HasNode graph id → ⊥) → kind_at graph.kinds id ≡ no_kind
-  pub few_outside : outside_count graph.edges ≤ 1792
   pub fit : IsFit graph graph.edges
   pub just : IsJust graph.kinds graph.edges
 

@@ -1,5 +1,5 @@
 -- What an edit of the edges answers.
-use Rattle.std.specs.Prelude.{◌≡◌, ◌↔◌, ℕ, List, Result, Ok, Err, Option, Some, None, IsOk, IfErr, filter, find, not, ◌==◌, slice_set}
+use Rattle.std.specs.Prelude.{◌≡◌, ◌≢◌, ◌↔◌, ℕ, List, Result, Ok, Err, Option, Some, None, IsOk, IfErr, filter, find, not, ◌==◌, slice_set, Contains}
 use Rattle.std.specs.Option.{option_map}
 use Rattle.blk_graph.specs.declared.edge.Edge.{Edge}
 use Rattle.blk_graph.specs.declared.edge.Conflict.{Conflict as Pair}
@@ -11,13 +11,17 @@ use Rattle.blk_graph.specs.declared.stop.GraphStop.TheVariants.{NameTaken, Cycle
 use Rattle.blk_graph.specs.declared.kind.NodeKind.{NodeKind}
 use Rattle.blk_graph.specs.Graph.{NodeRow, Graph}
 use Rattle.blk_graph.specs.Refreshed.{refreshed, no_kind}
-use Rattle.blk_graph.specs.Paths.{HasCycle, IsAcyclic}
+use Rattle.blk_graph.specs.Paths.{Reaches, HasCycle, IsAcyclic}
 use Rattle.blk_graph.specs.Rule.{KeepsPermissions, first_conflict}
 
 abbrev pub IsEditStop : GraphStop → Type 0
 IsEditStop Cycle = Unit {0}
 IsEditStop (Conflict _) = Unit {0}
 IsEditStop _ = ⊥
+
+-- each edge leads to one of these nodes
+abbrev pub LeadTo : List ℕ → List Edge → Type 0
+LeadTo nodes edges = (edge : Edge) → Contains edges edge → Contains nodes edge.child
 
 -- The edited list is refused where it has a cycle, else where the list that is derived from it breaks the permission rule, and
 -- then with the first broken pair. Any other is taken, and nothing else is answered.
@@ -28,6 +32,12 @@ pub record IsJudged (nodes : List ℕ) (kinds : List NodeKind) (edited : List Ed
       ↔ (IsAcyclic edited × (first_conflict nodes (refreshed kinds edited) ≡ Some pair))
   pub ok : IsOk result ↔ (IsAcyclic edited × KeepsPermissions (refreshed kinds edited))
   pub only : IfErr result IsEditStop
+
+-- nothing leads to the overlay, which is another node than this one and doesn't lead to it
+pub record IsApart (edges : List Edge) (node overlay : ℕ) : Type 0 where
+  pub differ : overlay ≢ node
+  pub unused : (edge : Edge) → Contains edges edge → edge.child ≢ overlay
+  pub away : Reaches edges overlay node → ⊥
 
 -- the same of the derived list of an edited one without cycles
 abbrev pub IsRuled : List ℕ → List Edge → Result (Unit {0}) GraphStop → Type 0

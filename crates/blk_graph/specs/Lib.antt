@@ -10,3 +10,7 @@ pub mod Walk
 pub mod Layout
 pub mod Judged
 pub mod Stop
+pub mod Drafts
+pub mod Doubles
+pub mod Clear
+pub mod Filters

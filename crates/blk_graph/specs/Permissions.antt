@@ -1,6 +1,6 @@
 -- The table of permissions: what each edge asks of its child and lets other edges into that child ask, a line for each kind
 -- of edge.
-use Rattle.std.specs.Prelude.{ℕ, Bool, true, false, not, ◌||◌, ◌&&◌, Option, Some, None}
+use Rattle.std.specs.Prelude.{◌≡◌, ℕ, Bool, true, false, not, Option, Some, None}
 use Rattle.blk_graph.specs.declared.edge.Edge.{Edge}
 use Rattle.blk_graph.specs.declared.edge.Parent.TheVariants.{Node, Guest, Job}
 use Rattle.blk_graph.specs.declared.edge.Perms.{Perms}
@@ -8,7 +8,7 @@ use Rattle.blk_graph.specs.declared.edge.Role.{Role}
 use Rattle.blk_graph.specs.declared.edge.Role.TheVariants.{Drive, File, Backing, Filtered, Source, Target, Between, Base}
 use Rattle.blk_graph.specs.declared.edge.Uses.{Uses}
 use Rattle.blk_graph.specs.declared.kind.Kind.{Kind}
-use Rattle.blk_graph.specs.declared.kind.Kind.TheVariants.{Protocol, Raw, Qcow2, CopyOnRead, BeforeWrite, Mirror, Commit}
+use Rattle.blk_graph.specs.declared.kind.Kind.TheVariants.{Raw, Qcow2, CopyOnRead, BeforeWrite, Mirror, Commit}
 use Rattle.blk_graph.specs.declared.kind.NodeKind.{NodeKind}
 use Rattle.blk_graph.specs.declared.kind.JobUse.{JobUse}
 use Rattle.blk_graph.specs.declared.kind.JobUse.TheVariants.{CopyTarget, CommitTop, CommitBetween, CommitBase, StreamTop, StreamBelow}
@@ -44,6 +44,17 @@ derived_uses Mirror Filtered writes above =
 derived_uses Commit Filtered writes above =
     Some (asks_shares (perms false above.perm.write above.perm.unchanged) above.shared)
 derived_uses _ _ writes above = None
+
+-- the roles of a node's edges
+abbrev pub has_role : Kind → Role → Bool
+has_role Raw File = true
+has_role Qcow2 File = true
+has_role Qcow2 Backing = true
+has_role CopyOnRead File = true
+has_role BeforeWrite Filtered = true
+has_role Mirror Filtered = true
+has_role Commit Filtered = true
+has_role _ _ = false
 
 abbrev pub uses_by : NodeKind → Role → Uses → Option Uses
 uses_by node role above = derived_uses node.kind role node.writes above
@@ -94,3 +105,16 @@ node_edge parent role child = record {
   perm = idle_uses.perm;
   shared = idle_uses.shared;
 }
+
+-- an edge is that of a guest's drive
+pub record IsDrive (edge : Edge) : Type 0 where
+  pub guest : ℕ
+  pub writes : Bool
+  pub share_rw : Bool
+  pub is : edge ≡ drive_edge guest edge.child writes share_rw
+
+-- an edge is that of a job that uses a node so
+pub record IsOfJob (edge : Edge) : Type 0 where
+  pub job : ℕ
+  pub what : JobUse
+  pub is : edge ≡ job_edge job what edge.child

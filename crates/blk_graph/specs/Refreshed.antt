@@ -3,11 +3,10 @@ use Rattle.std.specs.Prelude.{◌≡◌, ◌<◌, ℕ, zero, suc, ◌==◌, ◌&
 use Rattle.blk_graph.specs.declared.edge.Edge.{Edge}
 use Rattle.blk_graph.specs.declared.edge.Parent.{Parent}
 use Rattle.blk_graph.specs.declared.edge.Parent.TheVariants.{Node, Guest, Job}
-use Rattle.blk_graph.specs.declared.edge.Perms.{Perms}
 use Rattle.blk_graph.specs.declared.edge.Uses.{Uses}
 use Rattle.blk_graph.specs.declared.kind.Kind.TheVariants.{Protocol}
 use Rattle.blk_graph.specs.declared.kind.NodeKind.{NodeKind}
-use Rattle.blk_graph.specs.Permissions.{perms, asks_shares, idle_uses, uses_by}
+use Rattle.blk_graph.specs.Permissions.{perms, asks_shares, idle_uses, uses_by, has_role, IsDrive, IsOfJob}
 
 -- what stands at an id that no node has
 abbrev pub no_kind : NodeKind
@@ -16,6 +15,15 @@ no_kind = record { kind = Protocol; writes = false }
 -- the kind of a node, by its id
 abbrev pub kind_at : List NodeKind → ℕ → NodeKind
 kind_at kinds node = slice_index_or kinds node no_kind
+
+-- a node's edge has a role of the node's kind; what guests' and jobs' edges ask and share is as the table says
+abbrev pub IsOf : List NodeKind → Edge → Parent → Type 0
+IsOf kinds edge (Node node) = has_role (kind_at kinds node).kind edge.role ≡ true
+IsOf kinds edge (Guest _) = IsDrive edge
+IsOf kinds edge (Job _) = IsOfJob edge
+
+abbrev pub IsByTable : List NodeKind → Edge → Type 0
+IsByTable kinds edge = IsOf kinds edge edge.parent
 
 -- what one of two asks, and what both share
 abbrev pub joined : Edge → Uses → Uses

@@ -6,6 +6,12 @@ use std::marker::Model;
 /// The most nodes that a graph has at once, filters among them.
 pub const MOST_NODES: usize = 64;
 
+/// Guests with edges have numbers below this.
+pub const MOST_GUESTS: u32 = 80;
+
+/// Jobs with edges have numbers below this.
+pub const MOST_JOBS: usize = 16;
+
 /// Names a node of one graph. It may be given again after the node was removed.
 #[derive(Clone, Copy, Debug, PartialEq, Eq, Hash, PartialOrd, Ord)]
 pub struct NodeId {

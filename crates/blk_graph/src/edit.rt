@@ -1,11 +1,12 @@
 //! The edits of a list of edges, each made in place.
-ghost use Rattle.std.specs.Prelude.{◌≡◌, ◌↔◌, ◌+◌, ◌<◌, ◌≤◌, IsTrue, IfSome, IfNone, [], ◌∷◌, ◌++◌, length, find, slice_set, vec_capacity};
+ghost use Rattle.std.specs.Prelude.{◌≡◌, ◌≢◌, ◌↔◌, ◌+◌, ◌<◌, ◌≤◌, IsTrue, IfSome, IfNone, [], ◌∷◌, ◌++◌, length, map, replicate, false, find, slice_set, vec_capacity};
 ghost use Rattle.std.specs.Option.{option_map};
-ghost use Rattle.blk_graph.specs.Edges.{same_parent, same_role, is_job, is_outside, outside_count};
-ghost use Rattle.blk_graph.specs.Edits.{takes_place, with_edge, with_child, stays, replaced, with_replaced, moved, is_edge, child_of, is_filters, but_filters, with_moved, with_filter, without_filter, without_edge, without_parent, IsLone, touches};
+ghost use Rattle.blk_graph.specs.Doubles.{AreJobsAt, MarksJob, has_mark, is_double_by};
+ghost use Rattle.blk_graph.specs.Edges.{same_parent, same_role, is_job, IsListed};
+ghost use Rattle.blk_graph.specs.Edits.{takes_place, with_edge, with_child, stays, replaced, with_replaced, moved, is_edge, child_of, is_filters, but_filters, but_doubles, with_moved, with_filter, without_filter, without_edge, without_parent, IsLone, touches};
 ghost use Rattle.blk_graph.specs.Judged.{first_parent};
 
-use crate::edge::{Edge, NodeId, Parent, Perms, Role};
+use crate::edge::{Edge, MOST_JOBS, NodeId, Parent, Perms, Role};
 
 /// Whether a new edge takes an old one's place.
 fn takes_place(new: &Edge, old: &Edge) -> bool
@@ -93,9 +94,62 @@ pub(crate) fn replace(edges: &mut Vec<Edge>, from: NodeId, to: NodeId, but: &Opt
     }
 }
 
-/// All edges into one node lead to another.
-pub(crate) fn move_all(edges: &mut Vec<Edge>, from: NodeId, to: NodeId)
-    ensures items { edges.new.items ≡ with_moved from to edges.old.items }
+/// Marks the job of an edge of the role Between to a node.
+fn mark_job(edge: &Edge, node: NodeId, marks: &mut [bool])
+    requires { length marks.old ≡ 16 }
+    ensures { MarksJob edge.now node marks.old marks.new }
+{
+    if let Parent::Job(job) = edge.parent {
+        let job = job as usize;
+        if job < MOST_JOBS && edge.role.is(&Role::Between) && edge.child == node {
+            marks[job] = true;
+        }
+    }
+}
+
+/// Marks the jobs that have an edge of the role Between to a node.
+fn mark_jobs(edges: &[Edge], node: NodeId, marks: &mut [bool])
+    requires { marks.old ≡ replicate 16 false }
+    ensures { AreJobsAt edges.now node marks.new }
+{
+    for i in (0..edges.len()).rev() {
+        mark_job(&edges[i], node, marks);
+    }
+}
+
+fn has_mark(marks: &[bool], parent: &Parent) -> bool
+    requires { length marks.now ≡ 16 }
+    ensures { result ≡ has_mark marks.now parent.now }
+{
+    match parent {
+        Parent::Job(job) => {
+            let job = *job as usize;
+            job < MOST_JOBS && marks[job]
+        }
+        Parent::Node(_) | Parent::Guest(_) => false,
+    }
+}
+
+fn is_double(edge: &Edge, from: NodeId, marks: &[bool; MOST_JOBS]) -> bool
+    ensures { result ≡ is_double_by marks.now from edge.now }
+{
+    edge.child == from && edge.role.is(&Role::Between) && has_mark(marks, &edge.parent)
+}
+
+/// Where an edge would be moved to, its parent has none of its role.
+fn drop_doubles(edges: &mut Vec<Edge>, from: NodeId, to: NodeId)
+    requires differ { from ≢ to }
+    requires listed { IsListed edges.old.items }
+    ensures items { edges.new.items ≡ but_doubles from to edges.old.items }
+    ensures capacity { vec_capacity edges.new ≡ vec_capacity edges.old }
+{
+    let mut marks = [false; MOST_JOBS];
+    mark_jobs(edges.as_slice(), to, &mut marks);
+    edges.retain(|edge| !is_double(edge, from, &marks));
+}
+
+fn move_each(edges: &mut Vec<Edge>, from: NodeId, to: NodeId)
+    ensures items { edges.new.items ≡ map (moved from to) edges.old.items }
     ensures capacity { vec_capacity edges.new ≡ vec_capacity edges.old }
 {
     for i in 0..edges.len() {
@@ -103,6 +157,17 @@ pub(crate) fn move_all(edges: &mut Vec<Edge>, from: NodeId, to: NodeId)
     }
 }
 
+/// All edges into one node lead to another.
+pub(crate) fn move_all(edges: &mut Vec<Edge>, from: NodeId, to: NodeId)
+    requires { IsListed edges.old.items }
+    ensures items { edges.new.items ≡ with_moved from to edges.old.items }
+    ensures capacity { vec_capacity edges.new ≡ vec_capacity edges.old }
+{
+    if from != to {
+        drop_doubles(edges, from, to);
+        move_each(edges, from, to);
+    }
+}
 /// A filter stands between a node and its parents.
 pub(crate) fn put_filter(
     edges: &mut Vec<Edge>,
@@ -111,7 +176,8 @@ pub(crate) fn put_filter(
     perm: Perms,
     shared: Perms,
 )
-    requires { length edges.old.items + 1 ≤ vec_capacity edges.old }
+    requires listed { IsListed edges.old.items }
+    requires room { length edges.old.items + 1 ≤ vec_capacity edges.old }
     ensures items { edges.new.items ≡ with_filter node filter perm shared edges.old.items }
     ensures capacity { vec_capacity edges.new ≡ vec_capacity edges.old }
 {
@@ -147,6 +213,7 @@ fn drop_own(edges: &mut Vec<Edge>, filter: NodeId)
 
 /// A filter is gone from between its child and its parents.
 pub(crate) fn drop_filter(edges: &mut Vec<Edge>, filter: NodeId)
+    requires { IsListed edges.old.items }
     ensures items { edges.new.items ≡ without_filter filter edges.old.items }
     ensures capacity { vec_capacity edges.new ≡ vec_capacity edges.old }
 {
@@ -230,26 +297,4 @@ fn touches(edge: &Edge, node: NodeId) -> bool
     ensures { result ≡ touches node edge.now }
 {
     edge.child == node || edge.parent.is(&Parent::Node(node))
-}
-
-fn is_outside(edge: &Edge) -> bool
-    ensures { result ≡ is_outside edge.now }
-{
-    match edge.parent {
-        Parent::Node(_) => false,
-        Parent::Guest(_) | Parent::Job(_) => true,
-    }
-}
-
-/// How many edges are those of guests and jobs.
-pub(crate) fn outside_count(edges: &[Edge]) -> usize
-    ensures { result ≡ outside_count edges.now }
-{
-    let mut count = 0;
-    for edge in edges {
-        if is_outside(edge) {
-            count += 1;
-        }
-    }
-    count
 }

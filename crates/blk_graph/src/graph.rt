@@ -1,16 +1,19 @@
 //! The graph: nodes, and edges between them.
-ghost use Rattle.std.specs.Prelude.{◌≡◌, ◌≢◌, ◌↔◌, ℕ, ◌+◌, ◌≤◌, length, Contains, IsTrue, IsNone, IfOk, IfErr, OnOk, OnErr, IfSome, IfNone, Ok, Err, MatchOption};
-ghost use Rattle.blk_graph.specs.Edges.{HasRoom, may_have};
-ghost use Rattle.blk_graph.specs.Edits.{with_edge, with_replaced, with_filter, IsLone, child_of, without_filter, without_edge, without_parent};
-ghost use Rattle.blk_graph.specs.Graph.{ids, no_graph, HasNode, HasParent, HasName, IsSound, PathsAreShort, with_node};
+ghost use Rattle.std.specs.Prelude.{◌≡◌, ◌≢◌, ◌↔◌, ℕ, ◌+◌, ◌≤◌, length, Contains, true, IsTrue, IsNone, IsOk, IfOk, IfErr, OnOk, OnErr, List, IfSome, IfNone, Ok, Err, MatchOption};
+ghost use Rattle.blk_graph.specs.Edits.{with_edge, with_replaced, with_over, with_filter, IsLone, child_of, without_filter, without_edge, without_parent};
+ghost use Rattle.blk_graph.specs.Graph.{ids, no_graph, HasNode, HasParent, HasName, FitsIn, IsSound, PathsAreShort, with_node};
+ghost use Rattle.blk_graph.specs.Filters.{IsTransparent, IsPutOver};
 ghost use Rattle.blk_graph.specs.Ids.{IsLowestFree};
-ghost use Rattle.blk_graph.specs.Judged.{IsAdditionStop, IsJudged, first_parent, with_edges, without_node};
+ghost use Rattle.blk_graph.specs.Judged.{IsAdditionStop, IsApart, IsJudged, first_parent, with_edges, without_node};
 ghost use Rattle.blk_graph.specs.Paths.{Reaches, LeadsBack};
+ghost use Rattle.blk_graph.specs.Permissions.{has_role};
+ghost use Rattle.blk_graph.specs.Refreshed.{kind_at, IsByTable};
 ghost use Rattle.blk_graph.specs.Rule.{KeepsPermissions, GuestsWriteAlone, IsBroken, first_conflict};
+ghost use Rattle.blk_graph.specs.declared.edge.Edge.{Edge as Use};
 
 use crate::edge::{Conflict, Edge, MOST_NODES, NodeId, Parent, Perms, Role};
 use crate::ids::next_id;
-use crate::judge::{leads_back, settle};
+use crate::judge::{leads_back, settle, settle_any};
 use crate::kind::{NO_KIND, NodeKind};
 use crate::list::EdgeList;
 use crate::stop::GraphStop;
@@ -20,9 +23,6 @@ use slab::Slab;
 use std::alloc::Global;
 use std::marker::Model;
 use std::mem;
-
-/// The most edges that guests and jobs have in one graph.
-pub const MOST_OUTSIDE: usize = 1792;
 
 /// Nodes with their names and kinds, and what each parent asks of them and shares.
 #[derive(Drop)]
@@ -89,10 +89,17 @@ impl Graph {
         &self.kinds
     }
 
+    /// Whether a node may have an edge of this role, by its kind.
+    pub fn has_role(&self, node: NodeId, role: Role) -> bool
+        ensures { result ≡ has_role (kind_at self.now.kinds node).kind role }
+    {
+        self.kinds[node.index()].kind.has_role(role)
+    }
+
     /// The edges in order of making; one that was replaced or moved has kept its place.
     pub fn edges(&self) -> &[Edge]
         ensures edges { result.now ≡ self.now.edges }
-        ensures few { length result.now ≤ 1984 }
+        ensures few { length result.now ≤ 1344 }
         ensures sound { IsSound self.now }
         ensures paths { PathsAreShort self.now }
 
@@ -149,12 +156,11 @@ impl Graph {
     }
 
     /// Sets an edge in the place of the one with that parent and role, or else at the end. Of the role Between a parent has
-    /// one edge to each child, and `places` says that this stays so. (Moves of edges can lead two of them to one child.)
+    /// one edge to each child.
     pub fn set_edge(&mut self, edge: Edge) -> Result<(), GraphStop>
-        requires room { HasRoom self.old.edges edge.parent }
         requires child { HasNode self.old edge.child }
         requires parent { HasParent self.old edge.parent }
-        requires role { IsTrue (may_have edge.parent edge.role) }
+        requires table { IsByTable self.old.kinds edge }
         ensures judged { IsJudged (ids self.old) self.old.kinds (with_edge edge self.old.edges) result }
         ensures cycle { (result ≡ Err GraphStop.Cycle) ↔ LeadsBack self.old.edges edge.child edge.parent }
         ensures ok { OnOk result (self.new ≡ with_edges self.old (with_edge edge self.old.edges)) }
@@ -174,6 +180,57 @@ impl Graph {
         )
     }
 
+    /// Sets two edges, as those of a node to its file and to its backing node, which are judged as one list.
+    pub fn set_edges(&mut self, first: Edge, second: Edge) -> Result<(), GraphStop>
+        requires first { FitsIn self.old first }
+        requires second { FitsIn self.old second }
+        ensures judged { IsJudged (ids self.old) self.old.kinds
+            (with_edge second (with_edge first self.old.edges)) result }
+        ensures no_cycle { ¬ LeadsBack self.old.edges first.child first.parent
+            → ¬ LeadsBack (with_edge first self.old.edges) second.child second.parent
+            → result ≢ Err GraphStop.Cycle }
+        ensures ok { OnOk result
+            (self.new ≡ with_edges self.old (with_edge second (with_edge first self.old.edges))) }
+        ensures err { OnErr result (self.new ≡ self.old) }
+        ensures sound { IsSound self.new }
+    {
+        self.staged.copy_from(&self.edges);
+        self.staged.put(first);
+        self.staged.put(second);
+        settle_any(
+            self.order.as_slice(),
+            &self.kinds,
+            &mut self.edges,
+            &mut self.staged,
+        )
+    }
+
+    /// Puts an overlay over a node: it becomes the child of the node's parents but jobs, and the node its backing node. Both
+    /// are judged as one list.
+    pub fn put_over(&mut self, node: NodeId, overlay: NodeId) -> Result<(), GraphStop>
+        requires node { HasNode self.old node }
+        requires overlay { HasNode self.old overlay }
+        requires kind { has_role (kind_at self.old.kinds overlay).kind Role.Backing ≡ true }
+        ensures judged { IsJudged (ids self.old) self.old.kinds
+            (with_over node overlay self.old.edges) result }
+        ensures no_cycle { IsApart self.old.edges node overlay → result ≢ Err GraphStop.Cycle }
+        ensures ok { OnOk result
+            (self.new ≡ with_edges self.old (with_over node overlay self.old.edges)) }
+        ensures err { OnErr result (self.new ≡ self.old) }
+        ensures sound { IsSound self.new }
+    {
+        self.staged.copy_from(&self.edges);
+        self.staged.put(Edge::of_node(overlay, Role::Backing, node));
+        self.staged
+            .replace(node, overlay, Some(Parent::Node(overlay)));
+        settle_any(
+            self.order.as_slice(),
+            &self.kinds,
+            &mut self.edges,
+            &mut self.staged,
+        )
+    }
+
     /// Moves all edges into one node, but those of jobs and of `but`, to another node.
     pub fn replace_child(
         &mut self,
@@ -182,8 +239,10 @@ impl Graph {
         but: Option<Parent>,
     ) -> Result<(), GraphStop>
         requires { HasNode self.old to }
-        ensures judged { IsJudged (ids self.old) self.old.kinds (with_replaced from to but self.old.edges) result }
-        ensures ok { OnOk result (self.new ≡ with_edges self.old (with_replaced from to but self.old.edges)) }
+        ensures judged { IsJudged (ids self.old) self.old.kinds
+            (with_replaced from to but self.old.edges) result }
+        ensures ok { OnOk result
+            (self.new ≡ with_edges self.old (with_replaced from to but self.old.edges)) }
         ensures err { OnErr result (self.new ≡ self.old) }
         ensures sound { IsSound self.new }
     {
@@ -198,18 +257,6 @@ impl Graph {
             &mut self.edges,
             &mut self.staged,
         )
-    }
-
-    /// Whether there is room for one more edge of this parent.
-    pub fn has_room(&self, parent: Parent) -> bool
-        ensures { IsTrue result ↔ HasRoom self.now.edges parent }
-    {
-        match parent {
-            Parent::Node(_) => true,
-            Parent::Guest(_) | Parent::Job(_) => {
-                edit::outside_count(self.edges.as_slice()) < MOST_OUTSIDE
-            }
-        }
     }
 
     /// Whether no edge enters or leaves a node.
@@ -229,11 +276,14 @@ impl Graph {
     ) -> Result<(), GraphStop>
         requires node { HasNode self.old node }
         requires filter { HasNode self.old filter }
+        requires kind { has_role (kind_at self.old.kinds filter).kind Role.Filtered ≡ true }
         requires differ { filter ≢ node }
         requires lone { IsLone self.old.edges filter }
-        ensures judged { IsJudged (ids self.old) self.old.kinds (with_filter node filter perm shared self.old.edges) result }
+        ensures judged { IsJudged (ids self.old) self.old.kinds
+            (with_filter node filter perm shared self.old.edges) result }
         ensures no_cycle { result ≢ Err GraphStop.Cycle }
-        ensures ok { OnOk result (self.new ≡ with_edges self.old (with_filter node filter perm shared self.old.edges)) }
+        ensures ok { OnOk result
+            (self.new ≡ with_edges self.old (with_filter node filter perm shared self.old.edges)) }
         ensures err { OnErr result (self.new ≡ self.old) }
         ensures sound { IsSound self.new }
     {
@@ -248,11 +298,15 @@ impl Graph {
     }
 
     /// Takes a filter from between its child and its parents. They then stand beside the child's other parents, so a conflict
-    /// may be answered.
+    /// may be answered; but not where the filter hid nothing, or where nothing else has changed since it was put there.
     pub fn remove_filter(&mut self, filter: NodeId) -> Result<(), GraphStop>
         ensures judged { IsJudged (ids self.old) self.old.kinds (without_filter filter self.old.edges) result }
+        ensures transparent { IsTransparent self.old.edges filter → IsOk result }
+        ensures back { (edges : List Use) → IsPutOver self.old filter edges → IsOk result
+            × (self.new.edges ≡ edges) }
         ensures no_cycle { result ≢ Err GraphStop.Cycle }
-        ensures ok { OnOk result (self.new ≡ with_edges self.old (without_filter filter self.old.edges)) }
+        ensures ok { OnOk result
+            (self.new ≡ with_edges self.old (without_filter filter self.old.edges)) }
         ensures err { OnErr result (self.new ≡ self.old) }
         ensures sound { IsSound self.new }
     {
@@ -307,11 +361,13 @@ impl Graph {
     /// Adds a node. It gets the lowest id that is free.
     pub fn add_node(&mut self, name: Text, kind: NodeKind) -> Result<NodeId, GraphStop>
         ensures taken { (result ≡ Err GraphStop.NameTaken) ↔ HasName self.old name.bytes }
-        ensures full { (result ≡ Err GraphStop.TooManyNodes) ↔ ((length self.old.nodes ≡ 64) × ¬ HasName self.old name.bytes) }
+        ensures full { (result ≡ Err GraphStop.TooManyNodes)
+            ↔ ((length self.old.nodes ≡ 64) × ¬ HasName self.old name.bytes) }
         ensures only { IfErr result IsAdditionStop }
         ensures ok { IfOk result (λ id. self.new ≡ with_node self.old id name.bytes kind) }
         ensures lowest { IfOk result (IsLowestFree (ids self.old)) }
         ensures there { IfOk result (λ id. HasNode self.new id) }
+        ensures kind { IfOk result (λ id. kind_at self.new.kinds id ≡ kind) }
         ensures lone { IfOk result (λ id. IsLone self.new.edges id) }
         ensures err { OnErr result (self.new ≡ self.old) }
         ensures sound { IsSound self.new }
@@ -339,7 +395,8 @@ impl Graph {
     /// Removes a node that no edge leads to, with the edges that it makes.
     pub fn remove_node(&mut self, node: NodeId) -> Result<(), GraphStop>
         requires { HasNode self.old node }
-        ensures answer { MatchOption (first_parent node self.old.edges) (result ≡ Ok tt) (λ parent. result ≡ Err (GraphStop.InUse parent)) }
+        ensures answer { MatchOption (first_parent node self.old.edges) (result ≡ Ok tt)
+            (λ parent. result ≡ Err (GraphStop.InUse parent)) }
         ensures ok { OnOk result (self.new ≡ without_node node self.old) }
         ensures err { OnErr result (self.new ≡ self.old) }
         ensures sound { IsSound self.new }

@@ -2,6 +2,7 @@
 //! others ask of it.
 #![tactic(auto)]
 
+mod cycle;
 mod edge;
 mod edit;
 mod graph;
@@ -16,8 +17,10 @@ mod stop;
 mod uses;
 mod walk;
 
-pub use edge::{Conflict, Edge, MOST_NODES, NodeId, Parent, Perm, Perms, Role, Uses};
-pub use graph::{Graph, MOST_OUTSIDE};
+pub use edge::{
+    Conflict, Edge, MOST_GUESTS, MOST_JOBS, MOST_NODES, NodeId, Parent, Perm, Perms, Role, Uses,
+};
+pub use graph::Graph;
 pub use ids::free_id;
 pub use kind::{JobUse, Kind, NO_KIND, NodeKind};
 pub use list::{EdgeList, MOST_EDGES};

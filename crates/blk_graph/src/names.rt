@@ -26,7 +26,8 @@ pub(crate) fn node_named(
     requires named { HasNames names.now keys.now order.now }
     ensures found { IfSome result (λ id. Contains order.now id) }
     ensures named { IfSome result (λ id. name_of names.now (key_of keys.now id) ≡ name.now) }
-    ensures none { IfNone result ((id : ℕ) → Contains order.now id → name_of names.now (key_of keys.now id) ≢ name.now) }
+    ensures none { IfNone result
+        ((id : ℕ) → Contains order.now id → name_of names.now (key_of keys.now id) ≢ name.now) }
 {
     for node in order {
         if name_at(names, keys, *node) == name {

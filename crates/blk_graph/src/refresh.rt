@@ -93,7 +93,8 @@ fn same_uses(a: &Edge, b: &Edge) -> bool
 fn rule_one(kinds: &[NodeKind], above: &[Uses], edge: &mut Edge) -> bool
     requires kinds { length kinds.now ≡ 64 }
     requires above { length above.now ≡ 64 }
-    ensures edge { (uses : ℕ → Seen) → IsTable uses above.now → edge.new ≡ ruled kinds.now uses edge.old }
+    ensures edge { (uses : ℕ → Seen) → IsTable uses above.now → edge.new
+        ≡ ruled kinds.now uses edge.old }
     ensures same { IsTrue result → edge.new ≡ edge.old }
 {
     let made = ruled(kinds, above, edge);
@@ -106,7 +107,8 @@ fn rule_one(kinds: &[NodeKind], above: &[Uses], edge: &mut Edge) -> bool
 fn rule_all(kinds: &[NodeKind], above: &[Uses], edges: &mut Vec<Edge>) -> bool
     requires kinds { length kinds.now ≡ 64 }
     requires above { length above.now ≡ 64 }
-    ensures edges { (uses : ℕ → Seen) → IsTable uses above.now → edges.new.items ≡ map (ruled kinds.now uses) edges.old.items }
+    ensures edges { (uses : ℕ → Seen) → IsTable uses above.now → edges.new.items
+        ≡ map (ruled kinds.now uses) edges.old.items }
     ensures same { IsTrue result → edges.new.items ≡ edges.old.items }
     ensures capacity { vec_capacity edges.new ≡ vec_capacity edges.old }
 {

@@ -1,7 +1,8 @@
 //! The table of permissions: what each edge asks and shares.
-ghost use Rattle.std.specs.Prelude.{◌≡◌};
-ghost use Rattle.blk_graph.specs.Permissions.{perms, idle_uses, asks_shares, drive_uses, derived_uses, uses_by, job_uses, job_role, drive_edge, job_edge, node_edge};
-ghost use Rattle.blk_graph.specs.Refreshed.{joined, with_uses};
+ghost use Rattle.std.specs.Prelude.{◌≡◌, List, true};
+ghost use Rattle.blk_graph.specs.Permissions.{perms, idle_uses, asks_shares, drive_uses, derived_uses, has_role, uses_by, job_uses, job_role, drive_edge, job_edge, node_edge};
+ghost use Rattle.blk_graph.specs.Refreshed.{joined, with_uses, kind_at, IsByTable};
+ghost use Rattle.blk_graph.specs.declared.kind.NodeKind.{NodeKind as Known};
 
 use crate::edge::{Edge, NodeId, Parent, Perms, Role, Uses};
 use crate::kind::{JobUse, Kind, NodeKind};
@@ -72,6 +73,23 @@ pub(crate) fn uses_by(node: NodeKind, role: Role, above: Uses) -> Option<Uses>
     derived_uses(node.kind, role, node.writes, above)
 }
 
+impl Kind {
+    /// Whether a node of this kind may have an edge of this role.
+    pub fn has_role(self, role: Role) -> bool
+        ensures { result ≡ has_role self role }
+    {
+        matches!(
+            (self, role),
+            (Kind::Raw | Kind::Qcow2 | Kind::CopyOnRead, Role::File)
+                | (Kind::Qcow2, Role::Backing)
+                | (
+                    Kind::BeforeWrite | Kind::Mirror | Kind::Commit,
+                    Role::Filtered
+                )
+        )
+    }
+}
+
 fn drive_uses(writes: bool, share_rw: bool) -> Uses
     ensures { result ≡ drive_uses writes share_rw }
 {
@@ -110,7 +128,8 @@ impl JobUse {
 impl Edge {
     /// The edge of a guest's drive.
     pub fn drive(guest: u32, node: NodeId, writes: bool, share_rw: bool) -> Edge
-        ensures { result ≡ drive_edge guest node writes share_rw }
+        ensures edge { result ≡ drive_edge guest node writes share_rw }
+        ensures table { (kinds : List Known) → IsByTable kinds result }
     {
         let uses = drive_uses(writes, share_rw);
         Edge {
@@ -124,7 +143,8 @@ impl Edge {
 
     /// A job's edge.
     pub fn of_job(job: u32, what: JobUse, node: NodeId) -> Edge
-        ensures { result ≡ job_edge job what node }
+        ensures edge { result ≡ job_edge job what node }
+        ensures table { (kinds : List Known) → IsByTable kinds result }
     {
         let uses = what.uses();
         Edge {
@@ -138,7 +158,9 @@ impl Edge {
 
     /// A node's edge, before what it asks and shares is derived.
     pub fn of_node(parent: NodeId, role: Role, child: NodeId) -> Edge
-        ensures { result ≡ node_edge parent role child }
+        ensures edge { result ≡ node_edge parent role child }
+        ensures table { (kinds : List Known) → has_role (kind_at kinds parent).kind role ≡ true
+            → IsByTable kinds result }
     {
         let uses = IDLE;
         Edge {

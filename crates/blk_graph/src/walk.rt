@@ -23,7 +23,8 @@ fn spread(edges: &[Edge], from: NodeId, marks: &mut [bool]) -> bool
     requires room { length marks.old ≡ 64 }
     requires reached { AllReached edges.now from marks.old }
     ensures reached { AllReached edges.now from marks.new }
-    ensures more { MatchBool result (mark_count marks.old < mark_count marks.new) (IsClosed edges.now from marks.new) }
+    ensures more { MatchBool result (mark_count marks.old < mark_count marks.new)
+        (IsClosed edges.now from marks.new) }
 {
     let mut grew = false;
     for edge in edges {

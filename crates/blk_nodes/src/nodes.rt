@@ -1,7 +1,6 @@
 //! The nodes.
 ghost use Rattle.std.specs.Prelude.{◌≡◌, ◌≢◌, ◌↔◌, ℕ, ◌<◌, ◌≤◌, [], length, replicate, IfOk, IfErr, IsOk, OnOk, OnErr, IsErrAnd, IsTrue, Err, Some};
 ghost use Rattle.blk_base.specs.Pieces.{end_of};
-ghost use Rattle.blk_graph.specs.Edges.{HasRoom};
 ghost use Rattle.blk_graph.specs.Graph.{HasName, HasNode, ids};
 ghost use Rattle.blk_graph.specs.Ids.{IsLowestFree};
 ghost use Rattle.blk_nodes.specs.Adding.{with_node, with_device, with_below, without_guest, file_edge, guest_edge, raw_row, is_read_only_in, IsDenied, IsFileStop, IsNameStop, IsOverStop};
@@ -212,13 +211,6 @@ impl<D: Device> Nodes<D> {
         Ok(node)
     }
 
-    /// Whether there is room for one more guest's drive. In a graph with fewer than 1,792 edges of guests and jobs there is.
-    pub fn has_room(&self, guest: u32) -> bool
-        ensures { IsTrue result ↔ HasRoom self.now.graph.edges (Parent.Guest guest) }
-    {
-        self.graph.has_room(Parent::Guest(guest))
-    }
-
     /// Whether a node may not be written.
     pub fn is_read_only(&self, node: NodeId) -> bool
         ensures { result ≡ is_read_only_in (row_at self.now node) }
@@ -234,7 +226,7 @@ impl<D: Device> Nodes<D> {
     /// answered, and all is as it was.
     pub fn attach(&mut self, guest: u32, node: NodeId, share_rw: bool) -> Result<(), Conflict>
         requires node { HasNode self.old.graph node }
-        requires room { HasRoom self.old.graph.edges (Parent.Guest guest) }
+        requires number { guest < 80 }
         ensures denied { (pair : Pair) → result ≡ Err pair
             → first_conflict (ids self.old.graph) (with_below self.old (guest_edge self.old guest node share_rw)).graph.edges ≡ Some pair }
         ensures ok { OnOk result (self.new ≡ with_below self.old (guest_edge self.old guest node share_rw)) }

@@ -1,7 +1,7 @@
 use crate::Nodes;
 use blk_base::{DevNo, Outcome, Span, Text};
 use blk_fakes::{FailAt, MemDevice};
-use blk_graph::NodeId;
+use blk_graph::{MOST_GUESTS, NodeId};
 use std::alloc::Global;
 use std::test::Fail;
 
@@ -117,7 +117,7 @@ fn a_raw_node_reads_as_its_part_and_is_written_alone(rt: HostRuntime) -> Result<
 
 /// Whether a guest's drive is put on a `file` node.
 fn attached(nodes: &mut Nodes<MemDevice>, guest: u32, node: NodeId, share_rw: bool) -> bool {
-    if !nodes.is_file(node) || !nodes.has_room(guest) {
+    if !nodes.is_file(node) || guest >= MOST_GUESTS {
         return false;
     }
     nodes.attach(guest, node, share_rw).is_ok()

@@ -80,9 +80,16 @@ abbrev pub note_image : Kind → ℕ → Mapped → State → State
 note_image Qcow2 node mapped s = record s { images = s.images ++ record { node = node; mapped = mapped } ∷ [] }
 note_image kind node mapped s = s
 
+-- what is known of a file, where there is one
+abbrev pub know_if : Option (List ℕ) → Content → State → State
+know_if None content s = s
+know_if (Some name) content s = know name content s
+
+-- What is written through a format node changes the file, of which nothing is known any more.
 abbrev pub add_format : NodeRecord → ℕ → Option ℕ → State → State
 add_format row file backing s =
-    note_image row.kind row.id (mapped_in (content_under s file)) (put row.id (format_bytes s row file backing row.kind) s)
+    know_if (filename_of s.table file) Unknown
+    (note_image row.kind row.id (mapped_in (content_under s file)) (put row.id (format_bytes s row file backing row.kind) s))
 
 -- ---- nodes that go
 

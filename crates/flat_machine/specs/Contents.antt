@@ -1,7 +1,7 @@
 -- What is known of the store's files, and what a node that is added over one reads as.
 use Rattle.std.specs.Prelude.{ℕ, ◌+◌, ◌/◌, ◌*◌, max, ◌==◌, Bool, true, false, if◌then◌else◌, List, [], ◌∷◌, length, bytes_eq, filter, not, Option, Some, None, option_map, option_and_then, unwrap_or}
 use Rattle.std.specs.List.{list_all, range_with_len}
-use Rattle.blk_base.specs.Content.{bytes_at}
+use Rattle.q2_format.specs.Bytes.{bytes_at}
 use Rattle.blk_base.specs.declared.file.File.{File}
 use Rattle.q2_format.specs.Sizes.{cluster_size, clusters_for}
 use Rattle.q2_format.specs.Entry.{l2_entry}

@@ -19,3 +19,7 @@ pub mod Opening
 pub mod Final
 pub mod Comes
 pub mod Unique
+pub mod Agreement
+pub mod Performing
+pub mod Standing
+pub mod Suiting

@@ -2,7 +2,9 @@
 #![tactic(auto)]
 
 mod blocked;
+mod laws;
 mod opening;
 
 pub use blocked::Waits;
+pub use laws::{accepted_changes_can_be_made, changes_keep_disks, tables_stand};
 pub use opening::Opening;

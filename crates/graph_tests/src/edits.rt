@@ -1,6 +1,6 @@
 //! Edits of a graph one after another, the answer to each, and what edges there are then.
 use crate::graphs::{Answer, Who, answered, attach, hold, kinds, link, named, nth, remove};
-use blk_graph::{Graph, JobUse, Kind, Parent, Perm, Perms, Role};
+use blk_graph::{Edge, Graph, JobUse, Kind, Parent, Perm, Perms, Role};
 use std::alloc::Global;
 use std::test::Fail;
 
@@ -13,6 +13,10 @@ enum Edit {
     Attach(u32, usize, bool),
     /// All edges into the first node lead to the second, but those of jobs and of a guest.
     Replace(usize, usize, Option<u32>),
+    /// A node's file and its backing node.
+    Both(usize, usize, usize),
+    /// An overlay over a node.
+    Over(usize, usize),
     /// A filter over a node.
     Filter(usize, usize),
     Pull(usize),
@@ -73,12 +77,38 @@ fn replace(graph: &mut Graph, from: usize, to: usize, but: Option<u32>) -> Answe
     }
 }
 
+fn both(graph: &mut Graph, node: usize, file: usize, backing: usize) -> Answer {
+    let (Some(node), Some(file), Some(backing)) = (
+        nth(graph, node),
+        nth(graph, file),
+        nth(graph, backing),
+    ) else {
+        return Answer::Other;
+    };
+    if !graph.has_role(node, Role::File) || !graph.has_role(node, Role::Backing) {
+        return Answer::Other;
+    }
+    let first = Edge::of_node(node, Role::File, file);
+    let second = Edge::of_node(node, Role::Backing, backing);
+    answered(graph.set_edges(first, second))
+}
+
+fn over(graph: &mut Graph, node: usize, overlay: usize) -> Answer {
+    let (Some(node), Some(overlay)) = (nth(graph, node), nth(graph, overlay)) else {
+        return Answer::Other;
+    };
+    if !graph.has_role(overlay, Role::Backing) {
+        return Answer::Other;
+    }
+    answered(graph.put_over(node, overlay))
+}
+
 /// Puts a filter between a node and its parents.
 fn filter(graph: &mut Graph, node: usize, filter: usize) -> Answer {
     let (Some(below), Some(above)) = (nth(graph, node), nth(graph, filter)) else {
         return Answer::Other;
     };
-    if below == above || !graph.is_lone(above) {
+    if below == above || !graph.is_lone(above) || !graph.has_role(above, Role::Filtered) {
         return Answer::Other;
     }
     answered(graph.insert_filter(below, above, NONE, ALL))
@@ -112,6 +142,8 @@ fn made(graph: &mut Graph, edit: Edit) -> Answer {
         Edit::Hold(job, what, to) => hold(graph, job, what, to),
         Edit::Attach(guest, to, share_rw) => attach(graph, guest, to, share_rw),
         Edit::Replace(from, to, but) => replace(graph, from, to, but),
+        Edit::Both(node, file, backing) => both(graph, node, file, backing),
+        Edit::Over(node, overlay) => over(graph, node, overlay),
         Edit::Filter(node, above) => filter(graph, node, above),
         Edit::Pull(above) => pull(graph, above),
         Edit::Remove(node) => remove(graph, node),
@@ -159,7 +191,7 @@ fn first_wrong(graph: &mut Graph, steps: &[Step]) -> Option<usize> {
 /// Nodes of some kinds, in order of addition, and what is done with them.
 type Row<'a> = (&'a str, &'a [Kind], &'a [Step<'a>]);
 
-const ROWS: [Row; 6] = [
+const ROWS: [Row; 9] = [
     (
         "a filter and back",
         &[Kind::Protocol, Kind::Qcow2, Kind::Qcow2, Kind::BeforeWrite],
@@ -265,6 +297,65 @@ const ROWS: [Row; 6] = [
             Step::Do(Edit::Remove(1), Answer::Done),
             Step::Is(Fact::Edges(&[])),
             Step::Do(Edit::Remove(0), Answer::Done),
+        ],
+    ),
+    (
+        "an overlay over a node",
+        &[Kind::Protocol, Kind::Qcow2, Kind::Protocol, Kind::Qcow2],
+        &[
+            Step::Do(Edit::Link(1, 0, Role::File), Answer::Done),
+            Step::Do(Edit::Attach(0, 1, false), Answer::Done),
+            Step::Do(Edit::Link(3, 2, Role::File), Answer::Done),
+            Step::Do(Edit::Hold(5, JobUse::StreamTop, 1), Answer::Done),
+            Step::Do(Edit::Over(1, 3), Answer::Done),
+            Step::Is(Fact::Edges(&[
+                (Who::Node(1), 0),
+                (Who::Guest(0), 3),
+                (Who::Node(3), 2),
+                (Who::Job(5), 1),
+                (Who::Node(3), 1),
+            ])),
+            Step::Is(Fact::Uses(4, READS, READS_UNCHANGED)),
+            Step::Do(Edit::Over(3, 1), Answer::Cycle),
+            Step::Do(
+                Edit::Hold(6, JobUse::CopyTarget, 1),
+                Answer::Denied(1, Who::Job(5), Who::Job(6), Perm::Unchanged),
+            ),
+        ],
+    ),
+    (
+        "a file and a backing node, both or neither",
+        &[Kind::Protocol, Kind::Qcow2, Kind::Qcow2],
+        &[
+            Step::Do(Edit::Attach(0, 1, true), Answer::Done),
+            Step::Do(Edit::Attach(1, 2, false), Answer::Done),
+            Step::Do(
+                Edit::Both(2, 0, 1),
+                Answer::Denied(1, Who::Guest(0), Who::Node(2), Perm::Write),
+            ),
+            Step::Is(Fact::Edges(&[(Who::Guest(0), 1), (Who::Guest(1), 2)])),
+            Step::Do(Edit::Both(2, 0, 2), Answer::Cycle),
+            Step::Do(Edit::Detach(0), Answer::Done),
+            Step::Do(Edit::Both(2, 0, 1), Answer::Done),
+            Step::Is(Fact::Edges(&[(Who::Guest(1), 2), (Who::Node(2), 0), (Who::Node(2), 1)])),
+        ],
+    ),
+    (
+        "a job that holds a node and the filter over it",
+        &[Kind::Protocol, Kind::Qcow2, Kind::BeforeWrite],
+        &[
+            Step::Do(Edit::Link(1, 0, Role::File), Answer::Done),
+            Step::Do(Edit::Hold(3, JobUse::StreamBelow, 1), Answer::Done),
+            Step::Do(Edit::Filter(1, 2), Answer::Done),
+            Step::Do(Edit::Hold(3, JobUse::StreamBelow, 1), Answer::Done),
+            Step::Is(Fact::Edges(&[
+                (Who::Node(1), 0),
+                (Who::Job(3), 2),
+                (Who::Node(2), 1),
+                (Who::Job(3), 1),
+            ])),
+            Step::Do(Edit::Pull(2), Answer::Done),
+            Step::Is(Fact::Edges(&[(Who::Node(1), 0), (Who::Job(3), 1)])),
         ],
     ),
     (

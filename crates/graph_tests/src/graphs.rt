@@ -3,7 +3,10 @@ ghost use Rattle.std.specs.Prelude.{◌≡◌, IfSome};
 ghost use Rattle.blk_graph.specs.Graph.{HasNode};
 
 use blk_base::Text;
-use blk_graph::{Edge, Graph, GraphStop, JobUse, Kind, NodeId, NodeKind, Parent, Perm, Role};
+use blk_graph::{
+    Edge, Graph, GraphStop, JobUse, Kind, MOST_GUESTS, MOST_JOBS, NodeId, NodeKind, Parent, Perm,
+    Role,
+};
 use std::alloc::Global;
 use std::test::Fail;
 
@@ -68,11 +71,10 @@ pub(crate) fn link(graph: &mut Graph, from: usize, to: usize, role: Role) -> Ans
     let (Some(parent), Some(child)) = (nth(graph, from), nth(graph, to)) else {
         return Answer::Other;
     };
-    match role {
-        Role::File => answered(graph.set_edge(Edge::of_node(parent, Role::File, child))),
-        Role::Backing => answered(graph.set_edge(Edge::of_node(parent, Role::Backing, child))),
-        _ => Answer::Other,
+    if !graph.has_role(parent, role) {
+        return Answer::Other;
     }
+    answered(graph.set_edge(Edge::of_node(parent, role, child)))
 }
 
 /// Sets an edge of a job to the node at a place.
@@ -80,7 +82,7 @@ pub(crate) fn hold(graph: &mut Graph, job: u32, what: JobUse, to: usize) -> Answ
     let Some(child) = nth(graph, to) else {
         return Answer::Other;
     };
-    if !graph.has_room(Parent::Job(job)) {
+    if job as usize >= MOST_JOBS {
         return Answer::Other;
     }
     answered(graph.set_edge(Edge::of_job(job, what, child)))
@@ -91,7 +93,7 @@ pub(crate) fn attach(graph: &mut Graph, guest: u32, to: usize, share_rw: bool) -
     let Some(child) = nth(graph, to) else {
         return Answer::Other;
     };
-    if !graph.has_room(Parent::Guest(guest)) {
+    if guest >= MOST_GUESTS {
         return Answer::Other;
     }
     answered(graph.set_edge(Edge::drive(guest, child, true, share_rw)))
@@ -115,11 +117,11 @@ fn add(alloc: Global, graph: &mut Graph, number: usize, kind: Kind) -> Result<()
     }
 }
 
-/// A graph with so many nodes, named n0, n1 and so on.
+/// A graph with so many `qcow2` nodes, named n0, n1 and so on.
 pub(crate) fn nodes(alloc: Global, count: usize) -> Result<Graph, Fail> {
     let mut graph = Graph::new(alloc)?;
     for number in 0..count {
-        add(alloc, &mut graph, number, Kind::Protocol)?;
+        add(alloc, &mut graph, number, Kind::Qcow2)?;
     }
     Ok(graph)
 }

@@ -1,9 +1,7 @@
 //! As many nodes and edges as there may be, names, and lists of edges apart from a graph.
 use crate::graphs::{Answer, hold, kinds, link, nodes, nth, remove};
 use blk_base::Text;
-use blk_graph::{
-    EdgeList, Graph, GraphStop, JobUse, Kind, MOST_OUTSIDE, NO_KIND, NodeId, Parent, Role,
-};
+use blk_graph::{EdgeList, Graph, GraphStop, JobUse, Kind, NO_KIND, NodeId, Parent, Role};
 use std::alloc::Global;
 use std::test::Fail;
 
@@ -32,19 +30,22 @@ fn nodes_have_names(rt: HostRuntime) -> Result<(), Fail> {
     Ok(())
 }
 
+/// Adds a node, and gives its id.
+fn added_id(alloc: Global, graph: &mut Graph, name: &str) -> Result<Option<usize>, Fail> {
+    match added(alloc, graph, name)? {
+        Ok(node) => Ok(Some(node.index())),
+        Err(_) => Ok(None),
+    }
+}
+
 /// The lowest id that is free is given again.
 #[test]
 fn ids_are_given_again(rt: HostRuntime) -> Result<(), Fail> {
     let mut graph = nodes(rt.alloc(), 64)?;
-    for place in [7, 3] {
-        assert!(rt; remove(&mut graph, place) == Answer::Done);
-    }
+    assert!(rt; remove(&mut graph, 7) == Answer::Done && remove(&mut graph, 3) == Answer::Done);
     assert!(rt; graph.node_named("n7").is_none());
-    for id in [3, 7] {
-        let name = format!(in rt.alloc(); "again{id}")?;
-        let node = added(rt.alloc(), &mut graph, name.as_str())?;
-        assert!(rt; node.is_ok_and(|node| node.index() == id));
-    }
+    assert!(rt; added_id(rt.alloc(), &mut graph, "a")? == Some(3));
+    assert!(rt; added_id(rt.alloc(), &mut graph, "b")? == Some(7));
     Ok(())
 }
 
@@ -75,25 +76,29 @@ fn a_chain_of_all_nodes(rt: HostRuntime) -> Result<(), Fail> {
     Ok(())
 }
 
-/// Jobs that hold all nodes, as far as there is room.
+/// Each of 16 jobs holds all nodes, and one of them twice.
 fn held(alloc: Global) -> Result<Graph, Fail> {
     let mut graph = nodes(alloc, 64)?;
-    for job in 0..28 {
+    for job in 0..16 {
+        let mut answer = hold(&mut graph, job, JobUse::StreamTop, 63);
         for node in 0..64 {
-            if hold(&mut graph, job, JobUse::StreamBelow, node) != Answer::Done {
-                return Err(Fail::new("no edge"));
+            if answer == Answer::Done {
+                answer = hold(&mut graph, job, JobUse::StreamBelow, node);
             }
+        }
+        if answer != Answer::Done {
+            return Err(Fail::new("no edge"));
         }
     }
     Ok(graph)
 }
 
 #[test]
-fn as_many_edges_as_there_may_be(rt: HostRuntime) -> Result<(), Fail> {
+fn jobs_hold_all_nodes(rt: HostRuntime) -> Result<(), Fail> {
     let mut graph = held(rt.alloc())?;
-    assert!(rt; graph.edges().len() == MOST_OUTSIDE && !graph.has_room(Parent::Guest(0)));
+    assert!(rt; graph.edges().len() == 16 * 65);
     graph.clear_edges(Parent::Job(7));
-    assert!(rt; graph.edges().len() == MOST_OUTSIDE - 64 && graph.has_room(Parent::Guest(0)));
+    assert!(rt; graph.edges().len() == 15 * 65);
     Ok(())
 }
 

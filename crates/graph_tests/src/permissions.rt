@@ -1,10 +1,9 @@
 //! The table of permissions: which of two edges into one node is refused.
-ghost use Rattle.std.specs.Prelude.{◌≡◌, IfOk};
-ghost use Rattle.blk_graph.specs.Graph.{HasNode};
+ghost use Rattle.std.specs.Prelude.{◌<◌};
 
 use crate::graphs::{Answer, Who, answered};
 use blk_base::Text;
-use blk_graph::{Edge, Graph, NO_KIND, NodeId, Parent, Perm, Perms, Role};
+use blk_graph::{Edge, EdgeList, Graph, GraphStop, NO_KIND, NodeId, Parent, Perm, Perms, Role};
 use std::alloc::Global;
 use std::test::Fail;
 
@@ -78,9 +77,7 @@ const TABLE: [(Perms, Perms, &str); 16] = [
 ];
 
 /// A graph with one node.
-fn lone_node(alloc: Global) -> Result<(Graph, NodeId), Fail>
-    ensures { IfOk result (λ made. HasNode made.0 made.1) }
-{
+fn lone_node(alloc: Global) -> Result<(Graph, NodeId), Fail> {
     let mut graph = Graph::new(alloc)?;
     match graph.add_node(Text::copied(alloc, "disk")?, NO_KIND) {
         Ok(node) => Ok((graph, node)),
@@ -88,30 +85,29 @@ fn lone_node(alloc: Global) -> Result<(Graph, NodeId), Fail>
     }
 }
 
-/// Sets a drive of a guest, which asks and shares so.
-fn drive(graph: &mut Graph, guest: u32, node: NodeId, uses: (Perms, Perms)) -> Answer
-    requires { HasNode graph.old node }
-    ensures { HasNode graph.new node }
+/// Puts a drive of a guest, which asks and shares so.
+fn drive(list: &mut EdgeList, guest: u32, node: NodeId, uses: (Perms, Perms))
+    requires { guest < 80 }
 {
-    if !graph.has_room(Parent::Guest(guest)) {
-        return Answer::Other;
-    }
-    answered(graph.set_edge(Edge {
+    list.put(Edge {
         parent: Parent::Guest(guest),
         role: Role::Drive,
         child: node,
         perm: uses.0,
         shared: uses.1,
-    }))
+    });
 }
 
-/// The answer to the second of two edges into a node.
-fn second(alloc: Global, first: (Perms, Perms), second: (Perms, Perms)) -> Result<Answer, Fail> {
-    let (mut graph, node) = lone_node(alloc)?;
-    if drive(&mut graph, 0, node, first) != Answer::Done {
-        return Err(Fail::new("no edge"));
+/// What is said of two edges into a node.
+fn judged(alloc: Global, first: (Perms, Perms), second: (Perms, Perms)) -> Result<Answer, Fail> {
+    let (graph, node) = lone_node(alloc)?;
+    let mut list = EdgeList::new(alloc)?;
+    drive(&mut list, 0, node, first);
+    drive(&mut list, 1, node, second);
+    match list.judge(graph.nodes()) {
+        Ok(()) => Ok(answered(Ok(()))),
+        Err(pair) => Ok(answered(Err(GraphStop::Conflict(pair)))),
     }
-    Ok(drive(&mut graph, 1, node, second))
 }
 
 fn perm(letter: u8) -> Option<Perm> {
@@ -141,7 +137,7 @@ fn expected(first: usize, second: usize) -> Answer {
 fn two_edges_into_a_node(rt: HostRuntime) -> Result<(), Fail> {
     for (i, (perm, shared, _)) in TABLE.iter().enumerate() {
         for (j, (other_perm, other_shared, _)) in TABLE.iter().enumerate() {
-            let given = second(rt.alloc(), (*perm, *shared), (*other_perm, *other_shared))?;
+            let given = judged(rt.alloc(), (*perm, *shared), (*other_perm, *other_shared))?;
             assert!(rt; given == expected(i, j), "edges {i} and {j}");
         }
     }

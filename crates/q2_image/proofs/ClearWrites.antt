@@ -1,10 +1,10 @@
 -- The write of the autoclear field, in the list of a call's writes.
-use Rattle.std.proofs.Common.{◌≡◌, ◌≢◌, ℕ, zero, suc, ◌+◌, ◌%◌, ◌<◌, ◌≤◌, ◌⊎◌, inl, inr, List, [], ◌∷◌, length, take, replicate, Option, Some, None, refl, sym, ap, subst, ◌∙◌, arith}
+use Rattle.std.proofs.Common.{◌≡◌, ◌≢◌, ℕ, ◌<◌, ◌≤◌, inl, inr, List, [], ◌∷◌, take, replicate, Some, None, refl, ap, ◌∙◌, arith}
 use Rattle.std.proofs.lemmas.Bool.{cases_eq, eq-eqb, ne_eqb}
 use Rattle.blk_base.specs.Content.{Write}
 use Rattle.blk_base.specs.Counts.{Rose, IsFailedWrite}
 use Rattle.blk_base.specs.Device.{Wrote, Writes, IsMade}
-use Rattle.blk_base.specs.Writes.{write_of, IsCutBy, IsPart, IsTorn}
+use Rattle.blk_base.specs.Writes.{write_of, IsCutBy, IsPart}
 use Rattle.blk_base.specs.declared.device.Device.{Ghosts}
 use Rattle.blk_base.specs.declared.device.Stop.{Stop}
 use Rattle.blk_base.specs.declared.device.Stop.TheVariants as why

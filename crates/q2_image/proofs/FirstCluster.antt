@@ -1,6 +1,7 @@
 -- A header is judged and read by the file's first cluster.
-use Rattle.std.proofs.Common.{◌≡◌, ℕ, ◌≤◌, ltb, List, [], ◌∷◌, Some, None, get_or, sym, ap, ◌∙◌, arith}
+use Rattle.std.proofs.Common.{◌≡◌, ℕ, ◌≤◌, ◌<◌, ltb, List, [], ◌∷◌, Some, None, get_or, refl, sym, ap, ◌∙◌, arith}
 use Rattle.std.specs.Option.{option_map}
+use Rattle.std.proofs.lemmas.Bool.{lt-ltb}
 use Rattle.blk_base.specs.Content.{bytes_at}
 use Rattle.blk_base.proofs.Contents.{get_or-bytes_at}
 use Rattle.q2_format.specs.Bytes.{ReadsAlike}
@@ -21,6 +22,11 @@ buffer_alike file cluster is = record {
 
 pub refusal_alike : (file cluster : List ℕ) (len : ℕ) → cluster ≡ bytes_at file 0 65536 → header_refusal cluster len ≡ header_refusal file len
 refusal_alike file cluster len is = frames.header_refusal_alike file cluster len (buffer_alike file cluster is)
+
+-- a file that is too short
+pub short_refused : (file : List ℕ) (len : ℕ) → len < 104 → header_stops file len ≡ Some (InHeader Short)
+unfolding header_refusal
+short_refused file len few = let test = lt-ltb len 104 few in rw test refl
 
 -- refused and accepted
 pub refused_alike : (file cluster : List ℕ) (len : ℕ) (stop : HeaderStop) → cluster ≡ bytes_at file 0 65536 → Some stop ≡ header_refusal cluster len

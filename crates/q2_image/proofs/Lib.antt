@@ -27,3 +27,8 @@ pub mod OwnTold
 pub mod ClearWrites
 pub mod OwnStops
 pub mod Stages
+pub mod StepsMade
+pub mod Changes
+pub mod LinkStops
+pub mod PutStops
+pub mod CreateStops

@@ -58,14 +58,18 @@ judges_at A h uses counts n m result same once judged =
 pub none_named : (refusal : Option Refusal) (stop : ImageStop) → refusal_of stop ≡ None → Names refusal stop
 none_named refusal stop none = rw none tt
 
--- a stop that names no failed call has no cause to show
-pub no_fault_cause : (before now : ℕ) (stop : ImageStop) → IsNoFault stop → HasCause before now stop
-no_fault_cause before now (stops.Header s) is = tt
-no_fault_cause before now (stops.Offset o) is = tt
-no_fault_cause before now (stops.Reserved t i) is = tt
-no_fault_cause before now (stops.Compressed c) is = tt
-no_fault_cause before now (stops.Overlap c) is = tt
-no_fault_cause before now (stops.Refcount c) is = tt
-no_fault_cause before now stops.HeaderFull is = tt
-no_fault_cause before now (stops.Io n) is = absurd is
-no_fault_cause before now stops.NoMemory is = tt
+-- behind a stop that names no failed call the count stands
+pub no_fault_cause : (before now : ℕ) (stop : ImageStop) → now ≡ before → IsNoFault stop → HasCause before now stop
+no_fault_cause before now (stops.Header s) quiet is = quiet
+no_fault_cause before now (stops.Offset o) quiet is = quiet
+no_fault_cause before now (stops.Reserved t i) quiet is = quiet
+no_fault_cause before now (stops.Compressed c) quiet is = quiet
+no_fault_cause before now (stops.Overlap c) quiet is = quiet
+no_fault_cause before now (stops.Refcount c) quiet is = quiet
+no_fault_cause before now stops.HeaderFull quiet is = quiet
+no_fault_cause before now (stops.Io n) quiet is = absurd is
+no_fault_cause before now stops.NoMemory quiet is = quiet
+
+-- a call that stopped behind one that was quiet
+pub cause_later : (before mid now : ℕ) (stop : ImageStop) → mid ≡ before → HasCause mid now stop → HasCause before now stop
+cause_later before mid now stop quiet cause = subst (λ (n : ℕ). HasCause n now stop) quiet cause

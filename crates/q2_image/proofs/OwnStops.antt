@@ -1,9 +1,9 @@
 -- A write in place, wherever it stops.
-use Rattle.std.proofs.Common.{◌≡◌, ◌≢◌, ℕ, ◌+◌, ◌*◌, ◌/◌, ◌%◌, ◌<◌, ◌≤◌, ◌⊎◌, inl, inr, List, [], ◌∷◌, ◌++◌, length, take, replicate, refl, sym, ap, subst, ◌∙◌, arith}
+use Rattle.std.proofs.Common.{◌≡◌, ℕ, ◌+◌, ◌*◌, ◌/◌, ◌%◌, ◌<◌, ◌≤◌, inl, inr, List, [], ◌∷◌, ◌++◌, length, take, replicate, refl, sym, subst, arith}
 use Rattle.std.proofs.lemmas.Bool.{cases_eq, eq-eqb, ne_eqb}
 use Rattle.std.proofs.lemmas.List.{length-take}
 use Rattle.std.proofs.Math.Seq.{take-length}
-use Rattle.blk_base.specs.Content.{Write, with_bytes, after_writes}
+use Rattle.blk_base.specs.Content.{with_bytes, after_writes}
 use Rattle.blk_base.specs.Pieces.{Extent}
 use Rattle.blk_base.specs.Writes.{write_of, AtEachStop}
 use Rattle.blk_base.proofs.WriteLists.{at_each_stop-none, at_each_stop-one, at_each_stop-sector, at_each_stop-then}
@@ -21,7 +21,7 @@ use Rattle.q2_image.proofs.Mapped.{below_words}
 use Rattle.q2_image.proofs.OwnTold.{IsOwnPlace, open_cleared, same_at}
 use Rattle.q2_image.proofs.OwnWrites.{disk_then, own_image, own_disk}
 
-same_disk_as : (file : List ℕ) → IsSameDisk file file
+pub same_disk_as : (file : List ℕ) → IsSameDisk file file
 same_disk_as file = record {
   size = refl;
   inside = λ backing i none below. absurd (omega arith);
@@ -32,11 +32,11 @@ cleared_same : (image : Known) → image.header.autoclear ≡ 0 → autocleared 
 cleared_same image none = rw none refl
 
 -- the file behind the write of the autoclear field
-record IsBehindClear (file mid : List ℕ) (image : Known) : Type 0 where
-  image_is : IsImageOf mid (autocleared image)
-  disk : IsSameDisk file mid
+pub record IsBehindClear (file mid : List ℕ) (image : Known) : Type 0 where
+  pub image_is : IsImageOf mid (autocleared image)
+  pub disk : IsSameDisk file mid
 
-behind_clear : (file : List ℕ) (image : Known) → IsImageOf file image → IsBehindClear file (after_writes file (clear_writes image)) image
+pub behind_clear : (file : List ℕ) (image : Known) → IsImageOf file image → IsBehindClear file (after_writes file (clear_writes image)) image
 behind_clear file image is = elim (cases_eq image.header.autoclear 0) [
   | inl none ↦
       let test = eq-eqb image.header.autoclear 0 none in

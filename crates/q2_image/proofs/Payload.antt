@@ -1,9 +1,14 @@
 -- A write into a host cluster in which no guest byte lies.
-use Rattle.std.proofs.Common.{◌≡◌, ◌≢◌, ℕ, ◌+◌, ◌*◌, ◌/◌, ◌%◌, ◌<◌, ◌≤◌, inl, inr, max, List, [], ◌∷◌, length, get_or, take, Option, Some, option_map, refl, sym, ap, subst, ◌∙◌, arith}
+use Rattle.std.proofs.Common.{◌≡◌, ◌≢◌, ℕ, ◌+◌, ◌*◌, ◌/◌, ◌%◌, ◌<◌, ◌≤◌, inl, inr, max, List, [], ◌∷◌, length, get_or, take, Option, Some, None, option_map, Result, Ok, Err, OnOk, refl, sym, ap, subst, ◌∙◌, arith}
 use Rattle.std.proofs.lemmas.Bool.{cases_eq}
-use Rattle.std.proofs.lemmas.List.{length-take}
-use Rattle.blk_base.specs.Content.{with_bytes, size_with}
+use Rattle.std.proofs.lemmas.List.{length-take, take_all}
+use Rattle.blk_base.specs.Content.{Write, with_bytes, size_with}
+use Rattle.blk_base.specs.Device.{IsMade, Wrote, Writes, stop_of}
+use Rattle.blk_base.specs.Writes.{write_of, first_bytes}
+use Rattle.blk_base.specs.declared.device.Device.{Ghosts}
+use Rattle.blk_base.specs.declared.fault.DevStop.{DevStop}
 use Rattle.blk_base.proofs.Contents.{length-with_bytes}
+use Rattle.blk_base.proofs.WriteLists.{cut-bytes}
 use Rattle.q2_format.specs.Bytes.{bytes_at}
 use Rattle.q2_format.specs.Header.{header_of}
 use Rattle.q2_format.specs.Sizes.{cluster_size}
@@ -139,5 +144,47 @@ told_written o n at bytes is whole file told =
     ap (bytes_at (with_bytes was.0 at bytes) at) (sym whole) ∙ bytes_at-written was.0 (with_bytes was.0 at bytes) at bytes (written_with was.0 at bytes) in
     subst P was.2 here
 
-pub part_short : (done : ℕ) (bytes : List ℕ) → length bytes ≤ 65536 → length (take done bytes) ≤ 65536
+part_short : (done : ℕ) (bytes : List ℕ) → length bytes ≤ 65536 → length (take done bytes) ≤ 65536
 part_short done bytes h = omega (arith, length-take done bytes, h)
+
+-- what is made of one write
+pub one_made : (stop : Option DevStop) (w : Write) (made : List Write) → IsMade stop (w ∷ []) made → (k : ℕ) × (made ≡ first_bytes k w ∷ [])
+one_made None w made is =
+    (length w.bytes, is ∙ ap (λ (bs : List ℕ). write_of w.offset bs ∷ []) (sym (take_all (length w.bytes) w.bytes (omega arith))))
+one_made (Some stop) w [] part = absurd part
+one_made (Some stop) w (m ∷ made) (inl (same, part)) = absurd part
+one_made (Some stop) w (m ∷ made) (inr (cut, none)) =
+    let bytes = cut-bytes stop w m cut in
+    (bytes.0, ap (λ (ms : List Write). m ∷ ms) none ∙ ap (λ (x : Write). x ∷ []) bytes.1)
+
+-- The same of one write, made or in part.
+module _ {D : Type 0} (g : Ghosts D) (image : Known) (at : ℕ) (bytes : List ℕ) (stop : Option DevStop) (a b : D) (writes : Writes g (write_of at bytes ∷ []) stop a b)
+    (of_image : (file : List ℕ) → g.content a ≡ Some file → IsImageOf file image) (ready : IsOpen image)
+    (idle : (file : List ℕ) → g.content a ≡ Some file → IsIdle 65536 file image at)
+    (whole : (file : List ℕ) → g.content a ≡ Some file → at % 65536 ≡ 0) (short : length bytes ≤ 65536) (small : at < 549755813888) where
+  first : (k : ℕ) × (writes.made ≡ first_bytes k (write_of at bytes) ∷ [])
+  first = one_made stop (write_of at bytes) writes.made writes.part
+
+  abbrev some : List ℕ
+  some = take first.0 bytes
+
+  content : g.content b ≡ option_map (λ f. with_bytes f at some) (g.content a)
+  content =
+      let wrote : Wrote g (first_bytes first.0 (write_of at bytes) ∷ []) a b = subst (λ (ws : List Write). Wrote g ws a b) first.1 writes.wrote in
+      wrote.content
+
+  pub image_written : (file : List ℕ) → g.content b ≡ Some file → IsImageOf file image
+  image_written = told_image (g.content a) (g.content b) image at some content of_image ready idle whole (part_short first.0 bytes short) small
+
+  pub disk_written : (old new : List ℕ) → g.content a ≡ Some old → g.content b ≡ Some new → IsSameDisk old new
+  disk_written = told_disk (g.content a) (g.content b) image at some content of_image ready idle whole (part_short first.0 bytes short) small
+
+  pub spare_written : (old new : List ℕ) (k : ℕ) → g.content a ≡ Some old → g.content b ≡ Some new → IsSpare old k → IsSpare new k
+  spare_written = told_spare (g.content a) (g.content b) image at some content of_image ready idle whole (part_short first.0 bytes short) small
+
+pub bytes_written : {D : Type 0} (g : Ghosts D) (at : ℕ) (bytes : List ℕ) (r : Result (Unit {0}) DevStop) (a b : D) → Writes g (write_of at bytes ∷ []) (stop_of r) a b
+    → length bytes ≡ 65536 → OnOk r ((file : List ℕ) → g.content b ≡ Some file → bytes_at file at 65536 ≡ bytes)
+bytes_written g at bytes (Ok done) a b writes whole =
+    let wrote : Wrote g (write_of at bytes ∷ []) a b = subst (λ (ws : List Write). Wrote g ws a b) writes.part writes.wrote in
+    told_written (g.content a) (g.content b) at bytes wrote.content whole
+bytes_written g at bytes (Err stop) a b writes whole = tt

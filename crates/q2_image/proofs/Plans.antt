@@ -300,7 +300,7 @@ module _ (zeroth first second : Known) (cluster table host capacity : ℕ) (put 
       let P : Known → Type 0 = λ k. needs_host k cluster ≡ true → CanTake k 0 capacity in
       subst P (sym put.first_is) (can_host zeroth cluster capacity put.ready put.fits)
 
-  host_for_it : host ≡ host_for zeroth cluster
+  pub host_for_it : host ≡ host_for zeroth cluster
   host_for_it = put.host_is ∙ ap (λ (k : Known). next_host k cluster) put.first_is ∙ host_stays zeroth cluster capacity put.ready put.fits
 
   pub host_facts : IsHostOffset first cluster host capacity

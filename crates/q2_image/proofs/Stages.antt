@@ -1,5 +1,5 @@
 -- The writes that make an image, one behind the other.
-use Rattle.std.proofs.Common.{◌≡◌, ℕ, Bool, false, option_map, zero, suc, ◌+◌, ◌<◌, List, [], ◌∷◌, ◌++◌, length, get_or, replicate, Option, Some, None, Result, Ok, Err, refl, sym, ap, subst, ◌∙◌, arith, length-append}
+use Rattle.std.proofs.Common.{◌≡◌, ℕ, Bool, false, option_map, suc, ◌+◌, ◌<◌, List, [], ◌∷◌, ◌++◌, length, get_or, replicate, Option, Some, None, Err, refl, sym, subst, ◌∙◌, arith, length-append}
 use Rattle.std.proofs.lemmas.List.{ext_get_or, get_or-replicate, length-replicate}
 use Rattle.blk_base.specs.Content.{Write}
 use Rattle.blk_base.specs.Device.{Writes}

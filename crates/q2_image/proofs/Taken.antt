@@ -53,7 +53,7 @@ ready_block r i = record {
   first = first_set r.counts (place_of_block r i);
 }
 
-ready_same : (r : refs.Kept) → StaysReady r r
+pub ready_same : (r : refs.Kept) → StaysReady r r
 ready_same r = record { cluster_bits = refl; refcount_order = refl; table = refl; reach = refl; first = λ some. some }
 
 pub ready_block_for : (r : refs.Kept) (n : ℕ) → StaysReady r (with_block_for r n)

@@ -157,6 +157,6 @@ pub ok_reach_at : (result : Result Known ImageStop) (n m : ℕ) → n ≡ m → 
     → IfOk result (λ image. length image.refs.counts ≡ reach_of image.header m)
 ok_reach_at result n m same is = let P : ℕ → Type 0 = λ k. IfOk result (λ image. length image.refs.counts ≡ reach_of image.header k) in subst P same is
 
-pub err_cause : (before now : ℕ) (result : Result Known ImageStop) → IfErr result IsNoFault → IfErr result (HasCause before now)
-err_cause before now (Ok image) is = tt
-err_cause before now (Err stop) is = no_fault_cause before now stop is
+pub err_cause : (before now : ℕ) (result : Result Known ImageStop) → now ≡ before → IfErr result IsNoFault → IfErr result (HasCause before now)
+err_cause before now (Ok image) quiet is = tt
+err_cause before now (Err stop) quiet is = no_fault_cause before now stop quiet is

@@ -1,7 +1,7 @@
 -- Creating an image: why it stops, and what it changes on the device.
 use Rattle.std.specs.Prelude.{◌≡◌, ◌⊎◌, ℕ, zero, suc, ◌<◌, ◌≤◌, Bool, true, false, List, [], ◌∷◌, ◌++◌, length, slice_index, take, drop, replicate, Option, Some, None, is_some, Result, Ok, Err, codes, decimal}
 use Rattle.std.specs.Option.{option_map}
-use Rattle.blk_base.specs.Content.{Write}
+use Rattle.blk_base.specs.Content.{Write, after_writes}
 use Rattle.blk_base.specs.Counts.{Rose}
 use Rattle.blk_base.specs.Device.{Untouched, Writes}
 use Rattle.blk_base.specs.Writes.{write_of}
@@ -10,6 +10,8 @@ use Rattle.blk_base.specs.declared.fault.DevStop.{DevStop}
 use Rattle.blk_base.specs.declared.fault.DevStop.TheVariants as device
 use Rattle.q2_format.specs.Bytes.{bytes_at}
 use Rattle.q2_format.specs.Created.{Creation, AreZeros, HasCreatedHeader, HasCreatedTable, HasCreatedCounts}
+use Rattle.q2_format.specs.Sound.{InHeader, image_refusal}
+use Rattle.q2_format.specs.declared.header.HeaderStop.TheVariants.{Magic}
 use Rattle.q2_format.specs.declared.layout.TheConstants.{CREATED_L1_TABLE, CREATED_REFCOUNT_BLOCK, CREATED_REFCOUNT_TABLE}
 use Rattle.q2_format.specs.declared.header.Place.{Place}
 use Rattle.q2_image.specs.declared.create.CreateStop.{CreateStop}
@@ -95,6 +97,11 @@ pub record MakesStages {D : Type 0} (g : Ghosts D) (new : Creation) (from count 
   pub stages : AreStages new from ws
   pub all : stop ≡ None → length ws ≡ count
   pub writes : Writes g ws stop before now
+
+-- wherever it is stopped, the file is as before or no image, until all of its writes are made
+abbrev pub IsBeforeOrNone : List Write → List ℕ → List ℕ → Type 0
+IsBeforeOrNone ws before now =
+    (now ≡ before) ⊎ ((image_refusal now ≡ Some (InHeader Magic)) ⊎ (now ≡ after_writes before ws))
 
 -- what the creation of an image leaves of a device
 abbrev pub MakesImage : {A D : Type 0} → Ghosts D → Creation → Result A CreateStop → D → D → Type 0

@@ -35,17 +35,18 @@ abbrev pub Judges : {A : Type 0} → Option Refusal → Result A ImageStop → T
 Judges refusal (Ok a) = refusal ≡ None
 Judges refusal (Err stop) = Names refusal stop
 
--- a failed read is answered only where the device's count rose, and names the count
+-- A failed read is answered only where the device's count rose, and names the count; behind every other stop the count
+-- stands, so no fault is hidden.
 abbrev pub HasCause : ℕ → ℕ → ImageStop → Type 0
-HasCause before now (HeaderStops stop) = Unit {0}
-HasCause before now (Offset offset) = Unit {0}
-HasCause before now (Reserved table index) = Unit {0}
-HasCause before now (Compressed cluster) = Unit {0}
-HasCause before now (Overlap cluster) = Unit {0}
-HasCause before now (Refcount cluster) = Unit {0}
-HasCause before now HeaderFull = Unit {0}
+HasCause before now (HeaderStops stop) = now ≡ before
+HasCause before now (Offset offset) = now ≡ before
+HasCause before now (Reserved table index) = now ≡ before
+HasCause before now (Compressed cluster) = now ≡ before
+HasCause before now (Overlap cluster) = now ≡ before
+HasCause before now (Refcount cluster) = now ≡ before
+HasCause before now HeaderFull = now ≡ before
 HasCause before now (Io count) = Rose before count × (count ≡ now)
-HasCause before now NoMemory = Unit {0}
+HasCause before now NoMemory = now ≡ before
 
 -- a stop that names no failed call
 abbrev pub IsNoFault : ImageStop → Type 0

@@ -3,7 +3,6 @@ use Rattle.std.specs.Prelude.{◌≡◌, ◌≢◌, ◌⊎◌, ℕ, ◌+◌, ◌
 use Rattle.blk_base.specs.Counts.{Rose}
 use Rattle.blk_base.specs.Pieces.{Extent}
 use Rattle.blk_base.specs.declared.device.WriteStop.{WriteStop}
-use Rattle.blk_base.specs.declared.device.Stop.{Stop}
 use Rattle.blk_base.specs.declared.device.Stop.TheVariants as why
 use Rattle.blk_base.specs.declared.fault.DevStop.{DevStop}
 use Rattle.blk_base.specs.declared.fault.DevStop.TheVariants.{Io, NoSpace}
@@ -172,11 +171,6 @@ pub record PutFits (image : Known) (cluster capacity : ℕ) : Type 0 where
   pub entry : ZeroFits image cluster capacity
   pub host : needs_host image cluster ≡ true → CanTake image (if needs_table image cluster then 1 else 0) capacity
   pub payload : host_for image cluster + cluster_size_in image ≤ capacity
-
--- what a device's stop is to the caller
-abbrev pub stop_told : Stop → ℕ → DevStop
-stop_told why.Failed count = Io count
-stop_told why.NoSpace count = NoSpace
 
 -- a call of the device failed, whose count rose and is named
 abbrev pub IsFault : ℕ → ℕ → DevStop → Type 0

@@ -8,8 +8,8 @@ ghost use Rattle.q2_format.specs.Entry.{host_of, is_single};
 ghost use Rattle.q2_format.specs.declared.entries.L2Entry.TheVariants.{Zero, Host};
 ghost use Rattle.q2_image.specs.Image.{IsImageOf, IsOpen, clusters_in, cluster_size_in, word_in, entry_in};
 ghost use Rattle.q2_image.specs.Reading.{IsHost, IsWithinCluster};
-ghost use Rattle.blk_base.specs.Device.{AtEachStopOf};
-ghost use Rattle.q2_image.specs.Made.{own_writes, WroteOwn, UnlessFull, IsOwnPart};
+ghost use Rattle.blk_base.specs.Device.{AtEachStopOf, stop_of};
+ghost use Rattle.q2_image.specs.Made.{ChangesImage, IsOldOrWith, MakesSteps, put_steps, put_writes, zero_steps, zero_writes, own_writes, WroteOwn, UnlessFull, IsOwnPart};
 ghost use Rattle.q2_image.specs.Writing.{IsDiskWith, IsSameDisk, HasEntriesBut, StaysTaken, IsSpelled, AreClusterZeros, PutFits, ZeroFits, needs_host, HasWriteCause, IsFault, IsOwnStop, IsFailedOwn, own_place, own_end, autoclear_end, autocleared, ClearsFirst, HasHeaderOf};
 
 use crate::image::Image;
@@ -36,6 +36,9 @@ impl Image {
         requires image { (file : List ℕ) → D.content dev.old ≡ Some file → IsImageOf file self.old }
 
         // the image
+        ensures changes { ChangesImage D.Device self.old (put_steps self.old cluster bytes.now) result self.new dev.old dev.new }
+        ensures stops { PutFits self.old cluster (D.capacity dev.old) → AtEachStopOf D.Device (IsOldOrWith (cluster * cluster_size_in self.old) bytes.now)
+            (put_writes self.old cluster bytes.now) dev.old }
         ensures mapped { OnOk result (IsHost (entry_in self.new cluster)) }
         ensures spelled { OnOk result (IsSpelled self.new cluster) }
         ensures single { OnOk result (needs_host self.old cluster ≡ true → is_single (word_in self.new cluster) ≡ true) }
@@ -73,6 +76,9 @@ impl Image {
         requires image { (file : List ℕ) → D.content dev.old ≡ Some file → IsImageOf file self.old }
 
         // the image
+        ensures changes { ChangesImage D.Device self.old (zero_steps self.old cluster) result self.new dev.old dev.new }
+        ensures stops { ZeroFits self.old cluster (D.capacity dev.old) → (zeros : List ℕ) → AreClusterZeros (cluster_size_in self.old) zeros
+            → AtEachStopOf D.Device (IsOldOrWith (cluster * cluster_size_in self.old) zeros) (zero_writes self.old cluster) dev.old }
         ensures mapped { OnOk result (entry_in self.new cluster ≡ Zero (host_of (entry_in self.old cluster))) }
         ensures spelled { OnOk result (IsSpelled self.new cluster) }
         ensures unmapped { OnErr result (word_in self.new cluster ≡ word_in self.old cluster) }
@@ -126,6 +132,7 @@ impl Image {
         // why each answer comes
         ensures fits { OnOk result (own_end self.old span ≤ D.capacity dev.old) }
         ensures stop { IfErr result (IsOwnStop (own_place self.old span) (own_end self.old span) (D.capacity dev.old) (length bytes.now) (D.faults dev.old) (D.faults dev.new)) }
+        ensures quiet { OnOk result (D.faults dev.new ≡ D.faults dev.old) }
         ensures untouched { IfErr result (λ stop. stop.why ≡ why.NoSpace → (self.new ≡ self.old) × (D.content dev.new ≡ D.content dev.old)
             × (D.log dev.new ≡ D.log dev.old) × (D.is_flushed dev.new ≡ D.is_flushed dev.old) × (D.size dev.new ≡ D.size dev.old)
             × (D.faults dev.new ≡ D.faults dev.old)) }
@@ -151,6 +158,7 @@ impl Image {
         ensures known { self.new ≡ self.old }
         ensures flushed { D.is_flushed dev.new ≡ option_map (λ f. is_ok result || f) (D.is_flushed dev.old) }
         ensures cause { IfErr result (IsFault (D.faults dev.old) (D.faults dev.new)) }
+        ensures quiet { OnOk result (D.faults dev.new ≡ D.faults dev.old) }
         ensures content { D.content dev.new ≡ D.content dev.old }
         ensures size { D.size dev.new ≡ D.size dev.old }
         ensures capacity { D.capacity dev.new ≡ D.capacity dev.old }
@@ -177,6 +185,7 @@ impl Image {
         requires whole { length bytes.now ≡ 65536 }
         requires fits { PutFits self.old cluster (D.capacity dev.old) }
         requires image { (file : List ℕ) → D.content dev.old ≡ Some file → IsImageOf file self.old }
+        ensures steps { MakesSteps D.Device self.old (put_steps self.old cluster bytes.now) (stop_of result) self.new dev.old dev.new }
         ensures mapped { OnOk result (IsHost (entry_in self.new cluster)) }
         ensures spelled { OnOk result (IsSpelled self.new cluster) }
         ensures single { OnOk result (needs_host self.old cluster ≡ true → is_single (word_in self.new cluster) ≡ true) }
@@ -204,6 +213,7 @@ impl Image {
         requires below { cluster < length self.old.tables.words }
         requires fits { ZeroFits self.old cluster (D.capacity dev.old) }
         requires image { (file : List ℕ) → D.content dev.old ≡ Some file → IsImageOf file self.old }
+        ensures steps { MakesSteps D.Device self.old (zero_steps self.old cluster) (stop_of result) self.new dev.old dev.new }
         ensures mapped { OnOk result (entry_in self.new cluster ≡ Zero (host_of (entry_in self.old cluster))) }
         ensures spelled { OnOk result (IsSpelled self.new cluster) }
         ensures unmapped { OnErr result (word_in self.new cluster ≡ word_in self.old cluster) }
@@ -246,6 +256,7 @@ impl Image {
         ensures disk { (old new : List ℕ) → D.content dev.old ≡ Some old → D.content dev.new ≡ Some new → IsDiskWith old new span.start (taken result bytes.now) }
         ensures wrote { WroteOwn D.Device self.old self.new span (taken result bytes.now) dev.old dev.new }
         ensures stop { IfErr result (IsFailedOwn place (length bytes.now) (D.faults dev.old) (D.faults dev.new)) }
+        ensures quiet { OnOk result (D.faults dev.new ≡ D.faults dev.old) }
         ensures told { is_some (D.content dev.new) ≡ is_some (D.content dev.old) }
         ensures faults { D.faults dev.old ≤ D.faults dev.new }
         ensures capacity { D.capacity dev.new ≡ D.capacity dev.old }

@@ -1,6 +1,6 @@
 //! Loading the refcounts of an image, and refusing a cluster that is named and not counted.
 
-ghost use Rattle.std.specs.Prelude.{◌≡◌, ◌≤◌, ◌+◌, ◌*◌, ◌<◌, ◌^◌, ℕ, List, length, Some, None, Option, IfOk, IfErr, IfSome};
+ghost use Rattle.std.specs.Prelude.{◌≡◌, ◌≤◌, ◌+◌, ◌*◌, ◌<◌, ◌^◌, ℕ, List, length, Some, None, Option, IfOk, IfErr, IfSome, OnOk};
 ghost use Rattle.q2_format.specs.Header.{CanBeRead, IsWithinLimits};
 ghost use Rattle.q2_format.specs.Sound.{lowest};
 ghost use Rattle.q2_format.specs.References.{cluster_bound, reach_of};
@@ -66,6 +66,7 @@ pub(crate) fn load_ref_table<D: Device>(
         → IfSome (refusal_of stop) (IsBlockStop file header.now (D.size dev.old))) }
     ensures read { IfOk result (IsRead header.now (D.size dev.old)) }
     ensures cause { IfErr result (HasCause (D.faults dev.old) (D.faults dev.new)) }
+    ensures quiet { OnOk result (D.faults dev.new ≡ D.faults dev.old) }
     ensures content { D.content dev.new ≡ D.content dev.old }
     ensures size { D.size dev.new ≡ D.size dev.old }
     ensures capacity { D.capacity dev.new ≡ D.capacity dev.old }
@@ -100,6 +101,7 @@ pub(crate) fn load_refcounts<D: Device>(
     ensures table { IfOk result (λ refs. refs.table ≡ table.items) }
     ensures stop { IfErr result (λ stop. refusal_of stop ≡ None) }
     ensures cause { IfErr result (HasCause (D.faults dev.old) (D.faults dev.new)) }
+    ensures quiet { OnOk result (D.faults dev.new ≡ D.faults dev.old) }
     ensures content { D.content dev.new ≡ D.content dev.old }
     ensures size { D.size dev.new ≡ D.size dev.old }
     ensures capacity { D.capacity dev.new ≡ D.capacity dev.old }

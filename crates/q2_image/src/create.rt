@@ -12,9 +12,10 @@ ghost use Rattle.q2_format.specs.Sound.{image_refusal, IsSound, InHeader};
 ghost use Rattle.q2_format.specs.declared.entries.L2Entry.TheVariants.{Unallocated};
 ghost use Rattle.q2_format.specs.declared.header.HeaderStop.TheVariants.{Magic};
 ghost use Rattle.q2_format.specs.declared.header.TheConstants.{MAX_DISK_SIZE, MAX_FILE_CLUSTERS};
-ghost use Rattle.blk_base.specs.Device.{Writes};
+ghost use Rattle.blk_base.specs.Content.{Write};
+ghost use Rattle.blk_base.specs.Device.{AtEachStopOf, Writes};
 ghost use Rattle.blk_base.specs.Writes.{write_of};
-ghost use Rattle.q2_image.specs.Creating.{CreateAnswers, wrote, IsFailedCall, ChangesWithin, LacksHeader, text_at, call_stop, MakesStages, MakesImage};
+ghost use Rattle.q2_image.specs.Creating.{AreStages, CreateAnswers, IsBeforeOrNone, wrote, IsFailedCall, ChangesWithin, LacksHeader, text_at, call_stop, MakesStages, MakesImage};
 ghost use Rattle.q2_image.specs.Guest.{file_entry};
 
 use crate::header::cluster_buffer;
@@ -272,6 +273,8 @@ pub fn create_image<D: Device>(
 
     // the device
     ensures writes { MakesImage D.Device (creation_of size (option_copied name.entry) (option_copied format.entry)) result dev.old dev.new }
+    ensures stops { (ws : List Write) → AreStages (creation_of size (option_copied name.entry) (option_copied format.entry)) 0 ws
+        → length ws ≡ 6 → AtEachStopOf D.Device (IsBeforeOrNone ws) ws dev.old }
     ensures behind { let end = created_length (creation_of size (option_copied name.entry) (option_copied format.entry))
         in ChangesWithin (D.content dev.old) (D.content dev.new) 0 end }
     ensures unfinished { OnErr result ((D.content dev.new ≡ D.content dev.old)

@@ -1,15 +1,17 @@
 //! Reading and judging an image's header.
 
-ghost use Rattle.std.specs.Prelude.{◌≡◌, ◌≤◌, ◌+◌, ◌<◌, ◌^◌, ℕ, Bool, false, List, length, Some, None, Option, IfOk, IfErr, IfSome};
+ghost use Rattle.std.specs.Prelude.{◌≡◌, ◌≤◌, ◌+◌, ◌<◌, ◌^◌, ℕ, Bool, false, List, length, Some, None, Option, Err, IfOk, IfErr, IfSome, OnOk};
 ghost use Rattle.blk_base.specs.Content.{bytes_at};
 ghost use Rattle.q2_format.specs.Sizes.{cluster_size};
 ghost use Rattle.q2_format.specs.Header.{header_of, header_refusal, IsWithinLimits, CanBeRead};
 ghost use Rattle.q2_format.specs.Sound.{is_misplaced};
+ghost use Rattle.q2_format.specs.declared.header.HeaderStop.TheVariants.{Short};
+ghost use Rattle.q2_format.specs.declared.header.TheConstants.{MIN_HEADER_LENGTH};
 ghost use Rattle.q2_image.specs.Opening.{Judges, HasCause, IsNoFault, refusal_of, header_stops, place_stops};
 
 use crate::stop::ImageStop;
 use blk_base::{Device, NoMemory};
-use q2_format::{Header, read_header};
+use q2_format::{Header, HeaderStop, MIN_HEADER_LENGTH, read_header};
 use std::alloc::Global;
 
 /// The bytes of a cluster.
@@ -27,6 +29,7 @@ fn read_first_cluster<D: Device>(alloc: Global, dev: &mut D) -> Result<Vec<u8>, 
     ensures read { IfOk result (λ cluster. (file : List ℕ) → D.content dev.old ≡ Some file → cluster.items ≡ bytes_at file 0 65536) }
     ensures stop { IfErr result (λ stop. refusal_of stop ≡ None) }
     ensures cause { IfErr result (HasCause (D.faults dev.old) (D.faults dev.new)) }
+    ensures quiet { OnOk result (D.faults dev.new ≡ D.faults dev.old) }
     ensures content { D.content dev.new ≡ D.content dev.old }
     ensures size { D.size dev.new ≡ D.size dev.old }
     ensures capacity { D.capacity dev.new ≡ D.capacity dev.old }
@@ -43,14 +46,16 @@ fn read_first_cluster<D: Device>(alloc: Global, dev: &mut D) -> Result<Vec<u8>, 
     }
 }
 
-/// The header of the image on a device, or why it is refused.
-#[tactic(auto, using(crate::proofs::FirstCluster::refused_alike, crate::proofs::FirstCluster::accepted_alike, crate::proofs::FirstCluster::header_alike))]
+/// The header of the image on a device, or why it is refused. A file that is too short for one isn't read.
+#[tactic(auto, using(crate::proofs::FirstCluster::short_refused, crate::proofs::FirstCluster::refused_alike, crate::proofs::FirstCluster::accepted_alike, crate::proofs::FirstCluster::header_alike))]
 pub(crate) fn open_header<D: Device>(alloc: Global, dev: &mut D) -> Result<Header, ImageStop>
     ensures judged { (file : List ℕ) → D.content dev.old ≡ Some file → Judges (header_stops file (D.size dev.old)) result }
     ensures header { IfOk result (λ h. (file : List ℕ) → D.content dev.old ≡ Some file → header_of file ≡ h) }
     ensures limits { IfOk result (λ h. IsWithinLimits h (D.size dev.old)) }
     ensures readable { IfOk result (λ h. CanBeRead h (D.size dev.old)) }
+    ensures short { D.size dev.old < MIN_HEADER_LENGTH → result ≡ Err (ImageStop.Header Short) }
     ensures cause { IfErr result (HasCause (D.faults dev.old) (D.faults dev.new)) }
+    ensures quiet { OnOk result (D.faults dev.new ≡ D.faults dev.old) }
     ensures content { D.content dev.new ≡ D.content dev.old }
     ensures size { D.size dev.new ≡ D.size dev.old }
     ensures capacity { D.capacity dev.new ≡ D.capacity dev.old }
@@ -58,8 +63,12 @@ pub(crate) fn open_header<D: Device>(alloc: Global, dev: &mut D) -> Result<Heade
     ensures log { D.log dev.new ≡ D.log dev.old }
     ensures faults { D.faults dev.old ≤ D.faults dev.new }
 {
+    let len = dev.length();
+    if len < u64::from(MIN_HEADER_LENGTH) {
+        return Err(ImageStop::Header(HeaderStop::Short));
+    }
     let cluster = read_first_cluster(alloc, dev)?;
-    match read_header(&cluster, dev.length()) {
+    match read_header(&cluster, len) {
         Ok(header) => Ok(header),
         Err(stop) => Err(ImageStop::Header(stop)),
     }

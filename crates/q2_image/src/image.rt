@@ -96,6 +96,7 @@ impl Image {
         ensures read { OnOk result ((file backing : List ℕ) → D.content dev.old ≡ Some file → IsImageOf file self.now
             → buf.new ≡ guest_bytes file backing span.start span.len) }
         ensures cause { IfErr result (HasReadCause (D.faults dev.old) (D.faults dev.new)) }
+        ensures quiet { OnOk result (D.faults dev.new ≡ D.faults dev.old) }
         ensures content { D.content dev.new ≡ D.content dev.old }
         ensures size { D.size dev.new ≡ D.size dev.old }
         ensures capacity { D.capacity dev.new ≡ D.capacity dev.old }

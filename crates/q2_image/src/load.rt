@@ -1,6 +1,6 @@
 //! Loading the refcount table and the mapping's tables of an image, and which of their refusals comes first.
 
-ghost use Rattle.std.specs.Prelude.{◌≡◌, ◌≤◌, ℕ, List, Some, None, Option, IfOk, IfErr};
+ghost use Rattle.std.specs.Prelude.{◌≡◌, ◌≤◌, ℕ, List, Some, None, Option, IfOk, IfErr, OnOk};
 ghost use Rattle.q2_format.specs.Header.{CanBeRead};
 ghost use Rattle.q2_format.specs.Sizes.{cluster_size};
 ghost use Rattle.q2_format.specs.Tables.{active_tree, refcount_table};
@@ -95,6 +95,7 @@ fn load_behind<D: Device>(
     ensures has_table { IfOk result (λ both. IsTableRead header.now (D.size dev.old) both.0.items) }
     ensures has_tables { IfOk result (λ both. IsLoaded header.now (D.size dev.old) both.1) }
     ensures cause { IfErr result (HasCause (D.faults dev.old) (D.faults dev.new)) }
+    ensures quiet { OnOk result (D.faults dev.new ≡ D.faults dev.old) }
     ensures content { D.content dev.new ≡ D.content dev.old }
     ensures size { D.size dev.new ≡ D.size dev.old }
     ensures capacity { D.capacity dev.new ≡ D.capacity dev.old }
@@ -128,6 +129,7 @@ pub(crate) fn load<D: Device>(
     ensures has_table { IfOk result (λ both. IsTableRead header.now (D.size dev.old) both.0.items) }
     ensures has_tables { IfOk result (λ both. IsLoaded header.now (D.size dev.old) both.1) }
     ensures cause { IfErr result (HasCause (D.faults dev.old) (D.faults dev.new)) }
+    ensures quiet { OnOk result (D.faults dev.new ≡ D.faults dev.old) }
     ensures content { D.content dev.new ≡ D.content dev.old }
     ensures size { D.size dev.new ≡ D.size dev.old }
     ensures capacity { D.capacity dev.new ≡ D.capacity dev.old }

@@ -1,6 +1,6 @@
 //! Opening an image: its header, its tables, and what they name.
 
-ghost use Rattle.std.specs.Prelude.{◌≡◌, ◌^◌, ◌<◌, ◌≤◌, ℕ, List, length, take, Some, None, IfOk, IfErr};
+ghost use Rattle.std.specs.Prelude.{◌≡◌, ◌^◌, ◌<◌, ◌≤◌, ℕ, List, length, take, Some, None, Err, IfOk, IfErr, OnOk};
 ghost use Rattle.q2_format.specs.Header.{CanBeRead, IsWithinLimits, refused_where};
 ghost use Rattle.q2_format.specs.References.{cluster_bound, reach_of};
 ghost use Rattle.q2_format.specs.Sound.{image_refusal, is_header_full, HeaderFull};
@@ -9,6 +9,8 @@ ghost use Rattle.q2_image.specs.Opening.{Judges, HasCause, IsNoFault, ArePlaced,
 ghost use Rattle.q2_image.specs.Seen.{IsSeen};
 ghost use Rattle.q2_image.specs.Loading.{counts_loaded, HasCounts, IsTableRead, IsReadFrom};
 ghost use Rattle.q2_image.specs.Image.{IsImageOf, IsOpen};
+ghost use Rattle.q2_format.specs.declared.header.HeaderStop.TheVariants.{Short};
+ghost use Rattle.q2_format.specs.declared.header.TheConstants.{MIN_HEADER_LENGTH};
 
 use crate::counting::{check_counted, load_refcounts, reach};
 use crate::header::{check_places, cluster_size, open_header};
@@ -123,6 +125,7 @@ fn open_tables<D: Device>(
     ensures image { IfOk result (λ image. (file : List ℕ) → D.content dev.old ≡ Some file → IsImageOf file image) }
     ensures reach { IfOk result (λ image. length image.refs.counts ≡ reach_of image.header (D.size dev.old)) }
     ensures cause { IfErr result (HasCause (D.faults dev.old) (D.faults dev.new)) }
+    ensures quiet { OnOk result (D.faults dev.new ≡ D.faults dev.old) }
     ensures content { D.content dev.new ≡ D.content dev.old }
     ensures size { D.size dev.new ≡ D.size dev.old }
     ensures capacity { D.capacity dev.new ≡ D.capacity dev.old }
@@ -149,9 +152,12 @@ pub fn open_image<D: Device>(alloc: Global, dev: &mut D) -> Result<Image, ImageS
     ensures image { IfOk result (λ image. (file : List ℕ) → D.content dev.old ≡ Some file → IsImageOf file image) }
     ensures reach { IfOk result (λ image. length image.refs.counts ≡ reach_of image.header (D.size dev.old)) }
     ensures open { IfOk result IsOpen }
+    // a file that is too short for a header isn't read
+    ensures short { D.size dev.old < MIN_HEADER_LENGTH → result ≡ Err (ImageStop.Header Short) }
 
     // the device
     ensures cause { IfErr result (HasCause (D.faults dev.old) (D.faults dev.new)) }
+    ensures quiet { OnOk result (D.faults dev.new ≡ D.faults dev.old) }
     ensures content { D.content dev.new ≡ D.content dev.old }
     ensures size { D.size dev.new ≡ D.size dev.old }
     ensures capacity { D.capacity dev.new ≡ D.capacity dev.old }

@@ -1,7 +1,9 @@
 //! Writing an image: taking clusters, writing what they hold, and mapping guest clusters to them.
 
-ghost use Rattle.std.specs.Prelude.{◌≡◌, ◌≢◌, ◌↔◌, ◌⊎◌, ◌+◌, ◌*◌, ◌/◌, ◌%◌, ◌<◌, ◌≤◌, ℕ, List, [], length, Some, is_some, IsTrue, true, IfOk, IfErr, OnOk, OnErr};
+ghost use Rattle.std.specs.Prelude.{◌≡◌, ◌≢◌, ◌↔◌, ◌⊎◌, ◌+◌, ◌*◌, ◌/◌, ◌%◌, ◌<◌, ◌≤◌, ℕ, List, [], ◌∷◌, length, Some, is_some, IsTrue, true, IfOk, IfErr, OnOk, OnErr};
 ghost use Rattle.blk_base.specs.Counts.{taken};
+ghost use Rattle.blk_base.specs.Device.{Writes, stop_of};
+ghost use Rattle.blk_base.specs.Writes.{write_of};
 ghost use Rattle.q2_format.specs.Bytes.{bytes_at};
 ghost use Rattle.q2_format.specs.declared.entries.L2Entry.TheVariants.{Zero};
 ghost use Rattle.q2_format.specs.Header.{header_of};
@@ -12,24 +14,15 @@ ghost use Rattle.q2_format.specs.Entry.{IsWritable, host_of, is_single};
 ghost use Rattle.q2_tables.specs.Entries.{entry_of};
 ghost use Rattle.q2_tables.specs.Linking.{CanLink, link_end};
 ghost use Rattle.q2_image.specs.Image.{IsImageOf, IsOpen, clusters_in, cluster_size_in, word_in, entry_in};
+ghost use Rattle.q2_image.specs.Made.{MakesSteps, take_steps, table_steps, host_steps, entry_steps, fill_steps, clean_steps};
 ghost use Rattle.q2_image.specs.Reading.{IsHost, IsWithinCluster};
-ghost use Rattle.q2_image.specs.Writing.{stop_told, IsDiskWith, IsSameDisk, HasEntriesBut, StaysTaken, IsSpelled, counts_once, IsSpare, IsIdle, MayName, Shows, PutFits, ZeroFits, AreClusterZeros, CanTake, IsFault, HasSameEntries, taken_at, after_take, needs_table, needs_host, idle_host, next_host, table_for, with_table, with_host};
+ghost use Rattle.q2_image.specs.Writing.{IsDiskWith, IsSameDisk, HasEntriesBut, StaysTaken, IsSpelled, counts_once, IsSpare, IsIdle, MayName, Shows, PutFits, ZeroFits, AreClusterZeros, CanTake, IsFault, HasSameEntries, taken_at, after_take, needs_table, needs_host, idle_host, next_host, table_for, with_table, with_host};
 
 use crate::header::cluster_size;
 use crate::image::Image;
-use blk_base::{DevStop, Device, Stop};
+use blk_base::{DevStop, Device, write};
 use q2_refs::RefStop;
 use q2_tables::Mapping;
-
-/// The stop of a write, with the count of faults behind it.
-fn stopped(why: Stop, count: u64) -> DevStop
-    ensures { result ≡ stop_told why count }
-{
-    match why {
-        Stop::Failed => DevStop::Io { count },
-        Stop::NoSpace => DevStop::NoSpace,
-    }
-}
 
 /// The offset of a mapping's host cluster, 0 for none.
 fn host_of(mapping: Mapping) -> u64
@@ -56,6 +49,7 @@ impl Image {
     fn take_cluster<D: Device>(&mut self, dev: &mut D) -> Result<u64, DevStop>
         requires can { CanTake self.old 0 (D.capacity dev.old) }
         requires image { (file : List ℕ) → D.content dev.old ≡ Some file → IsImageOf file self.old }
+        ensures steps { MakesSteps D.Device self.old (take_steps self.old) (stop_of result) self.new dev.old dev.new }
         ensures offset { IfOk result (λ offset. offset ≡ taken_at self.old 0) }
         ensures ok { OnOk result (self.new ≡ record self.old { refs = after_take self.old.refs }) }
         ensures err { OnErr result ((self.new ≡ self.old) ⊎ (self.new ≡ record self.old { refs = with_block_for self.old.refs (free_cluster self.old.refs 0) })) }
@@ -87,6 +81,7 @@ impl Image {
         requires fits { host + 65536 ≤ D.capacity dev.old }
         requires image { (file : List ℕ) → D.content dev.old ≡ Some file → IsImageOf file self.now }
         requires idle { (file : List ℕ) → D.content dev.old ≡ Some file → IsIdle 65536 file self.now host }
+        ensures writes { Writes D.Device (write_of host bytes.now ∷ []) (stop_of result) dev.old dev.new }
         ensures written { OnOk result ((file : List ℕ) → D.content dev.new ≡ Some file → bytes_at file host 65536 ≡ bytes.now) }
         ensures reaches { OnOk result (host + 65536 ≤ D.size dev.new) }
         ensures spare_stay { (old new : List ℕ) (n : ℕ) → D.content dev.old ≡ Some old → D.content dev.new ≡ Some new → IsSpare old n → IsSpare new n }
@@ -97,10 +92,7 @@ impl Image {
         ensures faults { D.faults dev.old ≤ D.faults dev.new }
         ensures capacity { D.capacity dev.new ≡ D.capacity dev.old }
     {
-        match dev.write_at(host, bytes) {
-            Ok(()) => Ok(()),
-            Err(stop) => Err(stopped(stop.why, dev.faults())),
-        }
+        write(dev, host, bytes)
     }
 
     /// Writes the L2 entry of a guest cluster, and a new L2 table with it where `table` isn't 0. Bit 63 is set
@@ -122,6 +114,7 @@ impl Image {
         requires image { (file : List ℕ) → D.content dev.old ≡ Some file → IsImageOf file self.old }
         requires spare { (file : List ℕ) → D.content dev.old ≡ Some file → table ≢ 0 → IsSpare file (table / 65536) }
         requires may { (file : List ℕ) → D.content dev.old ≡ Some file → MayName 65536 file self.old cluster table (host_of (entry_of to)) }
+        ensures steps { MakesSteps D.Device self.old (entry_steps self.old cluster (entry_of to) table) (stop_of result) self.new dev.old dev.new }
         ensures entry { OnOk result (entry_in self.new cluster ≡ entry_of to) }
         ensures spelled { OnOk result (IsSpelled self.new cluster) }
         ensures others { HasEntriesBut self.old self.new cluster }
@@ -154,6 +147,7 @@ impl Image {
         requires below { cluster < length self.old.tables.words }
         requires can { needs_table self.old cluster ≡ true → CanTake self.old 0 (D.capacity dev.old) }
         requires image { (file : List ℕ) → D.content dev.old ≡ Some file → IsImageOf file self.old }
+        ensures steps { MakesSteps D.Device self.old (table_steps self.old cluster) (stop_of result) self.new dev.old dev.new }
         ensures table { IfOk result (λ table. table ≡ table_for self.old cluster) }
         ensures ok { OnOk result (self.new ≡ with_table self.old cluster) }
         ensures same { HasSameEntries self.old self.new }
@@ -178,6 +172,7 @@ impl Image {
         requires below { cluster < length self.old.tables.words }
         requires can { needs_host self.old cluster ≡ true → CanTake self.old 0 (D.capacity dev.old) }
         requires image { (file : List ℕ) → D.content dev.old ≡ Some file → IsImageOf file self.old }
+        ensures steps { MakesSteps D.Device self.old (host_steps self.old cluster) (stop_of result) self.new dev.old dev.new }
         ensures host { IfOk result (λ host. host ≡ next_host self.old cluster) }
         ensures ok { OnOk result (self.new ≡ with_host self.old cluster) }
         ensures same { HasSameEntries self.old self.new }
@@ -213,6 +208,7 @@ impl Image {
         requires whole { length bytes.now ≡ 65536 }
         requires fits { PutFits self.old cluster (D.capacity dev.old) }
         requires image { (file : List ℕ) → D.content dev.old ≡ Some file → IsImageOf file self.old }
+        ensures steps { MakesSteps D.Device self.old (fill_steps self.old cluster bytes.now) (stop_of result) self.new dev.old dev.new }
         ensures mapped { OnOk result (IsHost (entry_in self.new cluster)) }
         ensures spelled { OnOk result (IsSpelled self.new cluster) }
         ensures single { OnOk result (needs_host self.old cluster ≡ true → is_single (word_in self.new cluster) ≡ true) }
@@ -240,6 +236,7 @@ impl Image {
         requires below { cluster < length self.old.tables.words }
         requires fits { ZeroFits self.old cluster (D.capacity dev.old) }
         requires image { (file : List ℕ) → D.content dev.old ≡ Some file → IsImageOf file self.old }
+        ensures steps { MakesSteps D.Device self.old (clean_steps self.old cluster) (stop_of result) self.new dev.old dev.new }
         ensures mapped { OnOk result (entry_in self.new cluster ≡ Zero (host_of (entry_in self.old cluster))) }
         ensures spelled { OnOk result (IsSpelled self.new cluster) }
         ensures unmapped { OnErr result (word_in self.new cluster ≡ word_in self.old cluster) }

@@ -7,3 +7,4 @@ pub mod Links
 pub mod Apart
 pub mod LinkWrites
 pub mod Loads
+pub mod LinkStops

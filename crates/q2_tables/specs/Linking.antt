@@ -96,6 +96,14 @@ pub record FileAfter (kept : Kept) (old : List ℕ) (told : Option (List ℕ)) (
   pub tree : IsTreeOf kept.c kept (tree_at file kept.c kept.l1_offset (length kept.l1))
   pub outside : (i : ℕ) → (i < entry) ⊎ (entry + len ≤ i) → (i < table) ⊎ (table + table_bytes ≤ i) → slice_index file i ≡ slice_index old i
 
+-- What a link leaves of a file, wherever it stops: its entry and the kept words are as before, or both are the new ones.
+pub record IsOldOrLinked (kept : Kept) (cluster word table : ℕ) (before now : List ℕ) : Type 0 where
+  pub grows : length before ≤ length now
+  pub bound : length now ≤ max (length before) (link_end kept cluster table)
+  pub left : FileAfter kept before (Some now) (entry_at kept cluster table) 0 table (table_len kept table)
+      ⊎ (FileAfter (with_entry kept cluster word table) before (Some now) (entry_at kept cluster table) 8 table (table_len kept table)
+      × (table + table_len kept table ≤ length now))
+
 -- a table of one entry
 pub record HasOneEntry (file : List ℕ) (place e column word : ℕ) : Type 0 where
   pub here : slice_index (words_at file place e) column ≡ word

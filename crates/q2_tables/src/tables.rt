@@ -5,7 +5,8 @@ ghost use Rattle.q2_format.specs.Tables.{tree_at};
 ghost use Rattle.q2_tables.specs.Entries.{entry_of};
 ghost use Rattle.q2_tables.specs.Kept.{IsTreeOf, is_plain};
 ghost use Rattle.blk_base.specs.Device.{Writes, stop_of};
-ghost use Rattle.q2_tables.specs.Linking.{CanLink, FileAfter, IsFreeBut, LieBesideL1, LiesApart, entry_at, l1_index, link_end, link_writes, table_len, table_of, with_entry};
+ghost use Rattle.blk_base.specs.Writes.{AtEachStop};
+ghost use Rattle.q2_tables.specs.Linking.{CanLink, FileAfter, IsFreeBut, IsOldOrLinked, LieBesideL1, LiesApart, entry_at, l1_index, link_end, link_writes, table_len, table_of, with_entry};
 
 use crate::link::{write_entry, write_table};
 use crate::mapping::Mapping;
@@ -114,6 +115,8 @@ impl Tables {
         ensures told { (file : List ℕ) → D.content dev.old ≡ Some file → IsTreeOf self.old.c self.old (tree_at file self.old.c self.old.l1_offset (length self.old.l1))
             → LiesApart self.old cluster 0
             → FileAfter self.new file (D.content dev.new) (entry_at self.old cluster 0) (if is_ok result then 8 else 0) 0 (table_len self.old 0) }
+        ensures stops { (file : List ℕ) → D.content dev.old ≡ Some file → IsTreeOf self.old.c self.old (tree_at file self.old.c self.old.l1_offset (length self.old.l1))
+            → LiesApart self.old cluster 0 → AtEachStop (IsOldOrLinked self.old cluster word 0 file) (link_writes self.old cluster word 0) file }
         ensures linked { OnOk result (self.new ≡ with_entry self.old cluster word 0) }
         ensures kept { OnErr result (self.new ≡ self.old) }
         ensures writes { Writes D.Device (link_writes self.old cluster word 0) (stop_of result) dev.old dev.new }
@@ -139,6 +142,8 @@ impl Tables {
         ensures told { (file : List ℕ) → D.content dev.old ≡ Some file → IsTreeOf self.old.c self.old (tree_at file self.old.c self.old.l1_offset (length self.old.l1))
             → LiesApart self.old cluster table
             → FileAfter self.new file (D.content dev.new) (entry_at self.old cluster table) (if is_ok result then 8 else 0) table (table_len self.old table) }
+        ensures stops { (file : List ℕ) → D.content dev.old ≡ Some file → IsTreeOf self.old.c self.old (tree_at file self.old.c self.old.l1_offset (length self.old.l1))
+            → LiesApart self.old cluster table → AtEachStop (IsOldOrLinked self.old cluster word table file) (link_writes self.old cluster word table) file }
         ensures linked { OnOk result (self.new ≡ with_entry self.old cluster word table) }
         ensures kept { OnErr result (self.new ≡ self.old) }
         ensures reaches { OnOk result (table + table_len self.old table ≤ D.size dev.new) }
@@ -159,7 +164,8 @@ impl Tables {
     /// one. `table` is the offset for a new L2 table, whose refcount is one, where the cluster has none, and else 0.
     ///
     /// A new table is written whole, with the entry in it, before the L1 entry that names it. After a stop the
-    /// mapping is as before; the cluster at `table` may then hold any bytes. No memory is taken.
+    /// mapping is as before; the cluster at `table` may then hold any bytes. Wherever its writes stop, the entry is the old
+    /// one or the new. No memory is taken.
     pub fn link<D: Device>(
         &mut self,
         dev: &mut D,
@@ -177,6 +183,9 @@ impl Tables {
         ensures linked { OnOk result (self.new ≡ with_entry self.old cluster (l2_spelling (entry_of to) single) table) }
         ensures kept { OnErr result (self.new ≡ self.old) }
         ensures writes { Writes D.Device (link_writes self.old cluster (l2_spelling (entry_of to) single) table) (stop_of result) dev.old dev.new }
+        ensures stops { (file : List ℕ) → D.content dev.old ≡ Some file → IsTreeOf self.old.c self.old (tree_at file self.old.c self.old.l1_offset (length self.old.l1))
+            → LiesApart self.old cluster table → AtEachStop (IsOldOrLinked self.old cluster (l2_spelling (entry_of to) single) table file)
+            (link_writes self.old cluster (l2_spelling (entry_of to) single) table) file }
         ensures reaches { OnOk result (table + table_len self.old table ≤ D.size dev.new) }
         ensures tells { is_some (D.content dev.new) ≡ is_some (D.content dev.old) }
         ensures grows { D.size dev.old ≤ D.size dev.new }

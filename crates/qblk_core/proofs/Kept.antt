@@ -1,5 +1,5 @@
 -- Each step of a run leaves a history from the same opening.
-use Rattle.std.proofs.Common.{◌≡◌, ℕ, ◌≤◌, Bool, List, [], ◌∷◌, ◌++◌, refl, ◌∙◌, ap, subst, arith, Option, Some, None, IsSome}
+use Rattle.std.proofs.Common.{◌≡◌, ℕ, ◌≤◌, Bool, List, [], ◌∷◌, ◌++◌, refl, sym, ◌∙◌, ap, subst, arith, Option, Some, None, IsSome}
 use Rattle.std.specs.Prelude.{option_map}
 use Rattle.std.proofs.lemmas.Bool.{false≢true}
 use Rattle.blk_base.specs.Counts.{Rose}
@@ -21,22 +21,24 @@ use Rattle.qblk_core.specs.Face.{Face, new_guest, state_of}
 use Rattle.qblk_core.specs.Steps.{after_admission, IsJudged, after_retirement, CanPiece, PutsPiece, HasCause}
 use Rattle.qblk_core.specs.Comes.{Opening, opening_state, AreLicensed, HasLine, HaveLines, Comes}
 
--- a fault that an entry names is one of the only device, and rose
+-- a fault that an entry names is one of the only device, and rose; where none is named the count stands
 abbrev IsLicensed : ℕ → ℕ → Option Named → Type 0
-IsLicensed before now None = Unit {0}
-IsLicensed before now (Some n) = (n.dev ≡ 0) × Rose before n.count × (n.count ≤ now)
+IsLicensed before now None = now ≡ before
+IsLicensed before now (Some n) = (n.dev ≡ 0) × Rose before n.count × (n.count ≡ now)
 
--- the last count that was named
+-- the last count that was named is the present one
 abbrev Last : List ℕ → ℕ → Type 0
-Last counts now = (count : ℕ) × (counts ≡ count ∷ []) × (count ≤ now)
+Last counts now = counts ≡ now ∷ []
 
-last-next : (counts : List ℕ) (before now : ℕ) (named : Option Named) → Last counts before → before ≤ now → IsLicensed before now named → Last (last_named counts named) now
-last-next counts before now None last le licensed = (last.0, last.1, omega arith)
-last-next counts before now (Some n) last le licensed = (n.count, rw (last.1, licensed.0) refl, licensed.2)
+last-next : (counts : List ℕ) (before now : ℕ) (named : Option Named) → Last counts before → IsLicensed before now named → Last (last_named counts named) now
+last-next counts before now None last licensed = last ∙ ap (λ (c : ℕ). c ∷ []) (sym licensed)
+last-next counts before now (Some n) last licensed =
+    let named : last_named counts (Some n) ≡ n.count ∷ [] = rw (last, licensed.0) refl in
+    named ∙ ap (λ (c : ℕ). c ∷ []) licensed.2
 
 rose-next : (counts : List ℕ) (before now : ℕ) (named : Option Named) → Last counts before → IsLicensed before now named → RoseSince counts named
 rose-next counts before now None last licensed = tt
-rose-next counts before now (Some n) last licensed = rw (last.1, licensed.0) (omega arith, omega arith)
+rose-next counts before now (Some n) last licensed = rw (last, licensed.0) (omega arith, licensed.1)
 
 -- one entry more
 images-push : (capacity : ℕ) (s : State) (old mid new : Option Known) (es : List Event) (e : Event) → HasImages capacity s old es mid → IsStepOf capacity (replay s es) e mid new
@@ -66,7 +68,7 @@ licensed-push o w v e comes adds =
     let step : List ℕ → Event → List ℕ = λ counts x. last_named counts (named_in x) in
     record {
       risen = rw adds.events (each-push step (λ counts x. RoseSince counts (named_in x)) (o.faults ∷ []) w.log.events e was.risen (rose-next _ w.faults v.faults (named_in e) was.last adds.licensed));
-      last = rw (adds.events, run-push step (o.faults ∷ []) w.log.events e) (last-next _ w.faults v.faults (named_in e) was.last adds.faults adds.licensed);
+      last = rw (adds.events, run-push step (o.faults ∷ []) w.log.events e) (last-next _ w.faults v.faults (named_in e) was.last adds.licensed);
     }
 
 lines-push : (es : List Event) (e : Event) → HaveLines es → HasLine e → HaveLines (es ++ e ∷ [])
@@ -99,7 +101,7 @@ adds-admission o w op comes idle judged = record {
   on_image = refl;
   access = refl;
   faults = omega arith;
-  licensed = tt;
+  licensed = refl;
   step = refl;
   state = refl;
   told = λ is. is;
@@ -119,7 +121,7 @@ adds-refusal o w op why comes idle judged = record {
   on_image = refl;
   access = refl;
   faults = omega arith;
-  licensed = tt;
+  licensed = refl;
   step = refl;
   state = refl;
   told = λ is. is;
@@ -147,7 +149,7 @@ adds-retirement w is =
       on_image = refl;
       access = refl;
       faults = omega arith;
-      licensed = tt;
+      licensed = refl;
       step = refl;
       state = refl;
       told = λ h. h;
@@ -158,10 +160,10 @@ pub retirement-kept : (w : Face) → With w.guest.flight IsOver → (o : Opening
 retirement-kept w is o comes = comes-push o w _ _ comes (adds-retirement w is)
 
 licensed-piece : (before now : ℕ) (outcome : Outcome) → HasCause before now outcome → IsLicensed before now (named_by outcome)
-licensed-piece before now Good cause = tt
-licensed-piece before now (Torn done dev count) cause = (cause.0, cause.1, omega arith)
-licensed-piece before now (Io dev count) cause = (cause.0, cause.1, omega arith)
-licensed-piece before now (NoSpace dev) cause = tt
+licensed-piece before now Good cause = cause
+licensed-piece before now (Torn done dev count) cause = cause
+licensed-piece before now (Io dev count) cause = cause
+licensed-piece before now (NoSpace dev) cause = cause.1
 
 some-map : {A : Type 0} (f : A → A) (a : Option A) → IsSome a → IsSome (option_map f a)
 some-map f None is = is
@@ -207,17 +209,17 @@ pub piece-made : (w v : Face) (outcome : Outcome) → With w.guest.flight (CanPi
 piece-made w v outcome can puts = piece-of w v outcome w.guest.flight refl can puts
 
 -- a run begins at its opening
-pub comes-start : (o : Opening) (is_flushed : Option Bool) (faults : ℕ) (log : Recorded) → o.faults ≤ faults → log.events ≡ []
+pub comes-start : (o : Opening) (is_flushed : Option Bool) (faults : ℕ) (log : Recorded) → faults ≡ o.faults → log.events ≡ []
     → Comes o (record { format = o.format; image = o.image; disk = o.disk; is_flushed = is_flushed; faults = faults; capacity = o.capacity; size = o.size; guest = new_guest; log = log })
-comes-start o is_flushed faults log later empty = record {
+comes-start o is_flushed faults log quiet empty = record {
   format = refl;
   size = refl;
   capacity = refl;
-  faults = later;
+  faults = omega arith;
   on_image = refl;
   access = refl;
   images = rw empty refl;
-  licensed = record { risen = rw empty tt; last = (o.faults, rw empty refl, later) };
+  licensed = record { risen = rw empty tt; last = rw (empty, quiet) refl };
   lines = rw empty tt;
   replay = rw empty refl;
   told = λ bytes is. rw is refl;

@@ -172,9 +172,9 @@ rest-failed es n old mid new line a b c is part front le =
     subst P (append-nil (lines (take n es)) ∙ take-every es n is) all
 
 -- the status tells how it ended
-pub ends-well : (fault : Option FaultAt) (old new : Option (List ℕ)) (whole : List ℕ) (before now : ℕ) → new ≡ option_map (λ s. s ++ whole) old → EndsAs fault old new whole before now (ended_as fault)
-ends-well None old new whole before now sent = sent
-ends-well (Some fault) old new whole before now sent = (refl, refl, whole, [], append-nil whole, sent, inl refl)
+pub ends-well : (fault : Option FaultAt) (old new : Option (List ℕ)) (whole : List ℕ) (before now : ℕ) → new ≡ option_map (λ s. s ++ whole) old → now ≡ before → EndsAs fault old new whole before now (ended_as fault)
+ends-well None old new whole before now sent quiet = (sent, quiet)
+ends-well (Some fault) old new whole before now sent quiet = (refl, refl, whole, [], append-nil whole, sent, inl (refl, quiet))
 
 pub ends-badly : (fault : Option FaultAt) (old new : Option (List ℕ)) (whole : List ℕ) (before now : ℕ) → SendsFront old new whole before now → EndsAs fault old new whole before now (failed_as fault now)
 ends-badly None old new whole before now front = (refl, front, refl)

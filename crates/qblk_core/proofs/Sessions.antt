@@ -25,11 +25,11 @@ asked-all : (e w : Face) (ops : List Op) → e.log.events ≡ [] → RequestsDon
 asked-all e w ops empty made = made.asked ∙ ap (λ es. asked_by 0 es ++ ops) empty
 
 pub made-run : (format : Format) (image : Option Known) (size faults : ℕ) (d n : Seen) (w : Face) (log : Recorded) (ops : List Op) (bytes : List ℕ) (fault : Option FaultAt)
-    → IsGood format size d.content → ((bytes : List ℕ) → d.content ≡ Some bytes → IsKnownOf format bytes image) → d.faults ≤ faults → IsUtf8 bytes → ops_of bytes ≡ Ok ops → log.events ≡ [] → RequestsDone (begun format image size faults d log) w ops
+    → IsGood format size d.content → ((bytes : List ℕ) → d.content ≡ Some bytes → IsKnownOf format bytes image) → faults ≡ d.faults → IsUtf8 bytes → ops_of bytes ≡ Ok ops → log.events ≡ [] → RequestsDone (begun format image size faults d log) w ops
     → option_map (disk_of w.format) n.content ≡ w.disk → ((bytes : List ℕ) → n.content ≡ Some bytes → IsSoundAs w.format bytes) → ((bytes : List ℕ) → n.content ≡ Some bytes → IsKnownOf w.format bytes w.image) → n.capacity ≡ w.capacity → w.faults ≤ n.faults → ((bytes : List ℕ) → n.content ≡ Some bytes → is_some n.is_flushed ≡ true) → IsFlushed n w.faults fault
     → IsMade format bytes d n w fault
-made-run format image size start d n w log ops bytes fault good known later text is empty made content sound ended capacity faults tells flushed =
-    let comes = made.comes (opening_of format image size d) (comes-start (opening_of format image size d) d.is_flushed start log later empty) in
+made-run format image size start d n w log ops bytes fault good known quiet text is empty made content sound ended capacity faults tells flushed =
+    let comes = made.comes (opening_of format image size d) (comes-start (opening_of format image size d) d.is_flushed start log quiet empty) in
     let C : Format → Type 0 = λ f. option_map (disk_of f) n.content ≡ w.disk in
     let S : Format → Type 0 = λ f. (bytes : List ℕ) → n.content ≡ Some bytes → IsSoundAs f bytes in
     let E : Format → Type 0 = λ f. (bytes : List ℕ) → n.content ≡ Some bytes → IsKnownOf f bytes w.image in
@@ -52,7 +52,7 @@ made-run format image size start d n w log ops bytes fault good known later text
     }
 
 pub flushed-as : (n : Seen) (faults : ℕ) (fault : Option FaultAt)
-    → MatchOption fault ((bytes : List ℕ) → n.content ≡ Some bytes → n.is_flushed ≡ Some true) (λ f. (f.from ≡ Dev (record { 0 = 0 })) × Rose faults f.count × (f.count ≡ n.faults))
+    → MatchOption fault (((bytes : List ℕ) → n.content ≡ Some bytes → n.is_flushed ≡ Some true) × (n.faults ≡ faults)) (λ f. (f.from ≡ Dev (record { 0 = 0 })) × Rose faults f.count × (f.count ≡ n.faults))
     → IsFlushed n faults fault
 flushed-as n faults None flushed = flushed
 flushed-as n faults (Some f) flushed = flushed

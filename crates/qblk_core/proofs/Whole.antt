@@ -26,14 +26,14 @@ use Rattle.qblk_core.specs.Face.{Face, state_of}
 use Rattle.q2_image.specs.Image.{Known}
 use Rattle.qblk_core.specs.Images.{HasImages}
 use Rattle.qblk_core.specs.Comes.{opening_state}
-use Rattle.qblk_core.specs.Run.{Outside, machine_of, guest_names, TellsDisk, HasImage, HasTrace, IsBadTrace, IsBadBytes, IsBadImage, IsRefusedTrace, IsRefusedInput, WasRun, FailsToOpen, FailsToFlush, IsFaulty, Answers}
+use Rattle.qblk_core.specs.Run.{Outside, machine_of, guest_names, TellsDisk, HasImage, HasTrace, IsBadTrace, IsBadBytes, IsBadImage, IsRefusedTrace, IsRefusedInput, WasRun, StoreStands, SinkStands, FailsToOpen, FailsToFlush, IsFaulty, Answers}
 use Rattle.qblk_core.specs.Session.{IsReadOf, IsStoreStop, IsOpenStop, Seen, opening_of, IsGood, IsFlushed, IsMade, IsRefusedRead, IsRefusedImage, IsRunStop, IsUntouched, EndsAs}
 use Rattle.qblk_core.specs.declared.input.TraceRead.{TraceRead}
 use Rattle.qblk_core.specs.declared.input.TraceRead.TheVariants as reads
 use Rattle.qblk_core.specs.declared.status.InputWhy.{InputWhy}
 use Rattle.qblk_core.specs.declared.status.InputWhy.TheVariants as why
 use Rattle.qblk_core.specs.declared.status.Status.{Status}
-use Rattle.qblk_core.specs.declared.status.Status.TheVariants.{Done, Input, Fault, NoMemory}
+use Rattle.qblk_core.specs.declared.status.Status.TheVariants.{Done, Usage, Input, Fault, NoMemory}
 
 -- the device of a file that is told
 pub record IsToldAs (image : List ℕ) (d : Seen) (files : List File) (f : File) : Type 0 where
@@ -81,7 +81,7 @@ told-flag None is = absurd (false≢true is)
 told-flag (Some b) is = (b, refl)
 
 flag-good : (n : Seen) (faults : ℕ) (fault : Option FaultAt) (disk : List ℕ) (b : Bool) → IsFlushed n faults fault → n.content ≡ Some disk → n.is_flushed ≡ Some b → is_none fault ≡ true → b ≡ true
-flag-good n faults None disk b flushed content is none = let good = flushed disk content in cc
+flag-good n faults None disk b flushed content is none = let good = flushed.0 disk content in cc
 flag-good n faults (Some fault) disk b flushed content is none = absurd (false≢true none)
 
 -- the machine of the image's file is that of the opening
@@ -134,6 +134,11 @@ inputs format image trace bytes read d n w fault files f told is read-is made =
     let text = subst U same (made.text, made.ops) in
     ((f, told.file, made.good.image f.bytes told.content), (whole.0, whole.1, (whole.2.0, text.0, text.1)))
 
+-- where the last flush was good, the count is as it was before it
+all-named : (n : Seen) (faults : ℕ) (fault : Option FaultAt) → IsFlushed n faults fault → is_none fault ≡ true → n.faults ≡ faults
+all-named n faults None flushed is = flushed.1
+all-named n faults (Some fault) flushed is = absurd (false≢true is)
+
 -- the run, whatever of its transcript went out
 pub was-run : (format : Format) (image trace bytes : List ℕ) (read : TraceRead) (d n : Seen) (w : Face) (fault : Option FaultAt) (flushed : Bool) (old new : Outside) (k : ℕ)
     → is_none fault ≡ flushed
@@ -153,8 +158,8 @@ was-run format image trace bytes read d n w fault flushed old new k flag sized n
         asked = refl;
         opened = opened ∙ back-opened image old.opened d.faults n.faults none;
         risen = made.comes.licensed.risen;
-        last = (last.0, last.1, let le = last.2 in let more = made.faults in omega arith);
-        quiet = λ same below. quiet d.faults last.0 w.log.events made.comes.licensed.risen last.1 (let le = last.2 in let more = made.faults in omega arith) below;
+        last = (w.faults, last, made.faults, λ good. all-named n w.faults fault made.flushed (flag ∙ good));
+        quiet = λ same below. quiet d.faults w.faults w.log.events made.comes.licensed.risen last (let more = made.faults in omega arith) below;
         told = on-run old.files files device;
       };
       sent = sent;
@@ -183,10 +188,10 @@ whole-taken : (old new : Option (List ℕ)) (whole : List ℕ) → new ≡ optio
 whole-taken old new whole sent = sent ∙ ap (λ (bs : List ℕ). option_map (λ s. s ++ bs) old) (sym (take_all (length whole) whole (omega arith)))
 
 -- where nothing is left, all of it went out
-all-of : (front rest whole : List ℕ) (before now : ℕ) → front ++ rest ≡ whole → (rest ≡ []) ⊎ Rose before now → (length front ≡ length whole) ⊎ Rose before now
+all-of : (front rest whole : List ℕ) (before now : ℕ) → front ++ rest ≡ whole → ((rest ≡ []) × (now ≡ before)) ⊎ Rose before now → ((length front ≡ length whole) × (now ≡ before)) ⊎ Rose before now
 all-of front rest whole before now is (inl none) =
     let P : List ℕ → Type 0 = λ bs. front ++ bs ≡ whole in
-    inl (ap length (sym (append-nil front) ∙ subst P none is))
+    inl (ap length (sym (append-nil front) ∙ subst P none.0 is), none.1)
 all-of front rest whole before now is (inr rose) = inr rose
 
 -- the fault of the last flush is the device's
@@ -207,7 +212,7 @@ ends format image trace bytes read d n w None old new Done sized none device rea
   w.log.events,
   d.faults,
   n.faults,
-  was-run format image trace bytes read d n w None true old new (length (transcript guest_names w.log.events)) refl sized none device read-is is made files opened (whole-taken old.sent new.sent _ end),
+  was-run format image trace bytes read d n w None true old new (length (transcript guest_names w.log.events)) refl sized none device read-is is made files opened (whole-taken old.sent new.sent _ end.0),
 )
 ends format image trace bytes read d n w None old new (Fault from count) sized none device read-is is made files opened end =
     let front = end.1.part in
@@ -237,12 +242,42 @@ ends format image trace bytes read d n w (Some fault) old new (Fault from count)
       d.faults,
       length end.2,
       subst R (sym same) run,
-      subst S (sym last.1) (omega arith, (let rose = flushed.1 in let named = end.1 in let le = last.2 in omega arith)),
+      subst S (sym last) (omega arith, (let rose = flushed.1 in let named = end.1 in omega arith)),
       all-of end.2 end.3 _ old.sink_faults new.sink_faults end.4 end.6,
     ) in
     let faulty : IsFaulty format image trace old new (Dev (record { 0 = 0 })) count = (refl, inr failed) in
     subst F (sym (end.0 ∙ flushed.0)) faulty
 ends format image trace bytes read d n w fault old new status sized none device read-is is made files opened end = absurd end
+
+-- counts that stand
+pub store-stands : (before now : ℕ) (status : Status) → now ≡ before → StoreStands status before now
+store-stands before now (Fault Store count) is = tt
+store-stands before now (Fault (Dev dev) count) is = is
+store-stands before now (Fault Sink count) is = is
+store-stands before now Done is = is
+store-stands before now Usage is = is
+store-stands before now (Input name line cause) is = is
+store-stands before now NoMemory is = is
+
+pub sink-stands : (before now : ℕ) (status : Status) → now ≡ before → SinkStands status before now
+sink-stands before now (Fault Store count) is = is
+sink-stands before now (Fault (Dev dev) count) is = tt
+sink-stands before now (Fault Sink count) is = tt
+sink-stands before now Done is = is
+sink-stands before now Usage is = is
+sink-stands before now (Input name line cause) is = is
+sink-stands before now NoMemory is = is
+
+pub ends-stands : (n : Seen) (faults : ℕ) (fault : Option FaultAt) (old new : Option (List ℕ)) (whole : List ℕ) (before now : ℕ) (status : Status)
+    → IsFlushed n faults fault → EndsAs fault old new whole before now status → SinkStands status before now
+ends-stands n faults None old new whole before now Done flushed end = end.1
+ends-stands n faults None old new whole before now (Fault from count) flushed end =
+    let S : FaultFrom → Type 0 = λ f. SinkStands (Fault f count) before now in
+    subst S (sym end.0) tt
+ends-stands n faults (Some fault) old new whole before now (Fault from count) flushed end =
+    let S : FaultFrom → Type 0 = λ f. SinkStands (Fault f count) before now in
+    subst S (sym (end.0 ∙ (flush-fault n faults fault flushed).0)) tt
+ends-stands n faults fault old new whole before now status flushed end = absurd end
 
 -- an input that is refused
 refused-read : (trace : List ℕ) (read : TraceRead) (files : List File) (line : ℕ) (cause : InputWhy) → IsReadOf trace read files → IsRefusedRead read cause line → IsRefusedTrace cause line trace files
@@ -297,16 +332,16 @@ pub stops : (format : Format) (image trace : List ℕ) (read : TraceRead) (d n :
     → IfTold old.files (IsReadOf trace read) → IsRunStop format image trace read d n status → IsUntouched d n
     → new.files ≡ files_with_returned image n.content n.capacity n.is_flushed old.files
     → new.opened ≡ given_back image n.faults (old.opened ++ record { name = image; faults = d.faults; returned = None } ∷ [])
-    → new.sent ≡ old.sent
+    → new.sent ≡ old.sent → new.sink_faults ≡ old.sink_faults
     → Answers format image trace old new status
-stops format image trace read d n old new NoMemory sized none device read-is stop same files opened sent = record { files = files ∙ left image d n old.files sized device same; sent = sent }
-stops format image trace read d n old new (Input name line cause) sized none device read-is stop same files opened sent =
+stops format image trace read d n old new NoMemory sized none device read-is stop same files opened sent sink = record { files = files ∙ left image d n old.files sized device same; sent = sent }
+stops format image trace read d n old new (Input name line cause) sized none device read-is stop same files opened sent sink =
     (record { files = files ∙ left image d n old.files sized device same; sent = sent }, why-of old.files device read-is)
   where
     why-of : (fs : Option (List File)) → IsDeviceOf fs image d.content d.capacity d.is_flushed → IfTold fs (IsReadOf trace read) → IfTold fs (IsRefusedInput format image trace name.bytes line cause)
     why-of None device read-is = tt
     why-of (Some told) device read-is = refused-by format image trace read d told name.bytes line cause (told-as image d told sized device) read-is stop
-stops format image trace read d n old new (Fault from count) sized none device read-is stop same files opened sent =
+stops format image trace read d n old new (Fault from count) sized none device read-is stop same files opened sent sink =
     let F : FaultFrom → Type 0 = λ f. IsFaulty format image trace old new f count in
     let R : ℕ → Type 0 = λ c. new.opened ≡ old.opened ++ record { name = image; faults = d.faults; returned = Some c } ∷ [] in
     let fails : FailsToOpen format image old new count = record {
@@ -315,10 +350,11 @@ stops format image trace read d n old new (Fault from count) sized none device r
       before = d.faults;
       opened = subst R (sym stop.3) (opened ∙ back-opened image old.opened d.faults n.faults none);
       rose = stop.2;
+      sink = sink;
     } in
     let faulty : IsFaulty format image trace old new (Dev (record { 0 = 0 })) count = (refl, inl fails) in
     subst F (sym stop.1) faulty
-stops format image trace read d n old new status sized none device read-is stop same files opened sent = absurd stop
+stops format image trace read d n old new status sized none device read-is stop same files opened sent sink = absurd stop
 
 -- a store whose call failed, or want of memory
 pub store-stops : (format : Format) (image trace : List ℕ) (old new : Outside) (status : Status) → IsStoreStop old.store_faults new.store_faults status → new.files ≡ old.files → new.sent ≡ old.sent → Answers format image trace old new status

@@ -23,10 +23,10 @@ pub record Opening : Type 0 where
 abbrev pub opening_state : Opening → State
 opening_state o = state_with o.size new_guest o.disk
 
--- the faults that the history names are rises of the device's count, each named once
+-- the faults that the history names are rises of the device's count, each named once, and each rise is named
 pub record AreLicensed (o : Opening) (w : Face) : Type 0 where
   pub risen : HaveRisen (o.faults ∷ []) w.log.events
-  pub last : (count : ℕ) × (counted (o.faults ∷ []) w.log.events ≡ count ∷ []) × (count ≤ w.faults)
+  pub last : counted (o.faults ∷ []) w.log.events ≡ w.faults ∷ []
 
 -- an entry is the guest's, and shows at most one block
 pub record HasLine (e : Event) : Type 0 where

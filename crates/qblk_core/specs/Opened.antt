@@ -21,7 +21,7 @@ pub record OpensAs (format : Format) (content : Option (List ℕ)) (is_flushed :
   pub bytes : medium.content ≡ content
   pub known : (file : List ℕ) → content ≡ Some file → IsKnownOf format file medium.image
   pub flush : medium.is_flushed ≡ is_flushed
-  pub later : faults ≤ medium.faults
+  pub quiet : medium.faults ≡ faults
   pub room : medium.capacity ≡ capacity
   pub good : IsGood format medium.size content
 

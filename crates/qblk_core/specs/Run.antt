@@ -68,12 +68,12 @@ pub record TellsDisk (format : Format) (image : List ℕ) (h : List Event) (kept
   pub images : HasImages f.capacity (machine_of format f.bytes) was h now
 
 -- A history of these requests on that image: each stands once, in order, and the faults it names are rises of the
--- device's count, each named once.
+-- device's count, each named once; and where the last flush was good, each rise is named.
 pub record IsRun (format : Format) (image : List ℕ) (ops : List Op) (flushed : Bool) (old new : Outside) (h : List Event) (before now : ℕ) : Type 0 where
   pub asked : asked_by 0 h ≡ ops
   pub opened : new.opened ≡ old.opened ++ record { name = image; faults = before; returned = Some now } ∷ []
   pub risen : HaveRisen (before ∷ []) h
-  pub last : (count : ℕ) × (counted (before ∷ []) h ≡ count ∷ []) × (count ≤ now)
+  pub last : (count : ℕ) × (counted (before ∷ []) h ≡ count ∷ []) × (count ≤ now) × (flushed ≡ true → now ≡ count)
   -- where the count has not risen, no piece was stopped by a fault
   pub quiet : now ≡ before → before < 18446744073709551615 → NameNone h
   pub told : IfTold old.files (λ files. (f : File) × TellsDisk format image h flushed files new.files f)
@@ -140,13 +140,14 @@ pub record FailsToOpen (format : Format) (image : List ℕ) (old new : Outside) 
   pub before : ℕ
   pub opened : new.opened ≡ old.opened ++ record { name = image; faults = before; returned = Some count } ∷ []
   pub rose : Rose before count
+  pub sink : new.sink_faults ≡ old.sink_faults
 
 -- the device failed in the last flush, after which the transcript goes out nevertheless: a rise that no entry names
 abbrev pub FailsToFlush : Format → List ℕ → List ℕ → Outside → Outside → ℕ → Type 0
 FailsToFlush format image trace old new count = (ops : List Op) × (h : List Event) × (before : ℕ) × (n : ℕ)
     × WasRun format image trace false old new ops h before count n
     × RoseSince (counted (before ∷ []) h) (Some (record { dev = 0; count = count }))
-    × ((n ≡ length (transcript guest_names h)) ⊎ Rose old.sink_faults new.sink_faults)
+    × (((n ≡ length (transcript guest_names h)) × (new.sink_faults ≡ old.sink_faults)) ⊎ Rose old.sink_faults new.sink_faults)
 
 -- the first fault: while the inputs were read, while the image was opened, in the last flush, or while the transcript went out
 abbrev pub IsFaulty : Format → List ℕ → List ℕ → Outside → Outside → FaultFrom → ℕ → Type 0
@@ -154,6 +155,22 @@ IsFaulty format image trace old new Store count = NothingWritten old new × Rose
 IsFaulty format image trace old new (Dev dev) count = (dev.0 ≡ 0) × (FailsToOpen format image old new count ⊎ FailsToFlush format image trace old new count)
 IsFaulty format image trace old new Sink count = (ops : List Op) × (h : List Event) × (before : ℕ) × (now : ℕ) × (n : ℕ)
     × WasRun format image trace true old new ops h before now n × Rose old.sink_faults count × (count ≡ new.sink_faults)
+
+-- The store's count of faults stands, but where the status names the store; the sink's, but where it names the sink, or a last
+-- flush that failed, behind which a put may have failed too.
+abbrev pub StoreStands : Status → ℕ → ℕ → Type 0
+StoreStands (Fault Store count) before now = Unit {0}
+StoreStands status before now = now ≡ before
+
+abbrev pub SinkStands : Status → ℕ → ℕ → Type 0
+SinkStands (Fault Sink count) before now = Unit {0}
+SinkStands (Fault (Dev dev) count) before now = Unit {0}
+SinkStands status before now = now ≡ before
+
+-- no fault of the store or the sink goes untold
+pub record TellsFaults (old new : Outside) (status : Status) : Type 0 where
+  pub store : StoreStands status old.store_faults new.store_faults
+  pub sink : SinkStands status old.sink_faults new.sink_faults
 
 -- why a run on an image ended so
 abbrev pub Answers : Format → List ℕ → List ℕ → Outside → Outside → Status → Type 0

@@ -74,7 +74,7 @@ pub record IsGood (format : Format) (size : ℕ) (content : Option (List ℕ)) :
 
 -- the last flush was good, or its fault is told
 abbrev pub IsFlushed : Seen → ℕ → Option FaultAt → Type 0
-IsFlushed now faults None = (bytes : List ℕ) → now.content ≡ Some bytes → now.is_flushed ≡ Some true
+IsFlushed now faults None = ((bytes : List ℕ) → now.content ≡ Some bytes → now.is_flushed ≡ Some true) × (now.faults ≡ faults)
 IsFlushed now faults (Some fault) = (fault.from ≡ Dev (record { 0 = 0 })) × Rose faults fault.count × (fault.count ≡ now.faults)
 
 -- the requests of a trace were made on a device
@@ -133,10 +133,11 @@ pub record IsUntouched (before now : Seen) : Type 0 where
 
 -- A transcript went out whole, or a front of it did, and a put failed. The fault of the last flush is named before that.
 abbrev pub EndsAs : Option FaultAt → Option (List ℕ) → Option (List ℕ) → List ℕ → ℕ → ℕ → Status → Type 0
-EndsAs None old new whole before now Done = new ≡ option_map (λ s. s ++ whole) old
+EndsAs None old new whole before now Done = (new ≡ option_map (λ s. s ++ whole) old) × (now ≡ before)
 EndsAs None old new whole before now (Fault from count) = (from ≡ Sink) × SendsFront old new whole before now × (count ≡ now)
 EndsAs (Some fault) old new whole before now (Fault from count) = (from ≡ fault.from) × (count ≡ fault.count)
-    × (front : List ℕ) × (rest : List ℕ) × (front ++ rest ≡ whole) × (new ≡ option_map (λ s. s ++ front) old) × ((rest ≡ []) ⊎ Rose before now)
+    × (front : List ℕ) × (rest : List ℕ) × (front ++ rest ≡ whole) × (new ≡ option_map (λ s. s ++ front) old)
+    × (((rest ≡ []) × (now ≡ before)) ⊎ Rose before now)
 EndsAs fault old new whole before now status = ⊥
 
 abbrev pub ended_as : Option FaultAt → Status

@@ -50,12 +50,13 @@ IsJudged w op (Some why) = IsRefusedFor op w.guest (node_of w.size) why
 abbrev pub after_retirement : Face → Face
 after_retirement w = record w { guest = finished w.guest; log = log_of w.log (events.Retire 0 w.guest.done) }
 
--- why a piece went so, from the count of faults before and after: a fault is a rise of the count, which it names
+-- why a piece went so, from the count of faults before and after: a fault is a rise of the count, which it names, and where
+-- there is none the count stands
 abbrev pub HasCause : ℕ → ℕ → Outcome → Type 0
-HasCause before now Good = Unit {0}
+HasCause before now Good = now ≡ before
 HasCause before now (Torn done dev count) = (dev.0 ≡ 0) × Rose before count × (count ≡ now)
 HasCause before now (Io dev count) = (dev.0 ≡ 0) × Rose before count × (count ≡ now)
-HasCause before now (NoSpace dev) = dev.0 ≡ 0
+HasCause before now (NoSpace dev) = (dev.0 ≡ 0) × (now ≡ before)
 
 -- what a piece shows, of what its read left in the buffer
 abbrev pub shown_of : Op → Outcome → List ℕ → List ℕ
@@ -155,9 +156,9 @@ cluster_outcome_of (Ok done) = Good
 cluster_outcome_of (Err (stops.Io count)) = Io (record { 0 = 0 }) count
 cluster_outcome_of (Err stops.NoSpace) = NoSpace (record { 0 = 0 })
 
--- a flush is good where it was answered, and else a fault with a risen count
+-- a flush is good where it was answered, and the count stands, and else a fault with a risen count
 abbrev pub IsFlush : Option Bool → Option Bool → ℕ → ℕ → Outcome → Type 0
-IsFlush old new before now Good = new ≡ option_map (λ _. true) old
+IsFlush old new before now Good = (new ≡ option_map (λ _. true) old) × (now ≡ before)
 IsFlush old new before now (Torn done dev count) = ⊥
 IsFlush old new before now (Io dev count) = (new ≡ old) × (dev.0 ≡ 0) × Rose before count × (count ≡ now)
 IsFlush old new before now (NoSpace dev) = ⊥

@@ -187,7 +187,7 @@ impl<D: Device> Engine<D> {
         ensures faults { self.faults ≤ D.faults result.0 }
         ensures history { result.1 ≡ self.log }
         ensures flushed { MatchOption result.2
-            ((bytes : List ℕ) → D.content result.0 ≡ Some bytes → D.is_flushed result.0 ≡ Some true)
+            (((bytes : List ℕ) → D.content result.0 ≡ Some bytes → D.is_flushed result.0 ≡ Some true) × (D.faults result.0 ≡ self.faults))
             (λ fault. (fault.from ≡ FaultFrom.Dev (record { 0 = 0 })) × Rose self.faults fault.count × (fault.count ≡ D.faults result.0)) }
         ensures tells { (bytes : List ℕ) → D.content result.0 ≡ Some bytes → is_some (D.is_flushed result.0) ≡ true }
     {

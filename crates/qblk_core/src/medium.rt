@@ -205,7 +205,7 @@ impl<D: Device> Medium<D> {
         ensures capacity { D.capacity result.0 ≡ self.capacity }
         ensures faults { self.faults ≤ D.faults result.0 }
         ensures flushed { MatchOption result.1
-            (D.is_flushed result.0 ≡ option_map (λ _. true) self.is_flushed)
+            ((D.is_flushed result.0 ≡ option_map (λ _. true) self.is_flushed) × (D.faults result.0 ≡ self.faults))
             (λ fault. (fault.from ≡ FaultFrom.Dev (record { 0 = 0 })) × Rose self.faults fault.count × (fault.count ≡ D.faults result.0)) }
         ensures tells { (bytes : List ℕ) → D.content result.0 ≡ Some bytes → is_some (D.is_flushed result.0) ≡ true }
     {

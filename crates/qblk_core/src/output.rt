@@ -16,6 +16,7 @@ fn send<K: Sink>(line: &mut Text, out: &mut K) -> Result<(), SinkFault>
     ensures sent { OnOk result (K.sent out.new ≡ option_map (λ s. s ++ line.old.bytes) (K.sent out.old)) }
     ensures empty { OnOk result (line.new.bytes ≡ []) }
     ensures memory { OnOk result (memory_of line.new ≡ memory_of line.old) }
+    ensures quiet { OnOk result (K.faults out.new ≡ K.faults out.old) }
     ensures failed { OnErr result (SendsFront (K.sent out.old) (K.sent out.new) line.old.bytes (K.faults out.old) (K.faults out.new)) }
     ensures faults { K.faults out.old ≤ K.faults out.new }
 {
@@ -40,6 +41,7 @@ fn send_line<K: Sink>(
     requires lines { HaveLines history.now.events }
     requires named { names.now ≡ guest_names }
     requires buffer { IsBuffer line.old }
+    ensures quiet { OnOk result (K.faults out.new ≡ K.faults out.old) }
     ensures ok { At history.now.events at (λ e. OnOk result (SendsPart (K.sent out.old) (K.sent out.new) (line.old.bytes ++ line_of guest_names e) line.new)) }
     ensures failed { At history.now.events at (λ e. OnErr result (SendsFront (K.sent out.old) (K.sent out.new) (line.old.bytes ++ line_of guest_names e) (K.faults out.old) (K.faults out.new))) }
     ensures faults { K.faults out.old ≤ K.faults out.new }
@@ -62,6 +64,7 @@ pub(crate) fn send_transcript<K: Sink>(
     requires named { names.now ≡ guest_names }
     requires empty { line.old.bytes ≡ [] }
     requires buffer { IsBuffer line.old }
+    ensures quiet { OnOk result (K.faults out.new ≡ K.faults out.old) }
     ensures ok { OnOk result (K.sent out.new ≡ option_map (λ s. s ++ transcript guest_names history.now.events) (K.sent out.old)) }
     ensures failed { OnErr result (SendsFront (K.sent out.old) (K.sent out.new) (transcript guest_names history.now.events) (K.faults out.old) (K.faults out.new)) }
     ensures faults { K.faults out.old ≤ K.faults out.new }

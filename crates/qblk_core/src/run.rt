@@ -1,7 +1,7 @@
 //! The calls of the program.
 ghost use Rattle.std.specs.Prelude.{◌≡◌, List, ℕ};
 ghost use Rattle.qblk_core.specs.Words.{IsIo, texts_of};
-ghost use Rattle.qblk_core.specs.Run.{Answers};
+ghost use Rattle.qblk_core.specs.Run.{Answers, TellsFaults};
 ghost use Rattle.qblk_core.specs.declared.words.Format.{Format};
 ghost use Rattle.qblk_core.specs.Session.{NoneOut};
 
@@ -21,6 +21,10 @@ pub fn run_io<S: Store, K: Sink>(
     requires form { (format : Format) × (image : List ℕ) × (trace : List ℕ) × IsIo (texts_of words.now) format image trace }
     requires none_out { NoneOut (S.opened store) }
     ensures ended { (format : Format) (image trace : List ℕ) → IsIo (texts_of words.now) format image trace → Answers format image trace
+        (record { files = S.files store; opened = S.opened store; store_faults = S.faults store; sent = K.sent out.old; sink_faults = K.faults out.old })
+        (record { files = S.files result.1; opened = S.opened result.1; store_faults = S.faults result.1; sent = K.sent out.new; sink_faults = K.faults out.new }) result.0 }
+    // no fault of the store or the sink goes untold
+    ensures faults { TellsFaults
         (record { files = S.files store; opened = S.opened store; store_faults = S.faults store; sent = K.sent out.old; sink_faults = K.faults out.old })
         (record { files = S.files result.1; opened = S.opened result.1; store_faults = S.faults result.1; sent = K.sent out.new; sink_faults = K.faults out.new }) result.0 }
     ensures back { NoneOut (S.opened result.1) }
@@ -44,6 +48,11 @@ pub fn qblk<S: Store, K: Sink>(alloc: Global, words: &[Text], store: S, out: &mu
 
     // all other words: nothing is done
     ensures usage { ((format : Format) (image trace : List ℕ) → IsIo (texts_of words.now) format image trace → ⊥) → (result.0 ≡ Status.Usage) × (result.1 ≡ store) × (out.new ≡ out.old) }
+
+    // no fault of the store or the sink goes untold
+    ensures faults { TellsFaults
+        (record { files = S.files store; opened = S.opened store; store_faults = S.faults store; sent = K.sent out.old; sink_faults = K.faults out.old })
+        (record { files = S.files result.1; opened = S.opened result.1; store_faults = S.faults result.1; sent = K.sent out.new; sink_faults = K.faults out.new }) result.0 }
 
     // whatever the words: no device is left out
     ensures back { NoneOut (S.opened result.1) }

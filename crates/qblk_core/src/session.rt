@@ -1,5 +1,5 @@
 //! A run of a trace on one image, from its inputs to the transcript.
-ghost use Rattle.std.specs.Prelude.{◌≡◌, ◌≤◌, List, ℕ, MatchResult, IfOk, IfErr, OnErr, None, [], ◌∷◌, ◌++◌};
+ghost use Rattle.std.specs.Prelude.{◌≡◌, ◌≤◌, List, ℕ, MatchResult, IfOk, IfErr, OnOk, OnErr, None, [], ◌∷◌, ◌++◌};
 ghost use Rattle.blk_base.specs.Files.{IfTold};
 ghost use Rattle.blk_base.specs.Stored.{IsDeviceOf};
 ghost use Rattle.blk_base.specs.declared.file.Opened.{Opened};
@@ -8,7 +8,7 @@ ghost use Rattle.qblk_core.specs.Opened.{IsImageStatus};
 ghost use Rattle.blk_history.specs.Transcript.{transcript};
 ghost use Rattle.qblk_core.specs.Comes.{HaveLines};
 ghost use Rattle.qblk_core.specs.Face.{Face};
-ghost use Rattle.qblk_core.specs.Run.{guest_names, Answers};
+ghost use Rattle.qblk_core.specs.Run.{guest_names, Answers, StoreStands, TellsFaults};
 
 use crate::engine::Engine;
 use crate::input::{MAX_TRACE, Prepared, TraceRead, judge, refused};
@@ -47,7 +47,8 @@ fn read_trace_file<S: Store>(store: &mut S, name: &str) -> Result<TraceRead, Sta
     ensures stop { IfErr result (IsStoreStop (S.faults store.old) (S.faults store.new)) }
     ensures files { S.files store.new ≡ S.files store.old }
     ensures opened { S.opened store.new ≡ S.opened store.old }
-    ensures faults { S.faults store.old ≤ S.faults store.new }
+    ensures quiet { OnOk result (S.faults store.new ≡ S.faults store.old) }
+    ensures stands { IfErr result (λ status. StoreStands status (S.faults store.old) (S.faults store.new)) }
 {
     match store.read_all(name, MAX_TRACE) {
         Ok(bytes) => Ok(TraceRead::Whole(bytes)),
@@ -68,7 +69,8 @@ fn open_image<S: Store>(alloc: Global, store: &mut S, name: &str) -> Result<S::D
         (λ _. S.opened store.new ≡ S.opened store.old) }
     ensures stop { IfErr result (IsOpenStop name.now (S.files store.old) (S.faults store.old) (S.faults store.new)) }
     ensures files { S.files store.new ≡ S.files store.old }
-    ensures faults { S.faults store.old ≤ S.faults store.new }
+    ensures quiet { OnOk result (S.faults store.new ≡ S.faults store.old) }
+    ensures stands { IfErr result (λ status. StoreStands status (S.faults store.old) (S.faults store.new)) }
 {
     match store.open_file(name) {
         Ok(device) => Ok(device),
@@ -195,6 +197,9 @@ pub(crate) fn run_on<S: Store, K: Sink>(
 ) -> Status
     requires { NoneOut (S.opened store.old) }
     ensures ended { Answers format image.now trace.now
+        (record { files = S.files store.old; opened = S.opened store.old; store_faults = S.faults store.old; sent = K.sent out.old; sink_faults = K.faults out.old })
+        (record { files = S.files store.new; opened = S.opened store.new; store_faults = S.faults store.new; sent = K.sent out.new; sink_faults = K.faults out.new }) result }
+    ensures faults { TellsFaults
         (record { files = S.files store.old; opened = S.opened store.old; store_faults = S.faults store.old; sent = K.sent out.old; sink_faults = K.faults out.old })
         (record { files = S.files store.new; opened = S.opened store.new; store_faults = S.faults store.new; sent = K.sent out.new; sink_faults = K.faults out.new }) result }
     ensures back { NoneOut (S.opened store.new) }

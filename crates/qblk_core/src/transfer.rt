@@ -170,7 +170,7 @@ pub(crate) fn last_flush<D: Device>(device: &mut D) -> Option<FaultAt>
     ensures capacity { D.capacity device.new ≡ D.capacity device.old }
     ensures faults { D.faults device.old ≤ D.faults device.new }
     ensures flushed { MatchOption result
-        (D.is_flushed device.new ≡ option_map (λ _. true) (D.is_flushed device.old))
+        ((D.is_flushed device.new ≡ option_map (λ _. true) (D.is_flushed device.old)) × (D.faults device.new ≡ D.faults device.old))
         (λ fault. (fault.from ≡ FaultFrom.Dev (record { 0 = 0 })) × Rose (D.faults device.old) fault.count × (fault.count ≡ D.faults device.new)) }
 {
     match device.flush() {

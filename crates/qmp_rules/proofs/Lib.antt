@@ -3,7 +3,7 @@ pub mod PlaceLemmas
 pub mod AskLists
 pub mod ChainLemmas
 pub mod FirstLemmas
-pub mod RoomLemmas
+pub mod FitLemmas
 pub mod EditLemmas
 pub mod JudgeLemmas
 pub mod ReachLemmas

@@ -39,6 +39,14 @@ writable row = record row { read_only = false }
 abbrev pub with_writable : ℕ → List NodeRecord → List NodeRecord
 with_writable id nodes = map (node_changed id writable) nodes
 
+-- no node over a file of which nothing is known has a flat disk
+abbrev pub stands_over : List ℕ → Option (List ℕ) → Bool
+stands_over name None = false
+stands_over name (Some filename) = bytes_eq filename name
+
+abbrev pub lost_with : List ℕ → NodeRecord → NodeRecord
+lost_with name row = if stands_over name row.filename then unsettled row else row
+
 abbrev pub without_row : ℕ → List NodeRecord → List NodeRecord
 without_row id nodes = filter (λ row. not (row.id == id)) nodes
 
@@ -106,7 +114,8 @@ changed t (change.DropId id) = record t { kept = without_name id t.kept }
 changed t (change.MakeFile name size) = record t { files = with_file name Made t.files }
 changed t (change.FormatFile node name size backing_file backing_fmt) =
     record t { nodes = with_unsettled node t.nodes; files = with_file name Formatted t.files }
-changed t (change.SpoilFile name) = record t { files = with_file name Used t.files }
+changed t (change.SpoilFile name) =
+    record t { nodes = map (lost_with name) t.nodes; files = with_file name Used t.files }
 changed t (change.UseFile name) = record t { files = with_file name Used t.files }
 changed t (change.AddFile row) = rewired (t.nodes ++ row ∷ []) t.edges t
 changed t (change.AddFormat row file backing) =

@@ -100,10 +100,10 @@ created_change t created.Unknown = []
 abbrev pub create_edits : Table → BlockdevCreate (List ℕ) → List Change
 create_edits t c = KeepId c.job_id ∷ created_change t c.options
 
--- what one leaves of which a call failed: its file used, and the file node unsettled
+-- what one leaves of which a call failed: its file used, and a file node over it unsettled
 abbrev pub spoiled : Table → Created (List ℕ) → List Change
 spoiled t (created.File c) = SpoilFile c.filename ∷ []
-spoiled t (created.Qcow2 c) = SpoilFile (file_of_node t c.file) ∷ Unsettle (id_or 0 t (Some c.file)) ∷ []
+spoiled t (created.Qcow2 c) = SpoilFile (file_of_node t c.file) ∷ []
 spoiled t created.Unknown = []
 
 -- ---- blockdev-add
@@ -407,14 +407,14 @@ commit_filter t job = if_filtered job.filter
 abbrev pub commit_edits : Table → CommitCommand (List ℕ) → List Change
 commit_edits t c =
     let job : JobRecord = commit_job t c in
-    commit_unsettles t job ++ file_used t job.target ++ base_edits t job ++ commit_filter t job
+    file_used t job.target ++ commit_unsettles t job ++ base_edits t job ++ commit_filter t job
     ++ StartJob job ∷ UseNode job.slot CommitTop job.source ∷ commit_uses job
 
 -- ---- blockdev-mirror and blockdev-backup: the target has no flat disk from then on
 
 abbrev pub target_edits : Table → Option ℕ → List Change
 target_edits t None = []
-target_edits t (Some target) = Unsettle target ∷ file_used t (Some target)
+target_edits t (Some target) = file_used t (Some target) ++ Unsettle target ∷ []
 
 abbrev pub uses_target : JobRecord → Option ℕ → List Change
 uses_target job None = []

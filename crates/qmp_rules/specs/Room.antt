@@ -1,5 +1,5 @@
 -- A table with the room that it has for more.
-use Rattle.std.specs.Prelude.{ℕ, ◌+◌, ◌*◌, ◌^◌, ◌<◌, ◌≤◌, length}
+use Rattle.std.specs.Prelude.{ℕ, ◌+◌, ◌^◌, ◌<◌, ◌≤◌}
 use Rattle.qmp_rules.specs.Table.{Table}
 
 -- how many rows more there is memory for, of each kind
@@ -15,11 +15,10 @@ pub record Roomy : Type 0 where
   pub table : Table
   pub spare : Spare
 
--- So many changes can be made without taking memory: each adds a row of a kind at most, and two edges. Numbers of jobs have
--- 32 bits.
+-- So many changes can be made without taking memory: each adds a row of a kind at most. Numbers of jobs have 32 bits, and
+-- edges have always room.
 pub record HasRoom (changes : ℕ) (names : Roomy) : Type 0 where
   pub nodes : changes ≤ names.spare.nodes
-  pub edges : length names.table.edges + 2 * changes ≤ 2048
   pub devices : changes ≤ names.spare.devices
   pub jobs : changes ≤ names.spare.jobs
   pub bitmaps : changes ≤ names.spare.bitmaps
@@ -30,7 +29,6 @@ pub record HasRoom (changes : ℕ) (names : Roomy) : Type 0 where
 -- what one change takes of the room at most
 pub record TakesLittle (old new : Roomy) : Type 0 where
   pub nodes : old.spare.nodes ≤ new.spare.nodes + 1
-  pub edges : length new.table.edges ≤ length old.table.edges + 2
   pub devices : old.spare.devices ≤ new.spare.devices + 1
   pub jobs : old.spare.jobs ≤ new.spare.jobs + 1
   pub bitmaps : old.spare.bitmaps ≤ new.spare.bitmaps + 1

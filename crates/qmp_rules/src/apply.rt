@@ -1,7 +1,9 @@
 //! What each kind of change makes of the table. No memory is taken.
-ghost use Rattle.std.specs.Prelude.{◌≡◌, ◌<◌, ◌≤◌, ◌+◌, ℕ, List, Option, length};
+ghost use Rattle.std.specs.Prelude.{◌≡◌, ◌<◌, ℕ, List, Option, length};
 ghost use Rattle.qmp_codec.specs.declared.words.ImageFormat.{ImageFormat};
 ghost use Rattle.qmp_rules.specs.Changes.{all_changed, backed, changed};
+ghost use Rattle.blk_graph.specs.Edits.{IsLone};
+ghost use Rattle.qmp_rules.specs.Fitting.{AllFit, Fits};
 ghost use Rattle.qmp_rules.specs.Room.{HasRoom, TakesLittle};
 
 use crate::change::{Change, Edits};
@@ -9,7 +11,7 @@ use crate::edges::{ALL, NOTHING, drive_edge, job_edge, node_edge};
 use crate::name::Name;
 use crate::rows::{Device, FileState, JobRecord, NodeRecord};
 use crate::table::Names;
-use blk_graph::{JobUse, NodeId, Parent, Role};
+use blk_graph::{JobUse, MOST_NODES, NodeId, Parent, Role};
 
 impl Names {
     #[tactic(auto, unfolding(crate::specs::Changes::changed))]
@@ -24,11 +26,10 @@ impl Names {
 
     /// Puts the edge to a backing node, where there is one.
     fn put_backing(&mut self, id: NodeId, backing: Option<NodeId>)
-        requires { length self.old.table.edges < 2048 }
         ensures table { self.new.table ≡ record self.old.table { edges = backed id backing self.old.table.edges } }
         ensures spare { self.new.spare ≡ self.old.spare }
-        ensures few { length self.new.table.edges ≤ length self.old.table.edges + 1 }
     {
+        prove!(id.index() < MOST_NODES);
         match backing {
             Some(backing) => self.put_edge(node_edge(id, Role::Backing, backing)),
             None => {}
@@ -44,6 +45,7 @@ impl Names {
         let id = row.id;
         self.unsettle(file);
         self.put_node(row);
+        prove!(id.index() < MOST_NODES);
         self.put_edge(node_edge(id, Role::File, file));
         self.put_backing(id, backing);
         self.refresh();
@@ -57,6 +59,7 @@ impl Names {
     {
         let id = row.id;
         self.put_node(row);
+        prove!(id.index() < MOST_NODES);
         self.put_edge(node_edge(id, Role::File, child));
         self.refresh();
     }
@@ -83,7 +86,8 @@ impl Names {
 
     #[tactic(auto, unfolding(crate::specs::Changes::changed))]
     fn add_job_filter(&mut self, row: NodeRecord, node: NodeId)
-        requires { HasRoom 1 self.old }
+        requires room { HasRoom 1 self.old }
+        requires lone { IsLone self.old.table.edges row.id }
         ensures table { self.new.table ≡ changed self.old.table (Change.PutFilter row node) }
         ensures little { TakesLittle self.old self.new }
     {
@@ -95,7 +99,7 @@ impl Names {
 
     #[tactic(auto, unfolding(crate::specs::Changes::changed))]
     fn use_node(&mut self, slot: u32, what: JobUse, node: NodeId)
-        requires { HasRoom 1 self.old }
+        requires { slot < 16 }
         ensures table { self.new.table ≡ changed self.old.table (Change.UseNode slot what node) }
         ensures little { TakesLittle self.old self.new }
     {
@@ -115,7 +119,8 @@ impl Names {
 
     #[tactic(auto, unfolding(crate::specs::Changes::changed))]
     fn add_device(&mut self, device: Device, node: NodeId)
-        requires { HasRoom 1 self.old }
+        requires room { HasRoom 1 self.old }
+        requires number { device.number < 80 }
         ensures table { self.new.table ≡ changed self.old.table (Change.AddDevice device node) }
         ensures little { TakesLittle self.old self.new }
     {
@@ -137,10 +142,10 @@ impl Names {
 
     #[tactic(auto, unfolding(crate::specs::Changes::changed))]
     fn attach(&mut self, overlay: NodeId, node: NodeId)
-        requires { HasRoom 1 self.old }
         ensures table { self.new.table ≡ changed self.old.table (Change.Attach overlay node) }
         ensures little { TakesLittle self.old self.new }
     {
+        prove!(overlay.index() < MOST_NODES);
         self.put_edge(node_edge(overlay, Role::Backing, node));
         self.refresh();
     }
@@ -165,10 +170,21 @@ impl Names {
         self.set_file(name, FileState::Formatted);
     }
 
+    #[tactic(auto, unfolding(crate::specs::Changes::changed))]
+    fn spoil_file(&mut self, name: Name)
+        requires { HasRoom 1 self.old }
+        ensures table { self.new.table ≡ changed self.old.table (Change.SpoilFile name) }
+        ensures little { TakesLittle self.old self.new }
+    {
+        self.lose(name.as_str());
+        self.set_file(name, FileState::Used);
+    }
+
     /// Makes one change.
     #[tactic(auto, unfolding(crate::specs::Changes::changed))]
     fn change(&mut self, change: Change)
-        requires { HasRoom 1 self.old }
+        requires room { HasRoom 1 self.old }
+        requires fits { Fits self.old.table change }
         ensures table { self.new.table ≡ changed self.old.table change }
         ensures little { TakesLittle self.old self.new }
     {
@@ -178,7 +194,8 @@ impl Names {
             Change::DropId(id) => self.drop_kept(id.as_str()),
             Change::MakeFile { name, .. } => self.set_file(name, FileState::Made),
             Change::FormatFile { node, name, .. } => self.format_file(node, name),
-            Change::SpoilFile(name) | Change::UseFile(name) => self.set_file(name, FileState::Used),
+            Change::SpoilFile(name) => self.spoil_file(name),
+            Change::UseFile(name) => self.set_file(name, FileState::Used),
             Change::AddFile(row) => self.add_file(row),
             Change::AddFormat { row, file, backing } => self.add_format(row, file, backing),
             Change::AddFilter { row, child } => self.add_filter(row, child),
@@ -202,7 +219,8 @@ impl Names {
 
     /// Makes changes, one after another.
     pub fn apply(&mut self, mut edits: Edits)
-        requires { HasRoom (length edits) self.old }
+        requires room { HasRoom (length edits) self.old }
+        requires fit { AllFit self.old.table edits }
         ensures { self.new.table ≡ all_changed self.old.table edits }
     {
         while let Some(change) = edits.next() {

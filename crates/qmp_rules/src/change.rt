@@ -28,7 +28,7 @@ pub enum Change {
         backing_file: Option<Name>,
         backing_fmt: Option<ImageFormat>,
     },
-    /// The making or formatting of a file failed: nothing of it is known.
+    /// The making or formatting of a file failed: nothing of it is known, and a node over it has no flat disk.
     SpoilFile(Name),
     /// What the file's node read as is its last disk, and the file's length is not known.
     UseFile(Name),

@@ -1,6 +1,6 @@
 //! The edits of lists of rows, each made in place.
 ghost use Rattle.std.specs.Prelude.{◌≡◌, ◌<◌, ◌≤◌, ◌+◌, [], Some, map, length, vec_capacity, vec_len};
-ghost use Rattle.qmp_rules.specs.Changes.{asked_for, bitmap_changed, bitmaps_but_of, followed, node_changed, turned, unsettled, with_turned, with_unsettled, with_writable, without_bitmap, without_device, without_name, without_row, writable};
+ghost use Rattle.qmp_rules.specs.Changes.{asked_for, bitmap_changed, bitmaps_but_of, followed, lost_with, node_changed, stands_over, turned, unsettled, with_turned, with_unsettled, with_writable, without_bitmap, without_device, without_name, without_row, writable};
 ghost use Rattle.qmp_rules.specs.Table.{has_file, in_state, kind_in, kinds_of, with_file};
 
 use crate::find;
@@ -23,6 +23,34 @@ pub(crate) fn unsettle(rows: &mut Vec<NodeRecord>, id: NodeId)
 {
     for i in 0..rows.len() {
         unsettle_one(&mut rows[i], id);
+    }
+}
+
+fn stands_over(row: &NodeRecord, name: &str) -> bool
+    ensures { result ≡ stands_over name.now row.now.filename }
+{
+    match &row.filename {
+        Some(filename) => filename.as_str() == name,
+        None => false,
+    }
+}
+
+fn lose_one(row: &mut NodeRecord, name: &str)
+    ensures { row.new ≡ lost_with name.now row.old }
+{
+    if stands_over(row, name) {
+        row.is_settled = false;
+    }
+}
+
+/// No node over the file has a flat disk any more.
+pub(crate) fn lose(rows: &mut Vec<NodeRecord>, name: &str)
+    ensures items { rows.new.items ≡ map (lost_with name.now) rows.old.items }
+    ensures count { vec_len rows.new ≡ vec_len rows.old }
+    ensures capacity { vec_capacity rows.new ≡ vec_capacity rows.old }
+{
+    for i in 0..rows.len() {
+        lose_one(&mut rows[i], name);
     }
 }
 

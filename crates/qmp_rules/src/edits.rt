@@ -339,16 +339,15 @@ impl Names {
         }
     }
 
-    /// What a creation leaves of which a call failed: its file used, and the file node unsettled.
+    /// What a creation leaves of which a call failed: its file used.
     fn plan_spoiled(&self, alloc: Global, edits: &mut Vec<Change>, options: &Created) -> Result<(), NoMemory>
         ensures { OnOk result (edits.new.items ≡ edits.old.items ++ spoiled self.now.table (seen_created options.now)) }
     {
         match options {
             Created::File(c) => put(edits, Change::SpoilFile(Name::copied(alloc, c.filename.as_str())?)),
             Created::Qcow2(c) => {
-                let file = c.file.as_str();
-                put(edits, Change::SpoilFile(Name::copied(alloc, self.file_of_node(file))?))?;
-                put(edits, Change::Unsettle(self.id_of(file)))
+                let file = self.file_of_node(c.file.as_str());
+                put(edits, Change::SpoilFile(Name::copied(alloc, file)?))
             }
             Created::Unknown => Ok(()),
         }

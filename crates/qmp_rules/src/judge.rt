@@ -1,5 +1,6 @@
 //! Why a command is refused, and what it changes.
 ghost use Rattle.std.specs.Prelude.{◌≡◌, IfErr, IfOk, None, length, true};
+ghost use Rattle.std.specs.List.{list_all};
 ghost use Rattle.qmp_codec.specs.Commands.{seen_command};
 ghost use Rattle.qmp_codec.specs.Nodes.{seen_added, seen_created};
 ghost use Rattle.qmp_rules.specs.Answers.{conflict_after, conflict_in, conflict_refusal, is_joined, out_of_turn, refusal_behind, refusal_of, rewires, unbuilt, untold, command_edits};
@@ -7,6 +8,7 @@ ghost use Rattle.qmp_rules.specs.Asks.{first};
 ghost use Rattle.qmp_rules.specs.Changes.{all_changed};
 ghost use Rattle.qmp_rules.specs.CommandAsks.{asks_of, command_name, is_built, negotiates};
 ghost use Rattle.qmp_rules.specs.Edits.{edits_of, spoiled};
+ghost use Rattle.qmp_rules.specs.Fitting.{AllFit, fits_always};
 ghost use Rattle.qmp_rules.specs.Prepared.{IsRefusedFor};
 ghost use Rattle.qmp_rules.specs.Refusals.{or_else};
 ghost use Rattle.qmp_rules.specs.Room.{HasRoom};
@@ -140,6 +142,24 @@ fn out_of_turn(negotiates: bool, negotiated: bool) -> Option<Refusal>
     }
 }
 
+/// Whether a change fits whatever the table is.
+fn fits_always(edit: &Change) -> bool
+    ensures { result ≡ fits_always edit.now }
+{
+    match edit {
+        Change::AddDevice { device, .. } => device.number < 80,
+        Change::UseNode { slot, .. } => *slot < 16,
+        Change::PutFilter { .. } => false,
+        _ => true,
+    }
+}
+
+fn all_fit(edits: &[Change]) -> bool
+    ensures { result ≡ list_all fits_always edits.now }
+{
+    edits.iter().all(|edit| fits_always(edit))
+}
+
 impl Names {
     fn conflict_refusal(&self, alloc: Global, pair: Conflict) -> Result<Refusal, NoMemory>
         ensures { IfOk result (λ refusal. refusal ≡ conflict_refusal self.now.table pair) }
@@ -165,9 +185,13 @@ impl Names {
     }
 
     /// Refuses changes after which the edges break the rule. They are made on a copy.
+    #[tactic(auto, using(crate::proofs::FitLemmas::all_fit))]
     fn conflict_by(&self, alloc: Global, edits: Vec<Change>) -> Found
         ensures { IfOk result (λ found. found ≡ conflict_in (all_changed self.now.table edits.items)) }
     {
+        if !all_fit(edits.as_slice()) {
+            return Err(NoMemory);
+        }
         let mut draft = self.copied(alloc)?;
         draft.reserve(edits.len())?;
         draft.apply(Edits::new(edits));
@@ -238,11 +262,12 @@ impl Names {
     }
 
     /// Looks at a command, and takes all the memory that its changes need. The table stays.
-    #[tactic(auto, using(crate::proofs::JudgeLemmas::edits_built, crate::proofs::JudgeLemmas::built_unless))]
+    #[tactic(auto, using(crate::proofs::JudgeLemmas::edits_built, crate::proofs::JudgeLemmas::built_unless, crate::proofs::FitLemmas::all_fit))]
     pub fn prepare(&mut self, alloc: Global, command: &Command, told: &Told) -> Result<Edits, PrepareStop>
         ensures accepted { IfOk result (λ _. refusal_of self.old.table told.now (seen_command command.now) ≡ None) }
         ensures edits { IfOk result (λ edits. edits ≡ command_edits self.old.table told.now (seen_command command.now)) }
         ensures room { IfOk result (λ edits. HasRoom (length edits) self.new) }
+        ensures fit { IfOk result (λ edits. AllFit self.new.table edits) }
         ensures refused { IfErr result
             (IsRefusedFor (refusal_of self.old.table told.now (seen_command command.now))) }
         ensures table { self.new.table ≡ self.old.table }
@@ -251,17 +276,25 @@ impl Names {
             return Err(PrepareStop::Refused(refusal));
         }
         let edits = self.edits_of(alloc, told, command)?;
+        if !all_fit(edits.as_slice()) {
+            return Err(PrepareStop::NoMemory);
+        }
         self.reserve(edits.len())?;
         Ok(Edits::new(edits))
     }
 
     /// Takes the memory for what a creation leaves of which a call failed. The table stays.
+    #[tactic(auto, using(crate::proofs::FitLemmas::all_fit))]
     pub fn prepare_spoiled(&mut self, alloc: Global, options: &Created) -> Result<Edits, NoMemory>
         ensures edits { IfOk result (λ edits. edits ≡ spoiled self.old.table (seen_created options.now)) }
         ensures room { IfOk result (λ edits. HasRoom (length edits) self.new) }
+        ensures fit { IfOk result (λ edits. AllFit self.new.table edits) }
         ensures table { self.new.table ≡ self.old.table }
     {
         let edits = self.spoiled(alloc, options)?;
+        if !all_fit(edits.as_slice()) {
+            return Err(NoMemory);
+        }
         self.reserve(edits.len())?;
         Ok(Edits::new(edits))
     }

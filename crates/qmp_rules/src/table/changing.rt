@@ -1,7 +1,8 @@
 //! The parts of changes, each made on one list of the table.
-ghost use Rattle.std.specs.Prelude.{◌≡◌, ◌<◌, ◌≤◌, ◌+◌, ◌-◌, ◌^◌, ◌∷◌, ◌++◌, [], Some, map, length, true};
-ghost use Rattle.blk_graph.specs.Edits.{with_edge, with_filter, with_replaced, without_parent};
-ghost use Rattle.qmp_rules.specs.Changes.{asked_for, bitmaps_but_of, busy_by, rewired, with_turned, with_unsettled, with_writable, without_bitmap, without_device, without_name, without_row};
+ghost use Rattle.std.specs.Prelude.{◌≡◌, ◌<◌, ◌≤◌, ◌+◌, ◌-◌, ◌^◌, ◌∷◌, ◌++◌, [], IsTrue, Some, map, true};
+ghost use Rattle.blk_graph.specs.Edges.{HasNumber, may_have};
+ghost use Rattle.blk_graph.specs.Edits.{IsLone, with_edge, with_filter, with_replaced, without_parent};
+ghost use Rattle.qmp_rules.specs.Changes.{asked_for, bitmaps_but_of, busy_by, lost_with, rewired, with_turned, with_unsettled, with_writable, without_bitmap, without_device, without_name, without_row};
 ghost use Rattle.qmp_rules.specs.Room.{KeepsSpare};
 ghost use Rattle.qmp_rules.specs.Table.{with_file};
 
@@ -27,6 +28,15 @@ impl Names {
         edit::unsettle(&mut self.nodes, id);
     }
 
+    /// No node over a file has a flat disk any more.
+    pub(crate) fn lose(&mut self, filename: &str)
+        ensures table { self.new.table
+            ≡ record self.old.table { nodes = map (lost_with filename.now) self.old.table.nodes } }
+        ensures spare { self.new.spare ≡ self.old.spare }
+    {
+        edit::lose(&mut self.nodes, filename);
+    }
+
     pub(crate) fn make_writable(&mut self, id: NodeId)
         ensures table { self.new.table ≡ record self.old.table { nodes = with_writable id self.old.table.nodes } }
         ensures spare { self.new.spare ≡ self.old.spare }
@@ -41,53 +51,44 @@ impl Names {
         edit::drop_node(&mut self.nodes, id);
     }
 
-    #[tactic(auto, using(crate::proofs::RoomLemmas::few_with_edge))]
     pub(crate) fn put_edge(&mut self, edge: Edge)
-        requires { length self.old.table.edges < 2048 }
+        requires role { IsTrue (may_have edge.parent edge.role) }
+        requires number { HasNumber edge.parent }
         ensures table { self.new.table ≡ record self.old.table { edges = with_edge edge self.old.table.edges } }
         ensures spare { self.new.spare ≡ self.old.spare }
-        ensures few { length self.new.table.edges ≤ length self.old.table.edges + 1 }
     {
         self.edges.put(edge);
     }
 
-    #[tactic(auto, using(crate::proofs::RoomLemmas::few_with_filter))]
     pub(crate) fn put_filter(&mut self, node: NodeId, filter: NodeId, perm: Perms, shared: Perms)
-        requires { length self.old.table.edges < 2048 }
+        requires { IsLone self.old.table.edges filter }
         ensures table { self.new.table
             ≡ record self.old.table { edges = with_filter node filter perm shared self.old.table.edges } }
         ensures spare { self.new.spare ≡ self.old.spare }
-        ensures few { length self.new.table.edges ≤ length self.old.table.edges + 1 }
     {
         self.edges.put_filter(node, filter, perm, shared);
     }
 
-    #[tactic(auto, using(crate::proofs::RoomLemmas::few_replaced))]
     pub(crate) fn replace_edges(&mut self, from: NodeId, to: NodeId, but: Parent)
         ensures table { self.new.table
             ≡ record self.old.table { edges = with_replaced from to (Some but) self.old.table.edges } }
         ensures spare { self.new.spare ≡ self.old.spare }
-        ensures few { length self.new.table.edges ≤ length self.old.table.edges }
     {
         self.edges.replace(from, to, Some(but));
     }
 
-    #[tactic(auto, using(crate::proofs::RoomLemmas::few_without))]
     pub(crate) fn drop_edges_of(&mut self, parent: Parent)
         ensures table { self.new.table
             ≡ record self.old.table { edges = without_parent parent self.old.table.edges } }
         ensures spare { self.new.spare ≡ self.old.spare }
-        ensures few { length self.new.table.edges ≤ length self.old.table.edges }
     {
         self.edges.drop_parent(parent);
     }
 
     /// Derives what nodes' edges ask and share.
-    #[tactic(auto, using(crate::proofs::RoomLemmas::few_refreshed))]
     pub(crate) fn refresh(&mut self)
         ensures table { self.new.table ≡ rewired self.old.table.nodes self.old.table.edges self.old.table }
         ensures spare { self.new.spare ≡ self.old.spare }
-        ensures few { length self.new.table.edges ≤ length self.old.table.edges }
     {
         let kinds = edit::kinds_of(self.nodes.as_slice());
         self.edges.refresh(&kinds);

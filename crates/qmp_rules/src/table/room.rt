@@ -1,10 +1,10 @@
 //! Copies of the table, and room for changes.
-ghost use Rattle.std.specs.Prelude.{◌≡◌, ◌+◌, ◌<◌, ◌≤◌, ◌^◌, ◌*◌, IfOk, IsTrue, OnOk, length, vec_capacity, vec_len};
+ghost use Rattle.std.specs.Prelude.{◌≡◌, ◌+◌, ◌<◌, ◌≤◌, ◌^◌, IfOk, IsTrue, OnOk, vec_capacity, vec_len};
 ghost use Rattle.qmp_rules.specs.Room.{HasRoom};
 
 use crate::table::Names;
 use blk_base::NoMemory;
-use blk_graph::{EdgeList, MOST_EDGES};
+use blk_graph::EdgeList;
 use std::alloc::Global;
 
 fn reserve<T>(rows: &mut Vec<T>, more: usize) -> Result<(), NoMemory>
@@ -17,14 +17,11 @@ fn reserve<T>(rows: &mut Vec<T>, more: usize) -> Result<(), NoMemory>
 }
 
 impl Names {
-    /// Whether the edges and the numbers of jobs suffice for so many changes.
+    /// Whether the numbers of jobs suffice for so many changes.
     fn has_numbers(&self, changes: usize) -> bool
-        ensures { IsTrue result → (length self.now.table.edges + 2 * changes ≤ 2048)
-            × (self.now.table.started + changes < 2 ^ 32) }
+        ensures { IsTrue result → self.now.table.started + changes < 2 ^ 32 }
     {
-        changes <= MOST_EDGES
-            && self.edges.as_slice().len() + 2 * changes <= MOST_EDGES
-            && u64::from(self.started) + changes as u64 <= u64::from(u32::MAX)
+        u128::from(self.started) + changes as u128 <= u128::from(u32::MAX)
     }
 
     /// Takes the memory for so many changes.

@@ -1,4 +1,4 @@
-use Rattle.std.proofs.Common.{◌≡◌, ◌<◌, arith}
+use Rattle.std.proofs.Common.{arith}
 use Rattle.blk_graph.proofs.ids.has_id.Goals as goal
 
 pub returns : goal.returns

@@ -1,4 +1,4 @@
-use Rattle.std.proofs.Common.{arith, ◌<◌, ◌≤◌}
+use Rattle.std.proofs.Common.{arith}
 use Rattle.blk_graph.proofs.StillLemmas.{refreshed_turned, refreshed_all}
 use Rattle.blk_graph.proofs.refresh.refresh.Goals as goal
 

@@ -1,4 +1,4 @@
-use Rattle.std.proofs.Common.{◌≡◌, ℕ, ◌++◌, take, drop, map, length, vec_capacity, vec_len, true}
+use Rattle.std.proofs.Common.{◌≡◌, ℕ, ◌++◌, take, drop, map, vec_capacity, vec_len, true}
 use Rattle.blk_graph.specs.declared.edge.Uses.{Uses}
 use Rattle.blk_graph.specs.Refreshed.{ruled, IsTable}
 use Rattle.blk_graph.proofs.refresh.rule_all.Given as goal

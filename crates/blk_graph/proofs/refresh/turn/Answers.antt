@@ -1,4 +1,4 @@
-use Rattle.std.proofs.Common.{rules, ap, ◌∙◌, get_or}
+use Rattle.std.proofs.Common.{ap, ◌∙◌, get_or}
 use Rattle.blk_graph.specs.Permissions.{idle_uses}
 use Rattle.blk_graph.proofs.StillLemmas.{get_or-replicate}
 use Rattle.blk_graph.proofs.refresh.turn.Goals as goal

@@ -6,6 +6,7 @@ use Rattle.std.specs.Option.{option_copied}
 use Rattle.q2_format.proofs.Unmapped.{created_entry, created_disk}
 use Rattle.q2_format.specs.Created.{creation_of}
 use Rattle.q2_image.proofs.Creations.{on_err, headless_refused, made_header, made_texts, made_sound}
+use Rattle.q2_image.proofs.CreateStops.{create_stops}
 use Rattle.q2_image.proofs.create.create_image.Goals as goal
 
 pub returns-in_err-write_image-clause-unfinished : goal.returns-in_err-write_image-clause-unfinished
@@ -40,3 +41,19 @@ returns-in_err-write_image-clause-writes g c =
 
 pub returns-clause-writes : goal.returns-clause-writes
 returns-clause-writes g c = c.in_ok-write_image.ensures.writes
+
+pub returns-then-capacity-lt-CREATED_LENGTH-clause-stops : goal.returns-then-capacity-lt-CREATED_LENGTH-clause-stops
+returns-then-capacity-lt-CREATED_LENGTH-clause-stops g c = λ ws stages six file told.
+    create_stops (creation_of c.args.size (option_copied c.args.name) (option_copied c.args.format)) ws file stages six
+
+pub returns-in_err-buffer-clause-stops : goal.returns-in_err-buffer-clause-stops
+returns-in_err-buffer-clause-stops g c = λ ws stages six file told.
+    create_stops (creation_of c.args.size (option_copied c.args.name) (option_copied c.args.format)) ws file stages six
+
+pub returns-in_err-write_image-clause-stops : goal.returns-in_err-write_image-clause-stops
+returns-in_err-write_image-clause-stops g c = λ ws stages six file told.
+    create_stops (creation_of c.args.size (option_copied c.args.name) (option_copied c.args.format)) ws file stages six
+
+pub returns-clause-stops : goal.returns-clause-stops
+returns-clause-stops g c = λ ws stages six file told.
+    create_stops (creation_of c.args.size (option_copied c.args.name) (option_copied c.args.format)) ws file stages six

@@ -1,5 +1,5 @@
 -- What was written is what the device says of its bytes.
-use Rattle.std.proofs.Common.{ℕ, List, [], ◌∷◌, inr, refl, sym, subst}
+use Rattle.std.proofs.Common.{ℕ, [], ◌∷◌, inr, refl, sym, subst}
 use Rattle.blk_base.specs.Counts.{Rose}
 use Rattle.blk_base.specs.Writes.{write_of}
 use Rattle.std.proofs.Common.{◌+◌, length, take, arith}

@@ -1,5 +1,5 @@
 -- The first sector is zeros from the first write up to the last.
-use Rattle.std.proofs.Common.{None, Err, [], ◌∷◌, replicate, refl}
+use Rattle.std.proofs.Common.{None, Err, replicate, refl}
 use Rattle.std.proofs.lemmas.Result.{err_from_is_err_and}
 use Rattle.blk_base.specs.Writes.{write_of}
 use Rattle.q2_format.specs.Created.{creation_of}

@@ -1,5 +1,5 @@
 -- Three clusters were written, one behind the other.
-use Rattle.std.proofs.Common.{ℕ, List, [], ◌∷◌, None, Err, ap, refl}
+use Rattle.std.proofs.Common.{ℕ, List, None, Err, ap, refl}
 use Rattle.std.proofs.lemmas.Result.{err_from_is_err_and}
 use Rattle.blk_base.specs.Writes.{write_of}
 use Rattle.q2_format.specs.Created.{creation_of}

@@ -1,6 +1,8 @@
-use Rattle.std.proofs.Common.{◌≡◌, ℕ, length, None, Some, sym, subst, ◌∙◌}
+use Rattle.std.proofs.Common.{◌≡◌, ℕ, length, None, Some, Err, sym, ap, subst, ◌∙◌}
 use Rattle.std.proofs.lemmas.Result.{err_from_is_err_and}
 use Rattle.q2_image.specs.Opening.{Names, header_stops, place_stops}
+use Rattle.q2_format.specs.declared.header.HeaderStop.TheVariants.{Short}
+use Rattle.q2_image.specs.declared.stop.ImageStop.TheVariants as stops
 use Rattle.q2_image.proofs.Order.{no_fault_cause}
 use Rattle.q2_image.proofs.Whole.{read_from, header_named, place_named, word_named, ok_told, ok_reach_at}
 use Rattle.q2_image.proofs.opening.open_image.Goals as goal
@@ -22,7 +24,7 @@ returns-in_err-check_places-clause-judged g c =
 pub returns-in_err-check_places-clause-cause : goal.returns-in_err-check_places-clause-cause
 returns-in_err-check_places-clause-cause g c =
     let p = err_from_is_err_and c.from_residual-in_err-check_places.result c.from_residual-in_err-check_places.ensures.1 in
-    rw (p.1, p.2) (no_fault_cause _ _ c.in_err-check_places.field-0.0 c.in_err-check_places.ensures.no_fault)
+    rw (p.1, p.2) (no_fault_cause _ _ c.in_err-check_places.field-0.0 c.in_ok-header.ensures.quiet c.in_err-check_places.ensures.no_fault)
 
 pub open_tables-requires-clause-read : goal.open_tables-requires-clause-read
 open_tables-requires-clause-read g c = λ file told.
@@ -50,3 +52,19 @@ returns-in-Err-clause-judged g c = λ file told.
     word_named file c.in_ok-header.header (g.D.Device.size c.open_header.new.dev) c.in-Err.stop size (c.in_ok-header.ensures.header file told)
     (subst H (sym same) (c.in_ok-header.ensures.judged file told)) (subst P c.length-len.ensures c.in_ok-check_places.ensures.judged)
     (c.in-Err.ensures.judged file (c.in_ok-header.ensures.content ∙ told))
+
+pub returns-in_err-header-clause-short : goal.returns-in_err-header-clause-short
+returns-in_err-header-clause-short g c = λ few.
+    let p = err_from_is_err_and c.from_residual.result c.from_residual.ensures.1 in
+    let is = c.in_err-header.ensures.short few in
+    let same : c.in_err-header.field-0.0 ≡ stops.Header Short = cc is in
+    rw (p.1, p.2) (ap Err same)
+
+pub returns-in_err-check_places-clause-short : goal.returns-in_err-check_places-clause-short
+returns-in_err-check_places-clause-short g c = λ few. let is = c.in_ok-header.ensures.short few in absurd (cc is)
+
+pub returns-in-Ok-clause-short : goal.returns-in-Ok-clause-short
+returns-in-Ok-clause-short g c = λ few. let is = c.in_ok-header.ensures.short few in absurd (cc is)
+
+pub returns-in-Err-clause-short : goal.returns-in-Err-clause-short
+returns-in-Err-clause-short g c = λ few. let is = c.in_ok-header.ensures.short few in absurd (cc is)

@@ -1,4 +1,4 @@
-use Rattle.std.proofs.Common.{◌≡◌, ℕ, List, Some, None, sym, subst, ◌∙◌}
+use Rattle.std.proofs.Common.{◌≡◌, ℕ, List, None, refl, sym, subst, ◌∙◌}
 use Rattle.std.proofs.lemmas.Result.{err_from_is_err_and}
 use Rattle.q2_format.specs.References.{cluster_bound}
 use Rattle.q2_image.specs.Loading.{counts_loaded, HasCounts}
@@ -42,7 +42,7 @@ returns-in_err-seen-clause-judged g c =
 pub returns-in_err-seen-clause-cause : goal.returns-in_err-seen-clause-cause
 returns-in_err-seen-clause-cause g c =
     let p = err_from_is_err_and c.from_residual.result c.from_residual.ensures.1 in
-    rw (p.1, p.2) (no_fault_cause _ _ c.in_err-seen.field-0.0 c.in_err-seen.ensures.no_fault)
+    rw (p.1, p.2) (no_fault_cause _ _ c.in_err-seen.field-0.0 refl c.in_err-seen.ensures.no_fault)
 
 pub returns-in_err-refs-clause-judged : goal.returns-in_err-refs-clause-judged
 returns-in_err-refs-clause-judged g c =
@@ -69,4 +69,4 @@ returns-clause-reach g c =
     (ok_reach c.args.header c.length-len.result c.in_ok-refs.refs c.args.tables c.finish.result has.reach c.finish.ensures.known)
 
 pub returns-clause-cause : goal.returns-clause-cause
-returns-clause-cause g c = err_cause _ _ c.finish.result c.finish.ensures.no_fault
+returns-clause-cause g c = err_cause _ _ c.finish.result c.in_ok-refs.ensures.quiet c.finish.ensures.no_fault

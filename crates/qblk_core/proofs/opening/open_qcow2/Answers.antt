@@ -16,7 +16,7 @@ returns-clause-opened g c =
       bytes = c.in-Ok.ensures.content;
       known = λ file told. c.in-Ok.ensures.image file told;
       flush = c.in-Ok.ensures.flushed;
-      later = c.in-Ok.ensures.faults;
+      quiet = c.in-Ok.ensures.quiet;
       room = c.in-Ok.ensures.capacity;
       good = record {
         image = λ bytes told. let is = c.in-Ok.ensures.image bytes told in (is.sound, ap (λ (h : Header). h.name) is.header ∙ unnamed);

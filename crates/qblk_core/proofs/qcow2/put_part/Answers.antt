@@ -4,6 +4,7 @@ use Rattle.blk_base.specs.declared.fault.Outcome.{Outcome}
 use Rattle.blk_history.specs.Machine.{done_by}
 use Rattle.qblk_core.specs.Medium.{WritesImage}
 use Rattle.qblk_core.proofs.ImageDisks.{put-writes}
+use Rattle.qblk_core.proofs.Outcomes.{cluster-cause}
 use Rattle.qblk_core.proofs.qcow2.put_part.Goals as goal
 
 pub put_cluster-requires-clause-whole : goal.put_cluster-requires-clause-whole
@@ -22,3 +23,6 @@ returns-clause-image g c =
     subst W (sym c.cluster_outcome.ensures)
     (put-writes _ _ c.args.image.now c.put_cluster.new.self part c.args.bytes.now c.fill_cluster.new.cluster c.put_cluster.result c.put_cluster.ensures.told c.put_cluster.ensures.image c.requires.image
     ok c.put_cluster.ensures.kept bits c.requires.blank filled c.requires.whole c.requires.block c.requires.inside)
+
+pub returns-clause-cause : goal.returns-clause-cause
+returns-clause-cause g c = rw c.cluster_outcome.ensures (cluster-cause g.D.Device _ _ c.put_cluster.result _ _ _ c.put_cluster.ensures.changes)

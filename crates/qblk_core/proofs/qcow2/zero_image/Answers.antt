@@ -7,6 +7,7 @@ use Rattle.q2_image.specs.Guest.{file_entry}
 use Rattle.qblk_core.specs.Medium.{WritesImage}
 use Rattle.qblk_core.specs.Space.{IsBlank}
 use Rattle.qblk_core.proofs.ImageDisks.{zero-writes, zeros-left}
+use Rattle.qblk_core.proofs.Outcomes.{cluster-cause}
 use Rattle.qblk_core.proofs.qcow2.zero_image.Goals as goal
 
 pub returns-then-is_whole-clause-image : goal.returns-then-is_whole-clause-image
@@ -35,3 +36,6 @@ returns-in-Zero-clause-image g c =
     let entry = rw (at, number) at (c.in-Zero.ensures.file file (c.requires.image file told)) in
     subst IsBlank entry tt in
     zeros-left (g.D.Device.content c.args.device.now) c.args.image.now part c.requires.image bits blank c.requires.block c.requires.inside
+
+pub returns-then-is_whole-clause-cause : goal.returns-then-is_whole-clause-cause
+returns-then-is_whole-clause-cause g c = rw c.cluster_outcome.ensures (cluster-cause g.D.Device _ _ c.zero_cluster.result _ _ _ c.zero_cluster.ensures.changes)

@@ -23,7 +23,7 @@ returns-clause-made g c =
     let same : c.new-engine.result ≡ begun c.args.format m.image m.size m.faults d p.history = rw (c.new-engine.ensures, format, bytes, room, flush) refl in
     let P : Face → Type 0 = λ e. RequestsDone e w p.ops.items in
     let done : RequestsDone (begun c.args.format m.image m.size m.faults d p.history) w p.ops.items = subst P same c.run_requests.ensures in
-    let whole = made-run c.args.format m.image m.size m.faults d n w p.history p.ops.items ok.0 c.finish-device.result.2 opened.good opened.known opened.later ok.2 ok.3 ok.4.empty done
+    let whole = made-run c.args.format m.image m.size m.faults d n w p.history p.ops.items ok.0 c.finish-device.result.2 opened.good opened.known opened.quiet ok.2 ok.3 ok.4.empty done
     c.finish-device.ensures.disk c.finish-device.ensures.sound c.finish-device.ensures.known c.finish-device.ensures.capacity c.finish-device.ensures.faults c.finish-device.ensures.tells
     (flushed-as n w.faults c.finish-device.result.2 c.finish-device.ensures.flushed) in
     (ok.0, w, ok.1, whole, c.finish-device.ensures.history, ok.4.named, ok.4.blank, ok.4.line_room)

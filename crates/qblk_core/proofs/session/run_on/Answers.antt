@@ -10,7 +10,7 @@ use Rattle.blk_history.specs.declared.event.Event.{Event}
 use Rattle.qblk_core.specs.Run.{Outside, guest_names}
 use Rattle.qblk_core.specs.Session.{Seen, EndsAs}
 use Rattle.qblk_core.proofs.Returned.{none-out-back}
-use Rattle.qblk_core.proofs.Whole.{ends, stops}
+use Rattle.qblk_core.proofs.Whole.{ends, stops, store-stands, sink-stands, ends-stands}
 use Rattle.qblk_core.proofs.session.run_on.Goals as goal
 
 pub give_back-requires : goal.give_back-requires
@@ -66,7 +66,7 @@ returns-in-Err-made-clause-ended g c =
     let same = rw c.in-Err-made.is at c.make_run-made.ensures.untouched in
     let files = c.give_back.ensures.files ∙ ap (files_with_returned c.args.image.now n.content n.capacity n.is_flushed) files2 in
     let opened = c.give_back.ensures.opened ∙ ap (given_back c.args.image.now n.faults) opened1 in
-    stops c.args.format c.args.image.now c.args.trace.now c.in-Ok.read d n old new c.in-Err-made.status sized none device c.in-Ok.ensures.read stop same files opened refl
+    stops c.args.format c.args.image.now c.args.trace.now c.in-Ok.read d n old new c.in-Err-made.status sized none device c.in-Ok.ensures.read stop same files opened refl refl
 
 pub returns-in-Ok-made-clause-back : goal.returns-in-Ok-made-clause-back
 returns-in-Ok-made-clause-back g c =
@@ -85,3 +85,28 @@ returns-in-Err-made-clause-back g c =
     let count = D.faults c.make_run-made.result.1 in
     let opened1 = c.in-Ok-open_image.ensures.opened ∙ ap (λ (os : List Opened). os ++ record { name = c.args.image.now; faults = faults; returned = None } ∷ []) c.in-Ok.ensures.opened in
     none-out-back c.args.image.now faults count (S.opened c.args.store.now) (S.opened c.give_back.new.self) c.requires (c.give_back.ensures.opened ∙ ap (given_back c.args.image.now count) opened1)
+
+pub returns-in-Ok-made-clause-faults : goal.returns-in-Ok-made-clause-faults
+returns-in-Ok-made-clause-faults g c =
+    let S = g.S.Store in
+    let D = g.S.Dev.Device in
+    let K = g.K.Sink in
+    let back = c.make_run-made.result.1 in
+    let n : Seen = record { content = D.content back; is_flushed = D.is_flushed back; faults = D.faults back; capacity = D.capacity back; size = D.size back } in
+    let made = rw c.in-Ok-made.is at c.make_run-made.ensures.made in
+    let w = made.1 in
+    let counts = c.give_back.ensures.faults ∙ c.in-Ok-open_image.ensures.quiet ∙ c.in-Ok.ensures.quiet in
+    record {
+      store = store-stands (S.faults c.args.store.now) (S.faults c.give_back.new.self) c.write_out.result counts;
+      sink = ends-stands n w.faults c.in-Ok-made.made.fault (K.sent c.args.out.now) (K.sent c.write_out.new.out) (transcript guest_names c.in-Ok-made.made.history.events)
+          (K.faults c.args.out.now) (K.faults c.write_out.new.out) c.write_out.result made.3.flushed c.write_out.ensures;
+    }
+
+pub returns-in-Err-made-clause-faults : goal.returns-in-Err-made-clause-faults
+returns-in-Err-made-clause-faults g c =
+    let S = g.S.Store in
+    let counts = c.give_back.ensures.faults ∙ c.in-Ok-open_image.ensures.quiet ∙ c.in-Ok.ensures.quiet in
+    record {
+      store = store-stands (S.faults c.args.store.now) (S.faults c.give_back.new.self) c.in-Err-made.status counts;
+      sink = sink-stands (g.K.Sink.faults c.args.out.now) (g.K.Sink.faults c.args.out.now) c.in-Err-made.status refl;
+    }

@@ -1,8 +1,9 @@
-use Rattle.std.proofs.Common.{◌≡◌, ◌≢◌, ap, sym, ◌∙◌, length, List, refl, set, ◌<◌, ◌≤◌, arith, ◌++◌, ◌∷◌, []}
+use Rattle.std.proofs.Common.{◌≡◌, ◌≢◌, ap, sym, ◌∙◌, length, List, refl, set, ◌<◌, ◌≤◌, arith}
 use Rattle.std.specs.List.{Contains}
 use Rattle.blk_graph.specs.Graph.{Graph, HasName, NodeRow}
 use Rattle.blk_graph.specs.Layout.{row_of, graph_of}
-use Rattle.std.proofs.lemmas.List.{length-map}
+use Rattle.std.proofs.lemmas.List.{length-map, get_or-set_same}
+use Rattle.blk_graph.specs.Refreshed.{no_kind}
 use Rattle.std.proofs.lemmas.List.Elements.{Contains-push}
 use Rattle.blk_graph.proofs.ChildLemmas.{lone-absent}
 use Rattle.blk_graph.proofs.GraphLemmas.{ids-graph_of}
@@ -100,6 +101,12 @@ returns-clause-there c =
       c.push_reserved.ensures.items,
     )
     (Contains-push c.self.inside.order.items c.next_id-node.result)
+
+pub returns-clause-kind : goal.returns-clause-kind
+returns-clause-kind c =
+    let within : c.next_id-node.result < length c.self.inside.kinds
+    = omega (arith, c.index-2.ensures.value, c.index-2.ensures.small, c.self.invariant.sound.kinds) in
+    rw c.index-2.ensures.value (get_or-set_same c.self.inside.kinds c.next_id-node.result c.args.kind no_kind within)
 
 pub returns-clause-lone : goal.returns-clause-lone
 returns-clause-lone c =

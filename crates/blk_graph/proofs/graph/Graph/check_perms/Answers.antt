@@ -14,7 +14,7 @@ first c =
 
 check : (c : goal.After-first_conflict) → IsCheck c.args.self.now.edges c.first_conflict.result
 check c = IsCheck-from_first (ids c.args.self.now) c.args.self.now.edges c.first_conflict.result
-    (rw (sym c.self.view_is) c.self.invariant.sound.fit.children) (first c)
+    (rw (sym c.self.view_is) (λ e h. (c.self.invariant.sound.fit.each e h).child)) (first c)
 
 pub returns-clause-first : goal.returns-clause-first
 returns-clause-first c = first c

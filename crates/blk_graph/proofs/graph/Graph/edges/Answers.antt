@@ -1,8 +1,6 @@
 use Rattle.std.proofs.Common.{sym, ap, length, arith}
-use Rattle.blk_graph.specs.Graph.{Graph}
 use Rattle.blk_graph.specs.Rule.{KeepsPermissions}
 use Rattle.blk_graph.proofs.GraphLemmas.{PathsAreShort-from_IsSound}
-use Rattle.blk_graph.proofs.RoomLemmas.{few_edges}
 use Rattle.blk_graph.proofs.RuleLemmas.{GuestsWriteAlone-from_rule}
 use Rattle.blk_graph.proofs.graph.Graph.edges.Goals as goal
 
@@ -15,6 +13,4 @@ returns-clause-guests c =
     GuestsWriteAlone-from_rule c.args.self.now.edges rule
 
 pub returns-clause-few : goal.returns-clause-few
-returns-clause-few c =
-    let few = few_edges c.args.self.now (rw (sym c.self.view_is) c.self.invariant.sound) in
-    omega (arith, few, ap length c.as_slice.ensures.edges, ap (λ (g : Graph). length g.edges) c.self.view_is)
+returns-clause-few c = omega (arith, c.as_slice.ensures.few, ap length c.as_slice.ensures.edges)

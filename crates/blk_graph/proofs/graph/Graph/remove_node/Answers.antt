@@ -22,8 +22,8 @@ remove-requires c =
 pub invariant_of-self : goal.invariant_of-self
 invariant_of-self c =
     let left : c.swap.new.x ≡ refreshed c.self.inside.kinds (without_parent (Node c.args.node) c.self.inside.edges)
-    = c.swap.ensures.x_after ∙ c.refresh.ensures
-    ∙ ap (refreshed c.self.inside.kinds) (c.drop_parent.ensures ∙ ap (without_parent (Node c.args.node)) c.copy_from.ensures) in
+    = c.swap.ensures.x_after ∙ c.refresh.ensures.edges
+    ∙ ap (refreshed c.self.inside.kinds) (c.drop_parent.ensures.edges ∙ ap (without_parent (Node c.args.node)) c.copy_from.ensures) in
     let there : Contains c.self.inside.order.items c.args.node
     = Contains-order c.self.inside.names c.self.inside.keys c.self.inside.order.items c.self.inside.kinds c.self.inside.edges c.args.node
     (rw (← c.self.view_is) at c.requires) in
@@ -44,8 +44,8 @@ invariant_of-self c =
 pub returns-clause-ok : goal.returns-clause-ok
 returns-clause-ok c =
     let left : c.swap.new.x ≡ refreshed c.self.inside.kinds (without_parent (Node c.args.node) c.self.inside.edges)
-    = c.swap.ensures.x_after ∙ c.refresh.ensures
-    ∙ ap (refreshed c.self.inside.kinds) (c.drop_parent.ensures ∙ ap (without_parent (Node c.args.node)) c.copy_from.ensures) in
+    = c.swap.ensures.x_after ∙ c.refresh.ensures.edges
+    ∙ ap (refreshed c.self.inside.kinds) (c.drop_parent.ensures.edges ∙ ap (without_parent (Node c.args.node)) c.copy_from.ensures) in
     let there : Contains c.self.inside.order.items c.args.node
     = Contains-order c.self.inside.names c.self.inside.keys c.self.inside.order.items c.self.inside.kinds c.self.inside.edges c.args.node
     (rw (← c.self.view_is) at c.requires) in

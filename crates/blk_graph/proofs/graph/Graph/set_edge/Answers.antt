@@ -1,17 +1,16 @@
-use Rattle.std.proofs.Common.{◌≡◌, ◌≢◌, ◌∙◌, ◌<◌, ◌≤◌, ap, sym, length, List, arith, true}
+use Rattle.std.proofs.Common.{◌≡◌, ◌∙◌, ap, sym, subst, List, true}
 use Rattle.blk_graph.specs.declared.edge.Edge.{Edge}
-use Rattle.blk_graph.specs.Graph.{Graph, ids, IsFit}
-use Rattle.blk_graph.specs.Judged.{IsJudged, IsRuled}
+use Rattle.blk_graph.specs.Graph.{Graph, ids, FitsIn, IsFit}
+use Rattle.blk_graph.specs.Judged.{IsJudged}
 use Rattle.blk_graph.specs.Layout.{graph_of}
-use Rattle.blk_graph.specs.Paths.{IsAcyclic, Reaches, HasCycle}
-use Rattle.blk_graph.specs.Refreshed.{refreshed}
+use Rattle.blk_graph.specs.Paths.{IsAcyclic}
+use Rattle.blk_graph.specs.Refreshed.{IsByTable}
 use Rattle.blk_graph.proofs.GraphLemmas.{IsKept-settled, judged_of}
 use Rattle.blk_graph.specs.Edits.{with_edge}
 use Rattle.blk_graph.specs.Paths.{LeadsBack}
 use Rattle.blk_graph.proofs.CycleLemmas.{IsAcyclic-with_edge, LeadsBack-from_cycle, HasCycle-from_LeadsBack}
-use Rattle.blk_graph.specs.Edges.{HasRoom}
-use Rattle.blk_graph.proofs.RoomLemmas.{few_with, few_edges}
-use Rattle.blk_graph.proofs.GraphLemmas.{IsFit-with_edge}
+use Rattle.blk_graph.specs.Edges.{MayStand}
+use Rattle.blk_graph.proofs.FitLemmas.{IsFit-with_edge, stands_fit}
 use Rattle.blk_graph.proofs.JudgeLemmas.{IsJudged-cycle}
 use Rattle.blk_graph.proofs.graph.Graph.set_edge.Goals as goal
 
@@ -19,11 +18,17 @@ abbrev edited : (c : goal.After-settle) → List Edge
 edited c = with_edge c.args.edge c.self.inside.edges
 
 made : (c : goal.After-settle) → c.put.new.self ≡ with_edge c.args.edge c.self.inside.edges
-made c = c.put.ensures ∙ ap (with_edge c.args.edge) c.copy_from.ensures
+made c = c.put.ensures.edges ∙ ap (with_edge c.args.edge) c.copy_from.ensures
 
 fit : (c : goal.After-settle) → IsFit (graph_of c.self.inside.names c.self.inside.keys c.self.inside.order.items c.self.inside.kinds c.self.inside.edges) (with_edge c.args.edge c.self.inside.edges)
-fit c = IsFit-with_edge _ c.args.edge c.self.invariant.sound (rw (← c.self.view_is) at c.requires.parent)
-    (rw (← c.self.view_is) at c.requires.child) c.requires.role
+fit c =
+    let fits : FitsIn (graph_of c.self.inside.names c.self.inside.keys c.self.inside.order.items c.self.inside.kinds c.self.inside.edges) c.args.edge
+    = record {
+      parent = rw (← c.self.view_is) at c.requires.parent;
+      child = rw (← c.self.view_is) at c.requires.child;
+      table = subst (λ (g : Graph). IsByTable g.kinds c.args.edge) (sym c.self.view_is) c.requires.table;
+    } in
+    IsFit-with_edge _ c.args.edge c.self.inside.edges fits c.self.invariant.sound.fit
 
 acyclic : (c : goal.After-settle) → IsAcyclic (with_edge c.args.edge c.self.inside.edges)
 acyclic c = IsAcyclic-with_edge c.args.edge c.self.inside.edges c.self.invariant.sound.just.acyclic
@@ -35,8 +40,7 @@ pub invariant_of-self : goal.invariant_of-self
 invariant_of-self c =
     IsKept-settled c.self.inside.names c.self.inside.keys c.self.inside.order.items c.self.inside.kinds c.self.inside.edges _ c.self.invariant
     (with_edge c.args.edge c.self.inside.edges) c.settle.new.edges c.as_slice-2.result.now c.settle.result c.as_slice-2.ensures.value
-    (let room : HasRoom c.self.inside.edges c.args.edge.parent = rw (← c.self.view_is) at c.requires.room in
-    few_with c.args.edge c.self.inside.edges c.self.invariant.sound.few_outside room) (fit c) (acyclic c)
+    (fit c) (acyclic c)
     (rw (← made c) c.settle.ensures.ruled) (rw (← made c) c.settle.ensures.ok) c.settle.ensures.err
 
 judged : (c : goal.After-settle) → IsJudged (ids c.args.self.now) c.args.self.now.kinds (with_edge c.args.edge c.args.self.now.edges) c.settle.result
@@ -58,8 +62,16 @@ returns-then-leads_back-clause-judged c =
 pub returns-clause-sound : goal.returns-clause-sound
 returns-clause-sound c = (invariant_of-self c).sound
 
-pub put-requires : goal.put-requires
-put-requires c =
-    let few = few_edges (graph_of c.self.inside.names c.self.inside.keys c.self.inside.order.items c.self.inside.kinds c.self.inside.edges)
-    c.self.invariant.sound in
-    omega (arith, few, ap length c.copy_from.ensures)
+stands : (c : goal.After-put-arg-1) → MayStand c.args.edge
+stands c = stands_fit (graph_of c.self.inside.names c.self.inside.keys c.self.inside.order.items c.self.inside.kinds c.self.inside.edges)
+    c.self.invariant.sound.small c.args.edge (record {
+      parent = rw (← c.self.view_is) at c.requires.parent;
+      child = rw (← c.self.view_is) at c.requires.child;
+      table = subst (λ (g : Graph). IsByTable g.kinds c.args.edge) (sym c.self.view_is) c.requires.table;
+    })
+
+pub put-requires-clause-role : goal.put-requires-clause-role
+put-requires-clause-role c = (stands c).role
+
+pub put-requires-clause-number : goal.put-requires-clause-number
+put-requires-clause-number c = (stands c).number

@@ -1,9 +1,20 @@
-use Rattle.std.proofs.Common.{length, ap, arith}
-use Rattle.blk_graph.proofs.EditLemmas.{length-without_filter}
+use Rattle.std.proofs.Common.{arith, sym}
+use Rattle.blk_graph.proofs.FilterLemmas.{IsAcyclic-without_filter}
+use Rattle.blk_graph.proofs.FitLemmas.{IsFit-without_filter}
+use Rattle.blk_graph.proofs.ListedLemmas.{IsListed-without_filter}
 use Rattle.blk_graph.proofs.list.EdgeList.drop_filter.Goals as goal
 
 pub invariant_of-self : goal.invariant_of-self
 invariant_of-self c = (
   omega (arith, c.drop_filter.ensures.capacity, c.self.invariant.0),
-  omega (arith, ap length c.drop_filter.ensures.items, length-without_filter c.args.filter c.self.inside.edges.items, c.self.invariant.1),
+  rw c.drop_filter.ensures.items (IsListed-without_filter c.args.filter c.self.inside.edges.items c.self.invariant.1),
 )
+
+pub returns-clause-fit : goal.returns-clause-fit
+returns-clause-fit c =
+    rw (c.drop_filter.ensures.items, sym c.self.view_is)
+    (λ graph fit. IsFit-without_filter graph c.args.filter c.self.inside.edges.items fit)
+
+pub returns-clause-acyclic : goal.returns-clause-acyclic
+returns-clause-acyclic c =
+    rw (c.drop_filter.ensures.items, sym c.self.view_is) (IsAcyclic-without_filter c.self.inside.edges.items c.args.filter)

@@ -15,14 +15,12 @@ set_edge-requires-clause-child g c =
     let nodes : Nodes = record { graph = c.self.inside.graph; rows = c.self.inside.rows.items; devices = c.self.inside.devices } in
     let is_file = rw (sym c.self.view_is) at c.requires.file in
     let has = file_is_node nodes c.args.file c.self.invariant is_file in
-    rw (c.in-Ok.ensures.ok, c.of_node-edge.ensures)
+    rw (c.in-Ok.ensures.ok, c.of_node-edge.ensures.edge)
     (has_after c.self.inside.graph c.in-Ok.node c.args.name.bytes c.node_kind-kind.result c.args.file has)
 
-pub set_edge-requires-clause-role : goal.set_edge-requires-clause-role
-set_edge-requires-clause-role g c = rw c.of_node-edge.ensures refl
-
-pub set_edge-requires-clause-room : goal.set_edge-requires-clause-room
-set_edge-requires-clause-room g c = rw c.of_node-edge.ensures tt
+pub set_edge-requires-clause-table : goal.set_edge-requires-clause-table
+set_edge-requires-clause-table g c =
+    c.of_node-edge.ensures.table c.add_node.new.self.kinds (rw (c.in-Ok.ensures.kind, c.node_kind-kind.ensures) refl)
 
 pub conflict_of-requires-clause-cycle : goal.conflict_of-requires-clause-cycle
 conflict_of-requires-clause-cycle g c = λ is.
@@ -30,7 +28,7 @@ conflict_of-requires-clause-cycle g c = λ is.
     let is_file = rw (sym c.self.view_is) at c.requires.file in
     let has = file_is_node nodes c.args.file c.self.invariant is_file in
     let apart : c.args.file ≢ c.in-Ok.node = λ same. c.in-Ok.ensures.lowest.free (subst (HasNode c.self.inside.graph) same has) in
-    let leads = rw c.of_node-edge.ensures at (c.set_edge.ensures.cycle.0 (c.in-Err-set_edge.is ∙ ap Err is)) in
+    let leads = rw c.of_node-edge.ensures.edge at (c.set_edge.ensures.cycle.0 (c.in-Err-set_edge.is ∙ ap Err is)) in
     no-way-back c.add_node.new.self.edges c.in-Ok.node c.args.file c.in-Ok.ensures.lone apart leads
 
 pub graph_back : (g : given.Over) (c : goal.After-conflict_of g) → c.take_back.new.graph ≡ c.self.inside.graph
@@ -51,7 +49,7 @@ returns-in-Err-set_edge-clause-denied g c = λ pair is.
     let same : c.conflict_of.result ≡ pair = cc in
     let stopped = c.in-Err-set_edge.is ∙ ap Err (c.conflict_of.ensures ∙ ap graph.Conflict same) in
     let first = ((c.set_edge.ensures.judged.conflict pair).0 stopped).1 in
-    let told = rw (c.in-Ok.ensures.ok, c.of_node-edge.ensures, c.node_kind-kind.ensures) at first in
+    let told = rw (c.in-Ok.ensures.ok, c.of_node-edge.ensures.edge, c.node_kind-kind.ensures) at first in
     rw (sym c.self.view_is)
     (record {
       id = c.in-Ok.node;
@@ -70,9 +68,9 @@ invariant_of-self-2 g c =
     let small = rw node at c.index.ensures.small in
     let lone = rw c.in-Ok.ensures.ok at c.in-Ok.ensures.lone in
     let within = rw (sym c.self.view_is, sym c.part.view_is) at c.requires.part in
-    let sound = rw (c.in_default-set_edge.ensures.ok, c.in-Ok.ensures.ok, c.of_node-edge.ensures, c.node_kind-kind.ensures)
+    let sound = rw (c.in_default-set_edge.ensures.ok, c.in-Ok.ensures.ok, c.of_node-edge.ensures.edge, c.node_kind-kind.ensures)
     at c.in_default-set_edge.ensures.sound in
-    rw (c.in_default-set_edge.ensures.ok, c.in-Ok.ensures.ok, c.of_node-edge.ensures, c.node_kind-kind.ensures, node)
+    rw (c.in_default-set_edge.ensures.ok, c.in-Ok.ensures.ok, c.of_node-edge.ensures.edge, c.node_kind-kind.ensures, node)
     (joined_raw nodes c.in-Ok.node c.args.file c.args.name.bytes _ c.self.invariant c.in-Ok.ensures.lowest.free small lone is_file
     c.part.inside.start c.part.inside.len sound refl refl within c.part.invariant)
 
@@ -83,7 +81,7 @@ returns-clause-disks g c =
     let node = c.index.ensures.value in
     let small = rw node at c.index.ensures.small in
     let lone = rw c.in-Ok.ensures.ok at c.in-Ok.ensures.lone in
-    rw (sym c.self.view_is, c.in_default-set_edge.ensures.ok, c.in-Ok.ensures.ok, c.of_node-edge.ensures, c.node_kind-kind.ensures, node)
+    rw (sym c.self.view_is, c.in_default-set_edge.ensures.ok, c.in-Ok.ensures.ok, c.of_node-edge.ensures.edge, c.node_kind-kind.ensures, node)
     (raw_disks nodes c.in-Ok.node c.args.file c.part.inside.start c.part.inside.len c.args.name.bytes c.args.read_only c.self.invariant
     c.in-Ok.ensures.lowest.free small lone is_file)
 
@@ -94,6 +92,6 @@ returns-clause-disk g c =
     let node = c.index.ensures.value in
     let small = rw node at c.index.ensures.small in
     let lone = rw c.in-Ok.ensures.ok at c.in-Ok.ensures.lone in
-    rw (sym c.self.view_is, sym c.part.view_is, c.in_default-set_edge.ensures.ok, c.in-Ok.ensures.ok, c.of_node-edge.ensures, c.node_kind-kind.ensures, node)
+    rw (sym c.self.view_is, sym c.part.view_is, c.in_default-set_edge.ensures.ok, c.in-Ok.ensures.ok, c.of_node-edge.ensures.edge, c.node_kind-kind.ensures, node)
     (raw_disk_new nodes c.in-Ok.node c.args.file c.part.inside.start c.part.inside.len c.args.name.bytes c.args.read_only c.self.invariant
     c.in-Ok.ensures.lowest.free small lone is_file)

@@ -24,22 +24,22 @@ children kinds edges guest node writes share_rw parent role =
     child_of-refreshed kinds (Node parent) role (with_edge (drive_edge guest node writes share_rw) edges)
     ∙ child-kept (Node parent) role (drive_edge guest node writes share_rw) edges apart
 
-pub set_edge-requires-clause-role : goal.set_edge-requires-clause-role
-set_edge-requires-clause-role g c = rw c.drive-edge.ensures refl
+pub set_edge-requires-clause-table : goal.set_edge-requires-clause-table
+set_edge-requires-clause-table g c = c.drive-edge.ensures.table c.self.inside.graph.kinds
 
-pub set_edge-requires-clause-room : goal.set_edge-requires-clause-room
-set_edge-requires-clause-room g c = rw c.drive-edge.ensures (rw (sym c.self.view_is) at c.requires.room)
+pub set_edge-requires-clause-parent : goal.set_edge-requires-clause-parent
+set_edge-requires-clause-parent g c = rw c.drive-edge.ensures.edge c.requires.number
 
 pub returns-in-Err-clause-denied : goal.returns-in-Err-clause-denied
 returns-in-Err-clause-denied g c = λ pair is.
     let same : c.conflict_of.result ≡ pair = cc in
     let stopped = c.in-Err.is ∙ ap Err (c.conflict_of.ensures ∙ ap graph.Conflict same) in
     let first = ((c.set_edge.ensures.judged.conflict pair).0 stopped).1 in
-    rw (sym c.self.view_is) (rw (c.drive-edge.ensures, c.is_read_only.ensures, sym c.self.view_is) at first)
+    rw (sym c.self.view_is) (rw (c.drive-edge.ensures.edge, c.is_read_only.ensures, sym c.self.view_is) at first)
 
 pub returns-in-Err-clause-kept : goal.returns-in-Err-clause-kept
 returns-in-Err-clause-kept g c =
-    let judged = rw (c.drive-edge.ensures, c.is_read_only.ensures, sym c.self.view_is) at c.set_edge.ensures.judged in
+    let judged = rw (c.drive-edge.ensures.edge, c.is_read_only.ensures, sym c.self.view_is) at c.set_edge.ensures.judged in
     let stopped = c.in-Err.is ∙ ap Err c.conflict_of.ensures in
     rw (sym c.self.view_is) (
       λ ok. absurd (cc ok),
@@ -53,22 +53,22 @@ returns-in-Err-clause-kept g c =
 pub invariant_of-self-2 : goal.invariant_of-self-2
 invariant_of-self-2 g c =
     let nodes : Nodes = record { graph = c.self.inside.graph; rows = c.self.inside.rows.items; devices = c.self.inside.devices } in
-    rw (c.in_default.ensures.ok, c.drive-edge.ensures)
+    rw (c.in_default.ensures.ok, c.drive-edge.ensures.edge)
     (joined_edges nodes (refreshed c.self.inside.graph.kinds
     (with_edge (drive_edge c.args.guest c.args.node (not c.is_read_only.result) c.args.share_rw) c.self.inside.graph.edges)) c.self.invariant
-    (rw (c.in_default.ensures.ok, c.drive-edge.ensures) at c.in_default.ensures.sound)
+    (rw (c.in_default.ensures.ok, c.drive-edge.ensures.edge) at c.in_default.ensures.sound)
     (children c.self.inside.graph.kinds c.self.inside.graph.edges c.args.guest c.args.node (not c.is_read_only.result) c.args.share_rw))
 
 pub returns-clause-kept : goal.returns-clause-kept
 returns-clause-kept g c =
-    let judged = rw (c.drive-edge.ensures, c.is_read_only.ensures, sym c.self.view_is) at c.set_edge.ensures.judged in
+    let judged = rw (c.drive-edge.ensures.edge, c.is_read_only.ensures, sym c.self.view_is) at c.set_edge.ensures.judged in
     let good = rw c.in_default.is at judged.ok in
     rw (sym c.self.view_is) (λ ok. (good.0 refl).1, λ rule. refl)
 
 pub returns-clause-disks : goal.returns-clause-disks
 returns-clause-disks g c =
     let nodes : Nodes = record { graph = c.self.inside.graph; rows = c.self.inside.rows.items; devices = c.self.inside.devices } in
-    rw (c.in_default.ensures.ok, c.drive-edge.ensures, sym c.self.view_is)
+    rw (c.in_default.ensures.ok, c.drive-edge.ensures.edge, sym c.self.view_is)
     (disks_edges nodes (refreshed c.self.inside.graph.kinds
     (with_edge (drive_edge c.args.guest c.args.node (not c.is_read_only.result) c.args.share_rw) c.self.inside.graph.edges))
     (children c.self.inside.graph.kinds c.self.inside.graph.edges c.args.guest c.args.node (not c.is_read_only.result) c.args.share_rw))

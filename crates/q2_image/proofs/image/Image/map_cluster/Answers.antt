@@ -1,10 +1,13 @@
 use Rattle.std.proofs.Common.{◌≡◌, ℕ, ◌+◌, ◌*◌, ◌<◌, ◌≤◌, max, length, Result, Ok, Err, OnOk, OnErr, is_ok, cond, refl, sym, ap, subst, ◌∙◌, arith}
+use Rattle.blk_base.specs.Device.{stop_of}
 use Rattle.blk_base.specs.declared.fault.DevStop.{DevStop}
 use Rattle.q2_format.specs.Entry.{host_of, l2_spelling}
 use Rattle.q2_tables.specs.Entries.{entry_of}
 use Rattle.q2_tables.specs.Linking.{CanLink, FileAfter, entry_at, link_end, table_len, with_entry}
 use Rattle.q2_image.specs.Image.{Known, IsImageOf, cluster_size_in}
+use Rattle.q2_image.specs.Made.{MakesSteps, entry_steps}
 use Rattle.q2_image.specs.Writing.{HasEntriesBut, counts_once, MayName}
+use Rattle.q2_image.proofs.Changes.{entry_made}
 use Rattle.q2_image.proofs.EntryWrites.{lies_apart}
 use Rattle.q2_image.proofs.LinkTold.{open_after, entry_after, spelled_after, others_after, image_after, disk_after, disk_kept, tree_by_kept, link_fault}
 use Rattle.q2_image.proofs.Taken.{told_too}
@@ -159,3 +162,12 @@ returns-clause-cause g c =
     let F : Known → Type 0 = λ k. link_end k.tables c.args.cluster c.args.table ≤ g.D.Device.capacity c.args.dev.now in
     link_fault g.D.Device c.self.inside.tables c.args.cluster word c.args.table c.link.result c.args.dev.now c.link.new.dev
     (subst F (sym c.self.view_is) c.requires.fits) c.link.ensures.writes
+
+pub returns-clause-steps : goal.returns-clause-steps
+returns-clause-steps g c =
+    let seen : Known = record { header = c.self.inside.header; tables = c.self.inside.tables; refs = c.self.inside.refs } in
+    let counted : c.is_single-single.result ≡ counts_once seen (host_of (entry_of c.args.to)) = c.is_single-single.ensures ∙ ap (λ (k : Known). counts_once k c.host_of.result) (sym c.self.view_is) ∙ ap (counts_once seen) c.host_of.ensures in
+    let M : Known → Type 0 = λ k. MakesSteps g.D.Device k (entry_steps k c.args.cluster (entry_of c.args.to) c.args.table) (stop_of c.link.result) (record seen { tables = c.link.new.self }) c.args.dev.now c.link.new.dev in
+    subst M c.self.view_is
+    (entry_made g.D.Device seen c.args.cluster (entry_of c.args.to) c.is_single-single.result c.args.table c.link.new.self c.link.result c.args.dev.now c.link.new.dev
+    counted c.link.ensures.writes c.link.ensures.linked c.link.ensures.kept)

@@ -1,6 +1,9 @@
 use Rattle.std.proofs.Common.{◌≡◌, ℕ, ◌*◌, List, Some, OnOk, sym, subst, ◌∙◌}
 use Rattle.q2_image.specs.Writing.{IsDiskWith}
 use Rattle.q2_image.proofs.HostUses.{size_in}
+use Rattle.q2_image.specs.Made.{put_steps}
+use Rattle.q2_image.proofs.StepsMade.{changes_by, changes_none}
+use Rattle.q2_image.proofs.PutStops.{put_stops}
 use Rattle.q2_image.proofs.image.Image.put_cluster.Goals as goal
 
 pub put_cleared-requires-clause-whole : goal.put_cleared-requires-clause-whole
@@ -11,3 +14,21 @@ returns-clause-disk g c =
     let P : ℕ → Type 0 = λ n. OnOk c.put_cleared.result ((old new : List ℕ) → g.D.Device.content c.args.dev.now ≡ Some old → g.D.Device.content c.put_cleared.new.dev ≡ Some new
     → IsDiskWith old new (c.args.cluster * n) c.args.bytes.now) in
     subst P (sym (size_in c.args.self.now c.if-not-put_fits.ensures.open)) c.put_cleared.ensures.disk
+
+pub returns-then-not-put_fits-clause-changes : goal.returns-then-not-put_fits-clause-changes
+returns-then-not-put_fits-clause-changes g c = changes_none g.D.Device c.args.self.now c.args.dev.now
+
+pub returns-clause-changes : goal.returns-clause-changes
+returns-clause-changes g c =
+    changes_by g.D.Device c.args.self.now c.put_cleared.new.self (put_steps c.args.self.now c.args.cluster c.args.bytes.now) c.put_cleared.result c.args.dev.now c.put_cleared.new.dev
+    c.put_cleared.ensures.cause c.put_cleared.ensures.steps
+
+pub returns-then-not-put_fits-clause-stops : goal.returns-then-not-put_fits-clause-stops
+returns-then-not-put_fits-clause-stops g c = λ fits file told.
+    put_stops file c.args.self.now c.args.cluster c.args.bytes.now (g.D.Device.capacity c.args.dev.now) (c.requires.image file told) c.if-not-put_fits.ensures.open
+    c.if-not-put_fits.ensures.below c.requires.whole fits
+
+pub returns-clause-stops : goal.returns-clause-stops
+returns-clause-stops g c = λ fits file told.
+    put_stops file c.args.self.now c.args.cluster c.args.bytes.now (g.D.Device.capacity c.args.dev.now) (c.requires.image file told) c.if-not-put_fits.ensures.open
+    c.if-not-put_fits.ensures.below c.requires.whole fits

@@ -1,8 +1,11 @@
-use Rattle.std.proofs.Common.{◌≡◌, ℕ, ◌*◌, ◌/◌, ◌⊎◌, inl, inr, Bool, true, false, [], get_or, Result, Ok, Err, OnErr, refl, sym, ap, subst, ◌∙◌, arith}
+use Rattle.std.proofs.Common.{◌≡◌, ℕ, ◌*◌, ◌/◌, ◌⊎◌, inl, inr, Bool, true, false, [], get_or, Some, Result, Ok, Err, OnErr, refl, sym, ap, subst, ◌∙◌, arith}
 use Rattle.std.proofs.lemmas.Result.{err_from_is_err_and, on_ok_weaker}
 use Rattle.q2_format.specs.Header.{header_of}
 use Rattle.q2_format.specs.Tables.{refcount_of}
+use Rattle.blk_base.specs.declared.fault.DevStop.{DevStop}
 use Rattle.q2_image.specs.Image.{Known}
+use Rattle.q2_image.proofs.Changes.{fill_stopped_first, fill_stopped_second, fill_behind, data_stopped, data_made}
+use Rattle.q2_image.specs.Made.{MakesSteps, fill_steps}
 use Rattle.q2_image.specs.Writing.{CanTake, needs_host, with_table}
 use Rattle.q2_image.proofs.HostUses.{held_by, zero_entry}
 use Rattle.q2_image.proofs.OwnWrites.{disk_then}
@@ -245,3 +248,55 @@ returns-clause-kept g c = on_err_weaker c.map_cluster.result (λ kept. λ old ne
     disk_then old first.0 new 0 [] (c.in_ok-table.ensures.disk old first.0 told_old first.1)
     (disk_then first.0 second.0 new 0 [] (c.in_ok-host.ensures.disk first.0 second.0 first.1 second.1)
     (disk_then second.0 third.0 new 0 [] (c.in_ok-write_payload.ensures.disk second.0 third.0 second.1 third.1) (kept third.0 new third.1 told_new)))) c.map_cluster.ensures.kept
+
+pub returns-in_err-table-clause-steps : goal.returns-in_err-table-clause-steps
+returns-in_err-table-clause-steps g c =
+    let p = err_from_is_err_and c.from_residual.result c.from_residual.ensures.1 in
+    let stop : DevStop = c.in_err-table.field-0.0 in
+    let Q : DevStop → Type 0 = λ x. MakesSteps g.D.Device c.args.self.now (fill_steps c.args.self.now c.args.cluster c.args.bytes.now) (Some x) c.new_table.new.self c.args.dev.now c.new_table.new.dev in
+    rw p.1 (subst Q (sym p.2) (fill_stopped_first g.D.Device c.args.self.now c.new_table.new.self c.args.cluster c.args.bytes.now stop c.args.dev.now c.new_table.new.dev c.in_err-table.ensures.steps))
+
+pub returns-in_err-host-clause-steps : goal.returns-in_err-host-clause-steps
+returns-in_err-host-clause-steps g c =
+    let p = err_from_is_err_and c.from_residual-in_err-host.result c.from_residual-in_err-host.ensures.1 in
+    let stop : DevStop = c.in_err-host.field-0.0 in
+    let Q : DevStop → Type 0 = λ x. MakesSteps g.D.Device c.args.self.now (fill_steps c.args.self.now c.args.cluster c.args.bytes.now) (Some x) c.new_host.new.self c.args.dev.now c.new_host.new.dev in
+    rw p.1 (subst Q (sym p.2) (fill_stopped_second g.D.Device c.args.self.now c.new_table.new.self c.new_host.new.self c.args.cluster c.args.bytes.now stop c.args.dev.now c.new_table.new.dev c.new_host.new.dev
+    c.in_ok-table.ensures.ok c.in_ok-table.ensures.steps c.in_err-host.ensures.steps))
+
+pub returns-in_err-write_payload-clause-steps : goal.returns-in_err-write_payload-clause-steps
+returns-in_err-write_payload-clause-steps g c =
+    let p = err_from_is_err_and c.from_residual-in_err-write_payload.result c.from_residual-in_err-write_payload.ensures.1 in
+    let stop : DevStop = c.in_err-write_payload.field-0.0 in
+    let r : Result (Unit {0}) DevStop = Err stop in
+    let Q : DevStop → Type 0 = λ x. MakesSteps g.D.Device c.args.self.now (fill_steps c.args.self.now c.args.cluster c.args.bytes.now) (Some x) c.new_host.new.self c.args.dev.now c.write_payload.new.dev in
+    let put : IsPut c.args.self.now c.new_table.new.self c.new_host.new.self c.args.cluster c.in_ok-table.table c.in_ok-host.host (g.D.Device.capacity c.args.dev.now) = record {
+      ready = c.requires.open;
+      below = c.requires.below;
+      fits = c.requires.fits;
+      table_is = c.in_ok-table.ensures.table;
+      first_is = c.in_ok-table.ensures.ok;
+      host_is = c.in_ok-host.ensures.host;
+      second_is = c.in_ok-host.ensures.ok;
+    } in
+    rw p.1 (subst Q (sym p.2)
+    (fill_behind g.D.Device c.args.self.now c.new_table.new.self c.new_host.new.self c.args.cluster c.in_ok-table.table c.in_ok-host.host (g.D.Device.capacity c.args.dev.now) c.args.bytes.now put
+    c.new_host.new.self r c.args.dev.now c.new_table.new.dev c.new_host.new.dev c.write_payload.new.dev c.in_ok-table.ensures.steps c.in_ok-host.ensures.steps
+    (data_stopped g.D.Device c.new_host.new.self c.args.cluster c.in_ok-host.host c.in_ok-table.table c.args.bytes.now stop
+    c.new_host.new.dev c.write_payload.new.dev c.in_err-write_payload.ensures.writes)))
+
+pub returns-clause-steps : goal.returns-clause-steps
+returns-clause-steps g c =
+    let put : IsPut c.args.self.now c.new_table.new.self c.new_host.new.self c.args.cluster c.in_ok-table.table c.in_ok-host.host (g.D.Device.capacity c.args.dev.now) = record {
+      ready = c.requires.open;
+      below = c.requires.below;
+      fits = c.requires.fits;
+      table_is = c.in_ok-table.ensures.table;
+      first_is = c.in_ok-table.ensures.ok;
+      host_is = c.in_ok-host.ensures.host;
+      second_is = c.in_ok-host.ensures.ok;
+    } in
+    fill_behind g.D.Device c.args.self.now c.new_table.new.self c.new_host.new.self c.args.cluster c.in_ok-table.table c.in_ok-host.host (g.D.Device.capacity c.args.dev.now) c.args.bytes.now put
+    c.map_cluster.new.self c.map_cluster.result c.args.dev.now c.new_table.new.dev c.new_host.new.dev c.map_cluster.new.dev c.in_ok-table.ensures.steps c.in_ok-host.ensures.steps
+    (data_made g.D.Device c.new_host.new.self c.map_cluster.new.self c.args.cluster c.in_ok-host.host c.in_ok-table.table c.args.bytes.now c.map_cluster.result
+    c.new_host.new.dev c.write_payload.new.dev c.map_cluster.new.dev c.in_ok-write_payload.ensures.writes c.map_cluster.ensures.steps)

@@ -1,12 +1,15 @@
-use Rattle.std.proofs.Common.{◌≤◌, ℕ, Err, sym, ap, subst, ◌∙◌}
+use Rattle.std.proofs.Common.{◌≤◌, ℕ, List, length, slice_index_or, None, Some, Option, Err, sym, ap, subst, ◌∙◌}
 use Rattle.blk_base.proofs.DeviceLemmas.{wrote-told}
 use Rattle.blk_base.specs.Device.{Writes}
-use Rattle.q2_refs.specs.Allocating.{end_of_allocation, ref_stop_of, writes_of_answer}
+use Rattle.blk_base.specs.declared.fault.DevStop.{DevStop}
+use Rattle.q2_refs.specs.Allocating.{IsLeft, end_of_allocation, ref_stop_of, writes_of_answer}
 use Rattle.q2_refs.specs.declared.allocating.RefStop.{RefStop}
 use Rattle.q2_format.specs.Header.{header_of}
 use Rattle.q2_format.specs.Tables.{refcount_of}
 use Rattle.q2_refs.specs.Free.{free_cluster, free_clusters}
 use Rattle.q2_image.specs.Image.{Known, IsImageOf}
+use Rattle.q2_image.specs.Made.{MakesSteps, take_steps}
+use Rattle.q2_image.proofs.Changes.{take_made, take_stopped}
 use Rattle.q2_image.proofs.Taken.{told_too, taken_fault, image_taken, spare_stays, disk_taken, open_with_refs, ready_result, fresh_count, by_size}
 use Rattle.q2_image.proofs.image.Image.take_cluster.Goals as goal
 use Rattle.q2_image.proofs.image.Image.take_cluster.Goals.{in-Ok, in-Err-Dev}
@@ -58,4 +61,26 @@ returns-clause-fresh g c =
           ap (refcount_of file (header_of file)) (by_size w.in-Ok.cluster w.cluster_size.result w.cluster_size.ensures.number)
           ∙ fresh_count file seen w.in-Ok.cluster (free_clusters c.allocate.new.self) is w.in-Ok.ensures.given w.in-Ok.ensures.below)
       | in-Err-Dev w ↦ rw w.result-is tt
+    ]
+
+pub returns-clause-steps : goal.returns-clause-steps
+returns-clause-steps g c =
+    let seen : Known = record { header = c.self.inside.header; tables = c.self.inside.tables; refs = c.self.inside.refs } in
+    let left : Known = record seen { refs = c.allocate.new.self } in
+    let M : Option DevStop → Known → Type 0 = λ stop k. MakesSteps g.D.Device k (take_steps k) stop left c.args.dev.now c.allocate.new.dev in
+    elim c.match-allocate.branch [
+      | in-Ok w ↦ rw w.result-is
+          (let first = sym (ap (λ (xs : List ℕ). slice_index_or xs 0 (length c.self.inside.refs.counts)) w.in-Ok.ensures.given) in
+          subst (M None) c.self.view_is
+          (take_made g.D.Device seen w.in-Ok.cluster c.allocate.new.self c.args.dev.now c.allocate.new.dev first w.in-Ok.ensures.writes w.in-Ok.ensures.kept))
+      | in-Err-Dev w ↦ rw w.result-is
+          (let P : Known → Type 0 = λ k. end_of_allocation k.refs (free_cluster k.refs 0) ≤ g.D.Device.capacity c.args.dev.now in
+          let fits : end_of_allocation c.self.inside.refs (free_cluster c.self.inside.refs 0) ≤ g.D.Device.capacity c.args.dev.now =
+          subst P (sym c.self.view_is) c.requires.can.fits in
+          let R : RefStop → Type 0 = λ x.
+          Writes g.D.Device (writes_of_answer c.self.inside.refs (Err x)) (ref_stop_of {A = ℕ} (Err x)) c.args.dev.now c.allocate.new.dev in
+          let L : RefStop → Type 0 = λ x. IsLeft g.D.Device c.self.inside.refs c.allocate.new.self x c.args.dev.now c.allocate.new.dev in
+          subst (M (Some w.in-Err-Dev.stop)) c.self.view_is
+          (take_stopped g.D.Device seen w.in-Err-Dev.stop c.allocate.new.self c.args.dev.now c.allocate.new.dev fits
+          (subst R w.in-Err-Dev.field-0-is w.in-Err-Dev.ensures.writes) (subst L w.in-Err-Dev.field-0-is w.in-Err-Dev.ensures.left)))
     ]

@@ -1,31 +1,37 @@
-use Rattle.std.proofs.Common.{take, arith}
-use Rattle.q2_image.proofs.Payload.{told_image, told_disk, told_spare, told_written, part_short}
+use Rattle.std.proofs.Common.{arith}
+use Rattle.blk_base.specs.Device.{stop_of}
+use Rattle.blk_base.proofs.DeviceLemmas.{wrote-told}
+use Rattle.q2_tables.proofs.LinkWrites.{table_reaches}
+use Rattle.q2_image.proofs.Changes.{one_fault}
+use Rattle.q2_image.proofs.Payload.{bytes_written, image_written, disk_written, spare_written}
 use Rattle.q2_image.proofs.image.Image.write_payload.Goals as goal
 
-pub returns-in-Ok-clause-written : goal.returns-in-Ok-clause-written
-returns-in-Ok-clause-written g c =
-    told_written (g.D.Device.content c.args.dev.now) (g.D.Device.content c.write_at.new.self) c.args.host c.args.bytes.now c.in-Ok.ensures.written c.requires.whole
+pub returns-clause-written : goal.returns-clause-written
+returns-clause-written g c =
+    bytes_written g.D.Device c.args.host c.args.bytes.now c.write.result c.args.dev.now c.write.new.dev c.write.ensures c.requires.whole
 
-pub returns-in-Ok-clause-spare_stay : goal.returns-in-Ok-clause-spare_stay
-returns-in-Ok-clause-spare_stay g c =
-    told_spare (g.D.Device.content c.args.dev.now) (g.D.Device.content c.write_at.new.self) c.args.self.now c.args.host c.args.bytes.now c.in-Ok.ensures.written c.requires.image c.requires.open c.requires.idle c.requires.aligned (omega (arith, c.requires.whole)) c.requires.small
+pub returns-clause-reaches : goal.returns-clause-reaches
+returns-clause-reaches g c =
+    table_reaches g.D.Device c.args.dev.now c.write.new.dev c.write.result c.args.host 65536 c.args.bytes.now c.write.ensures c.requires.whole (omega arith)
 
-pub returns-in-Ok-clause-image : goal.returns-in-Ok-clause-image
-returns-in-Ok-clause-image g c =
-    told_image (g.D.Device.content c.args.dev.now) (g.D.Device.content c.write_at.new.self) c.args.self.now c.args.host c.args.bytes.now c.in-Ok.ensures.written c.requires.image c.requires.open c.requires.idle c.requires.aligned (omega (arith, c.requires.whole)) c.requires.small
+pub returns-clause-spare_stay : goal.returns-clause-spare_stay
+returns-clause-spare_stay g c =
+    spare_written g.D.Device c.args.self.now c.args.host c.args.bytes.now (stop_of c.write.result) c.args.dev.now c.write.new.dev c.write.ensures
+    c.requires.image c.requires.open c.requires.idle c.requires.aligned (omega (arith, c.requires.whole)) c.requires.small
 
-pub returns-in-Ok-clause-disk : goal.returns-in-Ok-clause-disk
-returns-in-Ok-clause-disk g c =
-    told_disk (g.D.Device.content c.args.dev.now) (g.D.Device.content c.write_at.new.self) c.args.self.now c.args.host c.args.bytes.now c.in-Ok.ensures.written c.requires.image c.requires.open c.requires.idle c.requires.aligned (omega (arith, c.requires.whole)) c.requires.small
+pub returns-clause-image : goal.returns-clause-image
+returns-clause-image g c =
+    image_written g.D.Device c.args.self.now c.args.host c.args.bytes.now (stop_of c.write.result) c.args.dev.now c.write.new.dev c.write.ensures
+    c.requires.image c.requires.open c.requires.idle c.requires.aligned (omega (arith, c.requires.whole)) c.requires.small
 
-pub returns-in-Err-clause-spare_stay : goal.returns-in-Err-clause-spare_stay
-returns-in-Err-clause-spare_stay g c =
-    told_spare (g.D.Device.content c.args.dev.now) (g.D.Device.content c.write_at.new.self) c.args.self.now c.args.host (take c.in-Err.stop.done c.args.bytes.now) c.in-Err.ensures.written c.requires.image c.requires.open c.requires.idle c.requires.aligned (part_short c.in-Err.stop.done c.args.bytes.now (omega (arith, c.requires.whole))) c.requires.small
+pub returns-clause-disk : goal.returns-clause-disk
+returns-clause-disk g c =
+    disk_written g.D.Device c.args.self.now c.args.host c.args.bytes.now (stop_of c.write.result) c.args.dev.now c.write.new.dev c.write.ensures
+    c.requires.image c.requires.open c.requires.idle c.requires.aligned (omega (arith, c.requires.whole)) c.requires.small
 
-pub returns-in-Err-clause-image : goal.returns-in-Err-clause-image
-returns-in-Err-clause-image g c =
-    told_image (g.D.Device.content c.args.dev.now) (g.D.Device.content c.write_at.new.self) c.args.self.now c.args.host (take c.in-Err.stop.done c.args.bytes.now) c.in-Err.ensures.written c.requires.image c.requires.open c.requires.idle c.requires.aligned (part_short c.in-Err.stop.done c.args.bytes.now (omega (arith, c.requires.whole))) c.requires.small
+pub returns-clause-cause : goal.returns-clause-cause
+returns-clause-cause g c =
+    one_fault g.D.Device _ c.write.result c.args.dev.now c.write.new.dev (let fits = c.requires.fits in let whole = c.requires.whole in omega (arith, fits, whole)) c.write.ensures
 
-pub returns-in-Err-clause-disk : goal.returns-in-Err-clause-disk
-returns-in-Err-clause-disk g c =
-    told_disk (g.D.Device.content c.args.dev.now) (g.D.Device.content c.write_at.new.self) c.args.self.now c.args.host (take c.in-Err.stop.done c.args.bytes.now) c.in-Err.ensures.written c.requires.image c.requires.open c.requires.idle c.requires.aligned (part_short c.in-Err.stop.done c.args.bytes.now (omega (arith, c.requires.whole))) c.requires.small
+pub returns-clause-told : goal.returns-clause-told
+returns-clause-told g c = wrote-told g.D.Device c.write.ensures.made c.args.dev.now c.write.new.dev c.write.ensures.wrote

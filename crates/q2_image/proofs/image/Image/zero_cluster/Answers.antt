@@ -1,6 +1,9 @@
 use Rattle.std.proofs.Common.{◌≡◌, ℕ, ◌*◌, List, Some, OnOk, sym, subst}
 use Rattle.q2_image.specs.Writing.{IsDiskWith, AreClusterZeros}
 use Rattle.q2_image.proofs.HostUses.{size_in}
+use Rattle.q2_image.specs.Made.{zero_steps}
+use Rattle.q2_image.proofs.StepsMade.{changes_by, changes_none}
+use Rattle.q2_image.proofs.PutStops.{zero_stops}
 use Rattle.q2_image.proofs.image.Image.zero_cluster.Goals as goal
 
 pub returns-clause-disk : goal.returns-clause-disk
@@ -8,3 +11,21 @@ returns-clause-disk g c =
     let P : ℕ → Type 0 = λ n. OnOk c.zero_cleared.result ((old new zeros : List ℕ) → g.D.Device.content c.args.dev.now ≡ Some old → g.D.Device.content c.zero_cleared.new.dev ≡ Some new
     → AreClusterZeros n zeros → IsDiskWith old new (c.args.cluster * n) zeros) in
     subst P (sym (size_in c.args.self.now c.if-not-zero_fits.ensures.open)) c.zero_cleared.ensures.disk
+
+pub returns-then-not-zero_fits-clause-changes : goal.returns-then-not-zero_fits-clause-changes
+returns-then-not-zero_fits-clause-changes g c = changes_none g.D.Device c.args.self.now c.args.dev.now
+
+pub returns-clause-changes : goal.returns-clause-changes
+returns-clause-changes g c =
+    changes_by g.D.Device c.args.self.now c.zero_cleared.new.self (zero_steps c.args.self.now c.args.cluster) c.zero_cleared.result c.args.dev.now c.zero_cleared.new.dev
+    c.zero_cleared.ensures.cause c.zero_cleared.ensures.steps
+
+pub returns-then-not-zero_fits-clause-stops : goal.returns-then-not-zero_fits-clause-stops
+returns-then-not-zero_fits-clause-stops g c = λ fits zeros are file told.
+    zero_stops file c.args.self.now c.args.cluster zeros (g.D.Device.capacity c.args.dev.now) (c.requires.image file told) c.if-not-zero_fits.ensures.open
+    c.if-not-zero_fits.ensures.below are fits
+
+pub returns-clause-stops : goal.returns-clause-stops
+returns-clause-stops g c = λ fits zeros are file told.
+    zero_stops file c.args.self.now c.args.cluster zeros (g.D.Device.capacity c.args.dev.now) (c.requires.image file told) c.if-not-zero_fits.ensures.open
+    c.if-not-zero_fits.ensures.below are fits

@@ -1,4 +1,4 @@
-use Rattle.std.proofs.Common.{◌≢◌, ◌+◌, ◌*◌, ◌/◌, ◌%◌, ℕ, List, [], ◌∷◌, Some, length, refl, sym, ap, subst, ◌∙◌, arith}
+use Rattle.std.proofs.Common.{◌≡◌, ◌≢◌, ◌+◌, ◌*◌, ◌/◌, ◌%◌, ℕ, List, [], ◌∷◌, Some, length, refl, sym, ap, subst, ◌∙◌, arith}
 use Rattle.blk_base.specs.Content.{Write}
 use Rattle.blk_base.specs.Device.{Writes}
 use Rattle.blk_base.specs.Writes.{write_of}
@@ -12,6 +12,7 @@ use Rattle.q2_format.specs.Sizes.{entries_in_cluster}
 use Rattle.q2_tables.specs.Kept.{Kept}
 use Rattle.q2_tables.proofs.Loaded.{filled_again}
 use Rattle.q2_tables.proofs.Links.{stopped_seen, table_seen, plain_set, below_seen}
+use Rattle.q2_tables.proofs.LinkStops.{link_stops}
 use Rattle.q2_tables.proofs.tables.Tables.link_table.Goals as goal
 
 pub returns-in_err-write_table-clause-told : goal.returns-in_err-write_table-clause-told
@@ -79,3 +80,18 @@ returns-clause-reaches g c =
     let grows = wrote-grows g.D.Device last.made c.write_table.new.dev c.write_entry.new.dev last.wrote in
     let reaches = c.in_ok-write_table.ensures.reaches in
     omega (arith, reaches, grows, room, view, table_len_few c.args.self.now c.args.table)
+
+pub returns-in_err-write_table-clause-stops : goal.returns-in_err-write_table-clause-stops
+returns-in_err-write_table-clause-stops g c = λ file told tree apart.
+    let A : Kept → Type 0 = λ k. k.l1_offset % 8 ≡ 0 in
+    link_stops file c.args.self.now c.args.cluster c.args.word c.args.table c.requires.can apart (omega arith) tree (subst A c.self.view_is c.self.invariant.aligned)
+
+pub returns-in_err-write_entry-clause-stops : goal.returns-in_err-write_entry-clause-stops
+returns-in_err-write_entry-clause-stops g c = λ file told tree apart.
+    let A : Kept → Type 0 = λ k. k.l1_offset % 8 ≡ 0 in
+    link_stops file c.args.self.now c.args.cluster c.args.word c.args.table c.requires.can apart (omega arith) tree (subst A c.self.view_is c.self.invariant.aligned)
+
+pub returns-clause-stops : goal.returns-clause-stops
+returns-clause-stops g c = λ file told tree apart.
+    let A : Kept → Type 0 = λ k. k.l1_offset % 8 ≡ 0 in
+    link_stops file c.args.self.now c.args.cluster c.args.word c.args.table c.requires.can apart (omega arith) tree (subst A c.self.view_is c.self.invariant.aligned)

@@ -1,0 +1,605 @@
+-- The changes of an accepted command can be made.
+use Rattle.std.proofs.Common.{◌≡◌, ◌≢◌, ◌⊎◌, ℕ, ◌+◌, ◌<◌, ◌≤◌, Bool, true, false, cond, List, [], ◌∷◌, ◌++◌, map, length, refl, sym, ap, subst, ◌∙◌, inl, inr, arith, Option, Some, None, option_map}
+use Rattle.std.specs.Prelude.{◌==◌, if◌then◌else◌, not, ◌&&◌, ◌||◌, option_and_then, unwrap_or, is_none, is_some, IsSome, bytes_eq, nat_eq, codes}
+use Rattle.std.specs.List.{find, list_any, Contains}
+use Rattle.std.proofs.lemmas.Bool.{eqb-true, eq-eqb, or_parts, and_right, true_from_ne_false}
+use Rattle.std.proofs.lemmas.List.{length-append, length-map, map-append}
+use Rattle.blk_graph.specs.declared.edge.Edge.{Edge}
+use Rattle.blk_graph.specs.declared.kind.Kind.{Kind}
+use Rattle.blk_graph.specs.declared.kind.Kind.TheVariants.{Protocol, Raw, Qcow2, CopyOnRead, BeforeWrite, Mirror, Commit}
+use Rattle.blk_graph.specs.Ids.{lowest_free}
+use Rattle.blk_graph.proofs.Members.{find-Some, Contains-nil, Contains-cases}
+use Rattle.qmp_codec.specs.Commands.{Cmd}
+use Rattle.qmp_codec.specs.declared.command.Command.TheVariants as command
+use Rattle.qmp_codec.specs.declared.nodes.FileRef.{FileRef}
+use Rattle.qmp_codec.specs.declared.nodes.FileRef.TheVariants as file_ref
+use Rattle.qmp_codec.specs.declared.nodes.InlineFile.{InlineFile}
+use Rattle.qmp_codec.specs.declared.nodes.AddRaw.{AddRaw}
+use Rattle.qmp_codec.specs.declared.nodes.AddQcow2.{AddQcow2}
+use Rattle.qmp_codec.specs.declared.nodes.Added.{Added}
+use Rattle.qmp_codec.specs.declared.nodes.Added.TheVariants as added
+use Rattle.qmp_codec.specs.declared.nodes.BlockdevAdd.{BlockdevAdd}
+use Rattle.qmp_codec.specs.declared.nodes.Created.{Created}
+use Rattle.qmp_codec.specs.declared.nodes.Created.TheVariants as created
+use Rattle.qmp_codec.specs.declared.nodes.DeviceAdd.{DeviceAdd}
+use Rattle.qmp_rules.specs.declared.ask.Ask.TheVariants as ask
+use Rattle.qmp_rules.specs.declared.ask.Drivers.TheVariants as drivers
+use Rattle.qmp_rules.specs.declared.change.Change.{Change}
+use Rattle.qmp_rules.specs.declared.change.Change.TheVariants as change
+use Rattle.qmp_rules.specs.declared.refusal.FileFault.TheVariants.{Absent}
+use Rattle.qmp_rules.specs.declared.refusal.Refusal.{Refusal}
+use Rattle.qmp_rules.specs.declared.refusal.Refusal.TheVariants as refusal
+use Rattle.qmp_rules.specs.declared.rows.NodeRecord.{NodeRecord}
+use Rattle.qmp_rules.specs.declared.rows.FileState.{FileState}
+use Rattle.qmp_rules.specs.declared.rows.FileState.TheVariants.{Made, Formatted, Used}
+use Rattle.qmp_rules.specs.declared.told.Look.{Look}
+use Rattle.qmp_rules.specs.declared.told.Look.TheVariants as look
+use Rattle.qmp_rules.specs.declared.told.Stopped.{Stopped}
+use Rattle.qmp_rules.specs.declared.told.Told.{Told}
+use Rattle.qmp_rules.specs.Table.{Table, node_at, node_named, id_named, file_state, first_into}
+use Rattle.qmp_rules.specs.Chains.{filter_role, is_settled, disk_node}
+use Rattle.qmp_rules.specs.Changes.{changed}
+use Rattle.qmp_rules.specs.Edits.{ids, free_id, next_free_id, file_row, inline_row, raw_edits, qcow2_edits, added_edits, add_edits, length_told, edits_of, uses, with_inline, goes_with_node, of_row, row_gone, file_under, created_change, create_edits, del_edits, device_uses, new_device, device_add_edits}
+use Rattle.qmp_rules.specs.NodeAsks.{add_asks, option_values, added_values, added_names, is_read_only, added_rest, raw_rest, qcow2_rest, copy_on_read_rest, is_added, backing_name}
+use Rattle.qmp_rules.specs.Looks.{absent, add_told, is_unopened}
+use Rattle.qmp_rules.specs.Asks.{Asking, holds, first, takes, stands_for, is_lost, is_file, name_of_file, told_at}
+use Rattle.qmp_rules.specs.CommandAsks.{asks_of, negotiates}
+use Rattle.qmp_rules.specs.Answers.{unbuilt, out_of_turn, refusal_of, command_edits}
+use Rattle.blk_history.specs.Fold.{With}
+use Rattle.flat_machine.specs.State.{State, Content, Bytes, Blank, Unknown, content_in, filename_of}
+use Rattle.flat_machine.specs.Contents.{file_bytes}
+use Rattle.flat_machine.specs.Changed.{stepped, put, name_file, add_file, filename_or, content_under}
+use Rattle.flat_machine.specs.Sights.{told_by, sight_for, adds_at, MayStop, Fails, IsReached, IsTooLarge, calls_at, may_be_large, is_opened, order_of}
+use Rattle.flat_machine.specs.Agreement.{HasDisk}
+use Rattle.flat_machine.specs.Performing.{IsFresh, IsWholly, IsReadable, CanRead, IsBacking, CanAddFile, CanAddFormat, CanAddFilter, Can, AllCan}
+use Rattle.flat_machine.specs.Standing.{Stands, StandsFor, IsUnder, IsOfState, IsOpen, IsWhole}
+use Rattle.flat_machine.proofs.Finds.{same-bytes_eq, bytes_eq-same}
+use Rattle.flat_machine.proofs.Kept.{own_disk}
+use Rattle.flat_machine.proofs.Fresh.{lowest_free-free, free-row, found-longer, found-new}
+use Rattle.flat_machine.proofs.Asked.{none-both, NoneHolds, none-holds, none-behind, good-value, found-named, takes-driver, room-left, none-stands, known-file, lone-node, known-under, settled-node}
+
+-- ---- ids
+
+pub free_fresh : (t : Table) → length t.nodes + 1 ≤ 64 → node_at t (free_id t) ≡ None
+free_fresh t room =
+    let same : length (ids t) ≡ length t.nodes = simp length-map in
+    let few : length (ids t) < 64 = omega arith in
+    free-row (free_id t) t.nodes (lowest_free-free (ids t) few)
+
+pub next_fresh : (t : Table) (row : NodeRecord) → row.id ≡ free_id t → length t.nodes + 2 ≤ 64
+    → find (λ r. r.id == next_free_id t) (t.nodes ++ row ∷ []) ≡ None
+next_fresh t row is room =
+    let same : length (ids t) ≡ length t.nodes = simp length-map in
+    let few : length (ids t ++ free_id t ∷ []) < 64 = omega (arith, length-append (ids t) (free_id t ∷ [])) in
+    let taken : map (λ (r : NodeRecord). r.id) (t.nodes ++ row ∷ []) ≡ ids t ++ free_id t ∷ [] =
+    map-append (λ (r : NodeRecord). r.id) t.nodes (row ∷ []) ∙ ap (λ id. ids t ++ id ∷ []) is in
+    free-row (next_free_id t) (t.nodes ++ row ∷ [])
+    (subst (λ l. list_any (nat_eq (next_free_id t)) l ≡ false) (sym taken) (lowest_free-free (ids t ++ free_id t ∷ []) few))
+
+-- ---- an absent file is refused
+
+-- a file that is not there is told as absent, whatever call fails
+told_absent : (s : State) (c : Cmd) (filename : List ℕ) (stopped : Option Stopped) → MayStop s c (absent filename) stopped
+    → calls_at s.table look.Begin c ≡ false → calls_at s.table look.End c ≡ false → may_be_large s c ≡ false
+    → is_opened c (refusal.File filename Absent) ≡ false → told_at look.File stopped ≡ Some (refusal.File filename Absent)
+told_absent s c filename stopped (inl same) begin end large opened = rw same refl
+told_absent s c filename None (inr (inl fails)) begin end large opened = absurd fails
+told_absent s c filename (Some stopped) (inr (inl fails)) begin end large opened =
+    by_order stopped.look fails.call fails.reached
+  where
+    by_order : (what : Look) → calls_at s.table what c ≡ true → IsReached c what (absent filename)
+        → told_at look.File (Some stopped) ≡ Some (refusal.File filename Absent)
+    by_order what call (inr late) = let never = late.1 in absurd cc
+    by_order look.Begin call (inl early) = absurd cc
+    by_order look.End call (inl early) = absurd cc
+    by_order look.File call (inl early) = absurd (omega arith)
+    by_order look.Image call (inl early) = absurd (omega arith)
+    by_order look.Backing call (inl early) = absurd (omega arith)
+    by_order look.Size call (inl early) = absurd (omega arith)
+    by_order look.Format call (inl early) = absurd (omega arith)
+told_absent s c filename stopped (inr (inr too_large)) begin end large opened = let is = too_large.0 in absurd cc
+
+-- ---- files that are known
+
+-- no row stands for a file for which no node does
+pub none-over : (t : Table) (name : List ℕ) → list_any (stands_for name) t.nodes ≡ false → (row : NodeRecord) → StandsFor t name row → ⊥
+none-over t name none row over = by_rows t.nodes none over.there
+  where
+    this : (r : NodeRecord) → r ≡ row → stands_for name r ≡ true
+    this r same = rw (same, over.filename) (bytes_eq-same name)
+
+    by_rows : (rows : List NodeRecord) → list_any (stands_for name) rows ≡ false → Contains rows row → ⊥
+    by_rows [] h there = Contains-nil row there
+    by_rows (r ∷ rows) h there =
+        let parts = or_parts (stands_for name r) (list_any (stands_for name) rows) h in
+        elim (Contains-cases r rows row there) [
+          | inl here ↦ let yes = this r (sym here) in let none = parts.0 in cc
+          | inr behind ↦ by_rows rows parts.1 behind
+        ]
+
+-- a file for which no node stands, and that was not used, is known wholly where there is word of it
+wholly_known : (s : State) (name : List ℕ) → Stands s → list_any (stands_for name) s.table.nodes ≡ false
+    → is_lost false (file_state s.table name) ≡ false → (content : Option Content) → content_in s.files name ≡ content → IsSome content
+    → With content IsWholly
+wholly_known s name stands none lost None is there = absurd cc
+wholly_known s name stands none lost (Some content) is there =
+    by_state (file_state s.table name) refl lost (stands.states name content is (λ row over under. none-over s.table name none row over))
+  where
+    whole : (c : Content) → IsWhole c → IsWholly c
+    whole (Bytes bytes) h = (bytes, refl)
+    whole (Blank new len) h = absurd h
+    whole Unknown h = absurd h
+
+    by_state : (state : Option FileState) → file_state s.table name ≡ state → is_lost false state ≡ false → IsOfState state content
+        → IsWholly content
+    by_state None e l h = whole content h
+    by_state (Some Made) e l h = whole content h
+    by_state (Some Used) e l h = absurd cc
+    by_state (Some Formatted) e l h =
+        let open_row = stands.formatted name e in absurd (none-over s.table name none open_row.0 open_row.1)
+
+-- ---- rows by name
+
+-- a row that has a name is found by its id
+pub row_at : (s : State) (name : List ℕ) (row : NodeRecord) → Stands s → node_named s.table name ≡ Some row → node_at s.table row.id ≡ Some row
+row_at s name row stands found =
+    stands.apart row (find-Some (λ r. bytes_eq r.name name) s.table.nodes row found).0
+
+-- a driver by which a node is no filter
+no_filter : (kind : Kind) → takes drivers.FileRawOrQcow2 kind ≡ true → filter_role kind ≡ None
+no_filter Protocol h = refl
+no_filter Raw h = refl
+no_filter Qcow2 h = refl
+no_filter CopyOnRead h = absurd cc
+no_filter BeforeWrite h = absurd cc
+no_filter Mirror h = absurd cc
+no_filter Commit h = absurd cc
+
+pub is_protocol : (kind : Kind) → takes drivers.File kind ≡ true → kind ≡ Protocol
+is_protocol Protocol h = refl
+is_protocol Raw h = absurd cc
+is_protocol Qcow2 h = absurd cc
+is_protocol CopyOnRead h = absurd cc
+is_protocol BeforeWrite h = absurd cc
+is_protocol Mirror h = absurd cc
+is_protocol Commit h = absurd cc
+
+-- a settled node that is no filter has a disk of its own
+has_disk : (t : Table) (row : NodeRecord) → node_at t row.id ≡ Some row → filter_role row.kind ≡ None → is_settled t row.id ≡ true
+    → HasDisk row
+has_disk t row found own settled =
+    let here : disk_node t row.id ≡ row.id = own_disk t row.id row found own in
+    record { settled = rw (here, found) at settled; own = own }
+
+-- an edge into a node
+no_edge : (id : ℕ) (edges : List Edge) → first_into id edges ≡ None → (edge : Edge) → Contains edges edge → edge.child ≡ id → ⊥
+no_edge id [] h edge there is = Contains-nil edge there
+no_edge id (e ∷ edges) h edge there is = by_test (e.child == id) refl (no_edge id edges) h (Contains-cases e edges edge there)
+  where
+    by_test : (b : Bool) → (e.child == id) ≡ b
+        → (first_into id edges ≡ None → (f : Edge) → Contains edges f → f.child ≡ id → ⊥)
+        → cond b (Some e) (first_into id edges) ≡ None → ((edge ≡ e) ⊎ Contains edges edge) → ⊥
+    by_test true t ih k there = cc
+    by_test false t ih k (inl here) = let yes : (e.child == id) ≡ true = eq-eqb e.child id (ap (λ f. f.child) (sym here) ∙ is) in cc
+    by_test false t ih k (inr behind) = ih k edge behind is
+
+-- a `file` node without parents whose file was neither used nor formatted has a disk
+file_disk_there : (s : State) (name : List ℕ) (row : NodeRecord) → Stands s → node_named s.table name ≡ Some row → row.kind ≡ Protocol
+    → first_into row.id s.table.edges ≡ None → is_lost true (file_state s.table (name_of_file row)) ≡ false → HasDisk row
+file_disk_there s name row stands found driver lone lost =
+    by_settled row.is_settled refl row.filename refl
+  where
+    there : Contains s.table.nodes row
+    there = (find-Some (λ r. bytes_eq r.name name) s.table.nodes row found).0
+
+    own : filter_role row.kind ≡ None
+    own = rw driver refl
+
+    refuted : (filename : List ℕ) → row.filename ≡ Some filename → row.is_settled ≡ false → ⊥
+    refuted filename is gone =
+        let of_file : is_lost true (file_state s.table filename) ≡ false = rw is at lost in
+        elim (stands.lost filename row (record { there = there; filename = is }) gone) [
+          | inl used ↦ let no_use = rw used at of_file in cc
+          | inr (inl formatted) ↦ let no_image = rw formatted at of_file in cc
+          | inr (inr under) ↦ no_edge row.id s.table.edges lone under.edge under.there under.child
+        ]
+
+    by_settled : (settled : Bool) → row.is_settled ≡ settled → (filename : Option (List ℕ)) → row.filename ≡ filename → HasDisk row
+    by_settled true e filename is = record { settled = e; own = own }
+    by_settled false e (Some filename) is = absurd (refuted filename is e)
+    by_settled false e None is = absurd (let named = stands.names row there driver in let none = rw is at named in cc)
+
+-- ---- additions: a file that is opened is there
+
+-- it is not opened where a node stands for it or it was used
+pub opened : (t : Table) (name : List ℕ) → list_any (stands_for name) t.nodes ≡ false → is_lost false (file_state t name) ≡ false
+    → is_unopened t name ≡ false
+opened t name none lost = rw (none, lost) refl
+
+pub file_told_absent : (s : State) (c : BlockdevAdd (List ℕ)) (filename : List ℕ) → c.driver ≡ added.File filename
+    → is_unopened s.table filename ≡ false → content_in s.files filename ≡ None
+    → (told_by s (command.BlockdevAdd c)).stopped ≡ absent filename
+unfolding add_told
+file_told_absent s c filename driver closed none = rw (driver, closed, none) refl
+
+pub raw_told_absent : (s : State) (c : BlockdevAdd (List ℕ)) (raw : AddRaw (List ℕ)) (file : InlineFile (List ℕ)) → c.driver ≡ added.Raw raw
+    → raw.file ≡ file_ref.Inline file → is_unopened s.table file.filename ≡ false → content_in s.files file.filename ≡ None
+    → (told_by s (command.BlockdevAdd c)).stopped ≡ absent file.filename
+unfolding add_told
+raw_told_absent s c raw file driver inline closed none = rw (driver, inline, closed, none) refl
+
+pub qcow2_told_absent : (s : State) (c : BlockdevAdd (List ℕ)) (image : AddQcow2 (List ℕ)) (file : InlineFile (List ℕ))
+    → c.driver ≡ added.Qcow2 image → image.file ≡ file_ref.Inline file → is_unopened s.table file.filename ≡ false
+    → content_in s.files file.filename ≡ None → (told_by s (command.BlockdevAdd c)).stopped ≡ absent file.filename
+unfolding add_told
+qcow2_told_absent s c image file driver inline closed none = rw (driver, inline, closed, none) refl
+
+-- no refusal says that it is absent
+pub opened_there : (s : State) (c : BlockdevAdd (List ℕ)) (told : Told) (filename : List ℕ)
+    → MayStop s (command.BlockdevAdd c) (told_by s (command.BlockdevAdd c)).stopped told.stopped
+    → (content_in s.files filename ≡ None → (told_by s (command.BlockdevAdd c)).stopped ≡ absent filename)
+    → (content_in s.files filename ≡ None → may_be_large s (command.BlockdevAdd c) ≡ false)
+    → told_at look.File told.stopped ≡ None → IsSome (content_in s.files filename)
+opened_there s c told filename may tells large quiet = by_content (content_in s.files filename) refl
+  where
+    by_content : (content : Option Content) → content_in s.files filename ≡ content → IsSome content
+    by_content (Some content) e = refl
+    by_content None e =
+        let is_absent = subst (λ stop. MayStop s (command.BlockdevAdd c) stop told.stopped) (tells e) may in
+        let told_so = told_absent s (command.BlockdevAdd c) filename told.stopped is_absent refl refl (large e) refl in
+        absurd cc
+
+-- ---- what is asked of a backing node
+
+pub backing_there : (s : State) (told : Told) (back : Option (List ℕ)) → Stands s → holds s.table told (ask.Found back) ≡ None
+    → holds s.table told (ask.Drives back drivers.FileRawOrQcow2) ≡ None → holds s.table told (ask.Settled back) ≡ None
+    → (node : ℕ) → option_and_then (id_named s.table) back ≡ Some node → With (node_at s.table node) HasDisk
+backing_there s told None stands found drives settled node is = absurd cc
+backing_there s told (Some name) stands found drives settled node is = by_row (found-named s.table told name found)
+  where
+    by_row : ((row : NodeRecord) × (node_named s.table name ≡ Some row)) → With (node_at s.table node) HasDisk
+    by_row named =
+        let row = named.0 in
+        let at_id = row_at s name row stands named.1 in
+        let own = no_filter row.kind (takes-driver s.table told name drivers.FileRawOrQcow2 row named.1 drives) in
+        let disk = has_disk s.table row at_id own (settled-node s.table told name row named.1 settled) in
+        let same : row.id ≡ node = id_is named.1 in
+        rw (subst (λ n. node_at s.table n ≡ Some row) same at_id) disk
+      where
+        id_is : node_named s.table name ≡ Some named.0 → named.0.id ≡ node
+        id_is e = let of_name = rw e at is in cc
+
+pub backing_can : (s : State) (told : Told) (back : Option (List ℕ)) → Stands s → holds s.table told (ask.Found back) ≡ None
+    → holds s.table told (ask.Drives back drivers.FileRawOrQcow2) ≡ None → holds s.table told (ask.Settled back) ≡ None
+    → IsBacking s (option_and_then (id_named s.table) back)
+backing_can s told back stands found drives settled = by_node (option_and_then (id_named s.table) back) refl
+  where
+    by_node : (node : Option ℕ) → option_and_then (id_named s.table) back ≡ node → IsBacking s node
+    by_node None e = tt
+    by_node (Some node) e = backing_there s told back stands found drives settled node e
+
+-- it is there with one node more
+pub backing_longer : (s : State) (row : NodeRecord) (t : Table) → t.nodes ≡ s.table.nodes ++ row ∷ [] → (now : State) → now.table ≡ t
+    → (backing : Option ℕ) → IsBacking s backing → IsBacking now backing
+backing_longer s row t nodes now same None h = tt
+backing_longer s row t nodes now same (Some node) h = by_row (node_at s.table node) refl h
+  where
+    longer : (r : NodeRecord) → node_at s.table node ≡ Some r → node_at now.table node ≡ Some r
+    longer r e = rw (same, nodes) (found-longer (λ x. x.id == node) s.table.nodes row r e)
+
+    by_row : (found : Option NodeRecord) → node_at s.table node ≡ found → With found HasDisk → With (node_at now.table node) HasDisk
+    by_row None e disk = absurd disk
+    by_row (Some r) e disk = rw (longer r e) disk
+
+-- what is lost to a raw node is more
+pub less_lost : (is_raw : Bool) (state : Option FileState) → is_lost is_raw state ≡ false → is_lost false state ≡ false
+less_lost is_raw None h = refl
+less_lost is_raw (Some Made) h = refl
+less_lost is_raw (Some Formatted) h = refl
+less_lost is_raw (Some Used) h = absurd cc
+
+pub looked_at : (t : Table) (told : Told) (what : Look) → holds t told (ask.Files what) ≡ None → told_at what told.stopped ≡ None
+unfolding holds
+looked_at t told what h = h
+
+-- of a file under a `file` node without parents that was not used enough is known to read the image in it
+readable_under : (s : State) (name : List ℕ) (row : NodeRecord) → Stands s → node_named s.table name ≡ Some row → row.kind ≡ Protocol
+    → first_into row.id s.table.edges ≡ None → is_lost false (file_state s.table (name_of_file row)) ≡ false
+    → With (option_and_then (content_in s.files) row.filename) IsReadable
+readable_under s name row stands found driver lone lost = by_name row.filename refl
+  where
+    there : Contains s.table.nodes row
+    there = (find-Some (λ r. bytes_eq r.name name) s.table.nodes row found).0
+
+    by_state : (state : Option FileState) (content : Content) → is_lost false state ≡ false → IsOfState state content → IsReadable content
+    by_state None (Bytes bytes) l h = tt
+    by_state None (Blank new len) l h = tt
+    by_state None Unknown l h = h
+    by_state (Some Made) (Bytes bytes) l h = tt
+    by_state (Some Made) (Blank new len) l h = tt
+    by_state (Some Made) Unknown l h = h
+    by_state (Some Formatted) (Bytes bytes) l h = tt
+    by_state (Some Formatted) (Blank new len) l h = tt
+    by_state (Some Formatted) Unknown l h = h
+    by_state (Some Used) content l h = absurd cc
+
+    by_content : (filename : List ℕ) → row.filename ≡ Some filename → (content : Option Content) → content_in s.files filename ≡ content
+        → IsSome content → With content IsReadable
+    by_content filename is None e some = absurd cc
+    by_content filename is (Some content) e some =
+        let over : StandsFor s.table filename row = record { there = there; filename = is } in
+        let is_open : IsOpen s.table filename = λ other stands_too under. no_edge row.id s.table.edges lone under.edge under.there
+        (under.child ∙ stands.alone filename other row stands_too over) in
+        by_state (file_state s.table filename) content (rw is at lost) (stands.states filename content e is_open)
+
+    by_name : (filename : Option (List ℕ)) → row.filename ≡ filename → With (option_and_then (content_in s.files) filename) IsReadable
+    by_name None is = absurd (let named = stands.names row there driver in let none = rw is at named in cc)
+    by_name (Some filename) is =
+        by_content filename is (content_in s.files filename) refl
+        (stands.files filename row (record { there = there; filename = is }))
+
+-- a `file` node that is added changes no file
+pub added_files : (row : NodeRecord) (s : State) → (add_file row s).files ≡ s.files
+added_files row s = by_flag row.read_only
+  where
+    with_disk : State
+    with_disk = put row.id (file_bytes row.size (content_in s.files (filename_or row))) s
+
+    by_flag : (b : Bool) → (cond b with_disk (name_file (filename_or row) with_disk)).files ≡ s.files
+    by_flag true = refl
+    by_flag false = refl
+
+readable_whole : (content : Option Content) → With content IsWholly → With content IsReadable
+readable_whole None h = absurd h
+readable_whole (Some content) h = subst IsReadable (sym h.1) tt
+
+-- ---- each driver
+
+module _ (s : State) (told : Told) (c : BlockdevAdd (List ℕ)) (name : List ℕ) (read_only : Bool) (stands : Stands s)
+    (may : MayStop s (command.BlockdevAdd c) (told_by s (command.BlockdevAdd c)).stopped told.stopped) where
+  pub file_can : (filename : List ℕ) → c.driver ≡ added.File filename
+      → NoneHolds s.table told (added_rest name read_only (added.File filename))
+      → (len : ℕ) (flag : Bool) (own : List ℕ) → CanAddFile s (file_row (free_id s.table) own len flag filename None)
+  file_can filename driver asks len flag own =
+      let room = room-left s.table told 1 asks.1.0 in
+      let closed = none-stands s.table told filename asks.1.1.0 in
+      let known = known-file s.table told filename false asks.1.1.1.1.0 in
+      let there = opened_there s c told filename may
+      (file_told_absent s c filename driver (opened s.table filename closed known))
+      (λ e. rw driver refl) (looked_at s.table told look.File asks.1.1.1.0) in
+      record {
+        fresh = free_fresh s.table room;
+        driver = refl;
+        known = wholly_known s filename stands closed known (content_in s.files filename) refl there;
+      }
+
+  pub inline_can : (file : InlineFile (List ℕ)) (is_raw : Bool)
+      → (content_in s.files file.filename ≡ None → is_unopened s.table file.filename ≡ false
+      → (told_by s (command.BlockdevAdd c)).stopped ≡ absent file.filename)
+      → (content_in s.files file.filename ≡ None → may_be_large s (command.BlockdevAdd c) ≡ false)
+      → length s.table.nodes + 2 ≤ 64 → holds s.table told (ask.Closed file.filename) ≡ None
+      → holds s.table told (ask.Files look.File) ≡ None → holds s.table told (ask.Known file.filename is_raw) ≡ None
+      → (exp : Told) → CanAddFile s (inline_row s.table exp name file)
+  inline_can file is_raw tells large room not_closed not_stopped not_lost exp =
+      let closed = none-stands s.table told file.filename not_closed in
+      let known = less_lost is_raw (file_state s.table file.filename) (known-file s.table told file.filename is_raw not_lost) in
+      let there = opened_there s c told file.filename may (λ e. tells e (opened s.table file.filename closed known)) large
+      (looked_at s.table told look.File not_stopped) in
+      record {
+        fresh = free_fresh s.table (omega arith);
+        driver = refl;
+        known = wholly_known s file.filename stands closed known (content_in s.files file.filename) refl there;
+      }
+
+  -- the `file` node that was added before a format node
+  pub inline_under : (now : State) (row : NodeRecord) → now.table.nodes ≡ s.table.nodes ++ row ∷ [] → row.id ≡ free_id s.table
+      → length s.table.nodes + 1 ≤ 64 → node_at now.table (free_id s.table) ≡ Some row
+  inline_under now row nodes is room =
+      rw nodes (found-new (λ r. r.id == free_id s.table) s.table.nodes row (free_fresh s.table room) (eq-eqb row.id (free_id s.table) is))
+
+  raw_inline_can : (raw : AddRaw (List ℕ)) (file : InlineFile (List ℕ)) → c.driver ≡ added.Raw raw → raw.file ≡ file_ref.Inline file
+      → NoneHolds s.table told (raw_rest name read_only raw (file_ref.Inline file))
+      → (exp : Told) → AllCan s (raw_edits s.table exp name read_only raw (file_ref.Inline file))
+  unfolding changed
+  raw_inline_can raw file driver inline asks exp =
+      let room = room-left s.table told 2 asks.1.1.1.0 in
+      let row : NodeRecord = inline_row s.table exp name file in
+      let now : State = stepped s (change.AddFile row) in
+      let added_can = inline_can file true (λ e closed. raw_told_absent s c raw file driver inline closed e) (λ e. rw driver refl) room
+      asks.1.1.1.1.0 asks.1.1.1.1.1.0 asks.1.1.1.1.1.1.0 exp in
+      let under = inline_under now row refl refl (omega arith) in (
+        added_can,
+        (
+          record {
+            fresh = next_fresh s.table row refl room;
+            readable = rw under (record { settled = refl; own = refl });
+            backed = tt;
+          },
+          tt,
+        ),
+      )
+
+  qcow2_inline_can : (image : AddQcow2 (List ℕ)) (file : InlineFile (List ℕ)) (back : Option (List ℕ)) → c.driver ≡ added.Qcow2 image
+      → image.file ≡ file_ref.Inline file → NoneHolds s.table told (qcow2_rest name read_only back (file_ref.Inline file))
+      → (exp : Told) → AllCan s (qcow2_edits s.table exp name read_only back (file_ref.Inline file))
+  unfolding changed
+  qcow2_inline_can image file back driver inline asks exp =
+      let room = room-left s.table told 2 asks.1.1.1.1.0 in
+      let row : NodeRecord = inline_row s.table exp name file in
+      let now : State = stepped s (change.AddFile row) in
+      let added_can = inline_can file false (λ e closed. qcow2_told_absent s c image file driver inline closed e)
+      (λ e. rw (driver, inline, e) (and_right (not (is_unopened s.table file.filename)) false refl)) room
+      asks.1.1.1.1.1.1.0 asks.1.1.1.1.1.1.1.0 asks.1.1.1.1.1.1.1.1.0 exp in
+      let under = inline_under now row refl refl (omega arith) in
+      let backed = backing_can s told back stands asks.0 asks.1.1.1.1.1.0 asks.1.1.1.1.1.1.1.1.1.1.1.0 in (
+        added_can,
+        (
+          record {
+            fresh = next_fresh s.table row refl room;
+            readable = rw (under, added_files row s) (readable_whole (content_in s.files file.filename) added_can.known);
+            backed = backing_longer s row now.table refl now refl (option_and_then (id_named s.table) back) backed;
+          },
+          tt,
+        ),
+      )
+
+  -- over a `file` node that is there
+  raw_named_can : (raw : AddRaw (List ℕ)) (file : List ℕ) → NoneHolds s.table told (raw_rest name read_only raw (file_ref.Name file))
+      → (exp : Told) → AllCan s (raw_edits s.table exp name read_only raw (file_ref.Name file))
+  raw_named_can raw file asks exp = by_row (found-named s.table told file asks.0)
+    where
+      by_row : ((row : NodeRecord) × (node_named s.table file ≡ Some row)) → AllCan s (raw_edits s.table exp name read_only raw (file_ref.Name file))
+      by_row named =
+          let row : NodeRecord = named.0 in
+          let found : node_named s.table file ≡ Some row = named.1 in
+          let is_file_row = takes-driver s.table told file drivers.File row found asks.1.1.1.0 in
+          let driver = is_protocol row.kind is_file_row in
+          let lost = known-under s.table told file true row found is_file_row asks.1.1.1.1.1.0 in
+          let lone = lone-node s.table told file row found asks.1.1.1.1.1.1.1.0 in
+          let disk = file_disk_there s file row stands found driver lone lost in (
+            record {
+              fresh = free_fresh s.table (room-left s.table told 1 asks.1.1.0);
+              readable = rw (found, row_at s file row stands found) disk;
+              backed = tt;
+            },
+            tt,
+          )
+
+  -- what is known of its file is enough
+  qcow2_named_can : (file : List ℕ) (back : Option (List ℕ))
+      → NoneHolds s.table told (qcow2_rest name read_only back (file_ref.Name file))
+      → (exp : Told) → AllCan s (qcow2_edits s.table exp name read_only back (file_ref.Name file))
+  qcow2_named_can file back asks exp = by_row (found-named s.table told file asks.0)
+    where
+      by_row : ((row : NodeRecord) × (node_named s.table file ≡ Some row)) → AllCan s (qcow2_edits s.table exp name read_only back (file_ref.Name file))
+      by_row named =
+          let row : NodeRecord = named.0 in
+          let found : node_named s.table file ≡ Some row = named.1 in
+          let is_file_row = takes-driver s.table told file drivers.File row found asks.1.1.1.1.0 in
+          let driver = is_protocol row.kind is_file_row in
+          let lost = known-under s.table told file false row found is_file_row asks.1.1.1.1.1.1.0 in
+          let lone = lone-node s.table told file row found asks.1.1.1.1.1.1.1.1.1.1.1.1.1.0 in
+          let backed = backing_can s told back stands asks.1.0 asks.1.1.1.1.1.0 asks.1.1.1.1.1.1.1.1.1.0 in (
+            record {
+              fresh = free_fresh s.table (room-left s.table told 1 asks.1.1.1.0);
+              readable = rw (found, row_at s file row stands found) (readable_under s file row stands found driver lone lost);
+              backed = backed;
+            },
+            tt,
+          )
+
+  copy_on_read_can : (file : List ℕ) → NoneHolds s.table told (copy_on_read_rest name file)
+      → (exp : Told) → AllCan s (added_edits s.table exp name read_only (added.CopyOnRead file))
+  copy_on_read_can file asks exp =
+      (record { fresh = free_fresh s.table (room-left s.table told 1 asks.1.1.0); filter = refl }, tt)
+
+  file_all : (filename : List ℕ) → c.driver ≡ added.File filename
+      → NoneHolds s.table told (added_rest name read_only (added.File filename))
+      → (exp : Told) → AllCan s (added_edits s.table exp name read_only (added.File filename))
+  file_all filename driver asks exp = (file_can filename driver asks (length_told exp) read_only name, tt)
+
+  raw_all : (raw : AddRaw (List ℕ)) (file : FileRef (List ℕ)) → c.driver ≡ added.Raw raw → raw.file ≡ file
+      → NoneHolds s.table told (raw_rest name read_only raw file)
+      → (exp : Told) → AllCan s (raw_edits s.table exp name read_only raw file)
+  raw_all raw (file_ref.Name file) driver is asks exp = raw_named_can raw file asks exp
+  raw_all raw (file_ref.Inline file) driver is asks exp = raw_inline_can raw file driver is asks exp
+
+  qcow2_all : (image : AddQcow2 (List ℕ)) (file : FileRef (List ℕ)) (back : Option (List ℕ)) → c.driver ≡ added.Qcow2 image → image.file ≡ file
+      → NoneHolds s.table told (qcow2_rest name read_only back file)
+      → (exp : Told) → AllCan s (qcow2_edits s.table exp name read_only back file)
+  qcow2_all image (file_ref.Name file) back driver is asks exp = qcow2_named_can file back asks exp
+  qcow2_all image (file_ref.Inline file) back driver is asks exp = qcow2_inline_can image file back driver is asks exp
+
+  driver_can : (driver : Added (List ℕ)) → c.driver ≡ driver → is_added driver ≡ true
+      → NoneHolds s.table told (added_rest name read_only driver)
+      → (exp : Told) → AllCan s (added_edits s.table exp name read_only driver)
+  driver_can (added.File filename) e known asks exp = file_all filename e asks exp
+  driver_can (added.Raw raw) e known asks exp = raw_all raw raw.file e refl asks exp
+  driver_can (added.Qcow2 image) e known asks exp = qcow2_all image image.file (backing_name image.backing) e refl asks exp
+  driver_can (added.CopyOnRead file) e known asks exp = copy_on_read_can file asks exp
+  driver_can added.Unknown e known asks exp = absurd cc
+
+-- ---- commands
+
+add_can : (s : State) (told exp : Told) (c : BlockdevAdd (List ℕ)) → Stands s
+    → MayStop s (command.BlockdevAdd c) (told_by s (command.BlockdevAdd c)).stopped told.stopped
+    → NoneHolds s.table told (add_asks c) → AllCan s (add_edits s.table exp c)
+add_can s told exp c stands may asks =
+    driver_can s told c c.node_name (is_read_only c.options) stands may c.driver refl
+    (good-value s.table told (codes "driver") (is_added c.driver) asks.0)
+    (none-behind s.table told front (added_rest c.node_name (is_read_only c.options) c.driver) asks) exp
+  where
+    front : List Asking
+    front =
+        ask.Good (codes "driver") (is_added c.driver) ∷ option_values c.options
+        ++ added_values c.driver
+        ++ ask.Named (codes "node-name") (Some c.node_name) ∷ added_names c.driver
+
+-- changes of which nothing is asked
+abbrev AreFree : List Change → Type 0
+AreFree [] = Unit {0}
+AreFree (c ∷ changes) = ((s : State) → Can s c) × AreFree changes
+
+free_can : (changes : List Change) → AreFree changes → (s : State) → AllCan s changes
+free_can [] h s = tt
+free_can (c ∷ changes) h s = (h.0 s, free_can changes h.1 (stepped s c))
+
+free_append : (xs ys : List Change) → AreFree xs → AreFree ys → AreFree (xs ++ ys)
+free_append [] ys hx hy = hy
+free_append (c ∷ xs) ys hx hy = (hx.0, free_append xs ys hx.1 hy)
+
+free_uses : (name : Option (List ℕ)) → AreFree (uses name)
+free_uses None = tt
+free_uses (Some name) = (λ s. tt, tt)
+
+free_created : (t : Table) (options : Created (List ℕ)) → AreFree (created_change t options)
+free_created t (created.File c) = (λ s. tt, tt)
+free_created t (created.Qcow2 c) = (λ s. tt, tt)
+free_created t created.Unknown = tt
+
+free_inline : (t : Table) (id : ℕ) → AreFree (with_inline t id)
+free_inline t id = by_row (find (goes_with_node id) t.nodes)
+  where
+    by_row : (found : Option NodeRecord) → AreFree (elim found as (λ _. List Change) [ None ↦ [] | Some row ↦ change.RemoveNode row.id ∷ [] ])
+    by_row None = tt
+    by_row (Some row) = (λ s. tt, tt)
+
+free_del : (t : Table) (found : Option NodeRecord) → AreFree (of_row (row_gone t) found)
+free_del t None = tt
+free_del t (Some row) = free_append (uses (file_under t row)) (change.RemoveNode row.id ∷ with_inline t row.id) (free_uses (file_under t row))
+    (λ s. tt, free_inline t row.id)
+
+free_device_uses : (row : NodeRecord) (b : Bool) → AreFree (if b then uses row.filename else [])
+free_device_uses row true = free_uses row.filename
+free_device_uses row false = tt
+
+free_device : (t : Table) (c : DeviceAdd (List ℕ)) (found : Option NodeRecord)
+    → AreFree (of_row (λ row. device_uses row ++ change.AddDevice (new_device t c row) row.id ∷ []) found)
+free_device t c None = tt
+free_device t c (Some row) = free_append (device_uses row) (change.AddDevice (new_device t c row) row.id ∷ [])
+    (free_device_uses row (is_file row)) (λ s. tt, tt)
+
+-- Where nothing refuses a command that is carried out, each of its changes can be made, whatever sizes are told of files.
+pub accepted_can : (s : State) (told exp : Told) (c : Cmd) → Stands s → MayStop s c (told_by s c).stopped told.stopped
+    → refusal_of s.table told c ≡ None → AllCan s (command_edits s.table exp c)
+unfolding refusal_of asks_of edits_of
+accepted_can s told exp c stands may h =
+    let known = none-both (unbuilt c) _ h in
+    let turn = none-both (out_of_turn (negotiates c) s.table.negotiated) _ known.1 in
+    let asks = none-both (first s.table told (asks_of c)) _ turn.1 in
+    by_command c stands may known.0 (none-holds s.table told (asks_of c) asks.0)
+  where
+    by_command : (c : Cmd) → Stands s → MayStop s c (told_by s c).stopped told.stopped → unbuilt c ≡ None
+        → NoneHolds s.table told (asks_of c) → AllCan s (command_edits s.table exp c)
+    by_command (command.Capabilities enable) stands may is asks = (tt, tt)
+    by_command (command.BlockdevCreate c) stands may is asks =
+        free_can (create_edits s.table c) (λ now. tt, free_created s.table c.options) s
+    by_command (command.JobDismiss id) stands may is asks = (tt, tt)
+    by_command (command.BlockdevAdd c) stands may is asks = add_can s told exp c stands may asks
+    by_command (command.BlockdevDel name) stands may is asks =
+        free_can (del_edits s.table name) (free_del s.table (node_named s.table name)) s
+    by_command (command.DeviceAdd c) stands may is asks =
+        free_can (device_add_edits s.table c) (free_device s.table c (node_named s.table c.drive)) s
+    by_command command.QueryBlockJobs stands may is asks = tt
+    by_command (command.QueryNamedBlockNodes flat) stands may is asks = tt
+    by_command _ stands may is asks = absurd cc

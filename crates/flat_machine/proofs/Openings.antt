@@ -1,0 +1,100 @@
+-- A run begins with tables that stand and files that are as they were found; and entries that touch no disk leave all of it.
+use Rattle.std.proofs.Common.{◌≡◌, ◌≢◌, ℕ, Bool, true, false, cond, List, [], ◌∷◌, map, refl, sym, ap, subst, ◌∙◌, Option, Some, None, option_map}
+use Rattle.std.specs.Prelude.{◌==◌, bytes_eq, All, unwrap_or, is_some, IsSome}
+use Rattle.std.specs.List.{find, Contains}
+use Rattle.std.proofs.lemmas.List.Elements.{All-nil}
+use Rattle.blk_base.specs.declared.file.File.{File}
+use Rattle.blk_base.specs.Files.{file_at}
+use Rattle.blk_graph.proofs.Members.{Contains-nil}
+use Rattle.qmp_rules.specs.declared.rows.NodeRecord.{NodeRecord}
+use Rattle.qmp_rules.specs.Table.{node_at}
+use Rattle.qmp_rules.specs.Chains.{is_settled, disk_node}
+use Rattle.flat_machine.specs.declared.opening.Opening.{Opening}
+use Rattle.flat_machine.specs.State.{State, Content, Bytes, Blank, Unknown, bytes_in, bytes_at_node, disk_of, content_in}
+use Rattle.flat_machine.specs.Contents.{found}
+use Rattle.flat_machine.specs.Opening.{start}
+use Rattle.flat_machine.specs.Final.{bytes_of}
+use Rattle.flat_machine.specs.Agreement.{Contents, HasDisk, IsAsKnown, IsLeftAs, Agrees}
+use Rattle.flat_machine.specs.Performing.{Nothing, IsQuiet}
+use Rattle.flat_machine.specs.Standing.{Stands, IsOfState}
+use Rattle.flat_machine.proofs.Finds.{bytes_eq-same, bytes_eq-other, same-bytes_eq}
+use Rattle.flat_machine.proofs.Agreeing.{rows_same}
+use Rattle.flat_machine.proofs.Kept.{quiet_keeps, own_disk}
+
+-- ---- the beginning
+
+bytes_eq-turned : (a b : List ℕ) → bytes_eq a b ≡ bytes_eq b a
+bytes_eq-turned a b = by_test (bytes_eq b a) refl
+  where
+    by_test : (t : Bool) → bytes_eq b a ≡ t → bytes_eq a b ≡ t
+    by_test true e = subst (λ n. bytes_eq a n ≡ true) (sym (same-bytes_eq b a e)) (bytes_eq-same a)
+    by_test false e = bytes_eq-other a b (λ same. let yes : bytes_eq b a ≡ true = subst (λ n. bytes_eq n a ≡ true) same (bytes_eq-same a) in cc)
+
+-- what is known of files as they are found
+found_bytes : (files : List File) (name : List ℕ) → content_in (map found files) name ≡ option_map Bytes (bytes_of files name)
+found_bytes [] name = refl
+found_bytes (f ∷ files) name = by_test (bytes_eq f.name name) (bytes_eq name f.name) (bytes_eq-turned name f.name) (found_bytes files name)
+  where
+    by_test : (a b : Bool) → b ≡ a → content_in (map found files) name ≡ option_map Bytes (bytes_of files name)
+        → option_map (λ known. known.content) (cond a (Some (found f)) (find (λ known. bytes_eq known.name name) (map found files)))
+        ≡ option_map Bytes (option_map (λ g. g.bytes) (cond b (Some f) (file_at name files)))
+    by_test true true e ih = refl
+    by_test false false e ih = ih
+    by_test true false e ih = absurd cc
+    by_test false true e ih = absurd cc
+
+pub start_stands : (o : Opening) → Stands (start o)
+start_stands o = record {
+  apart = λ row there. absurd (Contains-nil row there);
+  edges = λ e there. absurd (Contains-nil e there);
+  drivers = λ name row over. absurd (Contains-nil row over.there);
+  names = λ row there. absurd (Contains-nil row there);
+  alone = λ name a b over_a over_b. absurd (Contains-nil a over_a.there);
+  files = λ name row over. absurd (Contains-nil row over.there);
+  lost = λ name row over gone. absurd (Contains-nil row over.there);
+  states = λ name content is is_open. is_whole content (bytes_of o.files name) (sym (found_bytes o.files name) ∙ is);
+  formatted = λ name is. absurd cc;
+}
+  where
+    is_whole : (content : Content) (bytes : Option (List ℕ)) → option_map Bytes bytes ≡ Some content → IsOfState None content
+    is_whole content None e = absurd cc
+    is_whole (Bytes b) (Some bytes) e = tt
+    is_whole (Blank new len) (Some bytes) e = absurd cc
+    is_whole Unknown (Some bytes) e = absurd cc
+
+-- the files hold what the store tells
+pub start_agrees : (o : Opening) (c : Contents) → ((name : List ℕ) → c.held name ≡ bytes_of o.files name) → Agrees (bytes_of o.files) (start o) c
+start_agrees o c held = record {
+  disks = λ node row is disk. absurd cc;
+  known = λ name content is. is_known content (bytes_of o.files name) (c.held name) (held name) (sym (found_bytes o.files name) ∙ is);
+  absent = λ name none. held name ∙ is_absent (bytes_of o.files name) (sym (found_bytes o.files name) ∙ none);
+  left = All-nil (IsLeftAs c);
+  unchanged = λ name not_named. held name;
+}
+  where
+    is_known : (content : Content) (bytes now : Option (List ℕ)) → now ≡ bytes → option_map Bytes bytes ≡ Some content → IsAsKnown content now
+    is_known content None now e k = absurd cc
+    is_known content (Some bytes) now e k = let same : Bytes bytes ≡ content = cc in subst (λ what. IsAsKnown what now) same e
+
+    is_absent : (bytes : Option (List ℕ)) → option_map Bytes bytes ≡ None → bytes ≡ None
+    is_absent None e = refl
+    is_absent (Some bytes) e = absurd cc
+
+-- ---- entries that touch no disk
+
+pub agrees_beside : (opening : List ℕ → Option (List ℕ)) (s now : State) (c : Contents) → now.table.nodes ≡ s.table.nodes → now.disks ≡ s.disks
+    → now.files ≡ s.files → now.left ≡ s.left → now.named ≡ s.named → Agrees opening s c → Agrees opening now c
+agrees_beside opening s now c nodes disks files left named h =
+    quiet_keeps opening s now c c (rows_same s now nodes) disks files left named
+    (record { nodes = λ node other. refl; files = λ name other. refl }) h
+
+-- ---- a node with a flat disk
+
+-- what it reads as is its flat disk
+pub disk_read : (opening : List ℕ → Option (List ℕ)) (s : State) (c : Contents) (node : ℕ) (row : NodeRecord) → Agrees opening s c
+    → node_at s.table node ≡ Some row → HasDisk row → disk_of s node ≡ Some (c.reads node)
+disk_read opening s c node row h is disk =
+    let here = own_disk s.table node row is disk.own in
+    let settled : is_settled s.table node ≡ true = rw (here, is, disk.settled) refl in
+    let reads : bytes_at_node s node ≡ c.reads node = rw here (sym (h.disks node row is disk)) in
+    rw (settled, reads) refl

@@ -1,0 +1,921 @@
+-- Changes leave what holds of all tables.
+use Rattle.std.proofs.Common.{◌≡◌, ◌≢◌, ◌⊎◌, ℕ, Bool, true, false, cond, List, [], ◌∷◌, ◌++◌, map, replicate, refl, sym, ap, subst, ◌∙◌, inl, inr, Option, Some, None, option_map}
+use Rattle.std.specs.Prelude.{◌==◌, ◌&&◌, ◌||◌, not, bytes_eq, IsSome, is_some, option_and_then}
+use Rattle.std.specs.List.{find, filter, Contains}
+use Rattle.std.proofs.lemmas.Bool.{eqb-true, eqb-false, eq-eqb, ne_eqb, cases_eq, and_right, and_left}
+use Rattle.blk_graph.specs.declared.edge.Edge.{Edge}
+use Rattle.blk_graph.specs.declared.edge.Parent.{Parent}
+use Rattle.blk_graph.specs.declared.edge.Parent.TheVariants.{Node, Guest}
+use Rattle.blk_graph.specs.declared.edge.Role.TheVariants.{File, Backing, Drive}
+use Rattle.blk_graph.specs.declared.kind.Kind.TheVariants.{Protocol}
+use Rattle.blk_graph.specs.declared.kind.NodeKind.{NodeKind}
+use Rattle.blk_graph.specs.Edges.{same_parent}
+use Rattle.blk_graph.specs.Edits.{takes_place, with_edge, without_parent}
+use Rattle.blk_graph.specs.Refreshed.{refreshed}
+use Rattle.blk_graph.specs.Permissions.{node_edge}
+use Rattle.blk_graph.proofs.Members.{find-Some, Contains-map, map-Contains, Contains-filter}
+use Rattle.blk_graph.proofs.CycleLemmas.{same_parent-true}
+use Rattle.blk_graph.proofs.EditLemmas.{Contains-with_edge, Contains-with_edge_new}
+use Rattle.q2_format.specs.Created.{creation_of}
+use Rattle.qmp_codec.specs.declared.words.ImageFormat.{ImageFormat}
+use Rattle.qmp_rules.specs.declared.rows.NodeRecord.{NodeRecord}
+use Rattle.qmp_rules.specs.declared.rows.Device.{Device}
+use Rattle.qmp_rules.specs.declared.rows.FileState.{FileState}
+use Rattle.qmp_rules.specs.declared.rows.FileState.TheVariants.{Made, Formatted, Used}
+use Rattle.qmp_rules.specs.declared.change.Change.{Change}
+use Rattle.qmp_rules.specs.declared.change.Change.TheVariants as change
+use Rattle.qmp_rules.specs.Table.{Table, node_at, file_state, with_file, kinds_of}
+use Rattle.qmp_rules.specs.Changes.{changed, node_changed, unsettled, with_unsettled, lost_with, stands_over, without_row, format_edges, backed, device_edge}
+use Rattle.flat_machine.specs.State.{State, Content, Bytes, Blank, Unknown, content_in, filename_of}
+use Rattle.flat_machine.specs.Contents.{with_content, formatted, mapped_in}
+use Rattle.flat_machine.specs.Changed.{stepped, all_stepped, format_name, know_if, content_under, format_bytes, left_by}
+use Rattle.flat_machine.specs.Standing.{AreApart, HasEnds, EdgesHaveEnds, StandsFor, AreFileNodes, StandAlone, HaveFiles, HaveNames, IsUnder, IsLostBy, LostHaveCause, IsOfState, IsOpen, FilesAreOfState, FormattedAreOpen, Stands}
+use Rattle.flat_machine.specs.Suiting.{IsThere, IsClosed, SuitsFile, SuitsOver, SuitsFormat, SuitsRemoval, SuitsFormatting, Suits, AllSuit}
+use Rattle.flat_machine.proofs.Finds.{find-map, find-filter, content_in-with, content_in-with_other, cases_name, bytes_eq-same, bytes_eq-other}
+use Rattle.flat_machine.proofs.Accepted.{added_files}
+use Rattle.flat_machine.proofs.Kept.{with_format, left_alone}
+use Rattle.flat_machine.proofs.Fresh.{found-longer, found-new}
+use Rattle.flat_machine.proofs.Tables.{pushed-cases, pushed-old, pushed-new, filter-keeps, HasLike, refreshed-old, refreshed-new, with_edge-keeps, apart-parents, file_state-with, file_state-other}
+
+-- ---- edges that were derived anew
+
+under-refreshed : (kinds : List NodeKind) (edges : List Edge) (file : ℕ) → IsUnder edges file → IsUnder (refreshed kinds edges) file
+under-refreshed kinds edges file h =
+    let like = refreshed-new kinds edges h.edge h.there in
+    record { edge = like.edge; there = like.there; over = like.same.role ∙ h.over; child = like.same.child ∙ h.child }
+
+under-before : (kinds : List NodeKind) (edges : List Edge) (file : ℕ) → IsUnder (refreshed kinds edges) file → IsUnder edges file
+under-before kinds edges file h =
+    let like = refreshed-old kinds edges h.edge h.there in
+    record { edge = like.edge; there = like.there; over = like.same.role ∙ h.over; child = like.same.child ∙ h.child }
+
+-- a table whose edges, before that, have their ends in it
+ends-refreshed : (t : Table) (kinds : List NodeKind) (edges : List Edge) → t.edges ≡ refreshed kinds edges
+    → ((e : Edge) → Contains edges e → HasEnds t e) → EdgesHaveEnds t
+ends-refreshed t kinds edges is h e there =
+    let like = refreshed-old kinds edges e (subst (λ es. Contains es e) is there) in
+    let ends = h like.edge like.there in
+    record {
+      parent = λ node k. ends.parent node (like.same.parent ∙ k);
+      child = subst (λ n. IsSome (node_at t n)) like.same.child ends.child;
+    }
+
+-- nodes that are there stay
+ends-longer : (t now : Table) (e : Edge) → ((node : ℕ) → IsSome (node_at t node) → IsSome (node_at now node)) → HasEnds t e → HasEnds now e
+ends-longer t now e more h = record { parent = λ node k. more node (h.parent node k); child = more e.child h.child }
+
+-- ---- a file whose state changes, over rows that stand as they did
+
+-- the states of other files stay
+record FilesBut (name : List ℕ) (state : FileState) (t now : Table) : Type 0 where
+  here : file_state now name ≡ Some state
+  others : (other : List ℕ) → other ≢ name → file_state now other ≡ file_state t other
+
+files_but : (name : List ℕ) (state : FileState) (t now : Table) → now.files ≡ with_file name state t.files → FilesBut name state t now
+files_but name state t now is = record {
+  here = subst (λ files. option_map (λ row. row.state) (find (λ row. bytes_eq row.name name) files) ≡ Some state) (sym is)
+      (file_state-with name state t.files);
+  others = λ other differ. subst (λ files. option_map (λ row. row.state) (find (λ row. bytes_eq row.name other) files) ≡ file_state t other) (sym is)
+      (file_state-other name other state t.files differ);
+}
+
+-- ---- rows that stay, but for their disks
+
+record IsLike (row later : NodeRecord) : Type 0 where
+  id : later.id ≡ row.id
+  filename : later.filename ≡ row.filename
+  kind : later.kind ≡ row.kind
+
+like-itself : (row : NodeRecord) → IsLike row row
+like-itself row = record { id = refl; filename = refl; kind = refl }
+
+record SameRows (t now : Table) : Type 0 where
+  back : (later : NodeRecord) → Contains now.nodes later → (row : NodeRecord) × (Contains t.nodes row × IsLike row later)
+  forth : (row : NodeRecord) → Contains t.nodes row → (later : NodeRecord) × (Contains now.nodes later × IsLike row later)
+  apart : AreApart now
+  there : (node : ℕ) → IsSome (node_at t node) → IsSome (node_at now node)
+
+rows-same : (t now : Table) → now.nodes ≡ t.nodes → AreApart t → SameRows t now
+rows-same t now is apart = record {
+  back = λ row there. (row, (subst (λ rows. Contains rows row) is there, like-itself row));
+  forth = λ row there. (row, (subst (λ rows. Contains rows row) (sym is) there, like-itself row));
+  apart = λ row there. subst (λ rows. find (λ r. r.id == row.id) rows ≡ Some row) (sym is)
+      (apart row (subst (λ rows. Contains rows row) is there));
+  there = λ node h. subst (λ rows. IsSome (find (λ r. r.id == node) rows)) (sym is) h;
+}
+
+rows-mapped : (t now : Table) (f : NodeRecord → NodeRecord) → ((row : NodeRecord) → IsLike row (f row)) → now.nodes ≡ map f t.nodes → AreApart t
+    → SameRows t now
+rows-mapped t now f like is apart = record {
+  back = λ later there.
+      let from = Contains-map f t.nodes later (subst (λ rows. Contains rows later) is there) in
+      (from.0, (from.1, subst (IsLike from.0) (sym from.2) (like from.0)));
+  forth = λ row there. (f row, (subst (λ rows. Contains rows (f row)) (sym is) (map-Contains f t.nodes row there), like row));
+  apart = λ later there.
+      let from = Contains-map f t.nodes later (subst (λ rows. Contains rows later) is there) in
+      let same_id : later.id ≡ from.0.id = ap (λ r. r.id) from.2 ∙ (like from.0).id in
+      subst (λ rows. find (λ r. r.id == later.id) rows ≡ Some later) (sym is)
+      (found later.id ∙ ap (option_map f) (subst (λ n. node_at t n ≡ Some from.0) (sym same_id) (apart from.0 from.1)) ∙ ap Some (sym from.2));
+  there = λ node h. subst (λ rows. IsSome (find (λ r. r.id == node) rows)) (sym is)
+      (subst IsSome (sym (found node)) (still (node_at t node) h));
+}
+  where
+    found : (node : ℕ) → find (λ r. r.id == node) (map f t.nodes) ≡ option_map f (node_at t node)
+    found node = find-map (λ r. r.id == node) f (λ r. ap (λ k. k == node) (like r).id) t.nodes
+
+    still : (o : Option NodeRecord) → IsSome o → IsSome (option_map f o)
+    still None h = absurd cc
+    still (Some row) h = refl
+
+-- ---- kinds that change what became of one file
+
+module _ (s now : State) (name : List ℕ) (state : FileState) (content : Content) where
+  file_stands : SameRows s.table now.table → now.table.edges ≡ s.table.edges → FilesBut name state s.table now.table
+      → now.files ≡ with_content name content s.files
+      → ((other : List ℕ) (row later : NodeRecord) → StandsFor s.table other row → IsLike row later → Contains now.table.nodes later
+      → later.is_settled ≡ false → ((other ≢ name) × (row.is_settled ≡ false)) ⊎ IsLostBy now.table other later)
+      → IsOfState (Some state) content → (state ≡ Formatted → (row : NodeRecord) × StandsFor s.table name row) → Stands s → Stands now
+  file_stands rows edges files contents loses is_of formatted h = record {
+    apart = rows.apart;
+    edges = λ e there. ends-longer s.table now.table e rows.there (h.edges e (subst (λ es. Contains es e) edges there));
+    drivers = λ other later over.
+        let before = rows.back later over.there in
+        before.1.1.kind ∙ h.drivers other before.0 (stood other later before.0 before.1.0 before.1.1 over);
+    names = λ later there driver.
+        let before = rows.back later there in
+        subst IsSome (sym before.1.1.filename) (h.names before.0 before.1.0 (sym before.1.1.kind ∙ driver));
+    alone = λ other a b over_a over_b.
+        let before_a = rows.back a over_a.there in
+        let before_b = rows.back b over_b.there in
+        before_a.1.1.id
+        ∙ h.alone other before_a.0 before_b.0 (stood other a before_a.0 before_a.1.0 before_a.1.1 over_a)
+        (stood other b before_b.0 before_b.1.0 before_b.1.1 over_b)
+        ∙ sym before_b.1.1.id;
+    files = λ other later over.
+        let before = rows.back later over.there in
+        known_there other (h.files other before.0 (stood other later before.0 before.1.0 before.1.1 over)) (cases_name other name);
+    lost = λ other later over gone.
+        let before = rows.back later over.there in
+        let over_before = stood other later before.0 before.1.0 before.1.1 over in
+        elim (loses other before.0 later over_before before.1.1 over.there gone) [
+          | inl as_before ↦ lost_as_before other before.0 later before.1.1 as_before.0 (h.lost other before.0 over_before as_before.1)
+          | inr is_lost ↦ is_lost
+        ];
+    states = λ other what found is_open. by_name other what found is_open (cases_name other name);
+    formatted = λ other is. formatted_as other is (cases_name other name);
+  }
+    where
+      stood : (other : List ℕ) (later row : NodeRecord) → Contains s.table.nodes row → IsLike row later → StandsFor now.table other later
+          → StandsFor s.table other row
+      stood other later row there like over = record { there = there; filename = sym like.filename ∙ over.filename }
+
+      stands_later : (other : List ℕ) (row : NodeRecord) → StandsFor s.table other row
+          → (later : NodeRecord) × (StandsFor now.table other later × IsLike row later)
+      stands_later other row over =
+          let after = rows.forth row over.there in
+          (after.0, (record { there = after.1.0; filename = after.1.1.filename ∙ over.filename }, after.1.1))
+
+      known_there : (other : List ℕ) → IsSome (content_in s.files other) → ((other ≡ name) ⊎ (other ≢ name)) → IsSome (content_in now.files other)
+      known_there other some (inl same) =
+          subst (λ fs. IsSome (content_in fs other)) (sym contents)
+          (subst (λ n. IsSome (content_in (with_content name content s.files) n)) (sym same)
+          (subst IsSome (sym (content_in-with name content s.files)) refl))
+      known_there other some (inr differ) =
+          subst (λ fs. IsSome (content_in fs other)) (sym contents)
+          (subst IsSome (sym (content_in-with_other name other content s.files differ)) some)
+
+      lost_as_before : (other : List ℕ) (row later : NodeRecord) → IsLike row later → other ≢ name → IsLostBy s.table other row
+          → IsLostBy now.table other later
+      lost_as_before other row later like differ (inl used) = inl (files.others other differ ∙ used)
+      lost_as_before other row later like differ (inr (inl image)) = inr (inl (files.others other differ ∙ image))
+      lost_as_before other row later like differ (inr (inr under)) =
+          inr (inr (subst (λ es. IsUnder es later.id) (sym edges) (subst (IsUnder s.table.edges) (sym like.id) under)))
+
+      open_before : (other : List ℕ) → IsOpen now.table other → IsOpen s.table other
+      open_before other is_open row over under =
+          let after = stands_later other row over in
+          is_open after.0 after.1.0
+          (subst (λ es. IsUnder es after.0.id) (sym edges) (subst (IsUnder s.table.edges) (sym after.1.1.id) under))
+
+      by_name : (other : List ℕ) (what : Content) → content_in now.files other ≡ Some what → IsOpen now.table other
+          → ((other ≡ name) ⊎ (other ≢ name)) → IsOfState (file_state now.table other) what
+      by_name other what found is_open (inl same) =
+          let here : content_in now.files name ≡ Some what = subst (λ n. content_in now.files n ≡ Some what) same found in
+          let put : content_in now.files name ≡ Some content =
+          subst (λ fs. content_in fs name ≡ Some content) (sym contents) (content_in-with name content s.files) in
+          let is_content : content ≡ what = cc in
+          subst (λ n. IsOfState (file_state now.table n) what) (sym same)
+          (subst (λ st. IsOfState st what) (sym files.here) (subst (IsOfState (Some state)) is_content is_of))
+      by_name other what found is_open (inr differ) =
+          let before : content_in s.files other ≡ Some what =
+          sym (content_in-with_other name other content s.files differ) ∙ subst (λ fs. content_in fs other ≡ Some what) contents found in
+          subst (λ st. IsOfState st what) (sym (files.others other differ)) (h.states other what before (open_before other is_open))
+
+      formatted_as : (other : List ℕ) → file_state now.table other ≡ Some Formatted → ((other ≡ name) ⊎ (other ≢ name))
+          → (row : NodeRecord) × StandsFor now.table other row
+      formatted_as other is (inl same) =
+          let here : file_state now.table name ≡ Some Formatted = subst (λ n. file_state now.table n ≡ Some Formatted) same is in
+          let known = files.here in
+          let is_formatted : state ≡ Formatted = cc in
+          let row = formatted is_formatted in
+          let after = stands_later name row.0 row.1 in
+          (after.0, subst (λ n. StandsFor now.table n after.0) (sym same) after.1.0)
+      formatted_as other is (inr differ) =
+          let row = h.formatted other (sym (files.others other differ) ∙ is) in
+          let after = stands_later other row.0 row.1 in
+          (after.0, after.1.0)
+
+-- rows of one id are one row
+same_row : (t : Table) → AreApart t → (row later : NodeRecord) → Contains t.nodes row → Contains t.nodes later → later.id ≡ row.id → later ≡ row
+same_row t apart row later there there_later same =
+    let a = apart row there in
+    let b = subst (λ n. node_at t n ≡ Some later) same (apart later there_later) in
+    cc
+
+-- a row of changed ones is that of the row with its id
+changed_row : (t : Table) (f : NodeRecord → NodeRecord) → ((row : NodeRecord) → IsLike row (f row)) → AreApart t → (row later : NodeRecord)
+    → Contains t.nodes row → Contains (map f t.nodes) later → later.id ≡ row.id → later ≡ f row
+changed_row t f like apart row later there there_later same =
+    let from = Contains-map f t.nodes later there_later in
+    let ids : from.0.id ≡ row.id = sym (ap (λ r. r.id) from.2 ∙ (like from.0).id) ∙ same in
+    let is : from.0 ≡ row = same_row t apart row from.0 there from.1 ids in
+    from.2 ∙ ap f is
+
+like_lost : (name : List ℕ) (row : NodeRecord) → IsLike row (lost_with name row)
+like_lost name row = by_test (stands_over name row.filename)
+  where
+    by_test : (b : Bool) → IsLike row (cond b (unsettled row) row)
+    by_test true = record { id = refl; filename = refl; kind = refl }
+    by_test false = record { id = refl; filename = refl; kind = refl }
+
+like_unsettled : (id : ℕ) (row : NodeRecord) → IsLike row (node_changed id unsettled row)
+like_unsettled id row = by_test (row.id == id)
+  where
+    by_test : (b : Bool) → IsLike row (cond b (unsettled row) row)
+    by_test true = record { id = refl; filename = refl; kind = refl }
+    by_test false = record { id = refl; filename = refl; kind = refl }
+
+-- another row keeps its disk
+kept_lost : (name other : List ℕ) (row : NodeRecord) → row.filename ≡ Some other → other ≢ name → lost_with name row ≡ row
+kept_lost name other row is differ =
+    let no_match : stands_over name row.filename ≡ false = ap (stands_over name) is ∙ bytes_eq-other other name differ in
+    rw no_match refl
+
+kept_unsettled : (id : ℕ) (row : NodeRecord) → row.id ≢ id → node_changed id unsettled row ≡ row
+kept_unsettled id row differ = let no_match : (row.id == id) ≡ false = ne_eqb row.id id differ in rw no_match refl
+
+use_stands : (s : State) (name : List ℕ) → Stands s → Stands (stepped s (change.UseFile name))
+unfolding changed
+use_stands s name h =
+    let now : State = stepped s (change.UseFile name) in
+    let files = files_but name Used s.table now.table refl in
+    file_stands s now name Used Unknown (rows-same s.table now.table refl h.apart) refl files refl
+    (λ other row later over like there gone. elim (cases_name other name) [
+      | inl same ↦ inr (inl (subst (λ n. file_state now.table n ≡ Some Used) (sym same) files.here))
+      | inr differ ↦ inl (differ, subst (λ r. r.is_settled ≡ false) (same_row s.table h.apart row later over.there there like.id) gone)
+    ])
+    tt (λ never. absurd cc) h
+
+spoil_stands : (s : State) (name : List ℕ) → Stands s → Stands (stepped s (change.SpoilFile name))
+unfolding changed
+spoil_stands s name h =
+    let now : State = stepped s (change.SpoilFile name) in
+    let files = files_but name Used s.table now.table refl in
+    file_stands s now name Used Unknown (rows-mapped s.table now.table (lost_with name) (like_lost name) refl h.apart) refl files refl
+    (λ other row later over like there gone. elim (cases_name other name) [
+      | inl same ↦ inr (inl (subst (λ n. file_state now.table n ≡ Some Used) (sym same) files.here))
+      | inr differ ↦
+          let is : later ≡ lost_with name row =
+          changed_row s.table (lost_with name) (like_lost name) h.apart row later over.there there like.id in
+          inl (differ, subst (λ r. r.is_settled ≡ false) (is ∙ kept_lost name other row over.filename differ) gone)
+    ])
+    tt (λ never. absurd cc) h
+
+make_stands : (s : State) (name : List ℕ) (size : ℕ) → IsClosed s.table name → Stands s → Stands (stepped s (change.MakeFile name size))
+unfolding changed
+make_stands s name size closed h =
+    let now : State = stepped s (change.MakeFile name size) in
+    let files = files_but name Made s.table now.table refl in
+    file_stands s now name Made (Bytes (replicate size 0)) (rows-same s.table now.table refl h.apart) refl files refl
+    (λ other row later over like there gone. elim (cases_name other name) [
+      | inl same ↦ absurd (closed row (subst (λ n. StandsFor s.table n row) same over))
+      | inr differ ↦ inl (differ, subst (λ r. r.is_settled ≡ false) (same_row s.table h.apart row later over.there there like.id) gone)
+    ])
+    tt (λ never. absurd cc) h
+
+format_stands : (s : State) (node : ℕ) (name : List ℕ) (size : ℕ) (backing_file : Option (List ℕ)) (backing_fmt : Option ImageFormat)
+    → SuitsFormatting s.table node name → Stands s → Stands (stepped s (change.FormatFile node name size backing_file backing_fmt))
+unfolding changed
+format_stands s node name size backing_file backing_fmt suits h =
+    let now : State = stepped s (change.FormatFile node name size backing_file backing_fmt) in
+    let files = files_but name Formatted s.table now.table refl in
+    file_stands s now name Formatted
+    (formatted (creation_of size backing_file (option_map format_name backing_fmt)) (content_in s.files name))
+    (rows-mapped s.table now.table (node_changed node unsettled) (like_unsettled node) refl h.apart) refl files refl
+    (λ other row later over like there gone. elim (cases_name other name) [
+      | inl same ↦ inr (inr (inl (subst (λ n. file_state now.table n ≡ Some Formatted) (sym same) files.here)))
+      | inr differ ↦
+          let is : later ≡ node_changed node unsettled row =
+          changed_row s.table (node_changed node unsettled) (like_unsettled node) h.apart row later over.there there like.id in
+          let apart : row.id ≢ node = λ same. differ (one_file s.table h.apart suits row other over same) in
+          inl (differ, subst (λ r. r.is_settled ≡ false) (is ∙ kept_unsettled node row apart) gone)
+    ])
+    tt (λ is. (suits.row, suits.stands)) h
+  where
+    one_file : (t : Table) → AreApart t → SuitsFormatting t node name → (row : NodeRecord) (other : List ℕ) → StandsFor t other row
+        → row.id ≡ node → other ≡ name
+    one_file t apart suits row other over same =
+        let is : row ≡ suits.row = same_row t apart suits.row row suits.stands.there over.there (same ∙ sym suits.is_node) in
+        let mine = over.filename in
+        let its = suits.stands.filename in
+        let both : row.filename ≡ suits.row.filename = ap (λ r. r.filename) is in
+        cc
+
+-- ---- one node more
+
+record IsNewRow (s now : State) (new : NodeRecord) : Type 0 where
+  driver : (name : List ℕ) → new.filename ≡ Some name → new.kind ≡ Protocol
+  named : new.kind ≡ Protocol → IsSome new.filename
+  closed : (name : List ℕ) → new.filename ≡ Some name → IsClosed s.table name
+  file_there : (name : List ℕ) → new.filename ≡ Some name → IsSome (content_in now.files name)
+  settled : (name : List ℕ) → new.filename ≡ Some name → new.is_settled ≡ true
+
+-- edges are the old ones, those to `file` nodes among them, with others, derived anew
+record HasEdges (s now : State) : Type 0 where
+  kinds : List NodeKind
+  before : List Edge
+  derived : now.table.edges ≡ refreshed kinds before
+  keeps : (e : Edge) → Contains s.table.edges e → e.role ≡ File → Contains before e
+  ends : (e : Edge) → Contains before e → HasEnds now.table e
+
+under-kept : (s now : State) → HasEdges s now → (file : ℕ) → IsUnder s.table.edges file → IsUnder now.table.edges file
+under-kept s now es file h =
+    subst (λ edges. IsUnder edges file) (sym es.derived)
+    (under-refreshed es.kinds es.before file
+    (record { edge = h.edge; there = es.keeps h.edge h.there h.over; over = h.over; child = h.child }))
+
+module _ (s now : State) (between : Table) (new : NodeRecord) where
+  added_stands : SameRows s.table between → now.table.nodes ≡ between.nodes ++ new ∷ [] → node_at between new.id ≡ None → HasEdges s now
+      → now.table.files ≡ s.table.files → IsNewRow s now new
+      → ((name : List ℕ) → IsSome (content_in s.files name) → IsSome (content_in now.files name))
+      → ((other : List ℕ) (row later : NodeRecord) → StandsFor s.table other row → IsLike row later → Contains between.nodes later
+      → later.is_settled ≡ false → (row.is_settled ≡ false) ⊎ IsLostBy now.table other later)
+      → FilesAreOfState now → Stands s → Stands now
+  added_stands rows nodes fresh es files is_new there loses states h = record {
+    apart = λ row in_now. apart_in row (pushed-cases between.nodes new row (subst (λ ns. Contains ns row) nodes in_now));
+    edges = ends-refreshed now.table es.kinds es.before es.derived es.ends;
+    drivers = λ name row over. elim (origin row over.there) [
+      | inl old ↦ old.1.1.kind ∙ h.drivers name old.0 (stood name row old over)
+      | inr same ↦ ap (λ r. r.kind) same ∙ is_new.driver name (sym (ap (λ r. r.filename) same) ∙ over.filename)
+    ];
+    names = λ row in_now driver. elim (origin row in_now) [
+      | inl old ↦ subst IsSome (sym old.1.1.filename) (h.names old.0 old.1.0 (sym old.1.1.kind ∙ driver))
+      | inr same ↦ subst IsSome (sym (ap (λ r. r.filename) same)) (is_new.named (sym (ap (λ r. r.kind) same) ∙ driver))
+    ];
+    alone = λ name a b over_a over_b. one_id name a b over_a over_b (origin a over_a.there) (origin b over_b.there);
+    files = λ name row over. elim (origin row over.there) [
+      | inl old ↦ there name (h.files name old.0 (stood name row old over))
+      | inr same ↦ is_new.file_there name (sym (ap (λ r. r.filename) same) ∙ over.filename)
+    ];
+    lost = λ name row over gone. elim (pushed-cases between.nodes new row (subst (λ ns. Contains ns row) nodes over.there)) [
+      | inl in_between ↦
+          let old = rows.back row in_between in
+          elim (loses name old.0 row (stood name row old over) old.1.1 in_between gone) [
+            | inl was ↦ lost_as_before name old.0 row old.1.1 (h.lost name old.0 (stood name row old over) was)
+            | inr is_lost ↦ is_lost
+          ]
+      | inr same ↦
+          let settled = is_new.settled name (sym (ap (λ r. r.filename) same) ∙ over.filename) in
+          let lost_it = ap (λ r. r.is_settled) same in
+          absurd cc
+    ];
+    states = states;
+    formatted = λ name is.
+        let row = h.formatted name (subst (λ fs. option_map (λ r. r.state) (find (λ r. bytes_eq r.name name) fs) ≡ Some Formatted) files is) in
+        let later = rows.forth row.0 row.1.there in (
+          later.0,
+          record {
+            there = subst (λ ns. Contains ns later.0) (sym nodes) (pushed-old between.nodes new later.0 later.1.0);
+            filename = later.1.1.filename ∙ row.1.filename;
+          },
+        );
+  }
+    where
+      origin : (row : NodeRecord) → Contains now.table.nodes row → ((old : NodeRecord) × (Contains s.table.nodes old × IsLike old row)) ⊎ (row ≡ new)
+      origin row in_now = elim (pushed-cases between.nodes new row (subst (λ ns. Contains ns row) nodes in_now)) [
+        | inl in_between ↦ inl (rows.back row in_between)
+        | inr same ↦ inr same
+      ]
+
+      stood : (name : List ℕ) (row : NodeRecord) (old : (r : NodeRecord) × (Contains s.table.nodes r × IsLike r row)) → StandsFor now.table name row
+          → StandsFor s.table name old.0
+      stood name row old over = record { there = old.1.0; filename = sym old.1.1.filename ∙ over.filename }
+
+      one_id : (name : List ℕ) (a b : NodeRecord) → StandsFor now.table name a → StandsFor now.table name b
+          → (((old : NodeRecord) × (Contains s.table.nodes old × IsLike old a)) ⊎ (a ≡ new))
+          → (((old : NodeRecord) × (Contains s.table.nodes old × IsLike old b)) ⊎ (b ≡ new)) → a.id ≡ b.id
+      one_id name a b over_a over_b (inl old_a) (inl old_b) =
+          old_a.1.1.id ∙ h.alone name old_a.0 old_b.0 (stood name a old_a over_a) (stood name b old_b over_b) ∙ sym old_b.1.1.id
+      one_id name a b over_a over_b (inl old_a) (inr is_b) =
+          absurd (is_new.closed name (sym (ap (λ r. r.filename) is_b) ∙ over_b.filename) old_a.0 (stood name a old_a over_a))
+      one_id name a b over_a over_b (inr is_a) (inl old_b) =
+          absurd (is_new.closed name (sym (ap (λ r. r.filename) is_a) ∙ over_a.filename) old_b.0 (stood name b old_b over_b))
+      one_id name a b over_a over_b (inr is_a) (inr is_b) = ap (λ r. r.id) (is_a ∙ sym is_b)
+
+      state_same : (name : List ℕ) (state : FileState) → file_state s.table name ≡ Some state → file_state now.table name ≡ Some state
+      state_same name state is =
+          subst (λ fs. option_map (λ r. r.state) (find (λ r. bytes_eq r.name name) fs) ≡ Some state) (sym files) is
+
+      lost_as_before : (name : List ℕ) (row later : NodeRecord) → IsLike row later → IsLostBy s.table name row → IsLostBy now.table name later
+      lost_as_before name row later like (inl used) = inl (state_same name Used used)
+      lost_as_before name row later like (inr (inl image)) = inr (inl (state_same name Formatted image))
+      lost_as_before name row later like (inr (inr under)) =
+          inr (inr (under-kept s now es later.id (subst (IsUnder s.table.edges) (sym like.id) under)))
+
+      apart_in : (row : NodeRecord) → (Contains between.nodes row ⊎ (row ≡ new)) → node_at now.table row.id ≡ Some row
+      apart_in row (inl old) = subst (λ ns. find (λ r. r.id == row.id) ns ≡ Some row) (sym nodes)
+          (found-longer (λ r. r.id == row.id) between.nodes new row (rows.apart row old))
+      apart_in row (inr same) = subst (λ ns. find (λ r. r.id == row.id) ns ≡ Some row) (sym nodes)
+          (subst (λ r. find (λ x. x.id == r.id) (between.nodes ++ new ∷ []) ≡ Some r) (sym same)
+          (found-new (λ x. x.id == new.id) between.nodes new fresh (eq-eqb new.id new.id refl)))
+
+-- nodes that are there stay in a longer list
+there-longer : (t now : Table) (new : NodeRecord) → now.nodes ≡ t.nodes ++ new ∷ [] → (node : ℕ) → IsSome (node_at t node) → IsSome (node_at now node)
+there-longer t now new nodes node h =
+    subst (λ ns. IsSome (find (λ r. r.id == node) ns)) (sym nodes) (by_row (node_at t node) refl h)
+  where
+    by_row : (found : Option NodeRecord) → node_at t node ≡ found → IsSome found → IsSome (find (λ r. r.id == node) (t.nodes ++ new ∷ []))
+    by_row None e k = absurd cc
+    by_row (Some row) e k = subst IsSome (sym (found-longer (λ r. r.id == node) t.nodes new row e)) refl
+
+-- what is open was open before
+open-before : (s now : State) → HasEdges s now
+    → ((name : List ℕ) (row : NodeRecord) → StandsFor s.table name row → (later : NodeRecord) × (StandsFor now.table name later × (later.id ≡ row.id)))
+    → (name : List ℕ) → IsOpen now.table name → IsOpen s.table name
+open-before s now es forth name is_open row over under =
+    let later = forth name row over in
+    is_open later.0 later.1.0 (under-kept s now es later.0.id (subst (IsUnder s.table.edges) (sym later.1.1) under))
+
+stands-pushed : (t between now : Table) (new : NodeRecord) → SameRows t between → now.nodes ≡ between.nodes ++ new ∷ []
+    → (name : List ℕ) (row : NodeRecord) → StandsFor t name row → (later : NodeRecord) × (StandsFor now name later × (later.id ≡ row.id))
+stands-pushed t between now new rows nodes name row over =
+    let later = rows.forth row over.there in (
+      later.0,
+      (
+        record {
+          there = subst (λ ns. Contains ns later.0) (sym nodes) (pushed-old between.nodes new later.0 later.1.0);
+          filename = later.1.1.filename ∙ over.filename;
+        },
+        later.1.1.id,
+      ),
+    )
+
+file_node_stands : (s : State) (row : NodeRecord) → SuitsFile s row → Stands s → Stands (stepped s (change.AddFile row))
+unfolding changed
+file_node_stands s row suits h =
+    added_stands s now s.table row (rows-same s.table s.table refl h.apart) refl suits.fresh es refl is_new
+    (λ name some. subst (λ fs. IsSome (content_in fs name)) (sym (added_files row s)) some)
+    (λ other old later over like there gone. inl (subst (λ r. r.is_settled ≡ false) (same_row s.table h.apart old later over.there there like.id) gone))
+    (λ name what found is_open. h.states name what (subst (λ fs. content_in fs name ≡ Some what) (added_files row s) found)
+    (open-before s now es (stands-pushed s.table s.table now.table row (rows-same s.table s.table refl h.apart) refl) name is_open))
+    h
+  where
+    now : State
+    now = stepped s (change.AddFile row)
+
+    es : HasEdges s now
+    es = record {
+      kinds = kinds_of (s.table.nodes ++ row ∷ []);
+      before = s.table.edges;
+      derived = refl;
+      keeps = λ e there over. there;
+      ends = λ e there. ends-longer s.table now.table e (there-longer s.table now.table row refl) (h.edges e there);
+    }
+
+    same_name : (name : List ℕ) → row.filename ≡ Some name → suits.name ≡ name
+    same_name name is = let known = suits.filename in cc
+
+    is_new : IsNewRow s now row
+    is_new = record {
+      driver = λ name is. suits.driver;
+      named = λ driver. subst IsSome (sym suits.filename) refl;
+      closed = λ name is. subst (IsClosed s.table) (same_name name is) suits.closed;
+      file_there = λ name is. subst (λ fs. IsSome (content_in fs name)) (sym (added_files row s))
+          (subst (λ n. IsSome (content_in s.files n)) (same_name name is) suits.there);
+      settled = λ name is. suits.settled;
+    }
+
+-- a row that stands for no file
+no_file_row : (s now : State) (row : NodeRecord) → row.filename ≡ None → row.kind ≢ Protocol → IsNewRow s now row
+no_file_row s now row none driver = record {
+  driver = λ name is. absurd cc;
+  named = λ is. absurd (driver is);
+  closed = λ name is. absurd cc;
+  file_there = λ name is. absurd cc;
+  settled = λ name is. absurd cc;
+}
+
+-- edges of a new node are no old ones
+new_parent : (t : Table) (id : ℕ) → EdgesHaveEnds t → node_at t id ≡ None → (e : Edge) → Contains t.edges e → Node id ≢ e.parent
+new_parent t id ends fresh e there same = let found = (ends e there).parent id (sym same) in let none = subst IsSome fresh found in cc
+
+filter_stands : (s : State) (row : NodeRecord) (child : ℕ) → SuitsOver s row child → Stands s → Stands (stepped s (change.AddFilter row child))
+unfolding changed
+filter_stands s row child suits h =
+    added_stands s now s.table row (rows-same s.table s.table refl h.apart) refl suits.fresh es refl
+    (no_file_row s now row suits.filename suits.driver) (λ name some. some)
+    (λ other old later over like there gone. inl (subst (λ r. r.is_settled ≡ false) (same_row s.table h.apart old later over.there there like.id) gone))
+    (λ name what found is_open. h.states name what found
+    (open-before s now es (stands-pushed s.table s.table now.table row (rows-same s.table s.table refl h.apart) refl) name is_open))
+    h
+  where
+    now : State
+    now = stepped s (change.AddFilter row child)
+
+    here : IsSome (node_at now.table row.id)
+    here = subst IsSome (sym (found-new (λ r. r.id == row.id) s.table.nodes row suits.fresh (eq-eqb row.id row.id refl))) refl
+
+    es : HasEdges s now
+    es = record {
+      kinds = kinds_of (s.table.nodes ++ row ∷ []);
+      before = with_edge (node_edge row.id File child) s.table.edges;
+      derived = refl;
+      keeps = λ e there over. with_edge-keeps (node_edge row.id File child) s.table.edges e
+          (apart-parents (node_edge row.id File child) e (new_parent s.table row.id h.edges suits.fresh e there)) there;
+      ends = λ e there. elim (Contains-with_edge (node_edge row.id File child) s.table.edges e there) [
+        | inl is ↦ record {
+          parent = λ node k. let same : row.id ≡ node = (let p = ap (λ x. x.parent) is in cc) in subst (λ n. IsSome (node_at now.table n)) same here;
+          child = subst (λ n. IsSome (node_at now.table n)) (sym (ap (λ x. x.child) is))
+              (there-longer s.table now.table row refl child suits.child_there);
+        }
+        | inr old ↦ ends-longer s.table now.table e (there-longer s.table now.table row refl) (h.edges e old)
+      ];
+    }
+
+-- ---- a format node
+
+-- what is known of other files stays, and of the one under the node nothing is
+known_if_there : (under : Option (List ℕ)) (s : State) (name : List ℕ) → IsSome (content_in s.files name)
+    → IsSome (content_in (know_if under Unknown s).files name)
+known_if_there None s name h = h
+known_if_there (Some file) s name h = by_name (cases_name name file)
+  where
+    by_name : ((name ≡ file) ⊎ (name ≢ file)) → IsSome (content_in (with_content file Unknown s.files) name)
+    by_name (inl same) = subst (λ n. IsSome (content_in (with_content file Unknown s.files) n)) (sym same)
+        (subst IsSome (sym (content_in-with file Unknown s.files)) refl)
+    by_name (inr differ) = subst IsSome (sym (content_in-with_other file name Unknown s.files differ)) h
+
+known_if_before : (under : Option (List ℕ)) (s : State) (name : List ℕ) (what : Content)
+    → content_in (know_if under Unknown s).files name ≡ Some what → (under ≡ Some name) ⊎ (content_in s.files name ≡ Some what)
+known_if_before None s name what h = inr h
+known_if_before (Some file) s name what h = by_name (cases_name name file)
+  where
+    by_name : ((name ≡ file) ⊎ (name ≢ file)) → (Some file ≡ Some name) ⊎ (content_in s.files name ≡ Some what)
+    by_name (inl same) = inl (ap Some (sym same))
+    by_name (inr differ) = inr (sym (content_in-with_other file name Unknown s.files differ) ∙ h)
+
+backed-keeps : (id : ℕ) (backing : Option ℕ) (edges : List Edge) (e : Edge)
+    → (e.role ≡ File) ⊎ (Node id ≢ e.parent) → Contains edges e → Contains (backed id backing edges) e
+backed-keeps id None edges e apart there = there
+backed-keeps id (Some node) edges e apart there = with_edge-keeps (node_edge id Backing node) edges e (by_cause apart) there
+  where
+    by_cause : ((e.role ≡ File) ⊎ (Node id ≢ e.parent)) → takes_place (node_edge id Backing node) e ≡ false
+    by_cause (inl file) = rw file (by_parent (same_parent (Node id) e.parent))
+      where
+        by_parent : (b : Bool) → (b && false && (not false || (node == e.child))) ≡ false
+        by_parent true = refl
+        by_parent false = refl
+    by_cause (inr differ) = apart-parents (node_edge id Backing node) e differ
+
+backed-cases : (id : ℕ) (backing : Option ℕ) (edges : List Edge) (e : Edge) → Contains (backed id backing edges) e
+    → ((node : ℕ) × ((backing ≡ Some node) × (e ≡ node_edge id Backing node))) ⊎ Contains edges e
+backed-cases id None edges e h = inr h
+backed-cases id (Some node) edges e h = elim (Contains-with_edge (node_edge id Backing node) edges e h) [
+  | inl is ↦ inl (node, (refl, is))
+  | inr old ↦ inr old
+]
+
+format_node_stands : (s : State) (row : NodeRecord) (file : ℕ) (backing : Option ℕ) → SuitsFormat s row file backing → Stands s
+    → Stands (stepped s (change.AddFormat row file backing))
+unfolding changed
+format_node_stands s row file backing suits h =
+    added_stands s now between row rows refl fresh_between es refl (no_file_row s now row suits.over.filename suits.over.driver)
+    (λ name some. subst (λ fs. IsSome (content_in fs name)) (sym contents) (known_if_there (filename_of s.table file) s name some))
+    loses
+    (λ name what found is_open. by_file name what is_open
+    (known_if_before (filename_of s.table file) s name what (subst (λ fs. content_in fs name ≡ Some what) contents found)))
+    h
+  where
+    now : State
+    now = stepped s (change.AddFormat row file backing)
+
+    between : Table
+    between = record s.table { nodes = with_unsettled file s.table.nodes }
+
+    rows : SameRows s.table between
+    rows = rows-mapped s.table between (node_changed file unsettled) (like_unsettled file) refl h.apart
+
+    fresh_between : node_at between row.id ≡ None
+    fresh_between =
+        find-map (λ r. r.id == row.id) (node_changed file unsettled) (λ r. ap (λ k. k == row.id) (like_unsettled file r).id) s.table.nodes
+        ∙ ap (option_map (node_changed file unsettled)) suits.over.fresh
+
+    contents : now.files ≡ (know_if (filename_of s.table file) Unknown s).files
+    contents = (with_format (λ name. None) (filename_of s.table file) row.kind row.id (mapped_in (content_under s file))
+        (format_bytes s row file backing row.kind) s now.table).files
+
+    own : Edge
+    own = node_edge row.id File file
+
+    longer : (node : ℕ) → IsSome (node_at s.table node) → IsSome (node_at now.table node)
+    longer node some = there-longer between now.table row refl node (rows.there node some)
+
+    here : IsSome (node_at now.table row.id)
+    here = subst IsSome (sym (found-new (λ r. r.id == row.id) between.nodes row fresh_between (eq-eqb row.id row.id refl))) refl
+
+    new_ends : (e : Edge) (child : ℕ) → e.parent ≡ Node row.id → e.child ≡ child → IsSome (node_at now.table child) → HasEnds now.table e
+    new_ends e child is_parent is_child there = record {
+      parent = λ node k. let same : row.id ≡ node = cc in subst (λ n. IsSome (node_at now.table n)) same here;
+      child = subst (λ n. IsSome (node_at now.table n)) (sym is_child) there;
+    }
+
+    es : HasEdges s now
+    es = record {
+      kinds = kinds_of (with_unsettled file s.table.nodes ++ row ∷ []);
+      before = format_edges row.id file backing s.table.edges;
+      derived = refl;
+      keeps = λ e there over. backed-keeps row.id backing (with_edge own s.table.edges) e (inl over)
+          (with_edge-keeps own s.table.edges e (apart-parents own e (new_parent s.table row.id h.edges suits.over.fresh e there)) there);
+      ends = λ e there. elim (backed-cases row.id backing (with_edge own s.table.edges) e there) [
+        | inl added ↦ new_ends e added.0 (ap (λ x. x.parent) added.1.1) (ap (λ x. x.child) added.1.1)
+            (longer added.0 (suits.backing_there added.0 added.1.0))
+        | inr kept ↦ elim (Contains-with_edge own s.table.edges e kept) [
+          | inl is ↦ new_ends e file (ap (λ x. x.parent) is) (ap (λ x. x.child) is) (longer file suits.over.child_there)
+          | inr old ↦ ends-longer s.table now.table e longer (h.edges e old)
+        ]
+      ];
+    }
+
+    -- the file node is under the new one
+    under_new : IsUnder now.table.edges file
+    under_new = under-refreshed es.kinds es.before file (record {
+      edge = own;
+      there = backed-keeps row.id backing (with_edge own s.table.edges) own (inl refl) (Contains-with_edge_new own s.table.edges);
+      over = refl;
+      child = refl;
+    })
+
+    loses : (other : List ℕ) (old later : NodeRecord) → StandsFor s.table other old → IsLike old later → Contains between.nodes later
+        → later.is_settled ≡ false → (old.is_settled ≡ false) ⊎ IsLostBy now.table other later
+    loses other old later over like there gone = elim (cases_eq old.id file) [
+      | inl same ↦ inr (inr (inr (subst (IsUnder now.table.edges) (sym (like.id ∙ same)) under_new)))
+      | inr differ ↦
+          let is : later ≡ node_changed file unsettled old =
+          changed_row s.table (node_changed file unsettled) (like_unsettled file) h.apart old later over.there there like.id in
+          inl (subst (λ r. r.is_settled ≡ false) (is ∙ kept_unsettled file old differ) gone)
+    ]
+
+    -- a file under the node is not open
+    closed_now : (name : List ℕ) (found : Option NodeRecord) → node_at s.table file ≡ found → option_and_then (λ r. r.filename) found ≡ Some name
+        → IsOpen now.table name → ⊥
+    closed_now name None e is is_open = cc
+    closed_now name (Some r) e is is_open =
+        let passed = find-Some (λ x. x.id == file) s.table.nodes r e in
+        let id_is : r.id ≡ file = eqb-true r.id file passed.1 in
+        let later = stands-pushed s.table between now.table row rows refl name r (record { there = passed.0; filename = is }) in
+        is_open later.0 later.1.0 (subst (IsUnder now.table.edges) (sym (later.1.1 ∙ id_is)) under_new)
+
+    by_file : (name : List ℕ) (what : Content) → IsOpen now.table name
+        → ((filename_of s.table file ≡ Some name) ⊎ (content_in s.files name ≡ Some what)) → IsOfState (file_state now.table name) what
+    by_file name what is_open (inl under) = absurd (closed_now name (node_at s.table file) refl under is_open)
+    by_file name what is_open (inr found) = h.states name what found
+        (open-before s now es (stands-pushed s.table between now.table row rows refl) name is_open)
+
+-- ---- a device
+
+table_stands : (s now : State) → now.table.nodes ≡ s.table.nodes → EdgesHaveEnds now.table
+    → ((file : ℕ) → IsUnder s.table.edges file → IsUnder now.table.edges file) → now.table.files ≡ s.table.files → now.files ≡ s.files
+    → Stands s → Stands now
+table_stands s now nodes ends unders files contents h = record {
+  apart = rows.apart;
+  edges = ends;
+  drivers = λ name row over. h.drivers name row (stood name row over);
+  names = λ row there. h.names row (subst (λ ns. Contains ns row) nodes there);
+  alone = λ name a b over_a over_b. h.alone name a b (stood name a over_a) (stood name b over_b);
+  files = λ name row over. subst (λ fs. IsSome (content_in fs name)) (sym contents) (h.files name row (stood name row over));
+  lost = λ name row over gone. as_before name row (h.lost name row (stood name row over) gone);
+  states = λ name what found is_open. subst (λ st. IsOfState st what) (sym (state_same name))
+      (h.states name what (subst (λ fs. content_in fs name ≡ Some what) contents found)
+      (λ row over under. is_open row (stands name row over) (unders row.id under)));
+  formatted = λ name is.
+      let row = h.formatted name (sym (state_same name) ∙ is) in (row.0, stands name row.0 row.1);
+}
+  where
+    rows : SameRows s.table now.table
+    rows = rows-same s.table now.table nodes h.apart
+
+    stood : (name : List ℕ) (row : NodeRecord) → StandsFor now.table name row → StandsFor s.table name row
+    stood name row over = record { there = subst (λ ns. Contains ns row) nodes over.there; filename = over.filename }
+
+    stands : (name : List ℕ) (row : NodeRecord) → StandsFor s.table name row → StandsFor now.table name row
+    stands name row over = record { there = subst (λ ns. Contains ns row) (sym nodes) over.there; filename = over.filename }
+
+    state_same : (name : List ℕ) → file_state now.table name ≡ file_state s.table name
+    state_same name = ap (λ fs. option_map (λ r. r.state) (find (λ r. bytes_eq r.name name) fs)) files
+
+    as_before : (name : List ℕ) (row : NodeRecord) → IsLostBy s.table name row → IsLostBy now.table name row
+    as_before name row (inl used) = inl (state_same name ∙ used)
+    as_before name row (inr (inl image)) = inr (inl (state_same name ∙ image))
+    as_before name row (inr (inr under)) = inr (inr (unders row.id under))
+
+edges_stand : (s now : State) → now.table.nodes ≡ s.table.nodes → HasEdges s now → now.table.files ≡ s.table.files → now.files ≡ s.files
+    → Stands s → Stands now
+edges_stand s now nodes es files contents h =
+    table_stands s now nodes (ends-refreshed now.table es.kinds es.before es.derived es.ends) (under-kept s now es) files contents h
+
+-- neither rows nor edges nor files change
+still_stands : (s now : State) → now.table.nodes ≡ s.table.nodes → now.table.edges ≡ s.table.edges → now.table.files ≡ s.table.files
+    → now.files ≡ s.files → Stands s → Stands now
+still_stands s now nodes edges files contents h = table_stands s now nodes
+    (λ e there. ends-longer s.table now.table e
+    (λ node some. subst (λ ns. IsSome (find (λ r. r.id == node) ns)) (sym nodes) some)
+    (h.edges e (subst (λ es. Contains es e) edges there)))
+    (λ file under. subst (λ es. IsUnder es file) (sym edges) under) files contents h
+
+device_stands : (s : State) (device : Device) (node : ℕ) → IsThere s.table node → Stands s → Stands (stepped s (change.AddDevice device node))
+unfolding changed
+device_stands s device node there h = edges_stand s now refl es refl refl h
+  where
+    now : State
+    now = stepped s (change.AddDevice device node)
+
+    drive : Edge
+    drive = device_edge device node
+
+    other_role : (e : Edge) → e.role ≡ File → takes_place drive e ≡ false
+    other_role e file = rw file (by_parent (same_parent (Guest device.number) e.parent))
+      where
+        by_parent : (b : Bool) → (b && false && (not false || (node == e.child))) ≡ false
+        by_parent true = refl
+        by_parent false = refl
+
+    es : HasEdges s now
+    es = record {
+      kinds = kinds_of s.table.nodes;
+      before = with_edge drive s.table.edges;
+      derived = refl;
+      keeps = λ e there over. with_edge-keeps drive s.table.edges e (other_role e over) there;
+      ends = λ e in_list. elim (Contains-with_edge drive s.table.edges e in_list) [
+        | inl is ↦ record {
+          parent = λ other k. absurd (let p = ap (λ x. x.parent) is in cc);
+          child = subst (λ n. IsSome (node_at s.table n)) (sym (ap (λ x. x.child) is)) there;
+        }
+        | inr old ↦ ends-longer s.table now.table e (λ n some. some) (h.edges e old)
+      ];
+    }
+
+-- ---- a node that goes
+
+remove_stands : (s : State) (node : ℕ) → SuitsRemoval s.table node → Stands s → Stands (stepped s (change.RemoveNode node))
+unfolding changed
+remove_stands s node suits h = record {
+  apart = λ row there.
+      let old = kept row there in
+      find-filter (λ r. r.id == row.id) (λ r. not (r.id == node)) (others row old.1) s.table.nodes ∙ h.apart row old.0;
+  edges = ends-refreshed now.table kinds before refl (λ e there.
+      let old = Contains-filter (λ x. not (same_parent x.parent (Node node))) s.table.edges e there in
+      let ends = h.edges e old.0 in
+      record {
+        parent = λ other is. still other (λ same. gone_parent e old.1 (is ∙ ap Node same)) (ends.parent other is);
+        child = still e.child (suits.lone e old.0) ends.child;
+      });
+  drivers = λ name row over. h.drivers name row (stood name row over);
+  names = λ row there. h.names row (kept row there).0;
+  alone = λ name a b over_a over_b. h.alone name a b (stood name a over_a) (stood name b over_b);
+  files = λ name row over. subst (λ fs. IsSome (content_in fs name)) (sym contents) (h.files name row (stood name row over));
+  lost = λ name row over gone. as_before name row (stood name row over) (h.lost name row (stood name row over) gone);
+  states = λ name what found is_open.
+      by_state name what (file_state s.table name) refl (subst (λ fs. content_in fs name ≡ Some what) contents found) is_open;
+  formatted = λ name is.
+      let row = h.formatted name is in
+      (row.0, stays name row.0 row.1 (λ same. let used = suits.own name row.0 row.1 same in cc));
+}
+  where
+    now : State
+    now = stepped s (change.RemoveNode node)
+
+    kinds : List NodeKind
+    kinds = kinds_of (without_row node s.table.nodes)
+
+    before : List Edge
+    before = without_parent (Node node) s.table.edges
+
+    contents : now.files ≡ s.files
+    contents = (left_alone (λ name. None) (option_and_then (left_by s) (node_at s.table node)) s).files
+
+    not_true : (b : Bool) → not b ≡ true → b ≡ false
+    not_true true e = absurd cc
+    not_true false e = refl
+
+    kept : (row : NodeRecord) → Contains now.table.nodes row → Contains s.table.nodes row × (row.id ≢ node)
+    kept row there =
+        let old = Contains-filter (λ r. not (r.id == node)) s.table.nodes row there in
+        (old.0, eqb-false row.id node (not_true (row.id == node) old.1))
+
+    others : (row : NodeRecord) → row.id ≢ node → (r : NodeRecord) → (r.id == row.id) ≡ true → not (r.id == node) ≡ true
+    others row differ r t = ap not (ne_eqb r.id node (λ same. differ (sym (eqb-true r.id row.id t) ∙ same)))
+
+    still : (other : ℕ) → other ≢ node → IsSome (node_at s.table other) → IsSome (node_at now.table other)
+    still other differ some = subst IsSome
+        (sym (find-filter (λ r. r.id == other) (λ r. not (r.id == node))
+        (λ r t. ap not (ne_eqb r.id node (λ same. differ (sym (eqb-true r.id other t) ∙ same)))) s.table.nodes)) some
+
+    gone_parent : (e : Edge) → not (same_parent e.parent (Node node)) ≡ true → e.parent ≡ Node node → ⊥
+    gone_parent e t is =
+        let same : same_parent e.parent (Node node) ≡ true = rw is (eq-eqb node node refl) in
+        let differ = not_true (same_parent e.parent (Node node)) t in
+        cc
+
+    stood : (name : List ℕ) (row : NodeRecord) → StandsFor now.table name row → StandsFor s.table name row
+    stood name row over = record { there = (kept row over.there).0; filename = over.filename }
+
+    stays : (name : List ℕ) (row : NodeRecord) → StandsFor s.table name row → row.id ≢ node → StandsFor now.table name row
+    stays name row over differ = record {
+      there = filter-keeps (λ r. not (r.id == node)) s.table.nodes row (ap not (ne_eqb row.id node differ)) over.there;
+      filename = over.filename;
+    }
+
+    -- a format node over a `file` node stays, or its file was used
+    under_stays : (name : List ℕ) (row : NodeRecord) → StandsFor s.table name row → (under : IsUnder s.table.edges row.id)
+        → (file_state s.table name ≡ Some Used) ⊎ IsUnder now.table.edges row.id
+    under_stays name row over under = by_parent (same_parent under.edge.parent (Node node)) refl
+      where
+        by_parent : (b : Bool) → same_parent under.edge.parent (Node node) ≡ b
+            → (file_state s.table name ≡ Some Used) ⊎ IsUnder now.table.edges row.id
+        by_parent true e =
+            inl (suits.under name row under.edge over under.there (same_parent-true under.edge.parent (Node node) e) under.over under.child)
+        by_parent false e = inr (under-refreshed kinds before row.id (record {
+          edge = under.edge;
+          there = filter-keeps (λ x. not (same_parent x.parent (Node node))) s.table.edges under.edge (ap not e) under.there;
+          over = under.over;
+          child = under.child;
+        }))
+
+    as_before : (name : List ℕ) (row : NodeRecord) → StandsFor s.table name row → IsLostBy s.table name row → IsLostBy now.table name row
+    as_before name row over (inl used) = inl used
+    as_before name row over (inr (inl image)) = inr (inl image)
+    as_before name row over (inr (inr under)) = elim (under_stays name row over under) [
+      | inl used ↦ inl used
+      | inr stays_under ↦ inr (inr stays_under)
+    ]
+
+    -- of a file that was not used what is open was open
+    open_so : (name : List ℕ) → (file_state s.table name ≡ Some Used → ⊥) → IsOpen now.table name → IsOpen s.table name
+    open_so name unused is_open row over under = elim (under_stays name row over under) [
+      | inl used ↦ unused used
+      | inr stays_under ↦ is_open row (stays name row over (λ same. unused (suits.own name row over same))) stays_under
+    ]
+
+    by_state : (name : List ℕ) (what : Content) (state : Option FileState) → file_state s.table name ≡ state
+        → content_in s.files name ≡ Some what → IsOpen now.table name → IsOfState (file_state s.table name) what
+    by_state name what None e found is_open = h.states name what found (open_so name (λ used. cc) is_open)
+    by_state name what (Some Made) e found is_open = h.states name what found (open_so name (λ used. cc) is_open)
+    by_state name what (Some Formatted) e found is_open = h.states name what found (open_so name (λ used. cc) is_open)
+    by_state name what (Some Used) e found is_open = subst (λ st. IsOfState st what) (sym e) tt
+
+-- ---- every kind
+
+pub stands_keep : (s : State) (c : Change) → Suits s c → Stands s → Stands (stepped s c)
+unfolding changed
+stands_keep s change.Negotiate suits h = still_stands s (stepped s change.Negotiate) refl refl refl refl h
+stands_keep s (change.KeepId id) suits h = still_stands s (stepped s (change.KeepId id)) refl refl refl refl h
+stands_keep s (change.DropId id) suits h = still_stands s (stepped s (change.DropId id)) refl refl refl refl h
+stands_keep s (change.MakeFile name size) suits h = make_stands s name size suits h
+stands_keep s (change.FormatFile node name size backing_file backing_fmt) suits h =
+    format_stands s node name size backing_file backing_fmt suits h
+stands_keep s (change.SpoilFile name) suits h = spoil_stands s name h
+stands_keep s (change.UseFile name) suits h = use_stands s name h
+stands_keep s (change.AddFile row) suits h = file_node_stands s row suits h
+stands_keep s (change.AddFormat row file backing) suits h = format_node_stands s row file backing suits h
+stands_keep s (change.AddFilter row child) suits h = filter_stands s row child suits h
+stands_keep s (change.RemoveNode node) suits h = remove_stands s node suits h
+stands_keep s (change.AddDevice device node) suits h = device_stands s device node suits h
+stands_keep s (change.Unsettle id) suits h = suits
+stands_keep s (change.MakeWritable id) suits h = suits
+stands_keep s (change.PutFilter row node) suits h = suits
+stands_keep s (change.UseNode slot what node) suits h = suits
+stands_keep s (change.StartJob row) suits h = suits
+stands_keep s (change.AskJob number asked) suits h = suits
+stands_keep s (change.RemoveDevice number) suits h = suits
+stands_keep s (change.Attach overlay node) suits h = suits
+stands_keep s (change.Move from to but) suits h = suits
+stands_keep s (change.AddBitmap row) suits h = suits
+stands_keep s (change.RemoveBitmap node name) suits h = suits
+stands_keep s (change.TurnBitmap node name on) suits h = suits
+stands_keep s (change.ClearBitmap node name) suits h = suits
+stands_keep s (change.MergeBitmap node name source_node source) suits h = suits
+
+-- changes in turn
+pub all_stand : (changes : List Change) (s : State) → AllSuit s changes → Stands s → Stands (all_stepped s changes)
+all_stand [] s suits h = h
+all_stand (c ∷ changes) s suits h = all_stand changes (stepped s c) suits.1 (stands_keep s c suits.0 h)

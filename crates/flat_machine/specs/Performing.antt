@@ -1,0 +1,146 @@
+-- What a change of the table is in the world: when it can be made, and what it does to nodes and files.
+use Rattle.std.specs.Prelude.{◌≡◌, ℕ, max, Bool, true, false, List, [], ◌∷◌, length, replicate, Option, Some, None, IsSome, option_map, unwrap_or}
+use Rattle.q2_format.specs.Contents.{file_disk, raw_disk, image_disk}
+use Rattle.q2_format.specs.Created.{Creation, IsCreated, created_length, creation_of}
+use Rattle.blk_graph.specs.declared.edge.Role.TheVariants.{Backing}
+use Rattle.blk_graph.specs.declared.kind.Kind.{Kind}
+use Rattle.blk_graph.specs.declared.kind.Kind.TheVariants.{Protocol, Raw, Qcow2}
+use Rattle.qmp_rules.specs.declared.rows.NodeRecord.{NodeRecord}
+use Rattle.qmp_rules.specs.declared.change.Change.{Change}
+use Rattle.qmp_rules.specs.declared.change.Change.TheVariants as change
+use Rattle.qmp_rules.specs.Table.{Table, node_at, child}
+use Rattle.qmp_rules.specs.Chains.{filter_role}
+use Rattle.blk_history.specs.Fold.{With}
+use Rattle.flat_machine.specs.State.{State, Content, Bytes, Blank, content_in, filename_of}
+use Rattle.flat_machine.specs.Changed.{content_under, file_of, filename_or, format_name, stepped}
+use Rattle.flat_machine.specs.Final.{read_as}
+use Rattle.flat_machine.specs.Agreement.{Contents, HasDisk}
+
+-- ---- when a change can be made, by the state alone
+
+-- no node has the id yet
+abbrev pub IsFresh : State → NodeRecord → Type 0
+IsFresh s row = node_at s.table row.id ≡ None
+
+-- all bytes of the file are known
+abbrev pub IsWholly : Content → Type 0
+IsWholly content = (bytes : List ℕ) × (content ≡ Bytes bytes)
+
+-- a `file` node over a file whose bytes are known
+pub record CanAddFile (s : State) (row : NodeRecord) : Type 0 where
+  pub fresh : IsFresh s row
+  pub driver : row.kind ≡ Protocol
+  pub known : With (content_in s.files (filename_or row)) IsWholly
+
+-- a backing node has a flat disk of its own
+abbrev pub IsBacking : State → Option ℕ → Type 0
+IsBacking s None = Unit {0}
+IsBacking s (Some node) = With (node_at s.table node) HasDisk
+
+-- a raw node over a `file` node with a flat disk, or a qcow2 node over a file of which all is known that its disk needs
+abbrev pub IsReadable : Content → Type 0
+IsReadable (Bytes bytes) = Unit {0}
+IsReadable (Blank new len) = Unit {0}
+IsReadable content = ⊥
+
+abbrev pub CanRead : State → ℕ → Kind → Type 0
+CanRead s file Raw = With (node_at s.table file) HasDisk
+CanRead s file Qcow2 = With (content_under s file) IsReadable
+CanRead s file driver = ⊥
+
+pub record CanAddFormat (s : State) (row : NodeRecord) (file : ℕ) (backing : Option ℕ) : Type 0 where
+  pub fresh : IsFresh s row
+  pub readable : CanRead s file row.kind
+  pub backed : IsBacking s backing
+
+pub record CanAddFilter (s : State) (row : NodeRecord) : Type 0 where
+  pub fresh : IsFresh s row
+  pub filter : IsSome (filter_role row.kind)
+
+abbrev pub Can : State → Change → Type 0
+Can s (change.AddFile row) = CanAddFile s row
+Can s (change.AddFormat row file backing) = CanAddFormat s row file backing
+Can s (change.AddFilter row child) = CanAddFilter s row
+Can s (change.PutFilter row node) = CanAddFilter s row
+Can s (change.Attach overlay node) = With (node_at s.table node) HasDisk
+Can s c = Unit {0}
+
+-- ---- what it does
+
+-- nodes but these read the same
+abbrev pub ReadSame : (ℕ → Type 0) → Contents → Contents → Type 0
+ReadSame but old new = (node : ℕ) → (but node → ⊥) → new.reads node ≡ old.reads node
+
+abbrev pub HeldSame : (List ℕ → Type 0) → Contents → Contents → Type 0
+HeldSame but old new = (name : List ℕ) → (but name → ⊥) → new.held name ≡ old.held name
+
+abbrev pub Nothing : {A : Type 0} → A → Type 0
+Nothing a = ⊥
+
+-- nothing changes
+pub record IsQuiet (old new : Contents) : Type 0 where
+  pub nodes : ReadSame Nothing old new
+  pub files : HeldSame Nothing old new
+
+-- one node, which may be new, reads so from then on
+pub record Puts (node : ℕ) (bytes : List ℕ) (old new : Contents) : Type 0 where
+  pub nodes : ReadSame (λ other. other ≡ node) old new
+  pub files : HeldSame Nothing old new
+  pub reads_as : new.reads node ≡ bytes
+
+-- a node goes that reads as its file alone, where it has no backing node
+pub record Removes (s : State) (node : ℕ) (old new : Contents) : Type 0 where
+  pub nodes : ReadSame (λ other. other ≡ node) old new
+  pub files : HeldSame Nothing old new
+  pub alone : (row : NodeRecord) → node_at s.table node ≡ Some row → child s.table node Backing ≡ None
+      → (name : List ℕ) → file_of s.table row row.kind ≡ Some name
+      → With (old.held name) (λ bytes. read_as row.kind row.offset (length (old.reads node)) bytes ≡ old.reads node)
+
+-- a file alone changes, and no node reads otherwise but these
+pub record Makes (but : ℕ → Type 0) (name : List ℕ) (old new : Contents) : Type 0 where
+  pub nodes : ReadSame but old new
+  pub files : HeldSame (λ other. other ≡ name) old new
+
+-- an image is created over what a file holds
+abbrev pub held_bytes : Contents → List ℕ → List ℕ
+held_bytes c name = unwrap_or (c.held name) []
+
+pub record IsFormatted (new_image : Creation) (old bytes : List ℕ) : Type 0 where
+  pub created : IsCreated new_image bytes
+  pub length_is : length bytes ≡ max (length old) (created_length new_image)
+
+abbrev pub below_as : Contents → Option ℕ → List ℕ
+below_as c None = []
+below_as c (Some node) = c.reads node
+
+-- what a format node reads as when it is added
+abbrev pub format_as : State → Contents → NodeRecord → ℕ → Option ℕ → Kind → List ℕ
+format_as s c row file backing Raw = raw_disk row.offset row.size (c.reads file)
+format_as s c row file backing Qcow2 = image_disk (held_bytes c (unwrap_or (filename_of s.table file) [])) (below_as c backing)
+format_as s c row file backing driver = []
+
+abbrev pub Performed : State → Change → Contents → Contents → Type 0
+Performed s (change.AddFile row) old new = Puts row.id (file_disk row.size (held_bytes old (filename_or row))) old new
+Performed s (change.AddFormat row file backing) old new = Puts row.id (format_as s old row file backing row.kind) old new
+Performed s (change.AddFilter row node) old new = Puts row.id (old.reads node) old new
+Performed s (change.PutFilter row node) old new = Puts row.id (old.reads node) old new
+Performed s (change.RemoveNode node) old new = Removes s node old new
+Performed s (change.MakeFile name size) old new =
+    Makes Nothing name old new × (new.held name ≡ Some (replicate size 0))
+Performed s (change.FormatFile node name size backing_file backing_fmt) old new =
+    Makes (λ other. other ≡ node) name old new
+    × With (new.held name) (IsFormatted (creation_of size backing_file (option_map format_name backing_fmt)) (held_bytes old name))
+Performed s (change.SpoilFile name) old new = Makes (λ node. filename_of s.table node ≡ Some name) name old new
+Performed s (change.Attach overlay node) old new = Puts overlay (old.reads node) old new
+Performed s c old new = IsQuiet old new
+
+-- ---- changes in turn
+
+abbrev pub AllCan : State → List Change → Type 0
+AllCan s [] = Unit {0}
+AllCan s (c ∷ changes) = Can s c × AllCan (stepped s c) changes
+
+abbrev pub AllPerformed : State → List Change → Contents → Contents → Type 0
+AllPerformed s [] old new = IsQuiet old new
+AllPerformed s (c ∷ changes) old new =
+    (between : Contents) × Performed s c old between × AllPerformed (stepped s c) changes between new

@@ -1,0 +1,37 @@
+//! What follows from the definitions, each law the contract of a function that does nothing.
+
+ghost use Rattle.std.specs.Prelude.{◌≡◌, ℕ, List, Option, None};
+ghost use Rattle.qmp_codec.specs.Commands.{Cmd};
+ghost use Rattle.qmp_rules.specs.declared.told.Told.{Told};
+ghost use Rattle.qmp_rules.specs.Answers.{refusal_of, command_edits};
+ghost use Rattle.qmp_rules.specs.declared.change.Change.{Change};
+ghost use Rattle.flat_machine.specs.State.{State};
+ghost use Rattle.flat_machine.specs.Opening.{start};
+ghost use Rattle.flat_machine.specs.Suiting.{AllSuit};
+ghost use Rattle.flat_machine.specs.declared.opening.Opening.{Opening};
+ghost use Rattle.flat_machine.specs.Changed.{stepped, all_stepped};
+ghost use Rattle.flat_machine.specs.Sights.{IsTold, expected};
+ghost use Rattle.flat_machine.specs.Standing.{Stands};
+ghost use Rattle.flat_machine.specs.Agreement.{Contents, Agrees};
+ghost use Rattle.flat_machine.specs.Performing.{Can, Performed, AllCan, AllPerformed};
+
+/// Where nodes and files are what the flat machine says, they are so after a change that can be made and was performed,
+/// whatever its kind, and after changes in turn.
+pub fn changes_keep_disks()
+    ensures change { (opening : List ℕ → Option (List ℕ)) (s : State) (c : Change) (old new : Contents)
+        → Can s c → Performed s c old new → Agrees opening s old → Agrees opening (stepped s c) new }
+    ensures changes { (opening : List ℕ → Option (List ℕ)) (changes : List Change) (s : State) (old new : Contents)
+        → AllCan s changes → AllPerformed s changes old new → Agrees opening s old → Agrees opening (all_stepped s changes) new }
+{}
+
+/// Where nothing that may be told refuses a command, its changes can be made, one after another.
+pub fn accepted_changes_can_be_made()
+    ensures { (s : State) (told : Told) (c : Cmd) → Stands s → IsTold s c told
+        → refusal_of s.table told c ≡ None → AllCan s (command_edits s.table (expected s c) c) }
+{}
+
+/// What holds of the tables of every state holds at the beginning, and changes that suit it leave it.
+pub fn tables_stand()
+    ensures beginning { (o : Opening) → Stands (start o) }
+    ensures changes { (changes : List Change) (s : State) → AllSuit s changes → Stands s → Stands (all_stepped s changes) }
+{}

@@ -1,0 +1,25 @@
+-- Changes that may be made to a table: numbers of guests and of jobs are small, and a filter is put over no edge of its own.
+use Rattle.std.specs.Prelude.{ℕ, ◌<◌, nat_lt, Bool, true, false, List, [], ◌∷◌}
+use Rattle.blk_graph.specs.Edits.{IsLone}
+use Rattle.qmp_rules.specs.declared.change.Change.{Change}
+use Rattle.qmp_rules.specs.declared.change.Change.TheVariants.{AddDevice, UseNode, PutFilter}
+use Rattle.qmp_rules.specs.Changes.{changed}
+use Rattle.qmp_rules.specs.Table.{Table}
+
+abbrev pub Fits : Table → Change → Type 0
+Fits t (AddDevice device node) = device.number < 80
+Fits t (UseNode slot what node) = slot < 16
+Fits t (PutFilter row node) = IsLone t.edges row.id
+Fits t _ = Unit {0}
+
+-- each in the table as the ones before it leave it
+abbrev pub AllFit : Table → List Change → Type 0
+AllFit t [] = Unit {0}
+AllFit t (change ∷ changes) = Fits t change × AllFit (changed t change) changes
+
+-- it fits whatever the table is
+abbrev pub fits_always : Change → Bool
+fits_always (AddDevice device node) = nat_lt device.number 80
+fits_always (UseNode slot what node) = nat_lt slot 16
+fits_always (PutFilter row node) = false
+fits_always _ = true
