@@ -30,19 +30,23 @@ fn nodes_have_names(rt: HostRuntime) -> Result<(), Fail> {
     Ok(())
 }
 
+/// The id of a node that is added.
+fn id_of(alloc: Global, graph: &mut Graph, name: &str) -> Result<Option<usize>, Fail> {
+    match graph.add_node(Text::copied(alloc, name)?, NO_KIND) {
+        Ok(node) => Ok(Some(node.index())),
+        Err(_) => Ok(None),
+    }
+}
+
 /// The lowest id that is free is given again.
 #[test]
 fn ids_are_given_again(rt: HostRuntime) -> Result<(), Fail> {
     let mut graph = nodes(rt.alloc(), 64)?;
-    for place in [7, 3] {
-        assert!(rt; remove(&mut graph, place) == Answer::Done);
-    }
+    assert!(rt; remove(&mut graph, 7) == Answer::Done);
+    assert!(rt; remove(&mut graph, 3) == Answer::Done);
     assert!(rt; graph.node_named("n7").is_none());
-    for id in [3, 7] {
-        let name = format!(in rt.alloc(); "again{id}")?;
-        let node = added(rt.alloc(), &mut graph, name.as_str())?;
-        assert!(rt; node.is_ok_and(|node| node.index() == id));
-    }
+    assert!(rt; id_of(rt.alloc(), &mut graph, "a")? == Some(3));
+    assert!(rt; id_of(rt.alloc(), &mut graph, "b")? == Some(7));
     Ok(())
 }
 
