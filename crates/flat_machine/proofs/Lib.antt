@@ -8,3 +8,4 @@ pub mod Tables
 pub mod StandingKept
 pub mod Suited
 pub mod Openings
+pub mod Written

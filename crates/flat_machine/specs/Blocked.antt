@@ -2,7 +2,7 @@
 use Rattle.std.specs.Prelude.{◌≡◌, ◌⊎◌, ℕ, ◌+◌, ◌<◌, ◌≤◌, true, List, [], ◌∷◌, length, slice_get, Contains, Option, Some, None, option_and_then, find, ◌==◌}
 use Rattle.qmp_rules.specs.declared.rows.JobRecord.{JobRecord}
 use Rattle.qmp_rules.specs.declared.rows.Asked.TheVariants as asked
-use Rattle.qmp_rules.specs.Table.{Table, device_at}
+use Rattle.qmp_rules.specs.Table.{Table, device_at, job_in}
 use Rattle.trace_codec.specs.declared.awaiting.Await.{Await}
 use Rattle.trace_codec.specs.declared.awaiting.Await.TheVariants as await
 use Rattle.blk_history.specs.Fold.{With}
@@ -34,9 +34,6 @@ pub record GuestWaits (s : State) (c : Course) (g : ℕ) (waits : Waits (List �
 
 -- A slot without a job is blocked, and one whose job is ready and was not asked to end, while the script or a guest is not
 -- done.
-abbrev pub job_in : Table → ℕ → Option JobRecord
-job_in t slot = find (λ row. row.slot == slot) t.jobs
-
 abbrev pub JobWaits : State → Option JobRecord → Type 0
 JobWaits s None = Unit {0}
 JobWaits s (Some row) = (row.is_ready ≡ true) × (row.asked ≡ asked.Nothing) × (AllDone s → ⊥)

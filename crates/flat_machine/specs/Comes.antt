@@ -1,20 +1,20 @@
 -- Histories that come of an opening.
-use Rattle.std.specs.Prelude.{◌≡◌, ℕ, Bool, true, List, [], ◌∷◌, ◌++◌, length, Option, Some, None}
+use Rattle.std.specs.Prelude.{◌≡◌, ℕ, Bool, true, List, [], ◌∷◌, map, length, All, Option, Some, None}
 use Rattle.qmp_rules.specs.declared.rows.JobRecord.{JobRecord}
 use Rattle.qmp_rules.specs.Table.{job_at}
-use Rattle.blk_history.specs.Fold.{run}
+use Rattle.blk_history.specs.Fold.{run, change}
 use Rattle.blk_history.specs.Names.{JobLine, RowNames, no_job}
-use Rattle.flat_machine.specs.State.{State, size_of}
-use Rattle.flat_machine.specs.Machine.{after, replay}
+use Rattle.flat_machine.specs.State.{State, Guest, size_of}
+use Rattle.flat_machine.specs.Machine.{after, replay, admitted, finished, past_piece}
 use Rattle.flat_machine.specs.Legal.{Legal, IsAtRest}
 use Rattle.flat_machine.specs.Marks.{NoneSplits}
-use Rattle.flat_machine.specs.Courses.{Order, Wish, IsWhole}
+use Rattle.flat_machine.specs.Courses.{Order, Wish, KeepsOrder, course_of, IsWhole}
 use Rattle.flat_machine.specs.Licence.{Counts, AreLicensed}
-use Rattle.flat_machine.specs.Opening.{start}
+use Rattle.flat_machine.specs.Opening.{start, new_guest}
 use Rattle.blk_history.specs.Transcript.{transcript}
 use Rattle.flat_machine.specs.declared.opening.Opening.{Opening}
 use Rattle.blk_history.specs.declared.event.Event.{Event}
-use Rattle.blk_history.specs.declared.event.Event.TheVariants.{Start}
+use Rattle.blk_history.specs.declared.event.Event.TheVariants.{Admit, Refuse, Piece, Retire, Start}
 
 -- ---- names of a history
 
@@ -51,9 +51,30 @@ pub record ComesOf (o : Opening) (is_told : Bool) (guests : List (List ℕ)) (op
   pub licensed : AreLicensed opened now h
   pub history : is_told ≡ true → IsHistoryOf o h
 
--- a run that came to its end: each guest has a trace, script and traces are used up, each actor is done, and no job is left
-pub record HasEnded (o : Opening) (script : List Order) (traces : List (List Wish)) (h : List Event) : Type 0 where
-  pub history : IsHistoryOf o h
+-- Each guest's requests are its trace's, in order, and so it is with the script; no bytes are needed to say so.
+pub record IsInOrder (o : Opening) (script : List Order) (traces : List (List Wish)) (h : List Event) : Type 0 where
+  pub guests : length traces ≡ length o.guests
+  pub order : KeepsOrder (course_of script traces) h
+
+-- a guest's row as its own entries make it
+abbrev pub guest_step : List Guest → Event → List Guest
+guest_step guests (Admit g r op) = change g (admitted op) guests
+guest_step guests (Refuse g r op why) = change g finished guests
+guest_step guests (Piece g r k outcome got) = change g (past_piece outcome) guests
+guest_step guests (Retire g r) = change g finished guests
+guest_step guests e = guests
+
+abbrev pub guests_after : Opening → List Event → List Guest
+guests_after o h = run guest_step (map (λ name. new_guest) o.guests) h
+
+-- A run that is done: script and traces are used up, each actor is done, and no request is in flight.
+pub record IsDone (o : Opening) (script : List Order) (traces : List (List Wish)) (h : List Event) : Type 0 where
   pub guests : length traces ≡ length o.guests
   pub whole : IsWhole script traces h
-  pub jobs : (replay (start o) h).table.jobs ≡ []
+  pub idle : All (λ row. row.flight ≡ None) (guests_after o h)
+
+-- Where the store tells its files, what was done is a history of that opening, after which no job is left.
+pub record HasEnded (o : Opening) (is_told : Bool) (script : List Order) (traces : List (List Wish)) (h : List Event) : Type 0 where
+  pub done : IsDone o script traces h
+  pub history : is_told ≡ true → IsHistoryOf o h
+  pub jobs : is_told ≡ true → (replay (start o) h).table.jobs ≡ []

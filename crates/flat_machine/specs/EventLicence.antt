@@ -1,5 +1,7 @@
 -- Whose fault an entry may name: a device or the store that its own event called, whose count rose in that event.
-use Rattle.std.specs.Prelude.{◌≡◌, ◌⊎◌, ℕ, true, List, ◌++◌, length, Option, Some, None, Contains, option_and_then, Result, Ok, Err}
+use Rattle.std.specs.Prelude.{◌≡◌, ◌⊎◌, ℕ, ◌==◌, Bool, true, false, if◌then◌else◌, List, [], ◌∷◌, ◌++◌, length, codes, Option, Some, None, Contains, option_and_then}
+use Rattle.std.specs.List.{slice_split}
+use Rattle.std.specs.Str.{bytes_eq}
 use Rattle.blk_base.specs.declared.fault.DevNo.{DevNo}
 use Rattle.blk_base.specs.declared.fault.Fault.{Fault}
 use Rattle.blk_base.specs.declared.fault.Fault.TheVariants as faults
@@ -8,6 +10,9 @@ use Rattle.blk_base.specs.declared.fault.FaultFrom.{FaultFrom}
 use Rattle.blk_base.specs.declared.fault.FaultFrom.TheVariants.{Store, Dev, Sink}
 use Rattle.blk_base.specs.declared.fault.Outcome.{Outcome}
 use Rattle.blk_base.specs.declared.fault.Outcome.TheVariants.{Good, Torn, Io, NoSpace}
+use Rattle.trace_codec.specs.declared.op.Op.{Op}
+use Rattle.trace_codec.specs.declared.op.Op.TheVariants.{Write, Zero}
+use Rattle.qmp_codec.specs.declared.event.JobKind.TheVariants.{Backup}
 use Rattle.qmp_codec.specs.Commands.{Cmd}
 use Rattle.qmp_codec.specs.Lines.{command_at}
 use Rattle.qmp_codec.specs.declared.command.Command.TheVariants as command
@@ -22,10 +27,12 @@ use Rattle.qmp_rules.specs.Table.{Table, id_named, job_at}
 use Rattle.qmp_rules.specs.Chains.{reaches}
 use Rattle.blk_history.specs.Fold.{With}
 use Rattle.flat_machine.specs.State.{State, drive_of}
-use Rattle.flat_machine.specs.Replies.{command_in}
-use Rattle.flat_machine.specs.Licence.{Counts, IsBetween, named_in}
+use Rattle.flat_machine.specs.Machine.{path}
+use Rattle.flat_machine.specs.Replies.{command_in, desc_of}
+use Rattle.flat_machine.specs.Licence.{Counts, IsBetween, fault_at, source_of, named_in}
+use Rattle.blk_history.specs.declared.entry.Cause.TheVariants.{Group}
 use Rattle.blk_history.specs.declared.entry.JobEnd.{JobEnd}
-use Rattle.blk_history.specs.declared.entry.JobEnd.TheVariants.{Failed}
+use Rattle.blk_history.specs.declared.entry.JobEnd.TheVariants.{Failed, Cancelled}
 use Rattle.blk_history.specs.declared.event.Event.{Event}
 use Rattle.blk_history.specs.declared.event.Event.TheVariants.{Piece, Reply, End}
 
@@ -81,22 +88,52 @@ IsCalledBy t sources before Store (Some (command.BlockdevAdd c)) = Unit {0}
 IsCalledBy t sources before Store (Some (command.BlockdevCreate c)) = Unit {0}
 IsCalledBy t sources before source c = ⊥
 
--- ---- ends of jobs: the fault that the job met
+-- ---- faults that jobs meet
 
--- a job meets a fault once, of a device that one of its nodes reaches
-pub record MayMeet (t : Table) (sources : Sources) (row : JobRecord) (fault : Fault) : Type 0 where
+-- what is done in one event: a turn or a take of the job in a slot, a settle of a job, or a piece of a guest on its drive
+pub data Deed : Type 0 where
+  Turn : ℕ → Deed
+  Take : ℕ → Deed
+  Settle : ℕ → Deed
+  PieceOn : ℕ → Op → Deed
+
+abbrev pub changes_disk : Op → Bool
+changes_disk (Write span payload) = true
+changes_disk (Zero span) = true
+changes_disk op = false
+
+-- it is done for the job: a guest's write copies for a backup whose filter it passes
+abbrev pub IsDoneFor : Table → Deed → JobRecord → Type 0
+IsDoneFor t (Turn slot) row = row.slot ≡ slot
+IsDoneFor t (Take slot) row = row.slot ≡ slot
+IsDoneFor t (Settle job) row = row.number ≡ job
+IsDoneFor t (PieceOn drive op) row =
+    (row.kind ≡ Backup) × (changes_disk op ≡ true) × With row.filter (λ filter. Contains (path t drive) filter)
+
+-- Its count rose in the event to what is named, or a write of the event would have passed its capacity. The counts are
+-- those before the event, and of a device that it opened the one at the opening, and those after it.
+abbrev pub HasCause : Counts → Counts → (ℕ → Type 0) → Fault → Type 0
+HasCause opened now would_pass (faults.Io dev count) = IsBetween opened now (fault_at (Dev dev) count)
+HasCause opened now would_pass (faults.NoSpace dev) = would_pass dev.0
+
+-- A job meets a fault once, in what is done for it, of a device that one of its nodes reaches.
+pub record MayMeet (t : Table) (sources : Sources) (deed : Deed) (opened now : Counts) (would_pass : ℕ → Type 0) (row : JobRecord)
+    (fault : Fault) : Type 0 where
   pub first : sources.met_by row.number ≡ None
+  pub done_for : IsDoneFor t deed row
   pub node : ℕ
   pub own : Contains (row.held ++ row.read) node
   pub device : ReachesDevice t sources node (device_at_fault fault).0
+  pub cause : HasCause opened now would_pass fault
 
-abbrev pub IsMet : Sources → ℕ → JobEnd → Type 0
-IsMet sources job (Failed fault) = sources.met_by job ≡ Some fault
-IsMet sources job outcome = Unit {0}
+-- A job that met a fault fails with it, or ends with its group; no other end hides a fault.
+abbrev pub EndsAsMet : Sources → ℕ → JobEnd → Type 0
+EndsAsMet sources job (Failed fault) = sources.met_by job ≡ Some fault
+EndsAsMet sources job (Cancelled Group) = Unit {0}
+EndsAsMet sources job outcome = sources.met_by job ≡ None
 
 -- ---- each entry
 
--- The counts are those before the event, and of a device that it opened the one at the opening, and those after it.
 abbrev pub RoseIn : Counts → Counts → Option FaultAt → Type 0
 RoseIn opened now None = Unit {0}
 RoseIn opened now (Some fault) = IsBetween opened now fault
@@ -105,11 +142,41 @@ abbrev pub IsCommandsFault : Table → Sources → Counts → Option FaultAt →
 IsCommandsFault t sources before None c = Unit {0}
 IsCommandsFault t sources before (Some fault) c = IsCalledBy t sources before fault.from c
 
-abbrev pub IsLicensedBy : State → Sources → (before opened now : Counts) → Event → Type 0
-IsLicensedBy s sources before opened now (Piece g r k outcome got) =
-    IsReached s.table sources (drive_of s.table g) (device_in outcome) × RoseIn opened now (named_in (Piece g r k outcome got))
-IsLicensedBy s sources before opened now (Reply line given command text) =
+-- the device that a piece, or the words of a refusal, say to be full: a write of the event would have passed its capacity
+abbrev pub full_by : Outcome → Option ℕ
+full_by (NoSpace dev) = Some dev.0
+full_by outcome = None
+
+abbrev pub device_from : FaultFrom → Option ℕ
+device_from (Dev dev) = Some dev.0
+device_from source = None
+
+abbrev pub full_in_words : List (List ℕ) → Option ℕ
+full_in_words (verb ∷ source ∷ []) =
+    if bytes_eq verb (codes "nospace") then option_and_then device_from (source_of source) else None
+full_in_words words = None
+
+abbrev pub full_in_text : List ℕ → Option ℕ
+full_in_text text = option_and_then (λ desc. full_in_words (slice_split (λ byte. byte == 32) desc)) (desc_of text)
+
+abbrev pub WouldPass : (ℕ → Type 0) → Option ℕ → Type 0
+WouldPass would_pass None = Unit {0}
+WouldPass would_pass (Some dev) = would_pass dev
+
+-- a command's write: it is a device that the command calls
+abbrev pub IsCommandsFull : Table → Sources → Counts → (ℕ → Type 0) → Option ℕ → Option Cmd → Type 0
+IsCommandsFull t sources before would_pass None c = Unit {0}
+IsCommandsFull t sources before would_pass (Some dev) c =
+    IsCalledBy t sources before (Dev (record { 0 = dev })) c × would_pass dev
+
+abbrev pub IsLicensedBy : State → Sources → (before opened now : Counts) → (ℕ → Type 0) → Event → Type 0
+IsLicensedBy s sources before opened now would_pass (Piece g r k outcome got) =
+    IsReached s.table sources (drive_of s.table g) (device_in outcome)
+    × RoseIn opened now (named_in (Piece g r k outcome got))
+    × WouldPass would_pass (full_by outcome)
+IsLicensedBy s sources before opened now would_pass (Reply line given command text) =
     IsCommandsFault s.table sources before (named_in (Reply line given command text)) (command_in (command_at given))
     × RoseIn opened now (named_in (Reply line given command text))
-IsLicensedBy s sources before opened now (End job outcome offset) = IsMet sources job outcome
-IsLicensedBy s sources before opened now e = Unit {0}
+    × IsCommandsFull s.table sources before would_pass (full_in_text text) (command_in (command_at given))
+IsLicensedBy s sources before opened now would_pass (End job outcome offset) = EndsAsMet sources job outcome
+IsLicensedBy s sources before opened now would_pass e = Unit {0}

@@ -187,10 +187,17 @@ abbrev pub rebased : Option ℕ → ℕ → List Edge → List Edge
 rebased None top edges = filter (λ edge. not (is_edge (Node top) BackingRole edge)) edges
 rebased (Some base) top edges = map (λ edge. if is_edge (Node top) BackingRole edge then with_child base edge else edge) edges
 
+-- the overlay over the top of a commit to an inner base has the base as backing node
+abbrev pub overlay_rebased : Option ℕ → List ℕ → List Edge → List Edge
+overlay_rebased base [] edges = edges
+overlay_rebased base (overlay ∷ rest) edges = rebased base overlay edges
+
 abbrev pub moved_by : JobRecord → JobKind → List Edge → List Edge
 moved_by row Stream edges = rebased row.target row.source edges
 moved_by row Backup edges = edges
-moved_by row kind edges = moved row.target row.source edges
+moved_by row Mirror edges = moved row.target row.source edges
+moved_by row Commit edges =
+    if is_active row then moved row.target row.source edges else overlay_rebased row.target row.read edges
 
 -- the job's edges and its filter are gone
 abbrev pub unfiltered : Option ℕ → List Edge → List Edge

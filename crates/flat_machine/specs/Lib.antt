@@ -23,3 +23,4 @@ pub mod Agreement
 pub mod Performing
 pub mod Standing
 pub mod Suiting
+pub mod Writing

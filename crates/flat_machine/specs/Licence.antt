@@ -1,5 +1,5 @@
 -- The causes of faults: each one named is a rise of its count, and no rise is named twice.
-use Rattle.std.specs.Prelude.{◌≡◌, ◌≢◌, ℕ, ◌+◌, ◌-◌, ◌*◌, ◌<◌, ◌≤◌, ◌==◌, Bool, true, false, if◌then◌else◌, List, [], ◌∷◌, ◌++◌, length, set, slice_get, map, drop, fold, codes, nat_eq, AllPairs, All, Option, Some, None, option_and_then}
+use Rattle.std.specs.Prelude.{◌≡◌, ◌≢◌, ℕ, ◌+◌, ◌-◌, ◌*◌, ◌<◌, ◌≤◌, ◌==◌, Bool, true, false, if◌then◌else◌, List, [], ◌∷◌, ◌++◌, length, slice_get, map, drop, fold, codes, nat_eq, AllPairs, All, Option, Some, None, option_and_then}
 use Rattle.std.specs.List.{slice_split, starts_with, filter_map}
 use Rattle.std.specs.Str.{bytes_eq}
 use Rattle.blk_base.specs.Counts.{Rose}
@@ -10,7 +10,7 @@ use Rattle.blk_base.specs.declared.fault.FaultFrom.{FaultFrom}
 use Rattle.blk_base.specs.declared.fault.FaultFrom.TheVariants.{Store, Dev, Sink}
 use Rattle.blk_base.specs.declared.fault.Outcome.{Outcome}
 use Rattle.blk_base.specs.declared.fault.Outcome.TheVariants.{Good, Torn, Io, NoSpace}
-use Rattle.blk_history.specs.Fold.{run, Each, With}
+use Rattle.blk_history.specs.Fold.{With}
 use Rattle.flat_machine.specs.Replies.{desc_of}
 use Rattle.blk_history.specs.declared.entry.JobEnd.{JobEnd}
 use Rattle.blk_history.specs.declared.entry.JobEnd.TheVariants.{Failed}
@@ -68,11 +68,6 @@ count_of counts Store = Some counts.store
 count_of counts (Dev dev) = slice_get counts.devices dev.0
 count_of counts Sink = None
 
-abbrev pub with_count : Counts → FaultAt → FaultFrom → Counts
-with_count counts fault Store = record counts { store = fault.count }
-with_count counts fault (Dev dev) = record counts { devices = set counts.devices dev.0 fault.count }
-with_count counts fault Sink = counts
-
 -- ---- all that a history names
 
 abbrev pub faults_of : List Event → List FaultAt
@@ -91,26 +86,3 @@ Differ a b = a.from ≡ b.from → a.count ≡ b.count → a.count ≡ 184467440
 pub record AreLicensed (opening closing : Counts) (h : List Event) : Type 0 where
   pub rises : All (IsBetween opening closing) (faults_of h)
   pub once : AllPairs Differ (faults_of h)
-
--- ---- one after another
-
--- Where faults are named as they come, as by pieces and replies, each lies above the last that was named of its count. The
--- end of a job names the first fault of the job, which later ones may have passed.
-abbrev pub last_named : Counts → Option FaultAt → Counts
-last_named counts None = counts
-last_named counts (Some fault) = with_count counts fault fault.from
-
-abbrev pub RoseSince : Counts → Option FaultAt → Type 0
-RoseSince counts None = Unit {0}
-RoseSince counts (Some fault) = With (count_of counts fault.from) (λ before. Rose before fault.count)
-
-abbrev pub counted : Counts → List Event → Counts
-counted = run (λ counts e. last_named counts (named_in e))
-
-abbrev pub HaveRisen : Counts → List Event → Type 0
-HaveRisen = Each (λ counts e. last_named counts (named_in e)) (λ counts e. RoseSince counts (named_in e))
-
--- no entry names a fault
-abbrev pub NameNone : List Event → Type 0
-NameNone [] = Unit {0}
-NameNone (e ∷ es) = (named_in e ≡ None) × NameNone es

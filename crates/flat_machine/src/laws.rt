@@ -1,6 +1,9 @@
 //! What follows from the definitions, each law the contract of a function that does nothing.
 
 ghost use Rattle.std.specs.Prelude.{◌≡◌, ℕ, List, Option, None};
+ghost use Rattle.blk_base.specs.Pieces.{Extent};
+ghost use Rattle.blk_base.specs.declared.fault.Outcome.{Outcome};
+ghost use Rattle.trace_codec.specs.declared.op.Op.{Op};
 ghost use Rattle.qmp_codec.specs.Commands.{Cmd};
 ghost use Rattle.qmp_rules.specs.declared.told.Told.{Told};
 ghost use Rattle.qmp_rules.specs.Answers.{refusal_of, command_edits};
@@ -11,6 +14,8 @@ ghost use Rattle.flat_machine.specs.Suiting.{AllSuit};
 ghost use Rattle.flat_machine.specs.declared.opening.Opening.{Opening};
 ghost use Rattle.flat_machine.specs.Changed.{stepped, all_stepped};
 ghost use Rattle.flat_machine.specs.Sights.{IsTold, expected};
+ghost use Rattle.flat_machine.specs.Machine.{with_part};
+ghost use Rattle.flat_machine.specs.Writing.{CanWrite, PieceDone};
 ghost use Rattle.flat_machine.specs.Standing.{Stands};
 ghost use Rattle.flat_machine.specs.Agreement.{Contents, Agrees};
 ghost use Rattle.flat_machine.specs.Performing.{Can, Performed, AllCan, AllPerformed};
@@ -34,4 +39,12 @@ pub fn accepted_changes_can_be_made()
 pub fn tables_stand()
     ensures beginning { (o : Opening) → Stands (start o) }
     ensures changes { (changes : List Change) (s : State) → AllSuit s changes → Stands s → Stands (all_stepped s changes) }
+{}
+
+/// Where nodes and files are what the flat machine says, they are so after a piece of a guest's request on a drive: a write
+/// changes the written node alone among those that keep their flat disks.
+pub fn pieces_keep_disks()
+    ensures { (opening : List ℕ → Option (List ℕ)) (s : State) (drive : ℕ) (op : Op) (outcome : Outcome) (part : Extent)
+        (old new : Contents) → CanWrite s drive op → PieceDone s drive op outcome part old new
+        → Agrees opening s old → Agrees opening (with_part drive op outcome part s) new }
 {}

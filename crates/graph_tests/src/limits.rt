@@ -30,9 +30,9 @@ fn nodes_have_names(rt: HostRuntime) -> Result<(), Fail> {
     Ok(())
 }
 
-/// Adds a node, and gives its id.
-fn added_id(alloc: Global, graph: &mut Graph, name: &str) -> Result<Option<usize>, Fail> {
-    match added(alloc, graph, name)? {
+/// The id of a node that is added.
+fn id_of(alloc: Global, graph: &mut Graph, name: &str) -> Result<Option<usize>, Fail> {
+    match graph.add_node(Text::copied(alloc, name)?, NO_KIND) {
         Ok(node) => Ok(Some(node.index())),
         Err(_) => Ok(None),
     }
@@ -42,10 +42,11 @@ fn added_id(alloc: Global, graph: &mut Graph, name: &str) -> Result<Option<usize
 #[test]
 fn ids_are_given_again(rt: HostRuntime) -> Result<(), Fail> {
     let mut graph = nodes(rt.alloc(), 64)?;
-    assert!(rt; remove(&mut graph, 7) == Answer::Done && remove(&mut graph, 3) == Answer::Done);
+    assert!(rt; remove(&mut graph, 7) == Answer::Done);
+    assert!(rt; remove(&mut graph, 3) == Answer::Done);
     assert!(rt; graph.node_named("n7").is_none());
-    assert!(rt; added_id(rt.alloc(), &mut graph, "a")? == Some(3));
-    assert!(rt; added_id(rt.alloc(), &mut graph, "b")? == Some(7));
+    assert!(rt; id_of(rt.alloc(), &mut graph, "a")? == Some(3));
+    assert!(rt; id_of(rt.alloc(), &mut graph, "b")? == Some(7));
     Ok(())
 }
 

@@ -52,7 +52,7 @@ use Rattle.qmp_rules.specs.declared.told.Told.{Told}
 use Rattle.qmp_rules.specs.Naming.{inline_name}
 use Rattle.qmp_rules.specs.Table.{Table, node_named, node_at, id_named, device_named, job_named, child}
 use Rattle.qmp_rules.specs.Chains.{disk_node, is_settled, has_id, chain}
-use Rattle.qmp_rules.specs.Asks.{Nodes1, id_or, name_of_file, is_file, top_of, base_of, held_nodes, read_nodes, is_active}
+use Rattle.qmp_rules.specs.Asks.{Nodes1, id_or, name_of_file, is_file, top_of, base_of, held_nodes, read_nodes}
 use Rattle.qmp_rules.specs.JobAsks.{stream_nodes, commit_nodes}
 use Rattle.qmp_rules.specs.NodeAsks.{is_read_only, backing_name}
 use Rattle.qmp_rules.specs.BitmapAsks.{source_node, source_name}
@@ -342,7 +342,7 @@ stream_job t c = record (new_job t None c.job_id job_kind.Stream (stream_nodes c
 abbrev pub stream_edits : Table → StreamCommand (List ℕ) → List Change
 stream_edits t c =
     let job : JobRecord = stream_job t c in
-    StartJob job ∷ UseNode job.slot StreamTop job.source ∷ uses_as job.slot StreamBelow job.read
+    file_used t job.target ++ StartJob job ∷ UseNode job.slot StreamTop job.source ∷ uses_as job.slot StreamBelow job.read
 
 -- ---- block-commit
 
@@ -393,21 +393,12 @@ commit_uses job =
 abbrev pub commit_job : Table → CommitCommand (List ℕ) → JobRecord
 commit_job t c =
     let job : JobRecord = new_job t None c.job_id job_kind.Commit (commit_nodes c) in
-    let made : JobRecord = record job { made_writable = to_be_written t job.target; backing_file = c.backing_file } in
-    if is_active t c.device c.top_node then filtered_job t made else made
-
--- a commit of the device itself has a filter over its top
-abbrev pub commit_filter : Table → JobRecord → List Change
-commit_filter t job = if_filtered job.filter
-  where
-    if_filtered : Option ℕ → List Change
-    if_filtered None = []
-    if_filtered (Some id) = filter_edits t kind.Commit job
+    filtered_job t (record job { made_writable = to_be_written t job.target; backing_file = c.backing_file })
 
 abbrev pub commit_edits : Table → CommitCommand (List ℕ) → List Change
 commit_edits t c =
     let job : JobRecord = commit_job t c in
-    file_used t job.target ++ commit_unsettles t job ++ base_edits t job ++ commit_filter t job
+    file_used t job.target ++ commit_unsettles t job ++ base_edits t job ++ filter_edits t kind.Commit job
     ++ StartJob job ∷ UseNode job.slot CommitTop job.source ∷ commit_uses job
 
 -- ---- blockdev-mirror and blockdev-backup: the target has no flat disk from then on

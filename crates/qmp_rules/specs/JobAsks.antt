@@ -1,6 +1,5 @@
 -- What the commands on jobs ask.
 use Rattle.std.specs.Prelude.{ℕ, Bool, true, not, if◌then◌else◌, List, [], ◌∷◌, ◌++◌, codes, Option, Some, bytes_eq}
-use Rattle.std.specs.Option.{option_map_or}
 use Rattle.qmp_codec.specs.declared.jobs.JobOptions.{JobOptions}
 use Rattle.qmp_codec.specs.declared.jobs.Stream.{Stream as StreamCommand}
 use Rattle.qmp_codec.specs.declared.jobs.Commit.{Commit as CommitCommand}
@@ -60,10 +59,6 @@ stream_asks c =
 abbrev pub commit_nodes : CommitCommand (List ℕ) → Nodes1
 commit_nodes c = Commit c.device c.base_node c.top_node
 
--- a commit of the device itself is active, and makes a filter
-abbrev pub commit_filters : CommitCommand (List ℕ) → ℕ
-commit_filters c = if option_map_or (λ top. bytes_eq top c.device) c.top_node true then 1 else 0
-
 abbrev pub commit_names : CommitCommand (List ℕ) → List Asking
 commit_names c =
     Named (codes "job-id") (Some c.job_id)
@@ -79,7 +74,7 @@ commit_rest c =
     ∷ Found c.base_node
     ∷ Found c.top_node
     ∷ FreshJob c.job_id
-    ∷ RoomForNodes (commit_filters c)
+    ∷ RoomForNodes 1
     ∷ RoomForJob
     ∷ Drives (Some c.device) drivers.Qcow2
     ∷ Drives c.base_node drivers.FileRawOrQcow2

@@ -10,6 +10,7 @@ pub mod BitmapAsks
 pub mod CommandAsks
 pub mod Changes
 pub mod Edits
+pub mod Headers
 pub mod Answers
 pub mod Queries
 pub mod Looks

@@ -1,7 +1,7 @@
 //! What the commands on jobs ask.
 ghost use Rattle.std.specs.Prelude.{◌≡◌, ◌++◌, OnOk};
 ghost use Rattle.qmp_codec.specs.Jobs.{seen_backup, seen_commit, seen_mirror, seen_stream};
-ghost use Rattle.qmp_rules.specs.JobAsks.{backup_choices, backup_names, backup_rest, backup_values, cancel_asks, commit_asks, commit_filters, commit_names, commit_nodes, commit_rest, complete_asks, is_other, job_values, mirror_asks, mirror_choices, mirror_names, mirror_rest, mirror_values, on_error_value, stream_asks, stream_names, stream_nodes, stream_rest};
+ghost use Rattle.qmp_rules.specs.JobAsks.{backup_choices, backup_names, backup_rest, backup_values, cancel_asks, commit_asks, commit_names, commit_nodes, commit_rest, complete_asks, is_other, job_values, mirror_asks, mirror_choices, mirror_names, mirror_rest, mirror_values, on_error_value, stream_asks, stream_names, stream_nodes, stream_rest};
 ghost use Rattle.qmp_rules.specs.Seen.{seen_ask, seen_asks, seen_nodes};
 
 use crate::ask::{Ask, Drivers, JobNodes};
@@ -99,16 +99,6 @@ pub(crate) fn commit_nodes(c: &Commit) -> JobNodes<&str>
     }
 }
 
-/// How many filters a commit makes: one where the device itself is committed.
-pub(crate) fn commit_filters(c: &Commit) -> u8
-    ensures { result ≡ commit_filters (seen_commit c.now) }
-{
-    match &c.top_node {
-        Some(top) if top.as_str() != c.device.as_str() => 0,
-        Some(_) | None => 1,
-    }
-}
-
 fn put_commit_names<'x>(asks: &mut Asks<'x>, c: &'x Commit) -> Result<(), NoMemory>
     ensures { OnOk result (seen_asks asks.new.items
         ≡ seen_asks asks.old.items ++ commit_names (seen_commit c.now)) }
@@ -137,7 +127,7 @@ fn put_commit_rest<'x>(asks: &mut Asks<'x>, c: &'x Commit) -> Result<(), NoMemor
             Ask::Found(maybe(&c.base_node)),
             Ask::Found(maybe(&c.top_node)),
             Ask::FreshJob(c.job_id.as_str()),
-            Ask::RoomForNodes(commit_filters(c)),
+            Ask::RoomForNodes(1),
             Ask::RoomForJob,
             Ask::Drives { node: Some(device), which: Drivers::Qcow2 },
             Ask::Drives { node: maybe(&c.base_node), which: Drivers::FileRawOrQcow2 },

@@ -1,0 +1,55 @@
+-- What a piece of a guest's request does to nodes and files.
+use Rattle.std.specs.Prelude.{◌≡◌, ◌≢◌, ◌⊎◌, ℕ, Bool, true, false, ◌==◌, List, All, find, Option, Some, IsSome, option_and_then}
+use Rattle.blk_base.specs.Pieces.{Extent}
+use Rattle.blk_graph.specs.declared.edge.Role.TheVariants.{File}
+use Rattle.trace_codec.specs.declared.op.Op.{Op}
+use Rattle.trace_codec.specs.declared.op.Op.TheVariants.{Read, Write, Zero, Flush, Discard}
+use Rattle.blk_base.specs.declared.fault.Outcome.{Outcome}
+use Rattle.qmp_rules.specs.declared.rows.NodeRecord.{NodeRecord}
+use Rattle.qmp_rules.specs.Table.{Table, node_at, child, has_name}
+use Rattle.qmp_rules.specs.Chains.{disk_node, is_over}
+use Rattle.blk_history.specs.Disk.{done_in}
+use Rattle.blk_history.specs.Machine.{done_by}
+use Rattle.flat_machine.specs.State.{State, Unknown, content_in}
+use Rattle.flat_machine.specs.Changed.{file_of}
+use Rattle.flat_machine.specs.Agreement.{Contents, HasDisk}
+use Rattle.flat_machine.specs.Performing.{ReadSame, HeldSame, IsQuiet}
+
+-- ---- the node that is written
+
+-- the file that it writes
+abbrev pub written_file : Table → ℕ → Option (List ℕ)
+written_file t node = option_and_then (λ row. file_of t row row.kind) (node_at t node)
+
+-- A node that a guest may write: it has a flat disk, the `file` node under it has none, and of its file nothing is known, no
+-- disk is left in it, and a command named it.
+pub record IsWritable (s : State) (node : ℕ) : Type 0 where
+  pub disk : IsSome (find (λ d. d.node == node) s.disks)
+  pub under : (file : ℕ) (row : NodeRecord) → child s.table node File ≡ Some file → node_at s.table file ≡ Some row → HasDisk row → ⊥
+  pub known : (name : List ℕ) → written_file s.table node ≡ Some name → content_in s.files name ≡ Some Unknown
+  pub left : (name : List ℕ) → written_file s.table node ≡ Some name → All (λ l. l.file ≢ name) s.left
+  pub named : (name : List ℕ) → written_file s.table node ≡ Some name → has_name name s.named ≡ true
+
+-- ---- what is done
+
+-- a node reads otherwise: the written one, and a filter over it, the `file` node under it, and what reads it as a backing node
+abbrev pub ReadsWritten : Table → ℕ → ℕ → Type 0
+ReadsWritten t node other = (disk_node t other ≡ node) ⊎ ((child t node File ≡ Some other) ⊎ (is_over t node other ≡ true))
+
+-- so many bytes of a part of the request are done
+pub record Writes (s : State) (node : ℕ) (op : Op) (part : Extent) (done : ℕ) (old new : Contents) : Type 0 where
+  pub written : new.reads node ≡ done_in op part done (old.reads node)
+  pub nodes : ReadSame (ReadsWritten s.table node) old new
+  pub files : HeldSame (λ name. written_file s.table node ≡ Some name) old new
+
+-- A piece of a write or zero write, on a guest's drive; every other piece changes nothing.
+abbrev pub PieceDone : State → ℕ → Op → Outcome → Extent → Contents → Contents → Type 0
+PieceDone s drive (Write span payload) outcome part old new =
+    Writes s (disk_node s.table drive) (Write span payload) part (done_by outcome part) old new
+PieceDone s drive (Zero span) outcome part old new = Writes s (disk_node s.table drive) (Zero span) part (done_by outcome part) old new
+PieceDone s drive op outcome part old new = IsQuiet old new
+
+abbrev pub CanWrite : State → ℕ → Op → Type 0
+CanWrite s drive (Write span payload) = IsWritable s (disk_node s.table drive)
+CanWrite s drive (Zero span) = IsWritable s (disk_node s.table drive)
+CanWrite s drive op = Unit {0}
