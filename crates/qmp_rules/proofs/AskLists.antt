@@ -1,5 +1,5 @@
 -- Lists that are gone through while the asks of each part are put.
-use Rattle.std.proofs.Common.{◌≡◌, ℕ, ◌+◌, ◌<◌, ◌≤◌, List, [], ◌∷◌, ◌++◌, length, get_or, drop, sym, ap, subst, ◌∙◌, append_assoc, append-nil, Result}
+use Rattle.std.proofs.Common.{◌≡◌, ℕ, ◌+◌, ◌<◌, ◌≤◌, List, [], ◌∷◌, ◌++◌, length, get_or, drop, refl, sym, ap, subst, ◌∙◌, append_assoc, append-nil, Result}
 use Rattle.std.specs.Prelude.{OnOk}
 use Rattle.std.proofs.lemmas.List.{at_drop_more, at_drop_all}
 use Rattle.qmp_rules.specs.Asks.{Asking}
@@ -25,3 +25,10 @@ module _ {X : Type 0} where
 pub put_as : {R E : Type 0} → (r : Result R E) (old new more asks : List Asking) → more ≡ asks
     → OnOk r (new ≡ old ++ more) → OnOk r (new ≡ old ++ asks)
 put_as r old new more asks e h = subst (λ (l : List Asking). OnOk r (new ≡ old ++ l)) e h
+
+-- asks that are put behind others that were put
+pub tail_two : {R E : Type 0} → (r : Result R E) (old mid new a b : List Asking) → mid ≡ old ++ a
+    → OnOk r (new ≡ mid ++ b) → OnOk r (new ≡ old ++ (a ++ b))
+tail_two r old mid new a b m h =
+    put_as r old new (a ++ b) (a ++ b) refl
+    (subst (λ (l : List Asking). OnOk r (new ≡ l)) (ap (λ y. y ++ b) m ∙ append_assoc old a b) h)

@@ -114,9 +114,9 @@ cut_found base i x ids all less at same is =
     take_more ids i x less
     ∙ ap (λ y. take i ids ++ y ∷ []) (sym at)
     ∙ ap (λ rest. take i ids ++ rest)
-      (ap (λ b. if b then x ∷ [] else x ∷ down_to (Some base) (drop (i + 1) ids)) (sym (eq-eqb x base same))
-      ∙ ap (λ y. down_to (Some base) (y ∷ drop (i + 1) ids)) at
-      ∙ sym (at_drop_more (down_to (Some base)) ids i x less))
+    (ap (λ b. if b then x ∷ [] else x ∷ down_to (Some base) (drop (i + 1) ids)) (sym (eq-eqb x base same))
+    ∙ ap (λ y. down_to (Some base) (y ∷ drop (i + 1) ids)) at
+    ∙ sym (at_drop_more (down_to (Some base)) ids i x less))
     ∙ is
 
 pub cut_other : (base i x : ℕ) (ids all : List ℕ) → i < length ids → x ≡ get_or ids i x → (x ≡ base → ⊥)
@@ -125,9 +125,9 @@ cut_other base i x ids all less at other is =
     ap (λ front. front ++ down_to (Some base) (drop (i + 1) ids)) (take_more ids i x less ∙ ap (λ y. take i ids ++ y ∷ []) (sym at))
     ∙ append_assoc (take i ids) (x ∷ []) (down_to (Some base) (drop (i + 1) ids))
     ∙ ap (λ rest. take i ids ++ rest)
-      (ap (λ b. if b then x ∷ [] else x ∷ down_to (Some base) (drop (i + 1) ids)) (sym (ne_eqb x base other))
-      ∙ ap (λ y. down_to (Some base) (y ∷ drop (i + 1) ids)) at
-      ∙ sym (at_drop_more (down_to (Some base)) ids i x less))
+    (ap (λ b. if b then x ∷ [] else x ∷ down_to (Some base) (drop (i + 1) ids)) (sym (ne_eqb x base other))
+    ∙ ap (λ y. down_to (Some base) (y ∷ drop (i + 1) ids)) at
+    ∙ sym (at_drop_more (down_to (Some base)) ids i x less))
     ∙ is
 
 pub cut_end : (base i : ℕ) (ids all : List ℕ) → length ids ≤ i

@@ -8,4 +8,3 @@ pub mod EditLemmas
 pub mod JudgeLemmas
 pub mod ReachLemmas
 pub mod ClashLemmas
-pub mod ItemLemmas

@@ -19,9 +19,9 @@ unmarked id less = same 64 id
 pub mark_step : (edges : List Edge) (to i : ℕ) (edge : Edge) (before after new : List Bool) → 0 < i → i ≤ length edges
     → edge ≡ get_or edges (i - 1) edge
     → ((steps : ℕ) (all : List Edge) (test : ℕ → Bool) → IsMarked (λ id. leads steps all id to) before
-      → IsMarked test after → IsMarked (λ id. leads_by steps all id to edge || test id) new)
+    → IsMarked test after → IsMarked (λ id. leads_by steps all id to edge || test id) new)
     → ((steps : ℕ) → IsMarked (λ id. leads steps edges id to) before
-      → IsMarked (λ id. list_any (leads_by steps edges id to) (drop i edges)) after)
+    → IsMarked (λ id. list_any (leads_by steps edges id to) (drop i edges)) after)
     → (steps : ℕ) → IsMarked (λ id. leads steps edges id to) before
     → IsMarked (λ id. list_any (leads_by steps edges id to) (drop (i - 1) edges)) new
 mark_step edges to i edge before after new some within at made so_far steps h id less =
@@ -34,7 +34,7 @@ mark_step edges to i edge before after new some within at made so_far steps h id
 
 pub mark_end : (edges : List Edge) (to i : ℕ) (before after : List Bool) → i ≡ 0
     → ((steps : ℕ) → IsMarked (λ id. leads steps edges id to) before
-      → IsMarked (λ id. list_any (leads_by steps edges id to) (drop i edges)) after)
+    → IsMarked (λ id. list_any (leads_by steps edges id to) (drop i edges)) after)
     → (steps : ℕ) → IsMarked (λ id. leads steps edges id to) before
     → IsMarked (λ id. leads (steps + 1) edges id to) after
 mark_end edges to i before after none so_far steps h id less =

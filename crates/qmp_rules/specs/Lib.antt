@@ -19,5 +19,4 @@ pub mod Seen
 pub mod Room
 pub mod Reach
 pub mod Prepared
-pub mod Printed
 pub mod Fitting
