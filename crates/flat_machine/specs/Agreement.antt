@@ -1,8 +1,8 @@
 -- What nodes read as and what files hold, and that it is what the flat machine says.
-use Rattle.std.specs.Prelude.{◌≡◌, ℕ, Bool, true, false, List, length, All, Option, Some, None}
+use Rattle.std.specs.Prelude.{◌≡◌, ℕ, true, false, List, length, All, Option, Some, None}
 use Rattle.q2_format.specs.Created.{Creation, IsCreated}
 use Rattle.qmp_rules.specs.declared.rows.NodeRow.{NodeRow}
-use Rattle.qmp_rules.specs.Table.{Table, node_at, has_name}
+use Rattle.qmp_rules.specs.Table.{node_at, has_name}
 use Rattle.qmp_rules.specs.Chains.{filter_role}
 use Rattle.blk_history.specs.Fold.{With}
 use Rattle.flat_machine.specs.State.{State, Content, Bytes, Blank, Unknown, Left, bytes_in, content_in}

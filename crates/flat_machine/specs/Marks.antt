@@ -1,18 +1,18 @@
 -- Marks, and drained moments.
-use Rattle.std.specs.Prelude.{◌≡◌, ℕ, ◌+◌, ◌<◌, ◌==◌, Bool, true, false, ◌&&◌, ◌||◌, not, if◌then◌else◌, List, [], ◌∷◌, ◌++◌, length, filter, All, Contains, Option, Some, None, option_and_then, option_map, IsSome, Result, Ok, Err}
+use Rattle.std.specs.Prelude.{◌≡◌, ℕ, ◌==◌, Bool, true, false, ◌&&◌, not, if◌then◌else◌, List, [], ◌∷◌, ◌++◌, filter, All, Option, Some, None, option_and_then, Result, Ok}
 use Rattle.std.specs.List.{list_any}
 use Rattle.qmp_codec.specs.Commands.{Act, Cmd}
 use Rattle.qmp_codec.specs.Lines.{Stop, command_at}
 use Rattle.qmp_codec.specs.declared.command.Action.TheVariants as action
 use Rattle.qmp_codec.specs.declared.command.Command.TheVariants as command
 use Rattle.qmp_codec.specs.declared.event.JobKind.{JobKind}
-use Rattle.qmp_codec.specs.declared.event.JobKind.TheVariants.{Stream, Commit, Mirror, Backup}
+use Rattle.qmp_codec.specs.declared.event.JobKind.TheVariants.{Commit, Mirror, Backup}
 use Rattle.qmp_rules.specs.declared.rows.Asked.{Asked}
 use Rattle.qmp_rules.specs.declared.rows.Asked.TheVariants as asked
 use Rattle.qmp_rules.specs.declared.rows.JobRow.{JobRow}
 use Rattle.qmp_rules.specs.Table.{Table, id_named, device_named, job_at}
 use Rattle.qmp_rules.specs.Chains.{has_id, disk_node}
-use Rattle.blk_history.specs.Fold.{Each, With}
+use Rattle.blk_history.specs.Fold.{Each}
 use Rattle.flat_machine.specs.State.{State, Guest, guest_at, disk_of_guest}
 use Rattle.flat_machine.specs.Jobs.{can_be_ready}
 use Rattle.flat_machine.specs.Replies.{is_accepted}
