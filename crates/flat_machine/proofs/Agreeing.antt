@@ -1,20 +1,19 @@
 -- Nodes and files are what the flat machine says after each kind of change, where they were before it.
-use Rattle.std.proofs.Common.{◌≡◌, ◌≢◌, ◌⊎◌, ℕ, Bool, true, false, cond, List, [], ◌∷◌, ◌++◌, map, length, refl, sym, ap, subst, ◌∙◌, inl, inr, arith, Option, Some, None, option_map}
-use Rattle.std.specs.Prelude.{◌==◌, ◌&&◌, not, bytes_eq, All, option_and_then, unwrap_or, is_none}
+use Rattle.std.proofs.Common.{◌≡◌, ◌≢◌, ◌⊎◌, ℕ, Bool, true, false, cond, List, [], ◌∷◌, ◌++◌, map, length, refl, sym, ap, subst, ◌∙◌, inl, inr, Option, Some, None, option_map}
+use Rattle.std.specs.Prelude.{◌==◌, not, bytes_eq, All}
 use Rattle.std.specs.List.{find, filter}
 use Rattle.std.proofs.lemmas.Bool.{eqb-true, eq-eqb, ne_eqb, cases_eq}
-use Rattle.std.proofs.lemmas.List.Elements.{All-weaker, All-nil, All-cons, All-head, All-tail, All-push}
-use Rattle.blk_graph.specs.declared.kind.Kind.{Kind}
+use Rattle.std.proofs.lemmas.List.Elements.{All-weaker, All-nil, All-cons, All-head, All-tail}
 use Rattle.blk_graph.proofs.Members.{find-Some, Contains-filter}
 use Rattle.qmp_rules.specs.declared.rows.NodeRow.{NodeRow}
-use Rattle.qmp_rules.specs.Table.{Table, node_at, has_name}
-use Rattle.qmp_rules.specs.Changes.{node_changed, unsettled, writable, with_unsettled, with_writable, without_row}
+use Rattle.qmp_rules.specs.Table.{node_at, has_name}
+use Rattle.qmp_rules.specs.Changes.{node_changed, unsettled, writable, without_row}
 use Rattle.blk_history.specs.Fold.{With}
-use Rattle.flat_machine.specs.State.{State, Content, Bytes, Blank, Unknown, Left, Disk, bytes_in, content_in}
+use Rattle.flat_machine.specs.State.{State, Content, Left, bytes_in, content_in}
 use Rattle.flat_machine.specs.Changed.{with_bytes_of}
 use Rattle.flat_machine.specs.Contents.{with_content}
 use Rattle.flat_machine.specs.Final.{read_as}
-use Rattle.flat_machine.specs.Agreement.{Contents, HasDisk, ReadAsDisks, IsBlank, IsAsKnown, AreAsKnown, AreAbsent, IsLeftAs, AreUnchanged, Agrees}
+use Rattle.flat_machine.specs.Agreement.{Contents, HasDisk, ReadAsDisks, IsAsKnown, AreAsKnown, AreAbsent, IsLeftAs, AreUnchanged}
 use Rattle.flat_machine.specs.Performing.{ReadSame, HeldSame, Nothing}
 use Rattle.flat_machine.proofs.Finds.{find-push, find-map, find-filter, bytes_in-put, bytes_in-put_other, bytes_in-drop, cases_name, name_differs, content_in-with, content_in-with_other, has_name-push}
 

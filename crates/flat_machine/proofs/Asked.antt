@@ -1,20 +1,18 @@
 -- What it means that no ask of a list refuses.
-use Rattle.std.proofs.Common.{◌≡◌, ◌≢◌, ◌⊎◌, ℕ, ◌+◌, ◌<◌, ◌≤◌, Bool, true, false, List, [], ◌∷◌, ◌++◌, length, refl, sym, ap, subst, ◌∙◌, inl, inr, arith, Option, Some, None}
-use Rattle.std.specs.Prelude.{◌==◌, not, nat_lt, ◌&&◌, ◌||◌, option_and_then, option_map, unwrap_or, is_none, is_some, IsSome}
-use Rattle.std.specs.List.{find, list_any, Contains}
+use Rattle.std.proofs.Common.{◌≡◌, ℕ, ◌+◌, ◌≤◌, Bool, true, false, List, [], ◌∷◌, ◌++◌, length, refl, Option, Some, None}
+use Rattle.std.specs.Prelude.{not, is_none}
+use Rattle.std.specs.List.{list_any}
 use Rattle.std.proofs.lemmas.Bool.{ltb-false, not-false}
 use Rattle.blk_graph.specs.declared.edge.Edge.{Edge}
 use Rattle.qmp_rules.specs.declared.ask.Ask.TheVariants as ask
 use Rattle.qmp_rules.specs.declared.ask.Drivers.{Drivers}
 use Rattle.qmp_rules.specs.declared.refusal.Refusal.{Refusal}
 use Rattle.qmp_rules.specs.declared.rows.NodeRow.{NodeRow}
-use Rattle.qmp_rules.specs.declared.rows.FileState.{FileState}
 use Rattle.qmp_rules.specs.declared.told.Told.{Told}
-use Rattle.qmp_rules.specs.Table.{Table, node_named, id_named, file_state, first_into}
+use Rattle.qmp_rules.specs.Table.{Table, node_named, file_state, first_into}
 use Rattle.qmp_rules.specs.Chains.{is_settled}
 use Rattle.qmp_rules.specs.Refusals.{refused, or_else}
-use Rattle.qmp_rules.specs.Asks.{Asking, holds, first, takes, stands_for, is_lost, is_file, file_node, name_of_file, in_use}
-use Rattle.blk_history.specs.Fold.{With}
+use Rattle.qmp_rules.specs.Asks.{Asking, holds, first, takes, stands_for, is_lost, is_file, name_of_file, in_use}
 
 -- ---- lists
 

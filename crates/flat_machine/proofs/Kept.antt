@@ -1,8 +1,8 @@
 -- Each kind of change keeps what nodes read as and what files hold as the flat machine says.
-use Rattle.std.proofs.Common.{◌≡◌, ◌≢◌, ◌⊎◌, ℕ, suc, Bool, true, false, cond, List, [], ◌∷◌, ◌++◌, map, length, replicate, refl, sym, ap, subst, ◌∙◌, inl, inr, arith, Option, Some, None, option_map}
+use Rattle.std.proofs.Common.{◌≡◌, ℕ, suc, Bool, true, false, cond, List, [], ◌∷◌, ◌++◌, map, length, replicate, refl, sym, ap, subst, ◌∙◌, inl, inr, Option, Some, None, option_map}
 use Rattle.std.specs.Prelude.{◌==◌, ◌&&◌, not, max, All, option_and_then, unwrap_or, is_none, IsSome}
 use Rattle.std.specs.List.{find, filter}
-use Rattle.std.proofs.lemmas.Bool.{eqb-true, and_parts}
+use Rattle.std.proofs.lemmas.Bool.{eqb-true}
 use Rattle.std.proofs.lemmas.List.Elements.{All-push}
 use Rattle.q2_format.specs.Contents.{file_disk, raw_disk, image_disk}
 use Rattle.q2_format.specs.Created.{Creation, created_length, creation_of}
@@ -22,12 +22,12 @@ use Rattle.qmp_rules.specs.Changes.{changed, node_changed, unsettled, writable, 
 use Rattle.blk_history.specs.Fold.{With}
 use Rattle.flat_machine.specs.State.{State, Content, Bytes, Blank, Unknown, Left, Mapped, bytes_in, bytes_at_node, content_in, filename_of}
 use Rattle.flat_machine.specs.Contents.{file_bytes, image_bytes, formatted, length_in, mapped_in, with_content}
-use Rattle.flat_machine.specs.Changed.{put, make, name_file, name_if, stepped, all_stepped, filename_or, content_under, bytes_below, format_bytes, format_name, know_if, note_image, add_format, with_bytes_of, leave, left_in, left_by, file_of, overlay_file}
+use Rattle.flat_machine.specs.Changed.{put, make, name_file, name_if, stepped, all_stepped, filename_or, content_under, bytes_below, format_bytes, format_name, know_if, note_image, with_bytes_of, leave, left_in, left_by, file_of, overlay_file}
 use Rattle.flat_machine.specs.Final.{read_as}
-use Rattle.flat_machine.specs.Agreement.{Contents, HasDisk, ReadAsDisks, IsBlank, IsAsKnown, AreAsKnown, AreAbsent, IsLeftAs, AreUnchanged, Agrees}
-use Rattle.flat_machine.specs.Performing.{ReadSame, HeldSame, Nothing, IsQuiet, Puts, Removes, Makes, IsFresh, IsWholly, IsReadable, CanRead, IsBacking, CanAddFile, CanAddFormat, CanAddFilter, Can, Performed, AllCan, AllPerformed, held_bytes, below_as, format_as, IsFormatted}
+use Rattle.flat_machine.specs.Agreement.{Contents, HasDisk, ReadAsDisks, IsBlank, IsAsKnown, AreAsKnown, AreAbsent, IsLeftAs, Agrees}
+use Rattle.flat_machine.specs.Performing.{ReadSame, HeldSame, Nothing, IsQuiet, Puts, Removes, Makes, IsWholly, IsReadable, CanRead, IsBacking, CanAddFile, CanAddFormat, CanAddFilter, Can, Performed, AllCan, AllPerformed, held_bytes, below_as, format_as, IsFormatted}
 use Rattle.flat_machine.proofs.Finds.{find-map, bytes_eq-same}
-use Rattle.flat_machine.proofs.Agreeing.{HadDisk, RowsBut, rows_same, rows_pushed, rows_filter, rows_mapped, rows_dropped, less_unsettled, same_unsettled, less_writable, same_writable, disks_kept, disks_but, disks_put, disks_dropped, known_kept, known_put, absent_kept, absent_put, unchanged_kept, unchanged_named, left_kept, left_forgot}
+use Rattle.flat_machine.proofs.Agreeing.{RowsBut, rows_same, rows_pushed, rows_filter, rows_mapped, rows_dropped, less_unsettled, same_unsettled, less_writable, same_writable, disks_kept, disks_but, disks_put, disks_dropped, known_kept, known_put, absent_kept, absent_put, unchanged_kept, unchanged_named, left_kept, left_forgot}
 
 own_node : (t : Table) (id : ℕ) (more : ℕ) → filtered t id ≡ None → disk_from (suc more) t id ≡ id
 own_node t id more none = rw (none, disk_from) refl

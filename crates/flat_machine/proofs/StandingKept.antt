@@ -1,12 +1,11 @@
 -- Changes leave what holds of all tables.
 use Rattle.std.proofs.Common.{◌≡◌, ◌≢◌, ◌⊎◌, ℕ, Bool, true, false, cond, List, [], ◌∷◌, ◌++◌, map, replicate, refl, sym, ap, subst, ◌∙◌, inl, inr, Option, Some, None, option_map}
-use Rattle.std.specs.Prelude.{◌==◌, ◌&&◌, ◌||◌, not, bytes_eq, IsSome, is_some, option_and_then}
-use Rattle.std.specs.List.{find, filter, Contains}
-use Rattle.std.proofs.lemmas.Bool.{eqb-true, eqb-false, eq-eqb, ne_eqb, cases_eq, and_right, and_left}
+use Rattle.std.specs.Prelude.{◌==◌, ◌&&◌, ◌||◌, not, bytes_eq, IsSome, option_and_then}
+use Rattle.std.specs.List.{find, Contains}
+use Rattle.std.proofs.lemmas.Bool.{eqb-true, eqb-false, eq-eqb, ne_eqb, cases_eq}
 use Rattle.blk_graph.specs.declared.edge.Edge.{Edge}
-use Rattle.blk_graph.specs.declared.edge.Parent.{Parent}
 use Rattle.blk_graph.specs.declared.edge.Parent.TheVariants.{Node, Guest}
-use Rattle.blk_graph.specs.declared.edge.Role.TheVariants.{File, Backing, Drive}
+use Rattle.blk_graph.specs.declared.edge.Role.TheVariants.{File, Backing}
 use Rattle.blk_graph.specs.declared.kind.Kind.TheVariants.{Protocol}
 use Rattle.blk_graph.specs.declared.kind.NodeKind.{NodeKind}
 use Rattle.blk_graph.specs.Edges.{same_parent}
@@ -26,16 +25,16 @@ use Rattle.qmp_rules.specs.declared.change.Change.{Change}
 use Rattle.qmp_rules.specs.declared.change.Change.TheVariants as change
 use Rattle.qmp_rules.specs.Table.{Table, node_at, file_state, with_file, kinds_of}
 use Rattle.qmp_rules.specs.Changes.{changed, node_changed, unsettled, with_unsettled, lost_with, stands_over, without_row, format_edges, backed, device_edge}
-use Rattle.flat_machine.specs.State.{State, Content, Bytes, Blank, Unknown, content_in, filename_of}
+use Rattle.flat_machine.specs.State.{State, Content, Bytes, Unknown, content_in, filename_of}
 use Rattle.flat_machine.specs.Contents.{with_content, formatted, mapped_in}
 use Rattle.flat_machine.specs.Changed.{stepped, all_stepped, format_name, know_if, content_under, format_bytes, left_by}
-use Rattle.flat_machine.specs.Standing.{AreApart, HasEnds, EdgesHaveEnds, StandsFor, AreFileNodes, StandAlone, HaveFiles, HaveNames, IsUnder, IsLostBy, LostHaveCause, IsOfState, IsOpen, FilesAreOfState, FormattedAreOpen, Stands}
+use Rattle.flat_machine.specs.Standing.{AreApart, HasEnds, EdgesHaveEnds, StandsFor, IsUnder, IsLostBy, IsOfState, IsOpen, FilesAreOfState, Stands}
 use Rattle.flat_machine.specs.Suiting.{IsThere, IsClosed, SuitsFile, SuitsOver, SuitsFormat, SuitsRemoval, SuitsFormatting, Suits, AllSuit}
-use Rattle.flat_machine.proofs.Finds.{find-map, find-filter, content_in-with, content_in-with_other, cases_name, bytes_eq-same, bytes_eq-other}
+use Rattle.flat_machine.proofs.Finds.{find-map, find-filter, content_in-with, content_in-with_other, cases_name, bytes_eq-other}
 use Rattle.flat_machine.proofs.Accepted.{added_files}
 use Rattle.flat_machine.proofs.Kept.{with_format, left_alone}
 use Rattle.flat_machine.proofs.Fresh.{found-longer, found-new}
-use Rattle.flat_machine.proofs.Tables.{pushed-cases, pushed-old, pushed-new, filter-keeps, HasLike, refreshed-old, refreshed-new, with_edge-keeps, apart-parents, file_state-with, file_state-other}
+use Rattle.flat_machine.proofs.Tables.{pushed-cases, pushed-old, filter-keeps, refreshed-old, refreshed-new, with_edge-keeps, apart-parents, file_state-with, file_state-other}
 
 -- ---- edges that were derived anew
 

@@ -1,18 +1,16 @@
 -- A piece of a guest's request keeps what nodes read as and what files hold as the flat machine says.
 use Rattle.std.proofs.Common.{◌≡◌, ◌≢◌, ◌⊎◌, ℕ, Bool, true, false, cond, List, [], ◌∷◌, map, refl, sym, ap, subst, ◌∙◌, inl, inr, Option, Some, None, option_map}
-use Rattle.std.specs.Prelude.{◌==◌, All, length, replicate, IsSome, is_some, option_and_then, slice_index_or}
+use Rattle.std.specs.Prelude.{◌==◌, All, length, IsSome, slice_index_or}
 use Rattle.std.specs.List.{find, list_any}
-use Rattle.std.proofs.lemmas.Bool.{eqb-true, eq-eqb, ne_eqb, cases_eq}
+use Rattle.std.proofs.lemmas.Bool.{eqb-true, ne_eqb, cases_eq}
 use Rattle.std.proofs.Math.Seq.{take-nil}
 use Rattle.blk_base.specs.Pieces.{Extent}
-use Rattle.blk_base.specs.Content.{with_bytes}
 use Rattle.blk_base.specs.declared.fault.Outcome.{Outcome}
 use Rattle.blk_graph.proofs.Members.{find-Some}
 use Rattle.trace_codec.specs.declared.op.Op.{Op}
 use Rattle.trace_codec.specs.declared.op.Op.TheVariants.{Read, Write, Zero, Flush, Discard}
-use Rattle.blk_graph.specs.declared.edge.Role.TheVariants.{File}
 use Rattle.qmp_rules.specs.declared.rows.NodeRow.{NodeRow}
-use Rattle.qmp_rules.specs.Table.{Table, node_at, child, has_name}
+use Rattle.qmp_rules.specs.Table.{Table, node_at, has_name}
 use Rattle.qmp_rules.specs.Chains.{disk_node, is_over, unsettled_over, written_under}
 use Rattle.blk_history.specs.Fold.{With}
 use Rattle.blk_history.specs.Disk.{done_in, payload_in}
@@ -22,10 +20,10 @@ use Rattle.flat_machine.specs.Machine.{disk_changed, with_disk, written, with_pa
 use Rattle.flat_machine.specs.Jobs.{unsure}
 use Rattle.flat_machine.specs.Final.{read_as}
 use Rattle.flat_machine.specs.Agreement.{Contents, HasDisk, IsAsKnown, IsLeftAs, Agrees}
-use Rattle.flat_machine.specs.Performing.{Nothing, IsQuiet}
+use Rattle.flat_machine.specs.Performing.{IsQuiet}
 use Rattle.flat_machine.specs.Writing.{IsWritable, ReadsWritten, Writes, PieceDone, CanWrite, written_file}
 use Rattle.flat_machine.proofs.Finds.{find-map, cases_name}
-use Rattle.flat_machine.proofs.Agreeing.{HadDisk, RowsBut, rows_same, rows_mapped}
+use Rattle.flat_machine.proofs.Agreeing.{HadDisk, rows_same, rows_mapped}
 use Rattle.flat_machine.proofs.Kept.{own_disk, quiet_keeps}
 
 -- ---- disks

@@ -1,14 +1,14 @@
 -- Actors that can go no further.
-use Rattle.std.specs.Prelude.{◌≡◌, ◌⊎◌, ℕ, ◌+◌, ◌<◌, ◌≤◌, true, List, [], ◌∷◌, length, slice_get, Contains, Option, Some, None, option_and_then, find, ◌==◌}
+use Rattle.std.specs.Prelude.{◌≡◌, ◌⊎◌, ℕ, ◌+◌, ◌<◌, ◌≤◌, true, List, [], ◌∷◌, length, Contains, Option, Some, None}
 use Rattle.qmp_rules.specs.declared.rows.JobRow.{JobRow}
 use Rattle.qmp_rules.specs.declared.rows.Asked.TheVariants as asked
-use Rattle.qmp_rules.specs.Table.{Table, device_at, job_in}
+use Rattle.qmp_rules.specs.Table.{device_at, job_in}
 use Rattle.trace_codec.specs.declared.awaiting.Await.{Await}
 use Rattle.trace_codec.specs.declared.awaiting.Await.TheVariants as await
 use Rattle.blk_history.specs.Fold.{With}
 use Rattle.flat_machine.specs.State.{State, guest_at}
 use Rattle.flat_machine.specs.Legal.{IsMet, AllDone}
-use Rattle.flat_machine.specs.Courses.{Course, Wish, Ask, Wait, Order, Give, Watch, past_waits, rest_of}
+use Rattle.flat_machine.specs.Courses.{Course, Wish, Ask, Wait, Order, Watch, past_waits, rest_of}
 use Rattle.flat_machine.specs.declared.blocked.Waits.{Waits}
 use Rattle.flat_machine.specs.declared.blocked.Waits.TheVariants.{Attached, Line, Guest, Ready, Ended}
 

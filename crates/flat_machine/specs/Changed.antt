@@ -1,5 +1,5 @@
 -- What each kind of change of the table does to disks, files and bitmaps.
-use Rattle.std.specs.Prelude.{ℕ, ◌==◌, Bool, true, false, ◌&&◌, not, if◌then◌else◌, List, [], ◌∷◌, ◌++◌, filter, replicate, bytes_eq, codes, Option, Some, None, is_none, option_map, option_and_then, unwrap_or}
+use Rattle.std.specs.Prelude.{ℕ, ◌==◌, ◌&&◌, not, if◌then◌else◌, List, [], ◌∷◌, ◌++◌, filter, replicate, bytes_eq, codes, Option, Some, None, is_none, option_map, option_and_then, unwrap_or}
 use Rattle.q2_format.specs.Contents.{raw_disk}
 use Rattle.q2_format.specs.Created.{creation_of}
 use Rattle.blk_graph.specs.declared.kind.Kind.{Kind}
@@ -17,7 +17,7 @@ use Rattle.qmp_rules.specs.declared.change.Change.TheVariants as change
 use Rattle.qmp_rules.specs.Table.{Table, node_at, child}
 use Rattle.qmp_rules.specs.Changes.{changed}
 use Rattle.blk_history.specs.Fold.{run}
-use Rattle.flat_machine.specs.State.{State, Disk, Left, Content, Bytes, Unknown, Known, Mapped, MapsNone, Unsure, Image, bytes_in, bytes_at_node, content_in, filename_of, size_of}
+use Rattle.flat_machine.specs.State.{State, Disk, Left, Content, Bytes, Unknown, Mapped, bytes_in, bytes_at_node, content_in, filename_of, size_of}
 use Rattle.flat_machine.specs.Contents.{with_content, formatted, mapped_in, file_bytes, image_bytes}
 use Rattle.flat_machine.specs.Marking.{clean, emptied, is_dirty_of, dirty_at, where_so, merge_from}
 

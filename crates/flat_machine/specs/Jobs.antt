@@ -1,5 +1,5 @@
 -- What the start and the end of a job do: to disks, and to the table.
-use Rattle.std.specs.Prelude.{ℕ, ◌+◌, ◌/◌, ◌==◌, Bool, true, false, ◌&&◌, ◌||◌, not, if◌then◌else◌, List, [], ◌∷◌, ◌++◌, map, filter, find, bytes_eq, Option, Some, None, is_some, option_map, option_and_then, unwrap_or}
+use Rattle.std.specs.Prelude.{ℕ, ◌+◌, ◌/◌, ◌==◌, Bool, true, false, ◌&&◌, ◌||◌, not, if◌then◌else◌, List, [], ◌∷◌, ◌++◌, map, filter, find, Option, Some, None, option_and_then}
 use Rattle.std.specs.List.{list_any}
 use Rattle.blk_bits.specs.Granules.{contains}
 use Rattle.blk_graph.specs.declared.edge.Edge.{Edge}
@@ -17,14 +17,13 @@ use Rattle.qmp_rules.specs.declared.rows.NodeRow.{NodeRow}
 use Rattle.qmp_rules.specs.declared.rows.BitmapRow.{BitmapRow}
 use Rattle.qmp_rules.specs.declared.rows.JobRow.{JobRow}
 use Rattle.qmp_rules.specs.declared.rows.UsedBitmap.{UsedBitmap}
-use Rattle.qmp_rules.specs.Table.{Table, node_at, job_at, child, kinds_of}
+use Rattle.qmp_rules.specs.Table.{Table, node_at, child, kinds_of}
 use Rattle.qmp_rules.specs.Chains.{has_id}
-use Rattle.flat_machine.specs.State.{State, Left, Mapped, MapsNone, Unsure, Image, Dirty, Begun, Ending, bytes_at_node, size_of}
+use Rattle.flat_machine.specs.State.{State, Mapped, MapsNone, Unsure, Image, Dirty, Begun, Ending, bytes_at_node}
 use Rattle.flat_machine.specs.Marking.{filled, put_aside, taken_back, is_dirty_of, dirty_at, where_so, where_recording}
 use Rattle.flat_machine.specs.Changed.{put, forget_left}
 use Rattle.blk_history.specs.declared.entry.JobEnd.{JobEnd}
 use Rattle.blk_history.specs.declared.entry.JobEnd.TheVariants.{Completed, Pivoted, Copied, Failed, Cancelled}
-use Rattle.blk_history.specs.declared.entry.Cause.{Cause}
 use Rattle.blk_history.specs.declared.entry.Cause.TheVariants.{Command}
 
 -- ---- kinds of jobs and of ends

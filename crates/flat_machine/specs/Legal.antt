@@ -1,25 +1,21 @@
 -- When an entry fits the state before it.
-use Rattle.std.specs.Prelude.{◌≡◌, ◌≢◌, ◌⊎◌, ℕ, zero, suc, ◌+◌, ◌<◌, ◌≤◌, ◌&&◌, ◌||◌, if◌then◌else◌, Bool, IsTrue, true, false, List, [], length, Contains, Option, Some, None, IsSome, option_and_then}
-use Rattle.blk_base.specs.Pieces.{Extent, end_of}
-use Rattle.blk_base.specs.declared.fault.Outcome.{Outcome}
-use Rattle.blk_base.specs.declared.fault.Outcome.TheVariants.{Good, Torn, Io, NoSpace}
+use Rattle.std.specs.Prelude.{◌≡◌, ◌≢◌, ◌⊎◌, ℕ, zero, suc, ◌+◌, ◌<◌, ◌≤◌, ◌&&◌, ◌||◌, if◌then◌else◌, Bool, IsTrue, true, false, List, length, Contains, Option, Some, None, IsSome, option_and_then}
+use Rattle.blk_base.specs.Pieces.{end_of}
 use Rattle.trace_codec.specs.declared.op.Op.{Op}
 use Rattle.trace_codec.specs.declared.awaiting.Await.{Await}
 use Rattle.trace_codec.specs.declared.awaiting.Await.TheVariants as await
-use Rattle.trace_codec.specs.Request.{pieces_of}
 use Rattle.qmp_codec.specs.declared.event.JobKind.TheVariants.{Mirror}
-use Rattle.qmp_rules.specs.declared.rows.Asked.{Asked}
 use Rattle.qmp_rules.specs.declared.rows.Asked.TheVariants as asked
 use Rattle.qmp_rules.specs.declared.rows.JobRow.{JobRow}
-use Rattle.qmp_rules.specs.Table.{Table, device_at, job_at, job_named}
+use Rattle.qmp_rules.specs.Table.{device_at, job_at, job_named}
 use Rattle.blk_history.specs.Fold.{Each, With}
-use Rattle.blk_history.specs.Disk.{span_of, is_write, piece, shown_in}
+use Rattle.blk_history.specs.Disk.{span_of, is_write}
 use Rattle.flat_machine.specs.State.{State, Guest, Ending, guest_at, disk_of, disk_of_guest, size_of}
 use Rattle.blk_history.specs.Machine.{Flight}
 use Rattle.blk_history.specs.Legal.{IsNextPiece, IsOver}
 use Rattle.flat_machine.specs.Jobs.{can_be_ready, is_success, is_cause, has_others, had_cause}
 use Rattle.flat_machine.specs.Replies.{IsAnswer}
-use Rattle.flat_machine.specs.Machine.{after, flight_of}
+use Rattle.flat_machine.specs.Machine.{after}
 use Rattle.blk_history.specs.declared.entry.Refused.{Refused}
 use Rattle.blk_history.specs.declared.entry.Refused.TheVariants.{Range, ReadOnly}
 use Rattle.blk_history.specs.declared.entry.Cause.TheVariants.{Command, Group, RunEnd}

@@ -1,5 +1,5 @@
 -- What a change of the table is in the world: when it can be made, and what it does to nodes and files.
-use Rattle.std.specs.Prelude.{◌≡◌, ℕ, max, Bool, true, false, List, [], ◌∷◌, length, replicate, Option, Some, None, IsSome, option_map, unwrap_or}
+use Rattle.std.specs.Prelude.{◌≡◌, ℕ, max, List, [], ◌∷◌, length, replicate, Option, Some, None, IsSome, option_map, unwrap_or}
 use Rattle.q2_format.specs.Contents.{file_disk, raw_disk, image_disk}
 use Rattle.q2_format.specs.Created.{Creation, IsCreated, created_length, creation_of}
 use Rattle.blk_graph.specs.declared.edge.Role.TheVariants.{Backing}
@@ -8,7 +8,7 @@ use Rattle.blk_graph.specs.declared.kind.Kind.TheVariants.{Protocol, Raw, Qcow2}
 use Rattle.qmp_rules.specs.declared.rows.NodeRow.{NodeRow}
 use Rattle.qmp_rules.specs.declared.change.Change.{Change}
 use Rattle.qmp_rules.specs.declared.change.Change.TheVariants as change
-use Rattle.qmp_rules.specs.Table.{Table, node_at, child}
+use Rattle.qmp_rules.specs.Table.{node_at, child}
 use Rattle.qmp_rules.specs.Chains.{filter_role}
 use Rattle.blk_history.specs.Fold.{With}
 use Rattle.flat_machine.specs.State.{State, Content, Bytes, Blank, content_in, filename_of}

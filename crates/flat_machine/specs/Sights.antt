@@ -5,7 +5,7 @@ use Rattle.q2_format.specs.Sizes.{clusters_for}
 use Rattle.q2_format.specs.Header.{header_of}
 use Rattle.q2_format.specs.Sound.{Refusal as Unsound, InHeader, image_refusal}
 use Rattle.q2_format.specs.Sound as sound
-use Rattle.q2_format.specs.Created.{Creation, created_length}
+use Rattle.q2_format.specs.Created.{created_length}
 use Rattle.q2_format.specs.declared.header.HeaderStop.TheVariants.{TooLarge}
 use Rattle.q2_image.specs.declared.stop.ImageStop.{ImageStop}
 use Rattle.q2_image.specs.declared.stop.ImageStop.TheVariants as stop
