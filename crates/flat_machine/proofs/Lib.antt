@@ -9,3 +9,4 @@ pub mod StandingKept
 pub mod Suited
 pub mod Openings
 pub mod Written
+pub mod Answered

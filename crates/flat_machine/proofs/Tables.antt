@@ -10,7 +10,8 @@ use Rattle.blk_graph.specs.Edits.{takes_place, with_edge}
 use Rattle.blk_graph.specs.Refreshed.{turned, turned_by, refreshed, uses_into, ruled}
 use Rattle.blk_graph.proofs.Members.{Contains-here, Contains-there, Contains-nil, Contains-cases, Contains-map, map-Contains}
 use Rattle.blk_graph.proofs.CycleLemmas.{same_parent-true}
-use Rattle.blk_graph.proofs.RefreshLemmas.{IsSameEdge, ruled-same}
+use Rattle.blk_graph.proofs.EditLemmas.{IsSameEdge}
+use Rattle.blk_graph.proofs.RefreshLemmas.{ruled-same}
 use Rattle.qmp_rules.specs.declared.rows.FileRow.{FileRow}
 use Rattle.qmp_rules.specs.declared.rows.FileState.{FileState}
 use Rattle.qmp_rules.specs.Table.{in_state, has_file, with_file}

@@ -1,6 +1,12 @@
 //! What follows from the definitions, each law the contract of a function that does nothing.
 
-ghost use Rattle.std.specs.Prelude.{◌≡◌, ℕ, List, Option, None};
+ghost use Rattle.std.specs.Prelude.{◌≡◌, ℕ, List, [], Option, Some, None, Ok, false};
+ghost use Rattle.serde_json.specs.Data.{Data};
+ghost use Rattle.serde_json.specs.Read.{read};
+ghost use Rattle.qmp_codec.specs.Lines.{command_at};
+ghost use Rattle.qmp_codec.specs.Replies.{returned_data, refused_data};
+ghost use Rattle.qmp_codec.specs.declared.reply.Class.{Class};
+ghost use Rattle.flat_machine.specs.Replies.{replied, edits_by, is_failed_call};
 ghost use Rattle.blk_base.specs.Pieces.{Extent};
 ghost use Rattle.blk_base.specs.declared.fault.Outcome.{Outcome};
 ghost use Rattle.trace_codec.specs.declared.op.Op.{Op};
@@ -47,4 +53,15 @@ pub fn pieces_keep_disks()
     ensures { (opening : List ℕ → Option (List ℕ)) (s : State) (drive : ℕ) (op : Op) (outcome : Outcome) (part : Extent)
         (old new : Contents) → CanWrite s drive op → PieceDone s drive op outcome part old new
         → Agrees opening s old → Agrees opening (with_part drive op outcome part s) new }
+{}
+
+/// A reply that reads as a result stands for the changes of its command, and where they were performed, nodes and files are
+/// what the flat machine says; one that reads as a refusal of which no call failed changes nothing.
+pub fn replies_keep_disks()
+    ensures accepted { (opening : List ℕ → Option (List ℕ)) (s : State) (told : Told) (c : Cmd) (given text : List ℕ)
+        (id : Option Data) (d : Data) (old new : Contents) → command_at given ≡ Ok c → Stands s → IsTold s c told
+        → refusal_of s.table told c ≡ None → read text ≡ Some (returned_data id d)
+        → AllPerformed s (command_edits s.table told c) old new → Agrees opening s old → Agrees opening (replied s given text) new }
+    ensures refused { (s : State) (c : Cmd) (text : List ℕ) (id : Option Data) (class : Class) (desc : List ℕ)
+        → read text ≡ Some (refused_data id class desc) → is_failed_call desc ≡ false → edits_by s text (Ok c) ≡ [] }
 {}
