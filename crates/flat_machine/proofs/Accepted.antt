@@ -296,9 +296,9 @@ less_lost is_raw (Some Made) h = refl
 less_lost is_raw (Some Formatted) h = refl
 less_lost is_raw (Some Used) h = absurd cc
 
-pub looked_at : (t : Table) (told : Told) (what : Look) → holds t told (ask.Files what) ≡ None → told_at what told.stopped ≡ None
+pub look-quiet : (t : Table) (told : Told) (what : Look) → holds t told (ask.Files what) ≡ None → told_at what told.stopped ≡ None
 unfolding holds
-looked_at t told what h = h
+look-quiet t told what h = h
 
 -- of a file under a `file` node without parents that was not used enough is known to read the image in it
 readable_under : (s : State) (name : List ℕ) (row : NodeRow) → Stands s → node_named s.table name ≡ Some row → row.kind ≡ Protocol
@@ -364,7 +364,7 @@ module _ (s : State) (told : Told) (c : BlockdevAdd (List ℕ)) (name : List ℕ
       let known = known-file s.table told filename false asks.1.1.1.1.0 in
       let there = opened_there s c told filename may
       (file_told_absent s c filename driver (opened s.table filename closed known))
-      (λ e. rw driver refl) (looked_at s.table told look.File asks.1.1.1.0) in
+      (λ e. rw driver refl) (look-quiet s.table told look.File asks.1.1.1.0) in
       record {
         fresh = free_fresh s.table room;
         driver = refl;
@@ -382,7 +382,7 @@ module _ (s : State) (told : Told) (c : BlockdevAdd (List ℕ)) (name : List ℕ
       let closed = none-stands s.table told file.filename not_closed in
       let known = less_lost is_raw (file_state s.table file.filename) (known-file s.table told file.filename is_raw not_lost) in
       let there = opened_there s c told file.filename may (λ e. tells e (opened s.table file.filename closed known)) large
-      (looked_at s.table told look.File not_stopped) in
+      (look-quiet s.table told look.File not_stopped) in
       record {
         fresh = free_fresh s.table (omega arith);
         driver = refl;

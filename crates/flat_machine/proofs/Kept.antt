@@ -22,10 +22,10 @@ use Rattle.qmp_rules.specs.Changes.{changed, node_changed, unsettled, writable, 
 use Rattle.blk_history.specs.Fold.{With}
 use Rattle.flat_machine.specs.State.{State, Content, Bytes, Blank, Unknown, Left, Mapped, bytes_in, bytes_at_node, content_in, filename_of}
 use Rattle.flat_machine.specs.Contents.{file_bytes, image_bytes, formatted, length_in, mapped_in, with_content}
-use Rattle.flat_machine.specs.Changed.{put, make, name_file, name_if, stepped, all_stepped, filename_or, content_under, bytes_below, format_bytes, format_name, know_if, note_image, with_bytes_of, leave, left_in, left_by, file_of, overlay_file}
+use Rattle.flat_machine.specs.Changed.{put, make, name_file, name_if, stepped, all_stepped, filename_or, content_under, bytes_below, format_bytes, format_name, know_if, note_image, with_bytes_of, leave, left_in, left_disk, file_of, overlay_file}
 use Rattle.flat_machine.specs.Final.{read_as}
 use Rattle.flat_machine.specs.Agreement.{Contents, HasDisk, ReadAsDisks, IsBlank, IsAsKnown, AreAsKnown, AreAbsent, IsLeftAs, Agrees}
-use Rattle.flat_machine.specs.Performing.{ReadSame, HeldSame, Nothing, IsQuiet, Puts, Removes, Makes, IsWholly, IsReadable, CanRead, IsBacking, CanAddFile, CanAddFormat, CanAddFilter, Can, Performed, AllCan, AllPerformed, held_bytes, below_as, format_as, IsFormatted}
+use Rattle.flat_machine.specs.Performing.{ReadSame, HeldSame, Nothing, IsQuiet, Puts, Removes, Makes, IsWholly, IsReadable, CanRead, IsBacking, CanAddFile, CanAddFormat, CanAddFilter, Can, Performed, AllCan, AllPerformed, held_bytes, backing_reads, format_as, IsFormatted}
 use Rattle.flat_machine.proofs.Finds.{find-map, bytes_eq-same}
 use Rattle.flat_machine.proofs.Agreeing.{RowsBut, rows_same, rows_pushed, rows_filter, rows_mapped, rows_dropped, less_unsettled, same_unsettled, less_writable, same_writable, disks_kept, disks_but, disks_put, disks_dropped, known_kept, known_put, absent_kept, absent_put, unchanged_kept, unchanged_named, left_kept, left_forgot}
 
@@ -150,7 +150,7 @@ module _ (opening : List ℕ → Option (List ℕ)) where
       rw (own_disk s.table id row is has.own) (reads id row is has)
 
   below_bytes : (s : State) (old : Contents) (backing : Option ℕ) → ReadAsDisks s old → IsBacking s backing
-      → below_as old backing ≡ bytes_below s backing
+      → backing_reads old backing ≡ bytes_below s backing
   below_bytes s old None reads has = refl
   below_bytes s old (Some id) reads has = backing_bytes s old id reads (node_at s.table id) refl has
 
@@ -270,7 +270,7 @@ module _ (opening : List ℕ → Option (List ℕ)) where
 
   -- the disk that it leaves is what its driver reads from its file
   left_reads : (s : State) (node : ℕ) (row : NodeRow) (old new : Contents) → node_at s.table node ≡ Some row → Removes s node old new
-      → Agrees opening s old → (left : Left) → left_by s row ≡ Some left → IsLeftAs new left
+      → Agrees opening s old → (left : Left) → left_disk s row ≡ Some left → IsLeftAs new left
   left_reads s node row old new found did h left is = by_settled row.is_settled refl (child s.table row.id Backing) refl is
     where
       row_id : row.id ≡ node
@@ -322,11 +322,11 @@ module _ (opening : List ℕ → Option (List ℕ)) where
 
   left_keeps : (s now : State) (node : ℕ) (old new : Contents) → Removes s node old new → Agrees opening s old
       → (found : Option NodeRow) → node_at s.table node ≡ found
-      → now.left ≡ (leave (option_and_then (left_by s) found) s).left → All (IsLeftAs new) now.left
+      → now.left ≡ (leave (option_and_then (left_disk s) found) s).left → All (IsLeftAs new) now.left
   left_keeps s now node old new did h None is left = left_kept s now old new left did.files h.left
-  left_keeps s now node old new did h (Some row) is left = by_left (left_by s row) refl left
+  left_keeps s now node old new did h (Some row) is left = by_left (left_disk s row) refl left
     where
-      by_left : (gone : Option Left) → left_by s row ≡ gone → now.left ≡ (leave gone s).left → All (IsLeftAs new) now.left
+      by_left : (gone : Option Left) → left_disk s row ≡ gone → now.left ≡ (leave gone s).left → All (IsLeftAs new) now.left
       by_left None none same = left_kept s now old new same did.files h.left
       by_left (Some gone) is_left same = subst (λ left. All (IsLeftAs new) left) (sym same)
           (All-push (IsLeftAs new) s.left gone (left_kept s s old new refl did.files h.left)
@@ -337,7 +337,7 @@ module _ (opening : List ℕ → Option (List ℕ)) where
   unfolding changed
   remove_keeps s node old new did h =
       let now : State = stepped s (change.RemoveNode node) in
-      let gone = option_and_then (left_by s) (node_at s.table node) in
+      let gone = option_and_then (left_disk s) (node_at s.table node) in
       let same = left_alone gone s in
       record {
         disks = disks_dropped s now old new node (rows_dropped s now node refl) (ap (filter (λ d. not (d.node == node))) same.disks)

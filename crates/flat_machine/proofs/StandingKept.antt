@@ -27,7 +27,7 @@ use Rattle.qmp_rules.specs.Table.{Table, node_at, file_state, with_file, kinds_o
 use Rattle.qmp_rules.specs.Changes.{changed, node_changed, unsettled, with_unsettled, lost_with, stands_over, without_row, format_edges, backed, device_edge}
 use Rattle.flat_machine.specs.State.{State, Content, Bytes, Unknown, content_in, filename_of}
 use Rattle.flat_machine.specs.Contents.{with_content, formatted, mapped_in}
-use Rattle.flat_machine.specs.Changed.{stepped, all_stepped, format_name, know_if, content_under, format_bytes, left_by}
+use Rattle.flat_machine.specs.Changed.{stepped, all_stepped, format_name, know_if, content_under, format_bytes, left_disk}
 use Rattle.flat_machine.specs.Standing.{AreApart, HasEnds, EdgesHaveEnds, StandsFor, IsUnder, IsLostBy, IsOfState, IsOpen, FilesAreOfState, Stands}
 use Rattle.flat_machine.specs.Suiting.{IsThere, IsClosed, SuitsFile, SuitsOver, SuitsFormat, SuitsRemoval, SuitsFormatting, Suits, AllSuit}
 use Rattle.flat_machine.proofs.Finds.{find-map, find-filter, content_in-with, content_in-with_other, cases_name, bytes_eq-other}
@@ -810,7 +810,7 @@ remove_stands s node suits h = record {
     before = without_parent (Node node) s.table.edges
 
     contents : now.files ≡ s.files
-    contents = (left_alone (λ name. None) (option_and_then (left_by s) (node_at s.table node)) s).files
+    contents = (left_alone (λ name. None) (option_and_then (left_disk s) (node_at s.table node)) s).files
 
     not_true : (b : Bool) → not b ≡ true → b ≡ false
     not_true true e = absurd cc

@@ -108,8 +108,8 @@ abbrev pub leave : Option Left → State → State
 leave None s = s
 leave (Some left) s = record s { left = s.left ++ left ∷ [] }
 
-abbrev pub left_by : State → NodeRow → Option Left
-left_by s row =
+abbrev pub left_disk : State → NodeRow → Option Left
+left_disk s row =
     if row.is_settled && is_none (child s.table row.id Backing)
     then option_map (left_in s.disks row) (file_of s.table row row.kind)
     else None
@@ -122,7 +122,7 @@ drop_node node s = record s {
 }
 
 abbrev pub remove_node : ℕ → State → State
-remove_node node s = drop_node node (leave (option_and_then (left_by s) (node_at s.table node)) s)
+remove_node node s = drop_node node (leave (option_and_then (left_disk s) (node_at s.table node)) s)
 
 -- ---- bitmaps
 
@@ -133,11 +133,11 @@ add_bitmap row s = record s { dirty = s.dirty ++ clean row (size_of s.table row.
 
 -- the file of the overlay in whose header a commit to an inner base writes a name
 abbrev pub overlay_file : Table → JobRow → JobKind → Option (List ℕ)
-overlay_file t row Commit = written_under row.read
+overlay_file t row Commit = over_file row.read
   where
-    written_under : List ℕ → Option (List ℕ)
-    written_under [] = None
-    written_under (overlay ∷ rest) = option_and_then (filename_of t) (child t overlay File)
+    over_file : List ℕ → Option (List ℕ)
+    over_file [] = None
+    over_file (overlay ∷ rest) = option_and_then (filename_of t) (child t overlay File)
 overlay_file t row kind = None
 
 -- ---- each kind of change

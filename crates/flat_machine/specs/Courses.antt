@@ -60,8 +60,8 @@ IsNextOf c g op = With (rest_of c g) (λ wishes. Begins op (past_waits c.answere
 
 -- ---- the script
 
-abbrev pub answer : ℕ → Course → Course
-answer line c = record c { script = drop_first c.script; answered = c.answered ++ line ∷ [] }
+abbrev pub answered_line : ℕ → Course → Course
+answered_line line c = record c { script = drop_first c.script; answered = c.answered ++ line ∷ [] }
   where
     drop_first : List Order → List Order
     drop_first [] = []
@@ -80,8 +80,8 @@ IsWatched line what orders = ⊥
 abbrev pub onward : Course → Event → Course
 onward c (Admit g r op) = asked g c
 onward c (Refuse g r op why) = asked g c
-onward c (Reply line given command text) = answer line c
-onward c (Reached line what) = answer line c
+onward c (Reply line given command text) = answered_line line c
+onward c (Reached line what) = answered_line line c
 onward c (Done actor) = record c { ended = c.ended ++ actor ∷ [] }
 onward c e = c
 

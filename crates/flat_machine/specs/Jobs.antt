@@ -29,13 +29,13 @@ use Rattle.blk_history.specs.declared.entry.Cause.TheVariants.{Command}
 -- ---- kinds of jobs and of ends
 
 -- a commit is active where it has no overlay above its top; an overlay is held for reading
-abbrev pub is_active : JobRow → Bool
-is_active row = not (list_any (λ id. true) row.read)
+abbrev pub has_no_overlay : JobRow → Bool
+has_no_overlay row = not (list_any (λ id. true) row.read)
 
 -- it can be ready, and then goes on until it is asked to end
 abbrev pub can_be_ready : JobRow → JobKind → Bool
 can_be_ready row Mirror = true
-can_be_ready row Commit = is_active row
+can_be_ready row Commit = has_no_overlay row
 can_be_ready row kind = false
 
 -- it writes its target or base
@@ -177,9 +177,9 @@ dirty_at_end ds row outcome (Some used) = where_so (is_dirty_of row.source used.
 -- ---- ends: the table
 
 -- the parents of the source move to the target of a mirror, or to the base of a commit
-abbrev pub moved : Option ℕ → ℕ → List Edge → List Edge
-moved None source edges = edges
-moved (Some target) source edges = with_replaced source target None edges
+abbrev pub parents_moved : Option ℕ → ℕ → List Edge → List Edge
+parents_moved None source edges = edges
+parents_moved (Some target) source edges = with_replaced source target None edges
 
 -- the top of a stream has this backing node, or none
 abbrev pub rebased : Option ℕ → ℕ → List Edge → List Edge
@@ -194,9 +194,9 @@ overlay_rebased base (overlay ∷ rest) edges = rebased base overlay edges
 abbrev pub moved_by : JobRow → JobKind → List Edge → List Edge
 moved_by row Stream edges = rebased row.target row.source edges
 moved_by row Backup edges = edges
-moved_by row Mirror edges = moved row.target row.source edges
+moved_by row Mirror edges = parents_moved row.target row.source edges
 moved_by row Commit edges =
-    if is_active row then moved row.target row.source edges else overlay_rebased row.target row.read edges
+    if has_no_overlay row then parents_moved row.target row.source edges else overlay_rebased row.target row.read edges
 
 -- the job's edges and its filter are gone
 abbrev pub unfiltered : Option ℕ → List Edge → List Edge

@@ -109,14 +109,14 @@ pub record IsFormatted (new_image : Creation) (old bytes : List ℕ) : Type 0 wh
   pub created : IsCreated new_image bytes
   pub length_is : length bytes ≡ max (length old) (created_length new_image)
 
-abbrev pub below_as : Contents → Option ℕ → List ℕ
-below_as c None = []
-below_as c (Some node) = c.reads node
+abbrev pub backing_reads : Contents → Option ℕ → List ℕ
+backing_reads c None = []
+backing_reads c (Some node) = c.reads node
 
 -- what a format node reads as when it is added
 abbrev pub format_as : State → Contents → NodeRow → ℕ → Option ℕ → Kind → List ℕ
 format_as s c row file backing Raw = raw_disk row.offset row.size (c.reads file)
-format_as s c row file backing Qcow2 = image_disk (held_bytes c (unwrap_or (filename_of s.table file) [])) (below_as c backing)
+format_as s c row file backing Qcow2 = image_disk (held_bytes c (unwrap_or (filename_of s.table file) [])) (backing_reads c backing)
 format_as s c row file backing driver = []
 
 abbrev pub Performed : State → Change → Contents → Contents → Type 0
