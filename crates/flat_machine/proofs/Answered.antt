@@ -15,13 +15,17 @@ use Rattle.qmp_codec.specs.declared.nodes.AddRaw.{AddRaw}
 use Rattle.qmp_codec.specs.declared.nodes.Added.{Added}
 use Rattle.qmp_codec.specs.declared.nodes.Added.TheVariants as added
 use Rattle.qmp_rules.specs.declared.told.Told.{Told}
+use Rattle.blk_base.specs.declared.fault.DevNo.{DevNo}
+use Rattle.blk_base.specs.declared.fault.FaultFrom.TheVariants as from
+use Rattle.qmp_rules.specs.declared.refusal.Refusal.TheVariants as refusal
+use Rattle.qmp_rules.specs.Refusals.{refusal_text}
 use Rattle.qmp_rules.specs.Table.{Table}
 use Rattle.qmp_rules.specs.Edits.{edits_of, added_edits, raw_edits, qcow2_edits}
 use Rattle.qmp_rules.specs.Answers.{refusal_of, command_edits}
 use Rattle.qmp_rules.specs.NodeAsks.{is_read_only, backing_name}
 use Rattle.flat_machine.specs.State.{State}
 use Rattle.flat_machine.specs.Sights.{IsTold, expected}
-use Rattle.flat_machine.specs.Replies.{is_accepted, is_failed_call, desc_of, edits_by, replied}
+use Rattle.flat_machine.specs.Replies.{is_accepted, is_failed_call, desc_of, edits_by, replied, failed_edits}
 use Rattle.flat_machine.specs.Changed.{all_stepped}
 use Rattle.flat_machine.specs.Agreement.{Contents, Agrees}
 use Rattle.flat_machine.specs.Performing.{AllPerformed}
@@ -95,3 +99,20 @@ pub refused_edits : (s : State) (c : Cmd) (text : List ℕ) (id : Option Data) (
 refused_edits s c text id class desc h no_call =
     let says = reads_refused text id class desc h in
     rw (says.0, says.1, no_call) refl
+
+-- one of which a call failed leaves what the command began
+pub failed_call_edits : (s : State) (c : Cmd) (text : List ℕ) (id : Option Data) (class : Class) (desc : List ℕ)
+    → read text ≡ Some (refused_data id class desc) → is_failed_call desc ≡ true → edits_by s text (Ok c) ≡ failed_edits s.table c
+failed_call_edits s c text id class desc h call =
+    let says = reads_refused text id class desc h in
+    rw (says.0, says.1, call) refl
+
+-- the words of failed calls say that they are some
+pub store_call : (count : ℕ) → is_failed_call (refusal_text (refusal.Io from.Store count)) ≡ true
+store_call count = refl
+
+pub device_call : (dev : DevNo) (count : ℕ) → is_failed_call (refusal_text (refusal.Io (from.Dev dev) count)) ≡ true
+device_call dev count = refl
+
+pub full_call : (dev : DevNo) → is_failed_call (refusal_text (refusal.NoSpace dev)) ≡ true
+full_call dev = refl

@@ -1,12 +1,12 @@
 //! What follows from the definitions, each law the contract of a function that does nothing.
 
-ghost use Rattle.std.specs.Prelude.{◌≡◌, ℕ, List, [], Option, Some, None, Ok, false};
+ghost use Rattle.std.specs.Prelude.{◌≡◌, ℕ, List, [], Option, Some, None, Ok, true, false};
 ghost use Rattle.serde_json.specs.Data.{Data};
 ghost use Rattle.serde_json.specs.Read.{read};
 ghost use Rattle.qmp_codec.specs.Lines.{command_at};
 ghost use Rattle.qmp_codec.specs.Replies.{returned_data, refused_data};
 ghost use Rattle.qmp_codec.specs.declared.reply.Class.{Class};
-ghost use Rattle.flat_machine.specs.Replies.{replied, edits_by, is_failed_call};
+ghost use Rattle.flat_machine.specs.Replies.{replied, edits_by, failed_edits, is_failed_call};
 ghost use Rattle.blk_base.specs.Pieces.{Extent};
 ghost use Rattle.blk_base.specs.declared.fault.Outcome.{Outcome};
 ghost use Rattle.trace_codec.specs.declared.op.Op.{Op};
@@ -56,7 +56,8 @@ pub fn pieces_keep_disks()
 {}
 
 /// A reply that reads as a result stands for the changes of its command, and where they were performed, nodes and files are
-/// what the flat machine says; one that reads as a refusal of which no call failed changes nothing.
+/// what the flat machine says; one that reads as a refusal of which no call failed changes nothing, and one of which a
+/// call failed leaves what the command began.
 pub fn replies_keep_disks()
     ensures accepted { (opening : List ℕ → Option (List ℕ)) (s : State) (told : Told) (c : Cmd) (given text : List ℕ)
         (id : Option Data) (d : Data) (old new : Contents) → command_at given ≡ Ok c → Stands s → IsTold s c told
@@ -64,4 +65,7 @@ pub fn replies_keep_disks()
         → AllPerformed s (command_edits s.table told c) old new → Agrees opening s old → Agrees opening (replied s given text) new }
     ensures refused { (s : State) (c : Cmd) (text : List ℕ) (id : Option Data) (class : Class) (desc : List ℕ)
         → read text ≡ Some (refused_data id class desc) → is_failed_call desc ≡ false → edits_by s text (Ok c) ≡ [] }
+    ensures failed { (s : State) (c : Cmd) (text : List ℕ) (id : Option Data) (class : Class) (desc : List ℕ)
+        → read text ≡ Some (refused_data id class desc) → is_failed_call desc ≡ true
+        → edits_by s text (Ok c) ≡ failed_edits s.table c }
 {}
