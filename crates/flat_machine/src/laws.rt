@@ -29,10 +29,12 @@ ghost use Rattle.flat_machine.specs.Performing.{Can, Performed, AllCan, AllPerfo
 /// Where nodes and files are what the flat machine says, they are so after a change that can be made and was performed,
 /// whatever its kind, and after changes in turn.
 pub fn changes_keep_disks()
-    ensures change { (opening : List ℕ → Option (List ℕ)) (s : State) (c : Change) (old new : Contents)
-        → Can s c → Performed s c old new → Agrees opening s old → Agrees opening (stepped s c) new }
-    ensures changes { (opening : List ℕ → Option (List ℕ)) (changes : List Change) (s : State) (old new : Contents)
-        → AllCan s changes → AllPerformed s changes old new → Agrees opening s old → Agrees opening (all_stepped s changes) new }
+    ensures change { (opening : List ℕ → Option (List ℕ)) (s : State) (c : Change)
+        (old new : Contents) → Can s c → Performed s c old new
+        → Agrees opening s old → Agrees opening (stepped s c) new }
+    ensures changes { (opening : List ℕ → Option (List ℕ)) (changes : List Change) (s : State)
+        (old new : Contents) → AllCan s changes → AllPerformed s changes old new
+        → Agrees opening s old → Agrees opening (all_stepped s changes) new }
 {}
 
 /// Where nothing that may be told refuses a command, its changes can be made, one after another.
@@ -44,14 +46,16 @@ pub fn accepted_changes_can_be_made()
 /// What holds of the tables of every state holds at the beginning, and changes that suit it leave it.
 pub fn tables_stand()
     ensures beginning { (o : Opening) → Stands (start o) }
-    ensures changes { (changes : List Change) (s : State) → AllSuit s changes → Stands s → Stands (all_stepped s changes) }
+    ensures changes { (changes : List Change) (s : State)
+        → AllSuit s changes → Stands s → Stands (all_stepped s changes) }
 {}
 
 /// Where nodes and files are what the flat machine says, they are so after a piece of a guest's request on a drive: a write
 /// changes the written node alone among those that keep their flat disks.
 pub fn pieces_keep_disks()
-    ensures { (opening : List ℕ → Option (List ℕ)) (s : State) (drive : ℕ) (op : Op) (outcome : Outcome) (part : Extent)
-        (old new : Contents) → CanWrite s drive op → PieceDone s drive op outcome part old new
+    ensures { (opening : List ℕ → Option (List ℕ)) (s : State) (drive : ℕ) (op : Op)
+        (outcome : Outcome) (part : Extent) (old new : Contents) → CanWrite s drive op
+        → PieceDone s drive op outcome part old new
         → Agrees opening s old → Agrees opening (with_part drive op outcome part s) new }
 {}
 
@@ -59,13 +63,17 @@ pub fn pieces_keep_disks()
 /// what the flat machine says; one that reads as a refusal of which no call failed changes nothing, and one of which a
 /// call failed leaves what the command began.
 pub fn replies_keep_disks()
-    ensures accepted { (opening : List ℕ → Option (List ℕ)) (s : State) (told : Told) (c : Cmd) (given text : List ℕ)
-        (id : Option Data) (d : Data) (old new : Contents) → command_at given ≡ Ok c → Stands s → IsTold s c told
+    ensures accepted { (opening : List ℕ → Option (List ℕ)) (s : State) (told : Told) (c : Cmd)
+        (given text : List ℕ) (id : Option Data) (d : Data) (old new : Contents)
+        → command_at given ≡ Ok c → Stands s → IsTold s c told
         → refusal_of s.table told c ≡ None → read text ≡ Some (returned_data id d)
-        → AllPerformed s (command_edits s.table told c) old new → Agrees opening s old → Agrees opening (replied s given text) new }
-    ensures refused { (s : State) (c : Cmd) (text : List ℕ) (id : Option Data) (class : Class) (desc : List ℕ)
-        → read text ≡ Some (refused_data id class desc) → is_failed_call desc ≡ false → edits_by s text (Ok c) ≡ [] }
-    ensures failed { (s : State) (c : Cmd) (text : List ℕ) (id : Option Data) (class : Class) (desc : List ℕ)
-        → read text ≡ Some (refused_data id class desc) → is_failed_call desc ≡ true
+        → AllPerformed s (command_edits s.table told c) old new
+        → Agrees opening s old → Agrees opening (replied s given text) new }
+    ensures refused { (s : State) (c : Cmd) (text : List ℕ) (id : Option Data)
+        (class : Class) (desc : List ℕ) → read text ≡ Some (refused_data id class desc)
+        → is_failed_call desc ≡ false → edits_by s text (Ok c) ≡ [] }
+    ensures failed { (s : State) (c : Cmd) (text : List ℕ) (id : Option Data)
+        (class : Class) (desc : List ℕ) → read text ≡ Some (refused_data id class desc)
+        → is_failed_call desc ≡ true
         → edits_by s text (Ok c) ≡ failed_edits s.table c }
 {}
