@@ -20,7 +20,10 @@ use Rattle.blk_graph.proofs.ChildLemmas.{child-new, child-other, lone-removed}
 use Rattle.blk_graph.proofs.RefreshLemmas.{child_of-refreshed}
 use Rattle.blk_graph.proofs.StillLemmas.{refreshed-fixed}
 use Rattle.blk_graph.proofs.Members.{Contains-here, Contains-there, Contains-cases}
-use Rattle.blk_nodes.specs.Adding.{with_node, with_device, with_below, file_edge}
+use Rattle.blk_graph.specs.Ids.{IsLowestFree}
+use Rattle.blk_graph.specs.Rule.{first_conflict}
+use Rattle.blk_graph.specs.declared.edge.Conflict.{Conflict as Pair}
+use Rattle.blk_nodes.specs.Adding.{with_node, with_device, with_below, file_edge, Breaks}
 use Rattle.blk_nodes.specs.Contents.{below}
 use Rattle.blk_nodes.specs.Nodes.{Nodes, DeviceState, is_of, row_at, device_in, size_by, size_of, file_of, backing_of, node_kind}
 use Rattle.blk_nodes.specs.Joined.{IsFile, HasSize, IsPart, HasBelow, IsSized, IsJoined, DifferInNode}
@@ -100,7 +103,7 @@ device_held (a ∷ devices) device there =
     by_node false is later (inr rest) = later rest
 
 -- a node that isn't in the graph has no row and no device
-not_some : {A : Type 0} (found : Option A) → (IsSome found → ⊥) → found ≡ None
+pub not_some : {A : Type 0} (found : Option A) → (IsSome found → ⊥) → found ≡ None
 not_some None none = refl
 not_some (Some x) none = absurd (none refl)
 
@@ -276,6 +279,13 @@ taken_back graph id name kind sound absent lone stays =
     ∙ ap (λ (ks : List NodeKind). make graph.nodes ks edges') kinds_are
     ∙ ap (make graph.nodes graph.kinds) edges_are
 
+pub graph_back : (old mid new : Graph) (id : ℕ) (name : List ℕ) (kind : NodeKind) → IsSound old → (HasNode old id → ⊥) → mid ≡ with_graph_node old id name kind
+    → IsLone mid.edges id → IsSound mid → new ≡ without_node id mid → new ≡ old
+graph_back old mid new id name kind sound absent more lone sound' gone =
+    let lone' : IsLone old.edges id = rw more at lone in
+    let made : IsSound (with_graph_node old id name kind) = rw more at sound' in
+    gone ∙ ap (without_node id) more ∙ taken_back old id name kind sound absent lone' made.just.refreshed
+
 pub has_after : (graph : Graph) (id : ℕ) (name : List ℕ) (kind : NodeKind) (node : ℕ) → HasNode graph node
     → HasNode (with_graph_node graph id name kind) node
 has_after graph id name kind node has =
@@ -284,6 +294,12 @@ has_after graph id name kind node has =
 pub ids_after : (graph : Graph) (id : ℕ) (name : List ℕ) (kind : NodeKind)
     → ids (with_graph_node graph id name kind) ≡ ids graph ++ id ∷ []
 ids_after graph id name kind = map-append (λ (r : NodeRow). r.id) graph.nodes (record { id = id; name = name } ∷ [])
+
+-- what the edges of a new node break
+pub breaks : (nodes : Nodes) (id : ℕ) (name : List ℕ) (kind : NodeKind) (edges : ℕ → List Edge → List Edge) (found : Option Pair) → IsLowestFree (ids nodes.graph) id
+    → first_conflict (ids (with_graph_node nodes.graph id name kind)) (refreshed (set nodes.graph.kinds id kind) (edges id nodes.graph.edges)) ≡ found
+    → Breaks nodes kind edges found
+breaks nodes id name kind edges found lowest first = record { id = id; lowest = lowest; first = rw (ids_after nodes.graph id name kind) at first }
 
 pub file_is_node : (nodes : Nodes) (file : ℕ) → IsJoined nodes → IsFile nodes file → HasNode nodes.graph file
 file_is_node nodes file joined is = joined.only file (rw is.there refl)

@@ -1,34 +1,40 @@
 -- The devices of the nodes in their list, and one that was used.
-use Rattle.std.proofs.Common.{◌≡◌, ℕ, zero, suc, ◌<◌, ◌≤◌, ◌==◌, nat_lt, Bool, true, false, cond, List, [], ◌∷◌, length, get_or, set, refl, sym, ap, subst, arith, Option, Some, None}
-use Rattle.std.specs.Prelude.{IsSome, is_some, Contains}
+use Rattle.std.proofs.Common.{◌≡◌, ◌≢◌, ℕ, zero, suc, ◌<◌, ◌≤◌, ◌==◌, nat_lt, Bool, true, false, cond, List, [], ◌∷◌, length, map, get_or, set, refl, sym, ◌∙◌, ap, subst, arith, Option, Some, None, Result, Ok, Err}
+use Rattle.std.specs.Prelude.{IsSome, is_some, Contains, IfOk, IfErr}
 use Rattle.std.specs.List.{position, position_or_len}
 use Rattle.std.proofs.lemmas.List.{get_or_default}
 use Rattle.std.proofs.lemmas.List.Quantifiers.{position-Some}
 use Rattle.std.proofs.lemmas.List.Sums.{fails_before_first}
+use Rattle.std.proofs.lemmas.Bool.{eqb-true, ne_eqb}
 use Rattle.std.proofs.lemmas.Bool.Decides.{nat_tests}
 use Rattle.blk_graph.proofs.Members.{find-Some}
 use Rattle.blk_base.specs.declared.fault.Outcome.{Outcome}
 use Rattle.blk_base.specs.declared.fault.Outcome.TheVariants.{Good, Torn, Io, NoSpace}
 use Rattle.blk_nodes.specs.Contents.{told, bytes_by}
 use Rattle.blk_nodes.specs.Nodes.{DeviceState, AreTold, is_of, device_in}
+use Rattle.blk_nodes.specs.Writing.{OnlyAt, IsWriteOf, IsWriteAt}
+use Rattle.blk_nodes.specs.Flushing.{IsFlushOf, IsFlushAt}
+use Rattle.q2_image.specs.Image.{Known}
+use Rattle.q2_image.specs.declared.stop.ImageStop.{ImageStop}
+use Rattle.blk_nodes.specs.Overlays.{IsOpenedOn, IsOpened, IsUnopenedOn, IsUnopened}
 use Rattle.blk_nodes.specs.Reading.{HasRisen, HaveRisen, IsReadOf, IsReadAt}
 
 -- that is the first place at which the test passes
-record IsFirst {A : Type 0} (test : A → Bool) (xs : List A) (at : ℕ) (x : A) : Type 0 where
+pub record IsFirst {A : Type 0} (test : A → Bool) (xs : List A) (at : ℕ) (x : A) : Type 0 where
   pub within : at < length xs
   pub passes : test (get_or xs at x) ≡ true
   pub before : (k : ℕ) → k < at → test (get_or xs k x) ≡ false
 
-first : {A : Type 0} (test : A → Bool) (xs : List A) (at : ℕ) (x : A) → position test xs ≡ Some at → IsFirst test xs at x
+pub first : {A : Type 0} (test : A → Bool) (xs : List A) (at : ℕ) (x : A) → position test xs ≡ Some at → IsFirst test xs at x
 first test xs at x is = let p = position-Some test xs at x is in record { within = p.0; passes = p.1; before = p.2 }
 
-later : {A : Type 0} (test : A → Bool) (y : A) (xs : List A) (at : ℕ) (x : A) → IsFirst test (y ∷ xs) (suc at) x → IsFirst test xs at x
+pub later : {A : Type 0} (test : A → Bool) (y : A) (xs : List A) (at : ℕ) (x : A) → IsFirst test (y ∷ xs) (suc at) x → IsFirst test xs at x
 later test y xs at x is = record { within = omega (arith, is.within); passes = is.passes; before = λ k below. is.before (suc k) (omega arith) }
 
 past : (n at : ℕ) → cond (nat_lt at n) (Some at) None ≡ None → n ≤ at
 past n at is = grind (arith, nat_tests)
 
-nowhere : {A : Type 0} (test : A → Bool) (xs : List A) (x : A) → position test xs ≡ None → (k : ℕ) → k < length xs → test (get_or xs k x) ≡ false
+pub nowhere : {A : Type 0} (test : A → Bool) (xs : List A) (x : A) → position test xs ≡ None → (k : ℕ) → k < length xs → test (get_or xs k x) ≡ false
 nowhere test xs x is k below = fails_before_first test xs k x (omega (arith, past (length xs) (position_or_len test xs) is))
 
 found : (file : ℕ) (devices : List DeviceState) (at : ℕ) (d : DeviceState) → IsFirst (is_of file) devices at d → device_in devices file ≡ Some (get_or devices at d)
@@ -36,7 +42,7 @@ found file [] at d is = absurd (omega (arith, is.within))
 found file (device ∷ devices) zero d is = rw is.passes refl
 found file (device ∷ devices) (suc at) d is = rw (is.before 0 (omega arith)) (found file devices at d (later _ device devices at d is))
 
-missing : (file : ℕ) (devices : List DeviceState) → ((k : ℕ) (d : DeviceState) → k < length devices → is_of file (get_or devices k d) ≡ false) → device_in devices file ≡ None
+pub missing : (file : ℕ) (devices : List DeviceState) → ((k : ℕ) (d : DeviceState) → k < length devices → is_of file (get_or devices k d) ≡ false) → device_in devices file ≡ None
 missing file [] none = refl
 missing file (device ∷ devices) none = rw (none 0 device (omega arith)) (missing file devices (λ k d below. none (suc k) d (omega arith)))
 
@@ -151,3 +157,87 @@ told_held file devices all some = by_found (device_in devices file) refl some
     by_found : (found : Option DeviceState) → device_in devices file ≡ found → IsSome found → (d : DeviceState) × (device_in devices file ≡ Some d) × (d.content ≡ Some (bytes_by (device_in devices file)))
     by_found None is bad = absurd (cc bad)
     by_found (Some d) is here = (d, is, rw is (told_is d.content (all d (find-Some (is_of file) devices d is).0)))
+
+-- a device of the same node in its place
+placed : (file : ℕ) (devices : List DeviceState) (at : ℕ) (d y : DeviceState) → IsFirst (is_of file) devices at d → y.node ≡ (get_or devices at d).node
+    → device_in (set devices at y) file ≡ Some y
+placed file [] at d y is same = absurd (omega (arith, is.within))
+placed file (device ∷ devices) zero d y is same = rw (same, is.passes) refl
+placed file (device ∷ devices) (suc at) d y is same =
+    rw (is.before 0 (omega arith)) (placed file devices at d y (later _ device devices at d is) same)
+
+pub put_held : (file : ℕ) (devices : List DeviceState) (at : ℕ) (d y : DeviceState) → position (is_of file) devices ≡ Some at → y.node ≡ (get_or devices at d).node
+    → device_in (set devices at y) file ≡ Some y
+put_held file devices at d y place same = placed file devices at d y (first (is_of file) devices at d place) same
+
+-- the others are found as before
+others_by : (file : ℕ) (devices : List DeviceState) (at : ℕ) (d y : DeviceState) (other : ℕ) → IsFirst (is_of file) devices at d → y.node ≡ (get_or devices at d).node
+    → other ≢ file → device_in (set devices at y) other ≡ device_in devices other
+others_by file [] at d y other is same apart = absurd (omega (arith, is.within))
+others_by file (device ∷ devices) zero d y other is same apart =
+    let of : device.node ≡ file = eqb-true device.node file is.passes in
+    let old : (device.node == other) ≡ false = ne_eqb device.node other (λ e. apart (sym e ∙ of)) in
+    let now : (y.node == other) ≡ false = ne_eqb y.node other (λ e. apart (sym e ∙ same ∙ of)) in
+    rw (old, now) refl
+others_by file (device ∷ devices) (suc at) d y other is same apart =
+    ap (λ (found : Option DeviceState). cond (device.node == other) (Some device) found)
+    (others_by file devices at d y other (later _ device devices at d is) same apart)
+
+nodes_kept : (devices : List DeviceState) (at : ℕ) (d y : DeviceState) → at < length devices → y.node ≡ (get_or devices at d).node
+    → map (λ (x : DeviceState). x.node) (set devices at y) ≡ map (λ (x : DeviceState). x.node) devices
+nodes_kept [] at d y within same = absurd (omega (arith, within))
+nodes_kept (x ∷ devices) zero d y within same = ap (λ (n : ℕ). n ∷ map (λ (x : DeviceState). x.node) devices) same
+nodes_kept (x ∷ devices) (suc at) d y within same =
+    ap (λ (ns : List ℕ). x.node ∷ ns) (nodes_kept devices at d y (omega arith) same)
+
+pub only_at : (file : ℕ) (devices : List DeviceState) (at : ℕ) (d y : DeviceState) → position (is_of file) devices ≡ Some at → y.node ≡ (get_or devices at d).node
+    → OnlyAt file devices (set devices at y)
+only_at file devices at d y place same =
+    let is = first (is_of file) devices at d place in
+    record {
+      nodes = nodes_kept devices at d y is.within same;
+      others = λ other apart. others_by file devices at d y other is same apart;
+    }
+
+-- a write of one of the devices
+pub written_over : (file : ℕ) (devices : List DeviceState) (at : ℕ) (d y : DeviceState) (start : ℕ) (bytes : List ℕ) (outcome : Outcome) → position (is_of file) devices ≡ Some at
+    → IsWriteOf (get_or devices at d) y start bytes outcome → IsWriteAt file devices (set devices at y) start bytes outcome
+written_over file devices at d y start bytes outcome place wrote = record {
+  before = get_or devices at d;
+  after = y;
+  held = at_place file devices at d place;
+  left = put_held file devices at d y place wrote.node;
+  wrote = wrote;
+  only = only_at file devices at d y place wrote.node;
+}
+
+-- a flush of one of the devices
+pub flushed_over : (file : ℕ) (devices : List DeviceState) (at : ℕ) (d y : DeviceState) (outcome : Outcome) → position (is_of file) devices ≡ Some at
+    → IsFlushOf (get_or devices at d) y outcome → IsFlushAt file devices (set devices at y) outcome
+flushed_over file devices at d y outcome place flush =
+    let same : y.node ≡ (get_or devices at d).node = ap (λ (x : DeviceState). x.node) flush.is in
+    record {
+      before = get_or devices at d;
+      after = y;
+      held = at_place file devices at d place;
+      left = put_held file devices at d y place same;
+      flush = flush;
+      only = only_at file devices at d y place same;
+    }
+
+-- the image on one of the devices was opened, or not
+pub opened_over : {E : Type 0} (file : ℕ) (devices : List DeviceState) (at : ℕ) (d : DeviceState) (result : Result Known E) → position (is_of file) devices ≡ Some at
+    → IfOk result (IsOpenedOn (get_or devices at d)) → IfOk result (IsOpened devices file)
+opened_over file devices at d (Ok image) place is = record { device = get_or devices at d; held = at_place file devices at d place; on = is }
+opened_over file devices at d (Err stop) place is = tt
+
+pub unopened_over : {A : Type 0} (file : ℕ) (devices : List DeviceState) (at : ℕ) (d y : DeviceState) (result : Result A ImageStop) → position (is_of file) devices ≡ Some at
+    → HasRisen (get_or devices at d) y → IfErr result (IsUnopenedOn (get_or devices at d) y) → IfErr result (IsUnopened devices (set devices at y) file)
+unopened_over file devices at d y (Ok image) place risen is = tt
+unopened_over file devices at d y (Err stop) place risen is = record {
+  before = get_or devices at d;
+  after = y;
+  held = at_place file devices at d place;
+  left = put_held file devices at d y place (ap (λ (x : DeviceState). x.node) risen.same);
+  on = is;
+}

@@ -29,10 +29,10 @@ nodes_after (a ∷ old) (b ∷ new) risen =
 nodes_after [] (b ∷ new) risen = absurd risen
 nodes_after (a ∷ old) [] risen = absurd risen
 
-once_after : (old new : List DeviceState) → HaveRisen old new → AllPairs DifferInNode old → AllPairs DifferInNode new
-once_after old new risen once i j d below within same =
+pub once_by_nodes : (old new : List DeviceState) → map (λ (d : DeviceState). d.node) new ≡ map (λ (d : DeviceState). d.node) old
+    → AllPairs DifferInNode old → AllPairs DifferInNode new
+once_by_nodes old new lists once i j d below within same =
     let f : DeviceState → ℕ = λ d. d.node in
-    let lists : map f new ≡ map f old = nodes_after old new risen in
     let lengths : length new ≡ length old = sym (length-map new f) ∙ ap length lists ∙ length-map old f in
     let in_old : j < length old = omega (arith, within, lengths) in
     let node_at : (k : ℕ) → k < length new → (get_or new k d).node ≡ (get_or old k d).node
@@ -40,6 +40,9 @@ once_after old new risen once i j d below within same =
     sym (get_or-map f new k d d.node less) ∙ ap (λ (ns : List ℕ). get_or ns k d.node) lists
     ∙ get_or-map f old k d d.node (omega (arith, less, lengths)) in
     once i j d below in_old (sym (node_at i (omega (arith, below, within))) ∙ same ∙ node_at j within)
+
+once_after : (old new : List DeviceState) → HaveRisen old new → AllPairs DifferInNode old → AllPairs DifferInNode new
+once_after old new risen = once_by_nodes old new (nodes_after old new risen)
 
 module _ (nodes : Nodes) (new : List DeviceState) (risen : HaveRisen nodes.devices new) where
   abbrev after : Nodes

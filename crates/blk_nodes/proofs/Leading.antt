@@ -19,7 +19,7 @@ use Rattle.blk_nodes.specs.declared.row.Driver.TheVariants.{File, Raw, Qcow2, Co
 use Rattle.blk_nodes.specs.declared.source.Source.{Source}
 use Rattle.blk_nodes.specs.declared.source.Source.TheVariants as sources
 
-leads_on : (edges : List Edge) (a b c : ℕ) → LeadsTo edges a b → LeadsTo edges b c → LeadsTo edges a c
+pub leads_on : (edges : List Edge) (a b c : ℕ) → LeadsTo edges a b → LeadsTo edges b c → LeadsTo edges a c
 leads_on edges a b c (inl same) rest = subst (λ (n : ℕ). LeadsTo edges n c) (sym same) rest
 leads_on edges a b c (inr first) (inl same) = inr (subst (Reaches edges a) same first)
 leads_on edges a b c (inr first) (inr rest) = inr (Reaches-joined edges a b c first rest)
@@ -29,7 +29,7 @@ leads_to_source edges a b sources.Zeros first rest = tt
 leads_to_source edges a b (sources.File file start) first rest = leads_on edges a b file first rest
 leads_to_source edges a b (sources.Image at file) first rest = leads_on edges a b file first rest
 
-child_leads : (edges : List Edge) (node child : ℕ) (role : Role) → child_of (Node node) role edges ≡ Some child → LeadsTo edges node child
+pub child_leads : (edges : List Edge) (node child : ℕ) (role : Role) → child_of (Node node) role edges ≡ Some child → LeadsTo edges node child
 child_leads edges node child role is = let e = child-edge (Node node) role edges child is in inr (subst (Reaches edges node) e.to (Reaches-edge edges node e.edge e.there e.from))
 
 file_leads : (edges : List Edge) (node start : ℕ) (role : Role) (found : Option ℕ) → child_of (Node node) role edges ≡ found → LeadsOn edges node (in_file found start)

@@ -6,3 +6,8 @@ mod Disks
 mod Additions
 mod KeptDisks
 mod Unfolding
+mod Drawn
+mod OverlayAdded
+mod Dropped
+mod Written
+mod Covered

@@ -18,7 +18,7 @@ use Rattle.blk_nodes.specs.declared.row.Driver.TheVariants.{File, Raw, Qcow2, Co
 use Rattle.blk_nodes.specs.declared.row.Row.{Row}
 
 -- a path of so many edges starts at a node
-abbrev StartsAt : List Edge → ℕ → ℕ → Type 0
+abbrev pub StartsAt : List Edge → ℕ → ℕ → Type 0
 StartsAt edges zero n = Unit {0}
 StartsAt edges (suc k) n = (e : Edge) × Contains edges e × (e.parent ≡ Node n) × StartsAt edges k e.child
 
@@ -73,3 +73,11 @@ module _ (nodes : Nodes) where
           let whole : IsPath nodes.graph.edges node (edge.edge ∷ path.0) path.1 = (edge.there, edge.from, rw edge.to path.2) in
           let less = short node path.1 (edge.edge ∷ path.0) whole in
           omega (arith, less, path.3, joined.sound.few_nodes)
+
+-- no path has as many edges as there may be nodes
+pub no_path : (nodes : Nodes) → IsJoined nodes → (k : ℕ) → 64 ≤ k → (node : ℕ) → StartsAt nodes.graph.edges k node → ⊥
+no_path nodes joined k many node starts =
+    let path = path_from nodes.graph.edges k node starts in
+    let short : PathsAreShort nodes.graph = PathsAreShort-from_IsSound nodes.graph joined.sound in
+    let less = short node path.1 path.0 path.2 in
+    omega (arith, less, path.3, many, joined.sound.few_nodes)

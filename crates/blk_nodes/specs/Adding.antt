@@ -7,6 +7,8 @@ use Rattle.blk_graph.specs.Judged.{with_edges}
 use Rattle.blk_graph.specs.Permissions.{drive_edge, node_edge}
 use Rattle.blk_graph.specs.Refreshed.{refreshed}
 use Rattle.blk_graph.specs.Rule.{first_conflict}
+use Rattle.blk_graph.specs.declared.kind.Kind.{Kind}
+use Rattle.blk_graph.specs.declared.kind.NodeKind.{NodeKind}
 use Rattle.blk_graph.specs.declared.edge.Conflict.{Conflict as Pair}
 use Rattle.blk_graph.specs.declared.edge.Edge.{Edge}
 use Rattle.blk_graph.specs.declared.edge.Parent.TheVariants.{Guest}
@@ -33,6 +35,10 @@ raw_row part is_read_only = record {
   is_read_only = is_read_only;
 }
 
+-- what a node is, by its driver's kind and whether it may be written
+abbrev pub kind_with : Kind → Bool → NodeKind
+kind_with kind is_read_only = record { kind = kind; writes = not is_read_only }
+
 -- and its device
 abbrev pub with_device : Nodes → DeviceState → Nodes
 with_device nodes device = record nodes { devices = nodes.devices ++ device ∷ [] }
@@ -51,12 +57,19 @@ file_edge node file = node_edge node File file
 abbrev pub with_below : Nodes → Edge → Nodes
 with_below nodes edge = record nodes { graph = with_edges nodes.graph (with_edge edge nodes.graph.edges) }
 
--- the nodes with one more, whose edge breaks the permission rule with that pair first
-pub record IsDenied (nodes : Nodes) (row : Row) (edge : ℕ → Edge) (pair : Pair) : Type 0 where
+-- the first broken pair, if there is one, of the edges that a new node would make
+pub record Breaks (nodes : Nodes) (kind : NodeKind) (edges : ℕ → List Edge → List Edge) (found : Option Pair) : Type 0 where
   pub id : ℕ
   pub lowest : IsLowestFree (ids nodes.graph) id
   pub first : first_conflict (ids nodes.graph ++ id ∷ [])
-      (refreshed (slice_set nodes.graph.kinds id (node_kind row)) (with_edge (edge id) nodes.graph.edges)) ≡ Some pair
+      (refreshed (slice_set nodes.graph.kinds id kind) (edges id nodes.graph.edges)) ≡ found
+
+-- they break the permission rule with that pair first, or keep it
+abbrev pub IsDenied : Nodes → NodeKind → (ℕ → List Edge → List Edge) → Pair → Type 0
+IsDenied nodes kind edges pair = Breaks nodes kind edges (Some pair)
+
+abbrev pub IsAllowed : Nodes → NodeKind → (ℕ → List Edge → List Edge) → Type 0
+IsAllowed nodes kind edges = Breaks nodes kind edges None
 
 -- the addition of a node over a file is refused for these alone
 abbrev pub IsOverStop : AddStop → Type 0

@@ -5,3 +5,8 @@ pub mod Walk
 pub mod Joined
 pub mod Reading
 pub mod Adding
+pub mod Overlays
+pub mod Dropping
+pub mod Writing
+pub mod Flushing
+pub mod Covering

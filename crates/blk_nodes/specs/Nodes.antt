@@ -31,6 +31,9 @@ kind_of (Raw _) = kinds.Raw
 kind_of (Qcow2 _) = kinds.Qcow2
 kind_of CopyOnRead = kinds.CopyOnRead
 
+abbrev pub kind_in : Row → Kind
+kind_in row = kind_of row.driver
+
 abbrev pub node_kind : Row → NodeKind
 node_kind row = record { kind = kind_of row.driver; writes = not row.is_read_only }
 

@@ -1,17 +1,22 @@
 //! The devices that the nodes hold.
-ghost use Rattle.std.specs.Prelude.{◌≡◌, ◌<◌, ◌/◌, ℕ, List, [], length, Some, IsSome, IfSome, IfOk};
+ghost use Rattle.std.specs.Prelude.{◌≡◌, ◌<◌, ◌/◌, ℕ, List, [], length, AllPairs, MatchOption, None, Some, IsSome, IfSome, IfOk, IfErr};
 ghost use Rattle.std.specs.List.{position};
 ghost use Rattle.blk_base.specs.Content.{bytes_at};
 ghost use Rattle.q2_image.specs.Guest.{guest_bytes};
 ghost use Rattle.q2_image.specs.Image.{Known, IsImageOf, clusters_in, entry_in};
 ghost use Rattle.q2_image.specs.Reading.{IsHost, IsWithinCluster};
 ghost use Rattle.blk_nodes.specs.Contents.{bytes_by};
+ghost use Rattle.blk_nodes.specs.Dropping.{other_devices};
+ghost use Rattle.blk_nodes.specs.Joined.{DifferInNode};
 ghost use Rattle.blk_nodes.specs.Nodes.{AreTold, DeviceState, is_of, device_in};
+ghost use Rattle.blk_nodes.specs.Overlays.{IsOpened, IsOpenedOn, IsUnopened, IsUnopenedOn};
+ghost use Rattle.blk_nodes.specs.Flushing.{IsFlushOf, IsFlushAt};
+ghost use Rattle.blk_nodes.specs.Writing.{IsWriteOf, IsWriteAt, write_outcome};
 ghost use Rattle.blk_nodes.specs.Reading.{HasRisen, HaveRisen, IsReadOf, IsReadAt};
 
-use blk_base::{DevNo, DevStop, Device, NoMemory, Outcome, Span};
+use blk_base::{DevNo, DevStop, Device, NoMemory, Outcome, Span, Stop, WriteStop};
 use blk_graph::{MOST_NODES, NodeId};
-use q2_image::Image;
+use q2_image::{Image, ImageStop, open_image};
 use std::alloc::Global;
 use std::marker::Model;
 
@@ -47,6 +52,16 @@ impl<D: Device> Held<D> {
         self.node == node
     }
 
+    /// A call of the device has failed.
+    fn failed(&self) -> Outcome
+        ensures { result ≡ Outcome.Io self.now.number self.now.faults }
+    {
+        Outcome::Io {
+            dev: self.number,
+            count: self.device.faults(),
+        }
+    }
+
     /// Reads what stands on the device from a place on.
     fn read(&mut self, place: u64, buffer: &mut [u8]) -> Outcome
         ensures read { (bytes : List ℕ) → self.old.content ≡ Some bytes → result ≡ Outcome.Good → buffer.new ≡ bytes_at bytes place (length buffer.old) }
@@ -55,10 +70,7 @@ impl<D: Device> Held<D> {
     {
         match self.device.read_at(place, buffer) {
             Ok(()) => Outcome::Good,
-            Err(_) => Outcome::Io {
-                dev: self.number,
-                count: self.device.faults(),
-            },
+            Err(_) => self.failed(),
         }
     }
 
@@ -83,6 +95,49 @@ impl<D: Device> Held<D> {
             },
             Err(DevStop::NoSpace) => unreachable!(),
         }
+    }
+
+    /// What a write that stopped has answered.
+    fn stopped(&self, stop: WriteStop) -> Outcome
+        ensures { result ≡ write_outcome self.now stop }
+    {
+        match stop.why {
+            Stop::NoSpace => Outcome::NoSpace { dev: self.number },
+            Stop::Failed if stop.done == 0 => self.failed(),
+            Stop::Failed => Outcome::Torn {
+                done: stop.done,
+                dev: self.number,
+                count: self.device.faults(),
+            },
+        }
+    }
+
+    /// Writes bytes at a place on the device.
+    fn write(&mut self, place: u64, bytes: &[u8]) -> Outcome
+        ensures { IsWriteOf self.old self.new place bytes.now result }
+    {
+        match self.device.write_at(place, bytes) {
+            Ok(()) => Outcome::Good,
+            Err(stop) => self.stopped(stop),
+        }
+    }
+
+    fn flush(&mut self) -> Outcome
+        ensures { IsFlushOf self.old self.new result }
+    {
+        match self.device.flush() {
+            Ok(()) => Outcome::Good,
+            Err(_) => self.failed(),
+        }
+    }
+
+    /// Opens the image in the file.
+    fn open_image(&mut self, alloc: Global) -> Result<Image, ImageStop>
+        ensures opened { IfOk result (IsOpenedOn self.old) }
+        ensures stop { IfErr result (IsUnopenedOn self.old self.new) }
+        ensures kept { HasRisen self.old self.new }
+    {
+        open_image(alloc, &mut self.device)
     }
 }
 
@@ -158,6 +213,74 @@ impl<D: Device> Devices<D> {
             Some(at) => {
                 let held = &mut self.list[at];
                 held.read_image(image, span, buffer)
+            }
+            None => unreachable!(),
+        }
+    }
+
+    /// Writes to the file of a `file` node.
+    pub(crate) fn write_file(&mut self, file: NodeId, start: u64, bytes: &[u8]) -> Outcome
+        requires { IsSome (device_in self.old file) }
+        ensures { IsWriteAt file self.old self.new start bytes.now result }
+    {
+        match self.place_of(file) {
+            Some(at) => {
+                let held = &mut self.list[at];
+                held.write(start, bytes)
+            }
+            None => unreachable!(),
+        }
+    }
+
+    /// Flushes the file of a `file` node.
+    pub(crate) fn flush_file(&mut self, file: NodeId) -> Outcome
+        requires { IsSome (device_in self.old file) }
+        ensures { IsFlushAt file self.old self.new result }
+    {
+        match self.place_of(file) {
+            Some(at) => {
+                let held = &mut self.list[at];
+                held.flush()
+            }
+            None => unreachable!(),
+        }
+    }
+
+    /// Takes out the device of a node, where it has one.
+    pub(crate) fn take_out(&mut self, node: NodeId) -> Option<D>
+        requires { AllPairs DifferInNode self.old }
+        ensures left { self.new ≡ other_devices node self.old }
+        ensures device { MatchOption result (device_in self.old node ≡ None)
+            (λ device. (held : DeviceState) × (device_in self.old node ≡ Some held) × (held ≡ record held {
+              content = D.content device;
+              is_flushed = D.is_flushed device;
+              log = D.log device;
+              size = D.size device;
+              capacity = D.capacity device;
+              faults = D.faults device;
+            })) }
+    {
+        match self.place_of(node) {
+            Some(at) => {
+                let held = self.list.remove(at);
+                let Held { device, .. } = held;
+                Some(device)
+            }
+            None => None,
+        }
+    }
+
+    /// Opens the image in the file of a `file` node.
+    pub(crate) fn open_image(&mut self, alloc: Global, file: NodeId) -> Result<Image, ImageStop>
+        requires { IsSome (device_in self.old file) }
+        ensures opened { IfOk result (IsOpened self.old file) }
+        ensures stop { IfErr result (IsUnopened self.old self.new file) }
+        ensures risen { HaveRisen self.old self.new }
+    {
+        match self.place_of(file) {
+            Some(at) => {
+                let held = &mut self.list[at];
+                held.open_image(alloc)
             }
             None => unreachable!(),
         }

@@ -2,13 +2,17 @@
 #![tactic(auto)]
 
 mod adding;
+mod backing;
 mod devices;
 mod nodes;
+mod opening;
 mod row;
 mod source;
 mod stop;
 #[cfg(test)]
 mod tests;
+mod zeros;
 
+pub use backing::Backing;
 pub use nodes::Nodes;
 pub use stop::AddStop;

@@ -1,28 +1,39 @@
 //! The nodes.
-ghost use Rattle.std.specs.Prelude.{◌≡◌, ◌≢◌, ◌↔◌, ℕ, ◌<◌, ◌≤◌, [], length, replicate, IfOk, IfErr, IsOk, OnOk, OnErr, IsErrAnd, IsTrue, Err, Some};
+ghost use Rattle.std.specs.Prelude.{◌≡◌, ◌≢◌, ◌↔◌, ℕ, ◌<◌, ◌≤◌, [], length, replicate, IfOk, IfErr, IsOk, OnOk, OnErr, IsErrAnd, IsTrue, IfSome, Err, Some, None};
 ghost use Rattle.blk_base.specs.Pieces.{end_of};
+ghost use Rattle.blk_graph.specs.Edits.{with_edge};
 ghost use Rattle.blk_graph.specs.Graph.{HasName, HasNode, ids};
 ghost use Rattle.blk_graph.specs.Ids.{IsLowestFree};
-ghost use Rattle.blk_nodes.specs.Adding.{with_node, with_device, with_below, without_guest, file_edge, guest_edge, raw_row, is_read_only_in, IsDenied, IsFileStop, IsNameStop, IsOverStop};
+ghost use Rattle.blk_nodes.specs.Adding.{with_node, with_device, with_below, kind_with, without_guest, file_edge, guest_edge, raw_row, is_read_only_in, IsDenied, IsFileStop, IsNameStop, IsOverStop};
 ghost use Rattle.blk_nodes.specs.Joined.{IsFile, IsJoined};
 ghost use Rattle.blk_graph.specs.Rule.{KeepsPermissions, first_conflict};
 ghost use Rattle.blk_graph.specs.declared.edge.Conflict.{Conflict as Pair};
 ghost use Rattle.q2_image.specs.Reading.{IsWithinCluster};
 ghost use Rattle.blk_nodes.specs.Nodes.{no_nodes, row_at, size_of, AreTold};
 ghost use Rattle.q2_image.specs.Guest.{guest_bytes};
-ghost use Rattle.blk_nodes.specs.Contents.{told, disk_of, bytes_of, Unfolds};
-ghost use Rattle.q2_format.specs.Contents.{file_disk, raw_disk};
+ghost use Rattle.blk_nodes.specs.Contents.{told, below, disk_of, bytes_of, Unfolds};
+ghost use Rattle.blk_nodes.specs.Overlays.{copying_row, with_children, backing_node, backing_size, IsQcow2Added, IsQcow2Stop};
+ghost use Rattle.q2_format.specs.Contents.{file_disk, raw_disk, image_disk};
 ghost use Rattle.blk_nodes.specs.Walk.{IsMapped, CanBeRead, GoesOn, LeadsToSource, LeadsOn};
 ghost use Rattle.blk_nodes.specs.Sources.{step_of, source_in, source_of};
 ghost use Rattle.blk_nodes.specs.Reading.{HaveRisen, IsReadAt, IsReadBelow, ReadsDisk};
 
-use crate::adding::{conflict_of, take_back};
+mod covering;
+mod dropping;
+mod flushing;
+mod looks;
+mod writing;
+
+use crate::adding::{conflict_of, draw_edges, take_back, take_drawn};
+use crate::backing::Backing;
 use crate::devices::{Devices, Held};
+use crate::opening::open_over;
 use crate::row::{Driver, Row, node_kind, step};
 use crate::source::{Source, Step};
 use crate::stop::AddStop;
+use crate::zeros::Zeros;
 use blk_base::{DevNo, Device, NoMemory, Outcome, Span, Text};
-use blk_graph::{Conflict, Edge, Graph, Kind, MOST_NODES, NodeId, Parent, Role};
+use blk_graph::{Conflict, Edge, EdgeList, Graph, Kind, MOST_NODES, NodeId, Parent, Role};
 use raw_image::RawImage;
 use std::alloc::Global;
 use std::marker::Model;
@@ -30,9 +41,13 @@ use std::marker::Model;
 /// Nodes by name, the edges between them, and the devices of the `file` nodes.
 #[derive(Drop)]
 pub struct Nodes<D: Device> {
+    alloc: Global,
     graph: Graph,
+    // Where edges of several roles are drawn before they are the graph's.
+    draft: EdgeList,
     // By the numbers of their nodes.
     rows: Vec<Option<Row>>,
+    zeros: Zeros,
     devices: Devices<D>,
 }
 
@@ -70,8 +85,11 @@ impl<D: Device> Nodes<D> {
         ensures { IfOk result (λ nodes. nodes ≡ no_nodes) }
     {
         Ok(Nodes {
+            alloc,
             graph: Graph::new(alloc)?,
+            draft: EdgeList::new(alloc)?,
             rows: no_rows(alloc)?,
+            zeros: Zeros::new(alloc)?,
             devices: Devices::new(alloc)?,
         })
     }
@@ -136,7 +154,8 @@ impl<D: Device> Nodes<D> {
         ensures ok { IfOk result (λ id. self.new ≡ with_device (with_node self.old id name.bytes (record { driver = Driver.File; size = D.size device; is_read_only = read_only }))
             (record { node = id; number = number; content = D.content device; is_flushed = D.is_flushed device; log = D.log device; size = D.size device; capacity = D.capacity device; faults = D.faults device })) }
         ensures lowest { IfOk result (IsLowestFree (ids self.old.graph)) }
-        ensures disks { OnOk result ((other : ℕ) → HasNode self.old.graph other → disk_of self.new other ≡ disk_of self.old other) }
+        ensures disks { OnOk result ((other : ℕ) → HasNode self.old.graph other
+            → disk_of self.new other ≡ disk_of self.old other) }
         ensures disk { IfOk result (λ id. disk_of self.new id ≡ file_disk (D.size device) (told (D.content device))) }
         ensures err { OnErr result (self.new ≡ self.old) }
         ensures back { IfErr result (λ e. e.1 ≡ device) }
@@ -177,14 +196,16 @@ impl<D: Device> Nodes<D> {
         requires file { IsFile self.old file }
         requires part { end_of part ≤ size_of self.old file }
         ensures taken { (result ≡ Err AddStop.NameTaken) ↔ HasName self.old.graph name.bytes }
-        ensures full { (result ≡ Err AddStop.TooManyNodes) ↔ ((length self.old.graph.nodes ≡ 64) × ¬ HasName self.old.graph name.bytes) }
+        ensures full { (result ≡ Err AddStop.TooManyNodes)
+            ↔ ((length self.old.graph.nodes ≡ 64) × ¬ HasName self.old.graph name.bytes) }
         ensures denied { (pair : Pair) → result ≡ Err (AddStop.Conflict pair)
-            → IsDenied self.old (raw_row part read_only) (λ id. file_edge id file) pair }
+            → IsDenied self.old (kind_with Kind.Raw read_only) (λ id. with_edge (file_edge id file)) pair }
         ensures only { IfErr result IsOverStop }
         ensures ok { IfOk result (λ id. self.new
             ≡ with_below (with_node self.old id name.bytes (raw_row part read_only)) (file_edge id file)) }
         ensures lowest { IfOk result (IsLowestFree (ids self.old.graph)) }
-        ensures disks { OnOk result ((other : ℕ) → HasNode self.old.graph other → disk_of self.new other ≡ disk_of self.old other) }
+        ensures disks { OnOk result ((other : ℕ) → HasNode self.old.graph other
+            → disk_of self.new other ≡ disk_of self.old other) }
         ensures disk { IfOk result (λ id. disk_of self.new id ≡ raw_disk part.start part.len (disk_of self.old file)) }
         ensures err { OnErr result (self.new ≡ self.old) }
     {
@@ -206,6 +227,113 @@ impl<D: Device> Nodes<D> {
                 size: part.len,
             }),
             size: part.len,
+            is_read_only: read_only,
+        });
+        Ok(node)
+    }
+
+    /// The bytes of a backing node's disk, 0 where there is none.
+    fn backing_size(&self, backing: &Backing) -> u64
+        ensures { result ≡ backing_size self.now backing.now }
+    {
+        match backing {
+            Backing::Unsaid | Backing::Null => 0,
+            Backing::Node(node) => self.size(*node),
+        }
+    }
+
+    /// Adds a qcow2 node: the image in a `file` node, over a backing node, over nothing, or over nothing where its header names
+    /// no backing file. It is refused for the first cause in the order of `AddStop`; a refusal leaves all as it was but for the
+    /// count of a device whose read failed.
+    pub fn add_qcow2(
+        &mut self,
+        name: Text,
+        file: NodeId,
+        backing: Backing,
+        read_only: bool,
+    ) -> Result<NodeId, AddStop>
+        requires file { IsFile self.old file }
+        requires backing { IfSome (backing_node backing) (HasNode self.old.graph) }
+        ensures ok { IfOk result (IsQcow2Added self.old self.new
+            (record { name = name.bytes; file = file; backing = backing; is_read_only = read_only })) }
+        ensures stop { IfErr result (IsQcow2Stop self.old self.new
+            (record { name = name.bytes; file = file; backing = backing; is_read_only = read_only })) }
+        ensures err { OnErr result (self.new ≡ record self.old { devices = self.new.devices }) }
+        ensures devices { HaveRisen self.old.devices self.new.devices }
+        ensures disks { OnOk result ((other : ℕ) → HasNode self.old.graph other
+            → disk_of self.new other ≡ disk_of self.old other) }
+        ensures disk { IfOk result (λ id. disk_of self.new id
+            ≡ image_disk (bytes_of self.old file) (below (disk_of self.old) (backing_node backing))) }
+    {
+        let size = self.backing_size(&backing);
+        if let Err(stop) = self.check_name(name.as_str()) {
+            return Err(stop);
+        }
+        let kind = node_kind(Kind::Qcow2, read_only);
+        let Ok(node) = self.graph.add_node(name, kind) else {
+            unreachable!()
+        };
+        let over = backing.node();
+        if let Err(pair) = draw_edges(&self.graph, &mut self.draft, node, file, over) {
+            take_back(&mut self.graph, node);
+            return Err(AddStop::Conflict(pair));
+        }
+        match open_over(self.alloc, &mut self.devices, file, &backing, size) {
+            Err(stop) => {
+                take_back(&mut self.graph, node);
+                Err(stop)
+            }
+            Ok(image) => {
+                take_drawn(&mut self.graph, &mut self.draft);
+                self.rows[node.index()] = Some(Row {
+                    size: image.size(),
+                    driver: Driver::Qcow2(image),
+                    is_read_only: read_only,
+                });
+                Ok(node)
+            }
+        }
+    }
+
+    /// Adds a node that reads as its child. Refused are a name that is taken, a 65th node, and an edge to the child that would
+    /// break the permission rule, with the first broken pair; a refusal leaves all as it was.
+    pub fn add_copy_on_read(
+        &mut self,
+        name: Text,
+        child: NodeId,
+        read_only: bool,
+    ) -> Result<NodeId, AddStop>
+        requires child { HasNode self.old.graph child }
+        ensures taken { (result ≡ Err AddStop.NameTaken) ↔ HasName self.old.graph name.bytes }
+        ensures full { (result ≡ Err AddStop.TooManyNodes)
+            ↔ ((length self.old.graph.nodes ≡ 64) × ¬ HasName self.old.graph name.bytes) }
+        ensures denied { (pair : Pair) → result ≡ Err (AddStop.Conflict pair)
+            → IsDenied self.old (kind_with Kind.CopyOnRead read_only) (λ id. with_edge (file_edge id child)) pair }
+        ensures only { IfErr result IsOverStop }
+        ensures ok { IfOk result (λ id. self.new
+            ≡ with_children self.old id name.bytes (copying_row (size_of self.old child) read_only) child None) }
+        ensures lowest { IfOk result (IsLowestFree (ids self.old.graph)) }
+        ensures disks { OnOk result ((other : ℕ) → HasNode self.old.graph other
+            → disk_of self.new other ≡ disk_of self.old other) }
+        ensures disk { IfOk result (λ id. disk_of self.new id ≡ disk_of self.old child) }
+        ensures err { OnErr result (self.new ≡ self.old) }
+    {
+        let size = self.size(child);
+        if let Err(stop) = self.check_name(name.as_str()) {
+            return Err(stop);
+        }
+        let kind = node_kind(Kind::CopyOnRead, read_only);
+        let Ok(node) = self.graph.add_node(name, kind) else {
+            unreachable!()
+        };
+        if let Err(pair) = draw_edges(&self.graph, &mut self.draft, node, child, None) {
+            take_back(&mut self.graph, node);
+            return Err(AddStop::Conflict(pair));
+        }
+        take_drawn(&mut self.graph, &mut self.draft);
+        self.rows[node.index()] = Some(Row {
+            driver: Driver::CopyOnRead,
+            size,
             is_read_only: read_only,
         });
         Ok(node)

@@ -1,6 +1,7 @@
 //! What a node is.
 ghost use Rattle.std.specs.Prelude.{◌≡◌, ◌<◌, not};
 ghost use Rattle.blk_nodes.specs.Joined.{IsSized};
+ghost use Rattle.blk_nodes.specs.Nodes.{kind_in};
 ghost use Rattle.blk_nodes.specs.Sources.{step_by};
 
 use crate::source::{Source, Step, in_below, in_file, in_mapped};
@@ -28,6 +29,20 @@ pub(crate) struct Row {
     /// The bytes of its disk.
     pub size: u64,
     pub is_read_only: bool,
+}
+
+impl Row {
+    /// What the node is.
+    pub(crate) fn kind(&self) -> Kind
+        ensures { result ≡ kind_in self.now }
+    {
+        match &self.driver {
+            Driver::File => Kind::Protocol,
+            Driver::Raw(_) => Kind::Raw,
+            Driver::Qcow2(_) => Kind::Qcow2,
+            Driver::CopyOnRead => Kind::CopyOnRead,
+        }
+    }
 }
 
 /// What a node is, as far as the permissions of its edges go.

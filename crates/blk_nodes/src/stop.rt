@@ -1,8 +1,9 @@
 //! Why a node isn't added.
 
 use blk_graph::Conflict;
+use q2_image::ImageStop;
 
-/// Why a node isn't added. The nodes are then as before.
+/// Why a node isn't added: the first cause in the order in which they stand here. The nodes are then as before.
 #[derive(Debug, Drop)]
 pub enum AddStop {
     /// A node has that name.
@@ -11,6 +12,12 @@ pub enum AddStop {
     TooManyNodes,
     /// An edge of the node would break the permission rule; the first such pair is named.
     Conflict(Conflict),
+    /// The file holds no image that can be opened.
+    Image(ImageStop),
+    /// The image names a backing file, and nothing was said of a backing node.
+    BackingNeeded,
+    /// The backing node's disk has another size than the image's.
+    SizeDiffers,
     /// Want of memory.
     NoMemory,
 }

@@ -1,13 +1,12 @@
 -- The changes of an accepted command can be made.
-use Rattle.std.proofs.Common.{◌≡◌, ◌≢◌, ◌⊎◌, ℕ, ◌+◌, ◌<◌, ◌≤◌, Bool, true, false, cond, List, [], ◌∷◌, ◌++◌, map, length, refl, sym, ap, subst, ◌∙◌, inl, inr, arith, Option, Some, None, option_map}
-use Rattle.std.specs.Prelude.{◌==◌, if◌then◌else◌, not, ◌&&◌, ◌||◌, option_and_then, unwrap_or, is_none, is_some, IsSome, bytes_eq, nat_eq, codes}
+use Rattle.std.proofs.Common.{◌≡◌, ◌⊎◌, ℕ, ◌+◌, ◌<◌, ◌≤◌, Bool, true, false, cond, List, [], ◌∷◌, ◌++◌, map, length, refl, sym, ap, subst, ◌∙◌, inl, inr, arith, Option, Some, None}
+use Rattle.std.specs.Prelude.{◌==◌, if◌then◌else◌, not, option_and_then, IsSome, bytes_eq, nat_eq, codes}
 use Rattle.std.specs.List.{find, list_any, Contains}
-use Rattle.std.proofs.lemmas.Bool.{eqb-true, eq-eqb, or_parts, and_right, true_from_ne_false}
+use Rattle.std.proofs.lemmas.Bool.{eq-eqb, or_parts, and_right}
 use Rattle.std.proofs.lemmas.List.{length-append, length-map, map-append}
 use Rattle.blk_graph.specs.declared.edge.Edge.{Edge}
 use Rattle.blk_graph.specs.declared.kind.Kind.{Kind}
 use Rattle.blk_graph.specs.declared.kind.Kind.TheVariants.{Protocol, Raw, Qcow2, CopyOnRead, BeforeWrite, Mirror, Commit}
-use Rattle.blk_graph.specs.Ids.{lowest_free}
 use Rattle.blk_graph.proofs.Members.{find-Some, Contains-nil, Contains-cases}
 use Rattle.qmp_codec.specs.Commands.{Cmd}
 use Rattle.qmp_codec.specs.declared.command.Command.TheVariants as command
@@ -27,7 +26,6 @@ use Rattle.qmp_rules.specs.declared.ask.Drivers.TheVariants as drivers
 use Rattle.qmp_rules.specs.declared.change.Change.{Change}
 use Rattle.qmp_rules.specs.declared.change.Change.TheVariants as change
 use Rattle.qmp_rules.specs.declared.refusal.FileFault.TheVariants.{Absent}
-use Rattle.qmp_rules.specs.declared.refusal.Refusal.{Refusal}
 use Rattle.qmp_rules.specs.declared.refusal.Refusal.TheVariants as refusal
 use Rattle.qmp_rules.specs.declared.rows.NodeRecord.{NodeRecord}
 use Rattle.qmp_rules.specs.declared.rows.FileState.{FileState}
@@ -46,14 +44,14 @@ use Rattle.qmp_rules.specs.Asks.{Asking, holds, first, takes, stands_for, is_los
 use Rattle.qmp_rules.specs.CommandAsks.{asks_of, negotiates}
 use Rattle.qmp_rules.specs.Answers.{unbuilt, out_of_turn, refusal_of, command_edits}
 use Rattle.blk_history.specs.Fold.{With}
-use Rattle.flat_machine.specs.State.{State, Content, Bytes, Blank, Unknown, content_in, filename_of}
+use Rattle.flat_machine.specs.State.{State, Content, Bytes, Blank, Unknown, content_in}
 use Rattle.flat_machine.specs.Contents.{file_bytes}
-use Rattle.flat_machine.specs.Changed.{stepped, put, name_file, add_file, filename_or, content_under}
-use Rattle.flat_machine.specs.Sights.{told_by, sight_for, adds_at, MayStop, Fails, IsReached, IsTooLarge, calls_at, may_be_large, is_opened, order_of}
+use Rattle.flat_machine.specs.Changed.{stepped, put, name_file, add_file, filename_or}
+use Rattle.flat_machine.specs.Sights.{told_by, MayStop, IsReached, calls_at, may_be_large, is_opened}
 use Rattle.flat_machine.specs.Agreement.{HasDisk}
-use Rattle.flat_machine.specs.Performing.{IsFresh, IsWholly, IsReadable, CanRead, IsBacking, CanAddFile, CanAddFormat, CanAddFilter, Can, AllCan}
-use Rattle.flat_machine.specs.Standing.{Stands, StandsFor, IsUnder, IsOfState, IsOpen, IsWhole}
-use Rattle.flat_machine.proofs.Finds.{same-bytes_eq, bytes_eq-same}
+use Rattle.flat_machine.specs.Performing.{IsWholly, IsReadable, IsBacking, CanAddFile, Can, AllCan}
+use Rattle.flat_machine.specs.Standing.{Stands, StandsFor, IsOfState, IsOpen, IsWhole}
+use Rattle.flat_machine.proofs.Finds.{bytes_eq-same}
 use Rattle.flat_machine.proofs.Kept.{own_disk}
 use Rattle.flat_machine.proofs.Fresh.{lowest_free-free, free-row, found-longer, found-new}
 use Rattle.flat_machine.proofs.Asked.{none-both, NoneHolds, none-holds, none-behind, good-value, found-named, takes-driver, room-left, none-stands, known-file, lone-node, known-under, settled-node}
@@ -298,9 +296,9 @@ less_lost is_raw (Some Made) h = refl
 less_lost is_raw (Some Formatted) h = refl
 less_lost is_raw (Some Used) h = absurd cc
 
-pub looked_at : (t : Table) (told : Told) (what : Look) → holds t told (ask.Files what) ≡ None → told_at what told.stopped ≡ None
+pub look-quiet : (t : Table) (told : Told) (what : Look) → holds t told (ask.Files what) ≡ None → told_at what told.stopped ≡ None
 unfolding holds
-looked_at t told what h = h
+look-quiet t told what h = h
 
 -- of a file under a `file` node without parents that was not used enough is known to read the image in it
 readable_under : (s : State) (name : List ℕ) (row : NodeRecord) → Stands s → node_named s.table name ≡ Some row → row.kind ≡ Protocol
@@ -366,7 +364,7 @@ module _ (s : State) (told : Told) (c : BlockdevAdd (List ℕ)) (name : List ℕ
       let known = known-file s.table told filename false asks.1.1.1.1.0 in
       let there = opened_there s c told filename may
       (file_told_absent s c filename driver (opened s.table filename closed known))
-      (λ e. rw driver refl) (looked_at s.table told look.File asks.1.1.1.0) in
+      (λ e. rw driver refl) (look-quiet s.table told look.File asks.1.1.1.0) in
       record {
         fresh = free_fresh s.table room;
         driver = refl;
@@ -384,7 +382,7 @@ module _ (s : State) (told : Told) (c : BlockdevAdd (List ℕ)) (name : List ℕ
       let closed = none-stands s.table told file.filename not_closed in
       let known = less_lost is_raw (file_state s.table file.filename) (known-file s.table told file.filename is_raw not_lost) in
       let there = opened_there s c told file.filename may (λ e. tells e (opened s.table file.filename closed known)) large
-      (looked_at s.table told look.File not_stopped) in
+      (look-quiet s.table told look.File not_stopped) in
       record {
         fresh = free_fresh s.table (omega arith);
         driver = refl;

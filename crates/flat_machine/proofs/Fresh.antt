@@ -1,9 +1,8 @@
 -- The lowest id that is free is that of no node, and rows that are found stay found in longer lists.
-use Rattle.std.proofs.Common.{◌≡◌, ◌≢◌, ◌⊎◌, ℕ, zero, suc, ◌+◌, ◌<◌, ◌≤◌, Bool, true, false, cond, List, [], ◌∷◌, ◌++◌, map, length, refl, sym, ap, subst, ◌∙◌, inl, inr, arith, Option, Some, None, option_map}
+use Rattle.std.proofs.Common.{◌≡◌, ◌⊎◌, ℕ, zero, suc, ◌+◌, ◌<◌, ◌≤◌, Bool, true, false, cond, List, [], ◌∷◌, ◌++◌, map, length, refl, sym, inl, inr, arith, Some, None}
 use Rattle.std.specs.Prelude.{◌==◌, ◌||◌, nat_eq}
 use Rattle.std.specs.List.{find, list_any, Contains}
-use Rattle.std.proofs.lemmas.Bool.{eqb-true, eqb-false, eq-eqb, ne_eqb, cases_eq}
-use Rattle.std.proofs.lemmas.List.{length-append, length-map}
+use Rattle.std.proofs.lemmas.Bool.{eqb-true, eqb-false, ne_eqb, cases_eq}
 use Rattle.blk_graph.specs.Ids.{lowest_from, lowest_free}
 use Rattle.blk_graph.proofs.Members.{Contains-here, Contains-there}
 use Rattle.blk_graph.proofs.IdLemmas.{length-taken}

@@ -5,7 +5,9 @@ pub mod Fresh
 pub mod Asked
 pub mod Accepted
 pub mod Tables
+pub mod FilesStand
 pub mod StandingKept
 pub mod Suited
 pub mod Openings
 pub mod Written
+pub mod Answered

@@ -1,21 +1,20 @@
 -- A run begins with tables that stand and files that are as they were found; and entries that touch no disk leave all of it.
-use Rattle.std.proofs.Common.{◌≡◌, ◌≢◌, ℕ, Bool, true, false, cond, List, [], ◌∷◌, map, refl, sym, ap, subst, ◌∙◌, Option, Some, None, option_map}
-use Rattle.std.specs.Prelude.{◌==◌, bytes_eq, All, unwrap_or, is_some, IsSome}
-use Rattle.std.specs.List.{find, Contains}
+use Rattle.std.proofs.Common.{◌≡◌, ℕ, Bool, true, false, cond, List, [], ◌∷◌, map, refl, sym, subst, ◌∙◌, Option, Some, None, option_map}
+use Rattle.std.specs.Prelude.{bytes_eq}
+use Rattle.std.specs.List.{find}
 use Rattle.std.proofs.lemmas.List.Elements.{All-nil}
 use Rattle.blk_base.specs.declared.file.File.{File}
 use Rattle.blk_base.specs.Files.{file_at}
 use Rattle.blk_graph.proofs.Members.{Contains-nil}
 use Rattle.qmp_rules.specs.declared.rows.NodeRecord.{NodeRecord}
 use Rattle.qmp_rules.specs.Table.{node_at}
-use Rattle.qmp_rules.specs.Chains.{is_settled, disk_node}
+use Rattle.qmp_rules.specs.Chains.{is_settled}
 use Rattle.flat_machine.specs.declared.opening.Opening.{Opening}
-use Rattle.flat_machine.specs.State.{State, Content, Bytes, Blank, Unknown, bytes_in, bytes_at_node, disk_of, content_in}
+use Rattle.flat_machine.specs.State.{State, Content, Bytes, Blank, Unknown, bytes_at_node, disk_of, content_in}
 use Rattle.flat_machine.specs.Contents.{found}
 use Rattle.flat_machine.specs.Opening.{start}
 use Rattle.flat_machine.specs.Final.{bytes_of}
 use Rattle.flat_machine.specs.Agreement.{Contents, HasDisk, IsAsKnown, IsLeftAs, Agrees}
-use Rattle.flat_machine.specs.Performing.{Nothing, IsQuiet}
 use Rattle.flat_machine.specs.Standing.{Stands, IsOfState}
 use Rattle.flat_machine.proofs.Finds.{bytes_eq-same, bytes_eq-other, same-bytes_eq}
 use Rattle.flat_machine.proofs.Agreeing.{rows_same}

@@ -1,339 +1,43 @@
 -- Changes leave what holds of all tables.
-use Rattle.std.proofs.Common.{◌≡◌, ◌≢◌, ◌⊎◌, ℕ, Bool, true, false, cond, List, [], ◌∷◌, ◌++◌, map, replicate, refl, sym, ap, subst, ◌∙◌, inl, inr, Option, Some, None, option_map}
-use Rattle.std.specs.Prelude.{◌==◌, ◌&&◌, ◌||◌, not, bytes_eq, IsSome, is_some, option_and_then}
-use Rattle.std.specs.List.{find, filter, Contains}
-use Rattle.std.proofs.lemmas.Bool.{eqb-true, eqb-false, eq-eqb, ne_eqb, cases_eq, and_right, and_left}
+use Rattle.std.proofs.Common.{◌≡◌, ◌≢◌, ◌⊎◌, ℕ, Bool, true, false, List, [], ◌∷◌, ◌++◌, refl, sym, ap, subst, ◌∙◌, inl, inr, Option, Some, None, option_map}
+use Rattle.std.specs.Prelude.{◌==◌, ◌&&◌, ◌||◌, not, bytes_eq, IsSome, option_and_then}
+use Rattle.std.specs.List.{find, Contains}
+use Rattle.std.proofs.lemmas.Bool.{eqb-true, eqb-false, eq-eqb, ne_eqb, cases_eq}
 use Rattle.blk_graph.specs.declared.edge.Edge.{Edge}
-use Rattle.blk_graph.specs.declared.edge.Parent.{Parent}
 use Rattle.blk_graph.specs.declared.edge.Parent.TheVariants.{Node, Guest}
-use Rattle.blk_graph.specs.declared.edge.Role.TheVariants.{File, Backing, Drive}
+use Rattle.blk_graph.specs.declared.edge.Role.TheVariants.{File, Backing}
 use Rattle.blk_graph.specs.declared.kind.Kind.TheVariants.{Protocol}
 use Rattle.blk_graph.specs.declared.kind.NodeKind.{NodeKind}
 use Rattle.blk_graph.specs.Edges.{same_parent}
 use Rattle.blk_graph.specs.Edits.{takes_place, with_edge, without_parent}
 use Rattle.blk_graph.specs.Refreshed.{refreshed}
 use Rattle.blk_graph.specs.Permissions.{node_edge}
-use Rattle.blk_graph.proofs.Members.{find-Some, Contains-map, map-Contains, Contains-filter}
+use Rattle.blk_graph.proofs.Members.{find-Some, Contains-filter}
 use Rattle.blk_graph.proofs.CycleLemmas.{same_parent-true}
 use Rattle.blk_graph.proofs.EditLemmas.{Contains-with_edge, Contains-with_edge_new}
-use Rattle.q2_format.specs.Created.{creation_of}
-use Rattle.qmp_codec.specs.declared.words.ImageFormat.{ImageFormat}
-use Rattle.qmp_rules.specs.declared.rows.NodeRecord.{NodeRecord}
+use Rattle.qmp_rules.specs.declared.rows.NodeRow.{NodeRow}
 use Rattle.qmp_rules.specs.declared.rows.Device.{Device}
 use Rattle.qmp_rules.specs.declared.rows.FileState.{FileState}
 use Rattle.qmp_rules.specs.declared.rows.FileState.TheVariants.{Made, Formatted, Used}
 use Rattle.qmp_rules.specs.declared.change.Change.{Change}
 use Rattle.qmp_rules.specs.declared.change.Change.TheVariants as change
-use Rattle.qmp_rules.specs.Table.{Table, node_at, file_state, with_file, kinds_of}
-use Rattle.qmp_rules.specs.Changes.{changed, node_changed, unsettled, with_unsettled, lost_with, stands_over, without_row, format_edges, backed, device_edge}
-use Rattle.flat_machine.specs.State.{State, Content, Bytes, Blank, Unknown, content_in, filename_of}
-use Rattle.flat_machine.specs.Contents.{with_content, formatted, mapped_in}
-use Rattle.flat_machine.specs.Changed.{stepped, all_stepped, format_name, know_if, content_under, format_bytes, left_by}
-use Rattle.flat_machine.specs.Standing.{AreApart, HasEnds, EdgesHaveEnds, StandsFor, AreFileNodes, StandAlone, HaveFiles, HaveNames, IsUnder, IsLostBy, LostHaveCause, IsOfState, IsOpen, FilesAreOfState, FormattedAreOpen, Stands}
-use Rattle.flat_machine.specs.Suiting.{IsThere, IsClosed, SuitsFile, SuitsOver, SuitsFormat, SuitsRemoval, SuitsFormatting, Suits, AllSuit}
-use Rattle.flat_machine.proofs.Finds.{find-map, find-filter, content_in-with, content_in-with_other, cases_name, bytes_eq-same, bytes_eq-other}
+use Rattle.qmp_rules.specs.Table.{Table, node_at, file_state, kinds_of}
+use Rattle.qmp_rules.specs.Changes.{changed, node_changed, unsettled, with_unsettled, without_row, format_edges, backed, device_edge}
+use Rattle.flat_machine.specs.State.{State, Content, Unknown, content_in, filename_of}
+use Rattle.flat_machine.specs.Contents.{with_content, mapped_in}
+use Rattle.flat_machine.specs.Changed.{stepped, all_stepped, know_if, content_under, format_bytes, left_disk}
+use Rattle.flat_machine.specs.Standing.{HasEnds, EdgesHaveEnds, StandsFor, IsUnder, IsLostBy, IsOfState, IsOpen, FilesAreOfState, Stands}
+use Rattle.flat_machine.specs.Suiting.{IsThere, IsClosed, SuitsFile, SuitsOver, SuitsFormat, SuitsRemoval, Suits, AllSuit}
+use Rattle.flat_machine.proofs.Finds.{find-map, find-filter, content_in-with, content_in-with_other, cases_name}
 use Rattle.flat_machine.proofs.Accepted.{added_files}
 use Rattle.flat_machine.proofs.Kept.{with_format, left_alone}
 use Rattle.flat_machine.proofs.Fresh.{found-longer, found-new}
-use Rattle.flat_machine.proofs.Tables.{pushed-cases, pushed-old, pushed-new, filter-keeps, HasLike, refreshed-old, refreshed-new, with_edge-keeps, apart-parents, file_state-with, file_state-other}
-
--- ---- edges that were derived anew
-
-under-refreshed : (kinds : List NodeKind) (edges : List Edge) (file : ℕ) → IsUnder edges file → IsUnder (refreshed kinds edges) file
-under-refreshed kinds edges file h =
-    let like = refreshed-new kinds edges h.edge h.there in
-    record { edge = like.edge; there = like.there; over = like.same.role ∙ h.over; child = like.same.child ∙ h.child }
-
-under-before : (kinds : List NodeKind) (edges : List Edge) (file : ℕ) → IsUnder (refreshed kinds edges) file → IsUnder edges file
-under-before kinds edges file h =
-    let like = refreshed-old kinds edges h.edge h.there in
-    record { edge = like.edge; there = like.there; over = like.same.role ∙ h.over; child = like.same.child ∙ h.child }
-
--- a table whose edges, before that, have their ends in it
-ends-refreshed : (t : Table) (kinds : List NodeKind) (edges : List Edge) → t.edges ≡ refreshed kinds edges
-    → ((e : Edge) → Contains edges e → HasEnds t e) → EdgesHaveEnds t
-ends-refreshed t kinds edges is h e there =
-    let like = refreshed-old kinds edges e (subst (λ es. Contains es e) is there) in
-    let ends = h like.edge like.there in
-    record {
-      parent = λ node k. ends.parent node (like.same.parent ∙ k);
-      child = subst (λ n. IsSome (node_at t n)) like.same.child ends.child;
-    }
-
--- nodes that are there stay
-ends-longer : (t now : Table) (e : Edge) → ((node : ℕ) → IsSome (node_at t node) → IsSome (node_at now node)) → HasEnds t e → HasEnds now e
-ends-longer t now e more h = record { parent = λ node k. more node (h.parent node k); child = more e.child h.child }
-
--- ---- a file whose state changes, over rows that stand as they did
-
--- the states of other files stay
-record FilesBut (name : List ℕ) (state : FileState) (t now : Table) : Type 0 where
-  here : file_state now name ≡ Some state
-  others : (other : List ℕ) → other ≢ name → file_state now other ≡ file_state t other
-
-files_but : (name : List ℕ) (state : FileState) (t now : Table) → now.files ≡ with_file name state t.files → FilesBut name state t now
-files_but name state t now is = record {
-  here = subst (λ files. option_map (λ row. row.state) (find (λ row. bytes_eq row.name name) files) ≡ Some state) (sym is)
-      (file_state-with name state t.files);
-  others = λ other differ. subst (λ files. option_map (λ row. row.state) (find (λ row. bytes_eq row.name other) files) ≡ file_state t other) (sym is)
-      (file_state-other name other state t.files differ);
-}
-
--- ---- rows that stay, but for their disks
-
-record IsLike (row later : NodeRecord) : Type 0 where
-  id : later.id ≡ row.id
-  filename : later.filename ≡ row.filename
-  kind : later.kind ≡ row.kind
-
-like-itself : (row : NodeRecord) → IsLike row row
-like-itself row = record { id = refl; filename = refl; kind = refl }
-
-record SameRows (t now : Table) : Type 0 where
-  back : (later : NodeRecord) → Contains now.nodes later → (row : NodeRecord) × (Contains t.nodes row × IsLike row later)
-  forth : (row : NodeRecord) → Contains t.nodes row → (later : NodeRecord) × (Contains now.nodes later × IsLike row later)
-  apart : AreApart now
-  there : (node : ℕ) → IsSome (node_at t node) → IsSome (node_at now node)
-
-rows-same : (t now : Table) → now.nodes ≡ t.nodes → AreApart t → SameRows t now
-rows-same t now is apart = record {
-  back = λ row there. (row, (subst (λ rows. Contains rows row) is there, like-itself row));
-  forth = λ row there. (row, (subst (λ rows. Contains rows row) (sym is) there, like-itself row));
-  apart = λ row there. subst (λ rows. find (λ r. r.id == row.id) rows ≡ Some row) (sym is)
-      (apart row (subst (λ rows. Contains rows row) is there));
-  there = λ node h. subst (λ rows. IsSome (find (λ r. r.id == node) rows)) (sym is) h;
-}
-
-rows-mapped : (t now : Table) (f : NodeRecord → NodeRecord) → ((row : NodeRecord) → IsLike row (f row)) → now.nodes ≡ map f t.nodes → AreApart t
-    → SameRows t now
-rows-mapped t now f like is apart = record {
-  back = λ later there.
-      let from = Contains-map f t.nodes later (subst (λ rows. Contains rows later) is there) in
-      (from.0, (from.1, subst (IsLike from.0) (sym from.2) (like from.0)));
-  forth = λ row there. (f row, (subst (λ rows. Contains rows (f row)) (sym is) (map-Contains f t.nodes row there), like row));
-  apart = λ later there.
-      let from = Contains-map f t.nodes later (subst (λ rows. Contains rows later) is there) in
-      let same_id : later.id ≡ from.0.id = ap (λ r. r.id) from.2 ∙ (like from.0).id in
-      subst (λ rows. find (λ r. r.id == later.id) rows ≡ Some later) (sym is)
-      (found later.id ∙ ap (option_map f) (subst (λ n. node_at t n ≡ Some from.0) (sym same_id) (apart from.0 from.1)) ∙ ap Some (sym from.2));
-  there = λ node h. subst (λ rows. IsSome (find (λ r. r.id == node) rows)) (sym is)
-      (subst IsSome (sym (found node)) (still (node_at t node) h));
-}
-  where
-    found : (node : ℕ) → find (λ r. r.id == node) (map f t.nodes) ≡ option_map f (node_at t node)
-    found node = find-map (λ r. r.id == node) f (λ r. ap (λ k. k == node) (like r).id) t.nodes
-
-    still : (o : Option NodeRecord) → IsSome o → IsSome (option_map f o)
-    still None h = absurd cc
-    still (Some row) h = refl
-
--- ---- kinds that change what became of one file
-
-module _ (s now : State) (name : List ℕ) (state : FileState) (content : Content) where
-  file_stands : SameRows s.table now.table → now.table.edges ≡ s.table.edges → FilesBut name state s.table now.table
-      → now.files ≡ with_content name content s.files
-      → ((other : List ℕ) (row later : NodeRecord) → StandsFor s.table other row → IsLike row later → Contains now.table.nodes later
-      → later.is_settled ≡ false → ((other ≢ name) × (row.is_settled ≡ false)) ⊎ IsLostBy now.table other later)
-      → IsOfState (Some state) content → (state ≡ Formatted → (row : NodeRecord) × StandsFor s.table name row) → Stands s → Stands now
-  file_stands rows edges files contents loses is_of formatted h = record {
-    apart = rows.apart;
-    edges = λ e there. ends-longer s.table now.table e rows.there (h.edges e (subst (λ es. Contains es e) edges there));
-    drivers = λ other later over.
-        let before = rows.back later over.there in
-        before.1.1.kind ∙ h.drivers other before.0 (stood other later before.0 before.1.0 before.1.1 over);
-    names = λ later there driver.
-        let before = rows.back later there in
-        subst IsSome (sym before.1.1.filename) (h.names before.0 before.1.0 (sym before.1.1.kind ∙ driver));
-    alone = λ other a b over_a over_b.
-        let before_a = rows.back a over_a.there in
-        let before_b = rows.back b over_b.there in
-        before_a.1.1.id
-        ∙ h.alone other before_a.0 before_b.0 (stood other a before_a.0 before_a.1.0 before_a.1.1 over_a)
-        (stood other b before_b.0 before_b.1.0 before_b.1.1 over_b)
-        ∙ sym before_b.1.1.id;
-    files = λ other later over.
-        let before = rows.back later over.there in
-        known_there other (h.files other before.0 (stood other later before.0 before.1.0 before.1.1 over)) (cases_name other name);
-    lost = λ other later over gone.
-        let before = rows.back later over.there in
-        let over_before = stood other later before.0 before.1.0 before.1.1 over in
-        elim (loses other before.0 later over_before before.1.1 over.there gone) [
-          | inl as_before ↦ lost_as_before other before.0 later before.1.1 as_before.0 (h.lost other before.0 over_before as_before.1)
-          | inr is_lost ↦ is_lost
-        ];
-    states = λ other what found is_open. by_name other what found is_open (cases_name other name);
-    formatted = λ other is. formatted_as other is (cases_name other name);
-  }
-    where
-      stood : (other : List ℕ) (later row : NodeRecord) → Contains s.table.nodes row → IsLike row later → StandsFor now.table other later
-          → StandsFor s.table other row
-      stood other later row there like over = record { there = there; filename = sym like.filename ∙ over.filename }
-
-      stands_later : (other : List ℕ) (row : NodeRecord) → StandsFor s.table other row
-          → (later : NodeRecord) × (StandsFor now.table other later × IsLike row later)
-      stands_later other row over =
-          let after = rows.forth row over.there in
-          (after.0, (record { there = after.1.0; filename = after.1.1.filename ∙ over.filename }, after.1.1))
-
-      known_there : (other : List ℕ) → IsSome (content_in s.files other) → ((other ≡ name) ⊎ (other ≢ name)) → IsSome (content_in now.files other)
-      known_there other some (inl same) =
-          subst (λ fs. IsSome (content_in fs other)) (sym contents)
-          (subst (λ n. IsSome (content_in (with_content name content s.files) n)) (sym same)
-          (subst IsSome (sym (content_in-with name content s.files)) refl))
-      known_there other some (inr differ) =
-          subst (λ fs. IsSome (content_in fs other)) (sym contents)
-          (subst IsSome (sym (content_in-with_other name other content s.files differ)) some)
-
-      lost_as_before : (other : List ℕ) (row later : NodeRecord) → IsLike row later → other ≢ name → IsLostBy s.table other row
-          → IsLostBy now.table other later
-      lost_as_before other row later like differ (inl used) = inl (files.others other differ ∙ used)
-      lost_as_before other row later like differ (inr (inl image)) = inr (inl (files.others other differ ∙ image))
-      lost_as_before other row later like differ (inr (inr under)) =
-          inr (inr (subst (λ es. IsUnder es later.id) (sym edges) (subst (IsUnder s.table.edges) (sym like.id) under)))
-
-      open_before : (other : List ℕ) → IsOpen now.table other → IsOpen s.table other
-      open_before other is_open row over under =
-          let after = stands_later other row over in
-          is_open after.0 after.1.0
-          (subst (λ es. IsUnder es after.0.id) (sym edges) (subst (IsUnder s.table.edges) (sym after.1.1.id) under))
-
-      by_name : (other : List ℕ) (what : Content) → content_in now.files other ≡ Some what → IsOpen now.table other
-          → ((other ≡ name) ⊎ (other ≢ name)) → IsOfState (file_state now.table other) what
-      by_name other what found is_open (inl same) =
-          let here : content_in now.files name ≡ Some what = subst (λ n. content_in now.files n ≡ Some what) same found in
-          let put : content_in now.files name ≡ Some content =
-          subst (λ fs. content_in fs name ≡ Some content) (sym contents) (content_in-with name content s.files) in
-          let is_content : content ≡ what = cc in
-          subst (λ n. IsOfState (file_state now.table n) what) (sym same)
-          (subst (λ st. IsOfState st what) (sym files.here) (subst (IsOfState (Some state)) is_content is_of))
-      by_name other what found is_open (inr differ) =
-          let before : content_in s.files other ≡ Some what =
-          sym (content_in-with_other name other content s.files differ) ∙ subst (λ fs. content_in fs other ≡ Some what) contents found in
-          subst (λ st. IsOfState st what) (sym (files.others other differ)) (h.states other what before (open_before other is_open))
-
-      formatted_as : (other : List ℕ) → file_state now.table other ≡ Some Formatted → ((other ≡ name) ⊎ (other ≢ name))
-          → (row : NodeRecord) × StandsFor now.table other row
-      formatted_as other is (inl same) =
-          let here : file_state now.table name ≡ Some Formatted = subst (λ n. file_state now.table n ≡ Some Formatted) same is in
-          let known = files.here in
-          let is_formatted : state ≡ Formatted = cc in
-          let row = formatted is_formatted in
-          let after = stands_later name row.0 row.1 in
-          (after.0, subst (λ n. StandsFor now.table n after.0) (sym same) after.1.0)
-      formatted_as other is (inr differ) =
-          let row = h.formatted other (sym (files.others other differ) ∙ is) in
-          let after = stands_later other row.0 row.1 in
-          (after.0, after.1.0)
-
--- rows of one id are one row
-same_row : (t : Table) → AreApart t → (row later : NodeRecord) → Contains t.nodes row → Contains t.nodes later → later.id ≡ row.id → later ≡ row
-same_row t apart row later there there_later same =
-    let a = apart row there in
-    let b = subst (λ n. node_at t n ≡ Some later) same (apart later there_later) in
-    cc
-
--- a row of changed ones is that of the row with its id
-changed_row : (t : Table) (f : NodeRecord → NodeRecord) → ((row : NodeRecord) → IsLike row (f row)) → AreApart t → (row later : NodeRecord)
-    → Contains t.nodes row → Contains (map f t.nodes) later → later.id ≡ row.id → later ≡ f row
-changed_row t f like apart row later there there_later same =
-    let from = Contains-map f t.nodes later there_later in
-    let ids : from.0.id ≡ row.id = sym (ap (λ r. r.id) from.2 ∙ (like from.0).id) ∙ same in
-    let is : from.0 ≡ row = same_row t apart row from.0 there from.1 ids in
-    from.2 ∙ ap f is
-
-like_lost : (name : List ℕ) (row : NodeRecord) → IsLike row (lost_with name row)
-like_lost name row = by_test (stands_over name row.filename)
-  where
-    by_test : (b : Bool) → IsLike row (cond b (unsettled row) row)
-    by_test true = record { id = refl; filename = refl; kind = refl }
-    by_test false = record { id = refl; filename = refl; kind = refl }
-
-like_unsettled : (id : ℕ) (row : NodeRecord) → IsLike row (node_changed id unsettled row)
-like_unsettled id row = by_test (row.id == id)
-  where
-    by_test : (b : Bool) → IsLike row (cond b (unsettled row) row)
-    by_test true = record { id = refl; filename = refl; kind = refl }
-    by_test false = record { id = refl; filename = refl; kind = refl }
-
--- another row keeps its disk
-kept_lost : (name other : List ℕ) (row : NodeRecord) → row.filename ≡ Some other → other ≢ name → lost_with name row ≡ row
-kept_lost name other row is differ =
-    let no_match : stands_over name row.filename ≡ false = ap (stands_over name) is ∙ bytes_eq-other other name differ in
-    rw no_match refl
-
-kept_unsettled : (id : ℕ) (row : NodeRecord) → row.id ≢ id → node_changed id unsettled row ≡ row
-kept_unsettled id row differ = let no_match : (row.id == id) ≡ false = ne_eqb row.id id differ in rw no_match refl
-
-use_stands : (s : State) (name : List ℕ) → Stands s → Stands (stepped s (change.UseFile name))
-unfolding changed
-use_stands s name h =
-    let now : State = stepped s (change.UseFile name) in
-    let files = files_but name Used s.table now.table refl in
-    file_stands s now name Used Unknown (rows-same s.table now.table refl h.apart) refl files refl
-    (λ other row later over like there gone. elim (cases_name other name) [
-      | inl same ↦ inr (inl (subst (λ n. file_state now.table n ≡ Some Used) (sym same) files.here))
-      | inr differ ↦ inl (differ, subst (λ r. r.is_settled ≡ false) (same_row s.table h.apart row later over.there there like.id) gone)
-    ])
-    tt (λ never. absurd cc) h
-
-spoil_stands : (s : State) (name : List ℕ) → Stands s → Stands (stepped s (change.SpoilFile name))
-unfolding changed
-spoil_stands s name h =
-    let now : State = stepped s (change.SpoilFile name) in
-    let files = files_but name Used s.table now.table refl in
-    file_stands s now name Used Unknown (rows-mapped s.table now.table (lost_with name) (like_lost name) refl h.apart) refl files refl
-    (λ other row later over like there gone. elim (cases_name other name) [
-      | inl same ↦ inr (inl (subst (λ n. file_state now.table n ≡ Some Used) (sym same) files.here))
-      | inr differ ↦
-          let is : later ≡ lost_with name row =
-          changed_row s.table (lost_with name) (like_lost name) h.apart row later over.there there like.id in
-          inl (differ, subst (λ r. r.is_settled ≡ false) (is ∙ kept_lost name other row over.filename differ) gone)
-    ])
-    tt (λ never. absurd cc) h
-
-make_stands : (s : State) (name : List ℕ) (size : ℕ) → IsClosed s.table name → Stands s → Stands (stepped s (change.MakeFile name size))
-unfolding changed
-make_stands s name size closed h =
-    let now : State = stepped s (change.MakeFile name size) in
-    let files = files_but name Made s.table now.table refl in
-    file_stands s now name Made (Bytes (replicate size 0)) (rows-same s.table now.table refl h.apart) refl files refl
-    (λ other row later over like there gone. elim (cases_name other name) [
-      | inl same ↦ absurd (closed row (subst (λ n. StandsFor s.table n row) same over))
-      | inr differ ↦ inl (differ, subst (λ r. r.is_settled ≡ false) (same_row s.table h.apart row later over.there there like.id) gone)
-    ])
-    tt (λ never. absurd cc) h
-
-format_stands : (s : State) (node : ℕ) (name : List ℕ) (size : ℕ) (backing_file : Option (List ℕ)) (backing_fmt : Option ImageFormat)
-    → SuitsFormatting s.table node name → Stands s → Stands (stepped s (change.FormatFile node name size backing_file backing_fmt))
-unfolding changed
-format_stands s node name size backing_file backing_fmt suits h =
-    let now : State = stepped s (change.FormatFile node name size backing_file backing_fmt) in
-    let files = files_but name Formatted s.table now.table refl in
-    file_stands s now name Formatted
-    (formatted (creation_of size backing_file (option_map format_name backing_fmt)) (content_in s.files name))
-    (rows-mapped s.table now.table (node_changed node unsettled) (like_unsettled node) refl h.apart) refl files refl
-    (λ other row later over like there gone. elim (cases_name other name) [
-      | inl same ↦ inr (inr (inl (subst (λ n. file_state now.table n ≡ Some Formatted) (sym same) files.here)))
-      | inr differ ↦
-          let is : later ≡ node_changed node unsettled row =
-          changed_row s.table (node_changed node unsettled) (like_unsettled node) h.apart row later over.there there like.id in
-          let apart : row.id ≢ node = λ same. differ (one_file s.table h.apart suits row other over same) in
-          inl (differ, subst (λ r. r.is_settled ≡ false) (is ∙ kept_unsettled node row apart) gone)
-    ])
-    tt (λ is. (suits.row, suits.stands)) h
-  where
-    one_file : (t : Table) → AreApart t → SuitsFormatting t node name → (row : NodeRecord) (other : List ℕ) → StandsFor t other row
-        → row.id ≡ node → other ≡ name
-    one_file t apart suits row other over same =
-        let is : row ≡ suits.row = same_row t apart suits.row row suits.stands.there over.there (same ∙ sym suits.is_node) in
-        let mine = over.filename in
-        let its = suits.stands.filename in
-        let both : row.filename ≡ suits.row.filename = ap (λ r. r.filename) is in
-        cc
+use Rattle.flat_machine.proofs.Tables.{pushed-cases, pushed-old, filter-keeps, with_edge-keeps, apart-parents}
+use Rattle.flat_machine.proofs.FilesStand.{under-refreshed, ends-refreshed, ends-longer, IsLike, SameRows, rows-same, rows-mapped, same_row, changed_row, like_unsettled, kept_unsettled, use_stands, spoil_stands, make_stands, format_stands}
 
 -- ---- one node more
 
-record IsNewRow (s now : State) (new : NodeRecord) : Type 0 where
+record IsNewRow (s now : State) (new : NodeRow) : Type 0 where
   driver : (name : List ℕ) → new.filename ≡ Some name → new.kind ≡ Protocol
   named : new.kind ≡ Protocol → IsSome new.filename
   closed : (name : List ℕ) → new.filename ≡ Some name → IsClosed s.table name
@@ -354,11 +58,11 @@ under-kept s now es file h =
     (under-refreshed es.kinds es.before file
     (record { edge = h.edge; there = es.keeps h.edge h.there h.over; over = h.over; child = h.child }))
 
-module _ (s now : State) (between : Table) (new : NodeRecord) where
+module _ (s now : State) (between : Table) (new : NodeRow) where
   added_stands : SameRows s.table between → now.table.nodes ≡ between.nodes ++ new ∷ [] → node_at between new.id ≡ None → HasEdges s now
       → now.table.files ≡ s.table.files → IsNewRow s now new
       → ((name : List ℕ) → IsSome (content_in s.files name) → IsSome (content_in now.files name))
-      → ((other : List ℕ) (row later : NodeRecord) → StandsFor s.table other row → IsLike row later → Contains between.nodes later
+      → ((other : List ℕ) (row later : NodeRow) → StandsFor s.table other row → IsLike row later → Contains between.nodes later
       → later.is_settled ≡ false → (row.is_settled ≡ false) ⊎ IsLostBy now.table other later)
       → FilesAreOfState now → Stands s → Stands now
   added_stands rows nodes fresh es files is_new there loses states h = record {
@@ -401,19 +105,19 @@ module _ (s now : State) (between : Table) (new : NodeRecord) where
         );
   }
     where
-      origin : (row : NodeRecord) → Contains now.table.nodes row → ((old : NodeRecord) × (Contains s.table.nodes old × IsLike old row)) ⊎ (row ≡ new)
+      origin : (row : NodeRow) → Contains now.table.nodes row → ((old : NodeRow) × (Contains s.table.nodes old × IsLike old row)) ⊎ (row ≡ new)
       origin row in_now = elim (pushed-cases between.nodes new row (subst (λ ns. Contains ns row) nodes in_now)) [
         | inl in_between ↦ inl (rows.back row in_between)
         | inr same ↦ inr same
       ]
 
-      stood : (name : List ℕ) (row : NodeRecord) (old : (r : NodeRecord) × (Contains s.table.nodes r × IsLike r row)) → StandsFor now.table name row
+      stood : (name : List ℕ) (row : NodeRow) (old : (r : NodeRow) × (Contains s.table.nodes r × IsLike r row)) → StandsFor now.table name row
           → StandsFor s.table name old.0
       stood name row old over = record { there = old.1.0; filename = sym old.1.1.filename ∙ over.filename }
 
-      one_id : (name : List ℕ) (a b : NodeRecord) → StandsFor now.table name a → StandsFor now.table name b
-          → (((old : NodeRecord) × (Contains s.table.nodes old × IsLike old a)) ⊎ (a ≡ new))
-          → (((old : NodeRecord) × (Contains s.table.nodes old × IsLike old b)) ⊎ (b ≡ new)) → a.id ≡ b.id
+      one_id : (name : List ℕ) (a b : NodeRow) → StandsFor now.table name a → StandsFor now.table name b
+          → (((old : NodeRow) × (Contains s.table.nodes old × IsLike old a)) ⊎ (a ≡ new))
+          → (((old : NodeRow) × (Contains s.table.nodes old × IsLike old b)) ⊎ (b ≡ new)) → a.id ≡ b.id
       one_id name a b over_a over_b (inl old_a) (inl old_b) =
           old_a.1.1.id ∙ h.alone name old_a.0 old_b.0 (stood name a old_a over_a) (stood name b old_b over_b) ∙ sym old_b.1.1.id
       one_id name a b over_a over_b (inl old_a) (inr is_b) =
@@ -426,13 +130,13 @@ module _ (s now : State) (between : Table) (new : NodeRecord) where
       state_same name state is =
           subst (λ fs. option_map (λ r. r.state) (find (λ r. bytes_eq r.name name) fs) ≡ Some state) (sym files) is
 
-      lost_as_before : (name : List ℕ) (row later : NodeRecord) → IsLike row later → IsLostBy s.table name row → IsLostBy now.table name later
+      lost_as_before : (name : List ℕ) (row later : NodeRow) → IsLike row later → IsLostBy s.table name row → IsLostBy now.table name later
       lost_as_before name row later like (inl used) = inl (state_same name Used used)
       lost_as_before name row later like (inr (inl image)) = inr (inl (state_same name Formatted image))
       lost_as_before name row later like (inr (inr under)) =
           inr (inr (under-kept s now es later.id (subst (IsUnder s.table.edges) (sym like.id) under)))
 
-      apart_in : (row : NodeRecord) → (Contains between.nodes row ⊎ (row ≡ new)) → node_at now.table row.id ≡ Some row
+      apart_in : (row : NodeRow) → (Contains between.nodes row ⊎ (row ≡ new)) → node_at now.table row.id ≡ Some row
       apart_in row (inl old) = subst (λ ns. find (λ r. r.id == row.id) ns ≡ Some row) (sym nodes)
           (found-longer (λ r. r.id == row.id) between.nodes new row (rows.apart row old))
       apart_in row (inr same) = subst (λ ns. find (λ r. r.id == row.id) ns ≡ Some row) (sym nodes)
@@ -440,24 +144,24 @@ module _ (s now : State) (between : Table) (new : NodeRecord) where
           (found-new (λ x. x.id == new.id) between.nodes new fresh (eq-eqb new.id new.id refl)))
 
 -- nodes that are there stay in a longer list
-there-longer : (t now : Table) (new : NodeRecord) → now.nodes ≡ t.nodes ++ new ∷ [] → (node : ℕ) → IsSome (node_at t node) → IsSome (node_at now node)
+there-longer : (t now : Table) (new : NodeRow) → now.nodes ≡ t.nodes ++ new ∷ [] → (node : ℕ) → IsSome (node_at t node) → IsSome (node_at now node)
 there-longer t now new nodes node h =
     subst (λ ns. IsSome (find (λ r. r.id == node) ns)) (sym nodes) (by_row (node_at t node) refl h)
   where
-    by_row : (found : Option NodeRecord) → node_at t node ≡ found → IsSome found → IsSome (find (λ r. r.id == node) (t.nodes ++ new ∷ []))
+    by_row : (found : Option NodeRow) → node_at t node ≡ found → IsSome found → IsSome (find (λ r. r.id == node) (t.nodes ++ new ∷ []))
     by_row None e k = absurd cc
     by_row (Some row) e k = subst IsSome (sym (found-longer (λ r. r.id == node) t.nodes new row e)) refl
 
 -- what is open was open before
 open-before : (s now : State) → HasEdges s now
-    → ((name : List ℕ) (row : NodeRecord) → StandsFor s.table name row → (later : NodeRecord) × (StandsFor now.table name later × (later.id ≡ row.id)))
+    → ((name : List ℕ) (row : NodeRow) → StandsFor s.table name row → (later : NodeRow) × (StandsFor now.table name later × (later.id ≡ row.id)))
     → (name : List ℕ) → IsOpen now.table name → IsOpen s.table name
 open-before s now es forth name is_open row over under =
     let later = forth name row over in
     is_open later.0 later.1.0 (under-kept s now es later.0.id (subst (IsUnder s.table.edges) (sym later.1.1) under))
 
-stands-pushed : (t between now : Table) (new : NodeRecord) → SameRows t between → now.nodes ≡ between.nodes ++ new ∷ []
-    → (name : List ℕ) (row : NodeRecord) → StandsFor t name row → (later : NodeRecord) × (StandsFor now name later × (later.id ≡ row.id))
+stands-pushed : (t between now : Table) (new : NodeRow) → SameRows t between → now.nodes ≡ between.nodes ++ new ∷ []
+    → (name : List ℕ) (row : NodeRow) → StandsFor t name row → (later : NodeRow) × (StandsFor now name later × (later.id ≡ row.id))
 stands-pushed t between now new rows nodes name row over =
     let later = rows.forth row over.there in (
       later.0,
@@ -470,7 +174,7 @@ stands-pushed t between now new rows nodes name row over =
       ),
     )
 
-file_node_stands : (s : State) (row : NodeRecord) → SuitsFile s row → Stands s → Stands (stepped s (change.AddFile row))
+file_node_stands : (s : State) (row : NodeRow) → SuitsFile s row → Stands s → Stands (stepped s (change.AddFile row))
 unfolding changed
 file_node_stands s row suits h =
     added_stands s now s.table row (rows-same s.table s.table refl h.apart) refl suits.fresh es refl is_new
@@ -506,7 +210,7 @@ file_node_stands s row suits h =
     }
 
 -- a row that stands for no file
-no_file_row : (s now : State) (row : NodeRecord) → row.filename ≡ None → row.kind ≢ Protocol → IsNewRow s now row
+no_file_row : (s now : State) (row : NodeRow) → row.filename ≡ None → row.kind ≢ Protocol → IsNewRow s now row
 no_file_row s now row none driver = record {
   driver = λ name is. absurd cc;
   named = λ is. absurd (driver is);
@@ -519,7 +223,7 @@ no_file_row s now row none driver = record {
 new_parent : (t : Table) (id : ℕ) → EdgesHaveEnds t → node_at t id ≡ None → (e : Edge) → Contains t.edges e → Node id ≢ e.parent
 new_parent t id ends fresh e there same = let found = (ends e there).parent id (sym same) in let none = subst IsSome fresh found in cc
 
-filter_stands : (s : State) (row : NodeRecord) (child : ℕ) → SuitsOver s row child → Stands s → Stands (stepped s (change.AddFilter row child))
+filter_stands : (s : State) (row : NodeRow) (child : ℕ) → SuitsOver s row child → Stands s → Stands (stepped s (change.AddFilter row child))
 unfolding changed
 filter_stands s row child suits h =
     added_stands s now s.table row (rows-same s.table s.table refl h.apart) refl suits.fresh es refl
@@ -595,7 +299,7 @@ backed-cases id (Some node) edges e h = elim (Contains-with_edge (node_edge id B
   | inr old ↦ inr old
 ]
 
-format_node_stands : (s : State) (row : NodeRecord) (file : ℕ) (backing : Option ℕ) → SuitsFormat s row file backing → Stands s
+format_node_stands : (s : State) (row : NodeRow) (file : ℕ) (backing : Option ℕ) → SuitsFormat s row file backing → Stands s
     → Stands (stepped s (change.AddFormat row file backing))
 unfolding changed
 format_node_stands s row file backing suits h =
@@ -665,7 +369,7 @@ format_node_stands s row file backing suits h =
       child = refl;
     })
 
-    loses : (other : List ℕ) (old later : NodeRecord) → StandsFor s.table other old → IsLike old later → Contains between.nodes later
+    loses : (other : List ℕ) (old later : NodeRow) → StandsFor s.table other old → IsLike old later → Contains between.nodes later
         → later.is_settled ≡ false → (old.is_settled ≡ false) ⊎ IsLostBy now.table other later
     loses other old later over like there gone = elim (cases_eq old.id file) [
       | inl same ↦ inr (inr (inr (subst (IsUnder now.table.edges) (sym (like.id ∙ same)) under_new)))
@@ -676,7 +380,7 @@ format_node_stands s row file backing suits h =
     ]
 
     -- a file under the node is not open
-    closed_now : (name : List ℕ) (found : Option NodeRecord) → node_at s.table file ≡ found → option_and_then (λ r. r.filename) found ≡ Some name
+    closed_now : (name : List ℕ) (found : Option NodeRow) → node_at s.table file ≡ found → option_and_then (λ r. r.filename) found ≡ Some name
         → IsOpen now.table name → ⊥
     closed_now name None e is is_open = cc
     closed_now name (Some r) e is is_open =
@@ -714,16 +418,16 @@ table_stands s now nodes ends unders files contents h = record {
     rows : SameRows s.table now.table
     rows = rows-same s.table now.table nodes h.apart
 
-    stood : (name : List ℕ) (row : NodeRecord) → StandsFor now.table name row → StandsFor s.table name row
+    stood : (name : List ℕ) (row : NodeRow) → StandsFor now.table name row → StandsFor s.table name row
     stood name row over = record { there = subst (λ ns. Contains ns row) nodes over.there; filename = over.filename }
 
-    stands : (name : List ℕ) (row : NodeRecord) → StandsFor s.table name row → StandsFor now.table name row
+    stands : (name : List ℕ) (row : NodeRow) → StandsFor s.table name row → StandsFor now.table name row
     stands name row over = record { there = subst (λ ns. Contains ns row) (sym nodes) over.there; filename = over.filename }
 
     state_same : (name : List ℕ) → file_state now.table name ≡ file_state s.table name
     state_same name = ap (λ fs. option_map (λ r. r.state) (find (λ r. bytes_eq r.name name) fs)) files
 
-    as_before : (name : List ℕ) (row : NodeRecord) → IsLostBy s.table name row → IsLostBy now.table name row
+    as_before : (name : List ℕ) (row : NodeRow) → IsLostBy s.table name row → IsLostBy now.table name row
     as_before name row (inl used) = inl (state_same name ∙ used)
     as_before name row (inr (inl image)) = inr (inl (state_same name ∙ image))
     as_before name row (inr (inr under)) = inr (inr (unders row.id under))
@@ -811,18 +515,18 @@ remove_stands s node suits h = record {
     before = without_parent (Node node) s.table.edges
 
     contents : now.files ≡ s.files
-    contents = (left_alone (λ name. None) (option_and_then (left_by s) (node_at s.table node)) s).files
+    contents = (left_alone (λ name. None) (option_and_then (left_disk s) (node_at s.table node)) s).files
 
     not_true : (b : Bool) → not b ≡ true → b ≡ false
     not_true true e = absurd cc
     not_true false e = refl
 
-    kept : (row : NodeRecord) → Contains now.table.nodes row → Contains s.table.nodes row × (row.id ≢ node)
+    kept : (row : NodeRow) → Contains now.table.nodes row → Contains s.table.nodes row × (row.id ≢ node)
     kept row there =
         let old = Contains-filter (λ r. not (r.id == node)) s.table.nodes row there in
         (old.0, eqb-false row.id node (not_true (row.id == node) old.1))
 
-    others : (row : NodeRecord) → row.id ≢ node → (r : NodeRecord) → (r.id == row.id) ≡ true → not (r.id == node) ≡ true
+    others : (row : NodeRow) → row.id ≢ node → (r : NodeRow) → (r.id == row.id) ≡ true → not (r.id == node) ≡ true
     others row differ r t = ap not (ne_eqb r.id node (λ same. differ (sym (eqb-true r.id row.id t) ∙ same)))
 
     still : (other : ℕ) → other ≢ node → IsSome (node_at s.table other) → IsSome (node_at now.table other)
@@ -836,17 +540,17 @@ remove_stands s node suits h = record {
         let differ = not_true (same_parent e.parent (Node node)) t in
         cc
 
-    stood : (name : List ℕ) (row : NodeRecord) → StandsFor now.table name row → StandsFor s.table name row
+    stood : (name : List ℕ) (row : NodeRow) → StandsFor now.table name row → StandsFor s.table name row
     stood name row over = record { there = (kept row over.there).0; filename = over.filename }
 
-    stays : (name : List ℕ) (row : NodeRecord) → StandsFor s.table name row → row.id ≢ node → StandsFor now.table name row
+    stays : (name : List ℕ) (row : NodeRow) → StandsFor s.table name row → row.id ≢ node → StandsFor now.table name row
     stays name row over differ = record {
       there = filter-keeps (λ r. not (r.id == node)) s.table.nodes row (ap not (ne_eqb row.id node differ)) over.there;
       filename = over.filename;
     }
 
     -- a format node over a `file` node stays, or its file was used
-    under_stays : (name : List ℕ) (row : NodeRecord) → StandsFor s.table name row → (under : IsUnder s.table.edges row.id)
+    under_stays : (name : List ℕ) (row : NodeRow) → StandsFor s.table name row → (under : IsUnder s.table.edges row.id)
         → (file_state s.table name ≡ Some Used) ⊎ IsUnder now.table.edges row.id
     under_stays name row over under = by_parent (same_parent under.edge.parent (Node node)) refl
       where
@@ -861,7 +565,7 @@ remove_stands s node suits h = record {
           child = under.child;
         }))
 
-    as_before : (name : List ℕ) (row : NodeRecord) → StandsFor s.table name row → IsLostBy s.table name row → IsLostBy now.table name row
+    as_before : (name : List ℕ) (row : NodeRow) → StandsFor s.table name row → IsLostBy s.table name row → IsLostBy now.table name row
     as_before name row over (inl used) = inl used
     as_before name row over (inr (inl image)) = inr (inl image)
     as_before name row over (inr (inr under)) = elim (under_stays name row over under) [

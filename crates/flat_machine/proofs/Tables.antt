@@ -1,24 +1,21 @@
 -- What tables contain after their changes: rows, edges, and what became of files.
-use Rattle.std.proofs.Common.{◌≡◌, ◌≢◌, ◌⊎◌, ℕ, zero, suc, ◌+◌, ◌<◌, Bool, true, false, cond, List, [], ◌∷◌, ◌++◌, map, length, refl, sym, ap, subst, ◌∙◌, inl, inr, arith, Option, Some, None, option_map}
-use Rattle.std.specs.Prelude.{◌==◌, ◌&&◌, ◌||◌, not, bytes_eq, IsSome, is_some}
+use Rattle.std.proofs.Common.{◌≡◌, ◌≢◌, ◌⊎◌, ℕ, zero, suc, Bool, true, false, cond, List, [], ◌∷◌, ◌++◌, map, refl, sym, ap, ◌∙◌, inl, inr, Some, option_map}
+use Rattle.std.specs.Prelude.{◌||◌, bytes_eq}
 use Rattle.std.specs.List.{find, filter, list_any, Contains}
-use Rattle.std.proofs.lemmas.Bool.{eqb-true, eq-eqb, ne_eqb, and_right, and_left, false_from_ne_true, or_parts}
+use Rattle.std.proofs.lemmas.Bool.{false_from_ne_true, or_parts}
 use Rattle.blk_graph.specs.declared.edge.Edge.{Edge}
-use Rattle.blk_graph.specs.declared.edge.Parent.{Parent}
-use Rattle.blk_graph.specs.declared.edge.Parent.TheVariants.{Node, Guest, Job}
-use Rattle.blk_graph.specs.declared.edge.Role.{Role}
 use Rattle.blk_graph.specs.declared.kind.NodeKind.{NodeKind}
 use Rattle.blk_graph.specs.Edges.{same_parent}
-use Rattle.blk_graph.specs.Edits.{takes_place, with_edge, without_parent}
+use Rattle.blk_graph.specs.Edits.{takes_place, with_edge}
 use Rattle.blk_graph.specs.Refreshed.{turned, turned_by, refreshed, uses_into, ruled}
-use Rattle.blk_graph.proofs.Members.{Contains-here, Contains-there, Contains-nil, Contains-cases, Contains-map, map-Contains, Contains-filter}
+use Rattle.blk_graph.proofs.Members.{Contains-here, Contains-there, Contains-nil, Contains-cases, Contains-map, map-Contains}
 use Rattle.blk_graph.proofs.CycleLemmas.{same_parent-true}
-use Rattle.blk_graph.proofs.RefreshLemmas.{IsSameEdge, ruled-same}
-use Rattle.qmp_rules.specs.declared.rows.NodeRecord.{NodeRecord}
+use Rattle.blk_graph.proofs.EditLemmas.{IsSameEdge}
+use Rattle.blk_graph.proofs.RefreshLemmas.{ruled-same}
 use Rattle.qmp_rules.specs.declared.rows.FileRow.{FileRow}
 use Rattle.qmp_rules.specs.declared.rows.FileState.{FileState}
 use Rattle.qmp_rules.specs.Table.{in_state, has_file, with_file}
-use Rattle.flat_machine.proofs.Finds.{find-map, bytes_eq-same, bytes_eq-other, same-bytes_eq, name_differs}
+use Rattle.flat_machine.proofs.Finds.{bytes_eq-same, bytes_eq-other, same-bytes_eq}
 
 module _ {X : Type 0} where
   -- one element more

@@ -1,18 +1,16 @@
 -- A piece of a guest's request keeps what nodes read as and what files hold as the flat machine says.
 use Rattle.std.proofs.Common.{◌≡◌, ◌≢◌, ◌⊎◌, ℕ, Bool, true, false, cond, List, [], ◌∷◌, map, refl, sym, ap, subst, ◌∙◌, inl, inr, Option, Some, None, option_map}
-use Rattle.std.specs.Prelude.{◌==◌, All, length, replicate, IsSome, is_some, option_and_then, slice_index_or}
+use Rattle.std.specs.Prelude.{◌==◌, All, length, IsSome, slice_index_or}
 use Rattle.std.specs.List.{find, list_any}
-use Rattle.std.proofs.lemmas.Bool.{eqb-true, eq-eqb, ne_eqb, cases_eq}
+use Rattle.std.proofs.lemmas.Bool.{eqb-true, ne_eqb, cases_eq}
 use Rattle.std.proofs.Math.Seq.{take-nil}
 use Rattle.blk_base.specs.Pieces.{Extent}
-use Rattle.blk_base.specs.Content.{with_bytes}
 use Rattle.blk_base.specs.declared.fault.Outcome.{Outcome}
 use Rattle.blk_graph.proofs.Members.{find-Some}
 use Rattle.trace_codec.specs.declared.op.Op.{Op}
 use Rattle.trace_codec.specs.declared.op.Op.TheVariants.{Read, Write, Zero, Flush, Discard}
-use Rattle.blk_graph.specs.declared.edge.Role.TheVariants.{File}
-use Rattle.qmp_rules.specs.declared.rows.NodeRecord.{NodeRecord}
-use Rattle.qmp_rules.specs.Table.{Table, node_at, child, has_name}
+use Rattle.qmp_rules.specs.declared.rows.NodeRow.{NodeRow}
+use Rattle.qmp_rules.specs.Table.{Table, node_at, has_name}
 use Rattle.qmp_rules.specs.Chains.{disk_node, is_over, unsettled_over, written_under}
 use Rattle.blk_history.specs.Fold.{With}
 use Rattle.blk_history.specs.Disk.{done_in, payload_in}
@@ -22,10 +20,10 @@ use Rattle.flat_machine.specs.Machine.{disk_changed, with_disk, written, with_pa
 use Rattle.flat_machine.specs.Jobs.{unsure}
 use Rattle.flat_machine.specs.Final.{read_as}
 use Rattle.flat_machine.specs.Agreement.{Contents, HasDisk, IsAsKnown, IsLeftAs, Agrees}
-use Rattle.flat_machine.specs.Performing.{Nothing, IsQuiet}
+use Rattle.flat_machine.specs.Performing.{IsQuiet}
 use Rattle.flat_machine.specs.Writing.{IsWritable, ReadsWritten, Writes, PieceDone, CanWrite, written_file}
 use Rattle.flat_machine.proofs.Finds.{find-map, cases_name}
-use Rattle.flat_machine.proofs.Agreeing.{HadDisk, RowsBut, rows_same, rows_mapped}
+use Rattle.flat_machine.proofs.Agreeing.{HadDisk, rows_same, rows_mapped}
 use Rattle.flat_machine.proofs.Kept.{own_disk, quiet_keeps}
 
 -- ---- disks
@@ -55,7 +53,7 @@ bytes_in-unchanged node n f (d ∷ disks) differ = by_test (d.node == node) refl
 
 -- ---- rows
 
-like_over : (t : Table) (node : ℕ) (row : NodeRecord) → (unsettled_over t node row).id ≡ row.id
+like_over : (t : Table) (node : ℕ) (row : NodeRow) → (unsettled_over t node row).id ≡ row.id
 like_over t node row = by_test (is_over t node row.id)
   where
     by_test : (b : Bool) → (cond b (record row { is_settled = false }) row).id ≡ row.id
@@ -63,7 +61,7 @@ like_over t node row = by_test (is_over t node row.id)
     by_test false = refl
 
 -- one that keeps its disk doesn't read the node as a backing node
-disk_over : (t : Table) (node : ℕ) (row : NodeRecord) → HasDisk (unsettled_over t node row) → (is_over t node row.id ≡ false) × HasDisk row
+disk_over : (t : Table) (node : ℕ) (row : NodeRow) → HasDisk (unsettled_over t node row) → (is_over t node row.id ≡ false) × HasDisk row
 disk_over t node row = by_test (is_over t node row.id) refl
   where
     by_test : (b : Bool) → is_over t node row.id ≡ b → HasDisk (cond b (record row { is_settled = false }) row)
@@ -71,13 +69,13 @@ disk_over t node row = by_test (is_over t node row.id) refl
     by_test true e h = absurd (let settled = h.settled in cc)
     by_test false e h = (e, h)
 
-not_over : (t : Table) (node n : ℕ) (row : NodeRecord) → find (λ r. r.id == n) (map (unsettled_over t node) t.nodes) ≡ Some row → HasDisk row
+not_over : (t : Table) (node n : ℕ) (row : NodeRow) → find (λ r. r.id == n) (map (unsettled_over t node) t.nodes) ≡ Some row → HasDisk row
     → is_over t node n ≡ false
 not_over t node n row found disk =
     let of_old = sym (find-map (λ r. r.id == n) (unsettled_over t node) (λ r. ap (λ k. k == n) (like_over t node r)) t.nodes) ∙ found in
     by_row (find (λ r. r.id == n) t.nodes) refl of_old
   where
-    by_row : (was : Option NodeRecord) → find (λ r. r.id == n) t.nodes ≡ was → option_map (unsettled_over t node) was ≡ Some row
+    by_row : (was : Option NodeRow) → find (λ r. r.id == n) t.nodes ≡ was → option_map (unsettled_over t node) was ≡ Some row
         → is_over t node n ≡ false
     by_row None e k = absurd cc
     by_row (Some r) e k =

@@ -1,11 +1,12 @@
 -- What nodes read as and what files hold, and that it is what the flat machine says.
-use Rattle.std.specs.Prelude.{◌≡◌, ℕ, Bool, true, false, List, length, All, Option, Some, None}
+use Rattle.std.specs.Prelude.{◌≡◌, ℕ, true, false, List, length, All, Option, Some, None}
 use Rattle.q2_format.specs.Created.{Creation, IsCreated}
-use Rattle.qmp_rules.specs.declared.rows.NodeRecord.{NodeRecord}
-use Rattle.qmp_rules.specs.Table.{Table, node_at, has_name}
+use Rattle.qmp_rules.specs.declared.rows.NodeRow.{NodeRow}
+use Rattle.qmp_rules.specs.declared.rows.JobRow.{JobRow}
+use Rattle.qmp_rules.specs.Table.{node_at, job_at, has_name}
 use Rattle.qmp_rules.specs.Chains.{filter_role}
 use Rattle.blk_history.specs.Fold.{With}
-use Rattle.flat_machine.specs.State.{State, Content, Bytes, Blank, Unknown, Left, bytes_in, content_in}
+use Rattle.flat_machine.specs.State.{State, Content, Bytes, Blank, Unknown, Left, bytes_in, bytes_at_node, content_in}
 use Rattle.flat_machine.specs.Final.{read_as}
 
 -- what each node reads as, by its id, and what the file of each name holds, be it in the store or in a device that is out
@@ -16,12 +17,12 @@ pub record Contents : Type 0 where
 -- ---- nodes
 
 -- a row that says by itself whether there is a flat disk: that of a node which is no filter
-pub record HasDisk (row : NodeRecord) : Type 0 where
+pub record HasDisk (row : NodeRow) : Type 0 where
   pub settled : row.is_settled ≡ true
   pub own : filter_role row.kind ≡ None
 
 abbrev pub ReadAsDisks : State → Contents → Type 0
-ReadAsDisks s c = (node : ℕ) (row : NodeRecord) → node_at s.table node ≡ Some row → HasDisk row → c.reads node ≡ bytes_in s.disks node
+ReadAsDisks s c = (node : ℕ) (row : NodeRow) → node_at s.table node ≡ Some row → HasDisk row → c.reads node ≡ bytes_in s.disks node
 
 -- ---- files
 
@@ -58,3 +59,12 @@ pub record Agrees (opening : List ℕ → Option (List ℕ)) (s : State) (c : Co
   pub absent : AreAbsent s c
   pub left : All (IsLeftAs c) s.left
   pub unchanged : AreUnchanged opening s c
+
+-- ---- a job that is ready
+
+-- its target or base reads as its source's disk
+abbrev pub ReadsAsSource : State → Contents → JobRow → Type 0
+ReadsAsSource s c row = With row.target (λ target. c.reads target ≡ bytes_at_node s row.source)
+
+abbrev pub ReadyAgrees : State → Contents → ℕ → Type 0
+ReadyAgrees s c job = With (job_at s.table job) (ReadsAsSource s c)

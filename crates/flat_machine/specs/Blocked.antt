@@ -1,14 +1,14 @@
 -- Actors that can go no further.
-use Rattle.std.specs.Prelude.{◌≡◌, ◌⊎◌, ℕ, ◌+◌, ◌<◌, ◌≤◌, true, List, [], ◌∷◌, length, slice_get, Contains, Option, Some, None, option_and_then, find, ◌==◌}
-use Rattle.qmp_rules.specs.declared.rows.JobRecord.{JobRecord}
+use Rattle.std.specs.Prelude.{◌≡◌, ◌⊎◌, ℕ, ◌+◌, ◌<◌, ◌≤◌, true, List, [], ◌∷◌, length, Contains, Option, Some, None}
+use Rattle.qmp_rules.specs.declared.rows.JobRow.{JobRow}
 use Rattle.qmp_rules.specs.declared.rows.Asked.TheVariants as asked
-use Rattle.qmp_rules.specs.Table.{Table, device_at, job_in}
+use Rattle.qmp_rules.specs.Table.{device_at, job_in}
 use Rattle.trace_codec.specs.declared.awaiting.Await.{Await}
 use Rattle.trace_codec.specs.declared.awaiting.Await.TheVariants as await
 use Rattle.blk_history.specs.Fold.{With}
 use Rattle.flat_machine.specs.State.{State, guest_at}
 use Rattle.flat_machine.specs.Legal.{IsMet, AllDone}
-use Rattle.flat_machine.specs.Courses.{Course, Wish, Ask, Wait, Order, Give, Watch, past_waits, rest_of}
+use Rattle.flat_machine.specs.Courses.{Course, Wish, Ask, Wait, Order, Watch, past_waits, rest_of}
 use Rattle.flat_machine.specs.declared.blocked.Waits.{Waits}
 use Rattle.flat_machine.specs.declared.blocked.Waits.TheVariants.{Attached, Line, Guest, Ready, Ended}
 
@@ -34,7 +34,7 @@ pub record GuestWaits (s : State) (c : Course) (g : ℕ) (waits : Waits (List �
 
 -- A slot without a job is blocked, and one whose job is ready and was not asked to end, while the script or a guest is not
 -- done.
-abbrev pub JobWaits : State → Option JobRecord → Type 0
+abbrev pub JobWaits : State → Option JobRow → Type 0
 JobWaits s None = Unit {0}
 JobWaits s (Some row) = (row.is_ready ≡ true) × (row.asked ≡ asked.Nothing) × (AllDone s → ⊥)
 

@@ -1,5 +1,5 @@
 -- What each kind of change of the table does to disks, files and bitmaps.
-use Rattle.std.specs.Prelude.{ℕ, ◌==◌, Bool, true, false, ◌&&◌, not, if◌then◌else◌, List, [], ◌∷◌, ◌++◌, filter, replicate, bytes_eq, codes, Option, Some, None, is_none, option_map, option_and_then, unwrap_or}
+use Rattle.std.specs.Prelude.{ℕ, ◌==◌, ◌&&◌, not, if◌then◌else◌, List, [], ◌∷◌, ◌++◌, filter, replicate, bytes_eq, codes, Option, Some, None, is_none, option_map, option_and_then, unwrap_or}
 use Rattle.q2_format.specs.Contents.{raw_disk}
 use Rattle.q2_format.specs.Created.{creation_of}
 use Rattle.blk_graph.specs.declared.kind.Kind.{Kind}
@@ -9,15 +9,15 @@ use Rattle.qmp_codec.specs.declared.words.ImageFormat.{ImageFormat}
 use Rattle.qmp_codec.specs.declared.words.ImageFormat.TheVariants as format
 use Rattle.qmp_codec.specs.declared.event.JobKind.{JobKind}
 use Rattle.qmp_codec.specs.declared.event.JobKind.TheVariants.{Commit}
-use Rattle.qmp_rules.specs.declared.rows.NodeRecord.{NodeRecord}
-use Rattle.qmp_rules.specs.declared.rows.JobRecord.{JobRecord}
+use Rattle.qmp_rules.specs.declared.rows.NodeRow.{NodeRow}
+use Rattle.qmp_rules.specs.declared.rows.JobRow.{JobRow}
 use Rattle.qmp_rules.specs.declared.rows.BitmapRow.{BitmapRow}
 use Rattle.qmp_rules.specs.declared.change.Change.{Change}
 use Rattle.qmp_rules.specs.declared.change.Change.TheVariants as change
 use Rattle.qmp_rules.specs.Table.{Table, node_at, child}
 use Rattle.qmp_rules.specs.Changes.{changed}
 use Rattle.blk_history.specs.Fold.{run}
-use Rattle.flat_machine.specs.State.{State, Disk, Left, Content, Bytes, Unknown, Known, Mapped, MapsNone, Unsure, Image, bytes_in, bytes_at_node, content_in, filename_of, size_of}
+use Rattle.flat_machine.specs.State.{State, Disk, Left, Content, Bytes, Unknown, Mapped, bytes_in, bytes_at_node, content_in, filename_of, size_of}
 use Rattle.flat_machine.specs.Contents.{with_content, formatted, mapped_in, file_bytes, image_bytes}
 use Rattle.flat_machine.specs.Marking.{clean, emptied, is_dirty_of, dirty_at, where_so, merge_from}
 
@@ -53,11 +53,11 @@ make name content s = name_file name (know name content (forget_left name s))
 
 -- ---- nodes that are added
 
-abbrev pub filename_or : NodeRecord → List ℕ
+abbrev pub filename_or : NodeRow → List ℕ
 filename_or row = unwrap_or row.filename []
 
 -- a `file` node reads as its file, and names it for writing where it may be written
-abbrev pub add_file : NodeRecord → State → State
+abbrev pub add_file : NodeRow → State → State
 add_file row s =
     let added = put row.id (file_bytes row.size (content_in s.files (filename_or row))) s in
     if row.read_only then added else name_file (filename_or row) added
@@ -71,7 +71,7 @@ bytes_below s None = []
 bytes_below s (Some node) = bytes_at_node s node
 
 -- a raw node reads as its part of the `file` node, and a qcow2 node as the image over its backing node
-abbrev pub format_bytes : State → NodeRecord → ℕ → Option ℕ → Kind → List ℕ
+abbrev pub format_bytes : State → NodeRow → ℕ → Option ℕ → Kind → List ℕ
 format_bytes s row file backing Raw = raw_disk row.offset row.size (bytes_in s.disks file)
 format_bytes s row file backing Qcow2 = image_bytes (content_under s file) (bytes_below s backing)
 format_bytes s row file backing kind = []
@@ -86,7 +86,7 @@ know_if None content s = s
 know_if (Some name) content s = know name content s
 
 -- What is written through a format node changes the file, of which nothing is known any more.
-abbrev pub add_format : NodeRecord → ℕ → Option ℕ → State → State
+abbrev pub add_format : NodeRow → ℕ → Option ℕ → State → State
 add_format row file backing s =
     know_if (filename_of s.table file) Unknown
     (note_image row.kind row.id (mapped_in (content_under s file)) (put row.id (format_bytes s row file backing row.kind) s))
@@ -94,22 +94,22 @@ add_format row file backing s =
 -- ---- nodes that go
 
 -- the file that a node reads by itself
-abbrev pub file_of : Table → NodeRecord → Kind → Option (List ℕ)
+abbrev pub file_of : Table → NodeRow → Kind → Option (List ℕ)
 file_of t row Protocol = row.filename
 file_of t row Raw = option_and_then (filename_of t) (child t row.id File)
 file_of t row Qcow2 = option_and_then (filename_of t) (child t row.id File)
 file_of t row kind = None
 
 -- a settled node without a backing node leaves its disk in its file
-abbrev pub left_in : List Disk → NodeRecord → List ℕ → Left
+abbrev pub left_in : List Disk → NodeRow → List ℕ → Left
 left_in disks row file = record { file = file; kind = row.kind; offset = row.offset; bytes = bytes_in disks row.id }
 
 abbrev pub leave : Option Left → State → State
 leave None s = s
 leave (Some left) s = record s { left = s.left ++ left ∷ [] }
 
-abbrev pub left_by : State → NodeRecord → Option Left
-left_by s row =
+abbrev pub left_disk : State → NodeRow → Option Left
+left_disk s row =
     if row.is_settled && is_none (child s.table row.id Backing)
     then option_map (left_in s.disks row) (file_of s.table row row.kind)
     else None
@@ -122,7 +122,7 @@ drop_node node s = record s {
 }
 
 abbrev pub remove_node : ℕ → State → State
-remove_node node s = drop_node node (leave (option_and_then (left_by s) (node_at s.table node)) s)
+remove_node node s = drop_node node (leave (option_and_then (left_disk s) (node_at s.table node)) s)
 
 -- ---- bitmaps
 
@@ -132,12 +132,12 @@ add_bitmap row s = record s { dirty = s.dirty ++ clean row (size_of s.table row.
 -- ---- jobs
 
 -- the file of the overlay in whose header a commit to an inner base writes a name
-abbrev pub overlay_file : Table → JobRecord → JobKind → Option (List ℕ)
-overlay_file t row Commit = written_under row.read
+abbrev pub overlay_file : Table → JobRow → JobKind → Option (List ℕ)
+overlay_file t row Commit = over_file row.read
   where
-    written_under : List ℕ → Option (List ℕ)
-    written_under [] = None
-    written_under (overlay ∷ rest) = option_and_then (filename_of t) (child t overlay File)
+    over_file : List ℕ → Option (List ℕ)
+    over_file [] = None
+    over_file (overlay ∷ rest) = option_and_then (filename_of t) (child t overlay File)
 overlay_file t row kind = None
 
 -- ---- each kind of change

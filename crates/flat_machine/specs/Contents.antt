@@ -1,5 +1,5 @@
 -- What is known of the store's files, and what a node that is added over one reads as.
-use Rattle.std.specs.Prelude.{ℕ, ◌+◌, ◌/◌, ◌*◌, max, ◌==◌, Bool, true, false, if◌then◌else◌, List, [], ◌∷◌, length, bytes_eq, filter, not, Option, Some, None, option_map, option_and_then, unwrap_or}
+use Rattle.std.specs.Prelude.{ℕ, max, Bool, true, false, if◌then◌else◌, List, [], ◌∷◌, length, bytes_eq, Option, Some, None, option_map}
 use Rattle.std.specs.List.{list_all, range_with_len}
 use Rattle.q2_format.specs.Bytes.{bytes_at}
 use Rattle.blk_base.specs.declared.file.File.{File}
@@ -7,7 +7,7 @@ use Rattle.q2_format.specs.Sizes.{cluster_size, clusters_for}
 use Rattle.q2_format.specs.Entry.{l2_entry}
 use Rattle.q2_format.specs.Header.{header_of}
 use Rattle.q2_format.specs.Tables.{active_tree, l2_word_of}
-use Rattle.q2_format.specs.Contents.{file_disk, raw_disk, image_disk}
+use Rattle.q2_format.specs.Contents.{file_disk, image_disk}
 use Rattle.q2_format.specs.Created.{Creation, created_length}
 use Rattle.q2_format.specs.declared.entries.L2Entry.{L2Entry}
 use Rattle.q2_format.specs.declared.entries.L2Entry.TheVariants.{Unallocated}

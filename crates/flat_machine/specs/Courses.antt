@@ -1,11 +1,11 @@
 -- What the actors of a run have to do, and a history in which each does it in order.
-use Rattle.std.specs.Prelude.{◌≡◌, ℕ, zero, suc, ◌+◌, ◌<◌, ◌≤◌, ◌==◌, ◌||◌, Bool, if◌then◌else◌, List, [], ◌∷◌, ◌++◌, length, map, slice_get, Contains, All, Option, Some, None}
+use Rattle.std.specs.Prelude.{◌≡◌, ℕ, zero, suc, ◌<◌, ◌≤◌, ◌==◌, Bool, if◌then◌else◌, List, [], ◌∷◌, ◌++◌, length, slice_get, Contains, Option}
 use Rattle.std.specs.List.{list_any}
 use Rattle.trace_codec.specs.declared.op.Op.{Op}
 use Rattle.trace_codec.specs.declared.awaiting.Await.{Await}
 use Rattle.blk_history.specs.Fold.{run, Each, With, change}
 use Rattle.blk_history.specs.declared.event.Event.{Event}
-use Rattle.blk_history.specs.declared.event.Event.TheVariants.{Admit, Refuse, Piece, Retire, Reply, Reached, Start, Ready, End, Done}
+use Rattle.blk_history.specs.declared.event.Event.TheVariants.{Admit, Refuse, Reply, Reached, Done}
 
 -- a line of a trace: a request, or a wait for the answer to a line of the script
 pub data Wish : Type 0 where
@@ -60,8 +60,8 @@ IsNextOf c g op = With (rest_of c g) (λ wishes. Begins op (past_waits c.answere
 
 -- ---- the script
 
-abbrev pub answer : ℕ → Course → Course
-answer line c = record c { script = drop_first c.script; answered = c.answered ++ line ∷ [] }
+abbrev pub answered_line : ℕ → Course → Course
+answered_line line c = record c { script = drop_first c.script; answered = c.answered ++ line ∷ [] }
   where
     drop_first : List Order → List Order
     drop_first [] = []
@@ -80,8 +80,8 @@ IsWatched line what orders = ⊥
 abbrev pub onward : Course → Event → Course
 onward c (Admit g r op) = asked g c
 onward c (Refuse g r op why) = asked g c
-onward c (Reply line given command text) = answer line c
-onward c (Reached line what) = answer line c
+onward c (Reply line given command text) = answered_line line c
+onward c (Reached line what) = answered_line line c
 onward c (Done actor) = record c { ended = c.ended ++ actor ∷ [] }
 onward c e = c
 

@@ -8,7 +8,7 @@ use Rattle.flat_machine.specs.State.{State}
 use Rattle.flat_machine.specs.Replies.{replied, is_accepted}
 use Rattle.flat_machine.specs.Machine.{replay}
 use Rattle.blk_history.specs.declared.event.Event.{Event}
-use Rattle.blk_history.specs.declared.event.Event.TheVariants.{Admit, Refuse, Piece, Retire, Reply, Reached, Start, Ready, End, Done}
+use Rattle.blk_history.specs.declared.event.Event.TheVariants.{Reply, Start, End}
 
 -- how many jobs the answer to a line has started
 abbrev pub new_jobs : State → List ℕ → List ℕ → ℕ

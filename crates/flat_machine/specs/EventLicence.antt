@@ -7,7 +7,7 @@ use Rattle.blk_base.specs.declared.fault.Fault.{Fault}
 use Rattle.blk_base.specs.declared.fault.Fault.TheVariants as faults
 use Rattle.blk_base.specs.declared.fault.FaultAt.{FaultAt}
 use Rattle.blk_base.specs.declared.fault.FaultFrom.{FaultFrom}
-use Rattle.blk_base.specs.declared.fault.FaultFrom.TheVariants.{Store, Dev, Sink}
+use Rattle.blk_base.specs.declared.fault.FaultFrom.TheVariants.{Store, Dev}
 use Rattle.blk_base.specs.declared.fault.Outcome.{Outcome}
 use Rattle.blk_base.specs.declared.fault.Outcome.TheVariants.{Good, Torn, Io, NoSpace}
 use Rattle.trace_codec.specs.declared.op.Op.{Op}
@@ -22,8 +22,8 @@ use Rattle.qmp_codec.specs.declared.nodes.Added.{Added}
 use Rattle.qmp_codec.specs.declared.nodes.Added.TheVariants as added
 use Rattle.qmp_codec.specs.declared.nodes.Created.{Created}
 use Rattle.qmp_codec.specs.declared.nodes.Created.TheVariants as created
-use Rattle.qmp_rules.specs.declared.rows.JobRecord.{JobRecord}
-use Rattle.qmp_rules.specs.Table.{Table, id_named, job_at}
+use Rattle.qmp_rules.specs.declared.rows.JobRow.{JobRow}
+use Rattle.qmp_rules.specs.Table.{Table, id_named}
 use Rattle.qmp_rules.specs.Chains.{reaches}
 use Rattle.blk_history.specs.Fold.{With}
 use Rattle.flat_machine.specs.State.{State, drive_of}
@@ -63,9 +63,9 @@ device_at_fault (faults.NoSpace dev) = dev
 
 -- ---- pieces: a device that the guest's node reaches
 
-abbrev pub IsReached : Table → Sources → Option ℕ → Option DevNo → Type 0
-IsReached t sources drive None = Unit {0}
-IsReached t sources drive (Some dev) = With drive (λ node. ReachesDevice t sources node dev.0)
+abbrev pub IsOnTheWay : Table → Sources → Option ℕ → Option DevNo → Type 0
+IsOnTheWay t sources drive None = Unit {0}
+IsOnTheWay t sources drive (Some dev) = With drive (λ node. ReachesDevice t sources node dev.0)
 
 -- ---- commands: the store, the device of the node that it names, or that of the file that it opens
 
@@ -73,17 +73,17 @@ abbrev pub IsDeviceOf : Table → Sources → Counts → ℕ → FileRef (List �
 IsDeviceOf t sources before dev (file_ref.Name name) = With (id_named t name) (λ node. sources.device_of node ≡ Some dev)
 IsDeviceOf t sources before dev (file_ref.Inline file) = dev ≡ length before.devices
 
-abbrev pub IsAdded : Table → Sources → Counts → ℕ → Added (List ℕ) → Type 0
-IsAdded t sources before dev (added.Qcow2 image) = IsDeviceOf t sources before dev image.file
-IsAdded t sources before dev driver = ⊥
+abbrev pub IsOfAddition : Table → Sources → Counts → ℕ → Added (List ℕ) → Type 0
+IsOfAddition t sources before dev (added.Qcow2 image) = IsDeviceOf t sources before dev image.file
+IsOfAddition t sources before dev driver = ⊥
 
-abbrev pub IsFormatted : Table → Sources → Counts → ℕ → Created (List ℕ) → Type 0
-IsFormatted t sources before dev (created.Qcow2 c) = IsDeviceOf t sources before dev (file_ref.Name c.file)
-IsFormatted t sources before dev options = ⊥
+abbrev pub IsOfCreation : Table → Sources → Counts → ℕ → Created (List ℕ) → Type 0
+IsOfCreation t sources before dev (created.Qcow2 c) = IsDeviceOf t sources before dev (file_ref.Name c.file)
+IsOfCreation t sources before dev options = ⊥
 
 abbrev pub IsCalledBy : Table → Sources → Counts → FaultFrom → Option Cmd → Type 0
-IsCalledBy t sources before (Dev dev) (Some (command.BlockdevAdd c)) = IsAdded t sources before dev.0 c.driver
-IsCalledBy t sources before (Dev dev) (Some (command.BlockdevCreate c)) = IsFormatted t sources before dev.0 c.options
+IsCalledBy t sources before (Dev dev) (Some (command.BlockdevAdd c)) = IsOfAddition t sources before dev.0 c.driver
+IsCalledBy t sources before (Dev dev) (Some (command.BlockdevCreate c)) = IsOfCreation t sources before dev.0 c.options
 IsCalledBy t sources before Store (Some (command.BlockdevAdd c)) = Unit {0}
 IsCalledBy t sources before Store (Some (command.BlockdevCreate c)) = Unit {0}
 IsCalledBy t sources before source c = ⊥
@@ -103,7 +103,7 @@ changes_disk (Zero span) = true
 changes_disk op = false
 
 -- it is done for the job: a guest's write copies for a backup whose filter it passes
-abbrev pub IsDoneFor : Table → Deed → JobRecord → Type 0
+abbrev pub IsDoneFor : Table → Deed → JobRow → Type 0
 IsDoneFor t (Turn slot) row = row.slot ≡ slot
 IsDoneFor t (Take slot) row = row.slot ≡ slot
 IsDoneFor t (Settle job) row = row.number ≡ job
@@ -117,7 +117,7 @@ HasCause opened now would_pass (faults.Io dev count) = IsBetween opened now (fau
 HasCause opened now would_pass (faults.NoSpace dev) = would_pass dev.0
 
 -- A job meets a fault once, in what is done for it, of a device that one of its nodes reaches.
-pub record MayMeet (t : Table) (sources : Sources) (deed : Deed) (opened now : Counts) (would_pass : ℕ → Type 0) (row : JobRecord)
+pub record MayMeet (t : Table) (sources : Sources) (deed : Deed) (opened now : Counts) (would_pass : ℕ → Type 0) (row : JobRow)
     (fault : Fault) : Type 0 where
   pub first : sources.met_by row.number ≡ None
   pub done_for : IsDoneFor t deed row
@@ -171,7 +171,7 @@ IsCommandsFull t sources before would_pass (Some dev) c =
 
 abbrev pub IsLicensedBy : State → Sources → (before opened now : Counts) → (ℕ → Type 0) → Event → Type 0
 IsLicensedBy s sources before opened now would_pass (Piece g r k outcome got) =
-    IsReached s.table sources (drive_of s.table g) (device_in outcome)
+    IsOnTheWay s.table sources (drive_of s.table g) (device_in outcome)
     × RoseIn opened now (named_in (Piece g r k outcome got))
     × WouldPass would_pass (full_by outcome)
 IsLicensedBy s sources before opened now would_pass (Reply line given command text) =

@@ -1,5 +1,5 @@
 -- What the store's files hold, by a history.
-use Rattle.std.specs.Prelude.{◌≡◌, ℕ, zero, suc, Bool, true, false, List, [], ◌∷◌, length, All, Option, Some, None, option_map, option_and_then, unwrap_or}
+use Rattle.std.specs.Prelude.{◌≡◌, ℕ, zero, suc, true, false, List, [], length, All, Option, Some, None, option_map, option_and_then, unwrap_or}
 use Rattle.blk_base.specs.Files.{file_at}
 use Rattle.blk_base.specs.declared.file.File.{File}
 use Rattle.blk_graph.specs.declared.edge.Role.TheVariants.{File as FileRole, Backing}

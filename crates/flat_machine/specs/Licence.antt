@@ -1,15 +1,14 @@
 -- The causes of faults: each one named is a rise of its count, and no rise is named twice.
-use Rattle.std.specs.Prelude.{◌≡◌, ◌≢◌, ℕ, ◌+◌, ◌-◌, ◌*◌, ◌<◌, ◌≤◌, ◌==◌, Bool, true, false, if◌then◌else◌, List, [], ◌∷◌, ◌++◌, length, slice_get, map, drop, fold, codes, nat_eq, AllPairs, All, Option, Some, None, option_and_then}
+use Rattle.std.specs.Prelude.{◌≡◌, ℕ, ◌+◌, ◌-◌, ◌*◌, ◌≤◌, ◌==◌, if◌then◌else◌, List, [], ◌∷◌, slice_get, drop, fold, codes, nat_eq, AllPairs, All, Option, Some, None, option_and_then}
 use Rattle.std.specs.List.{slice_split, starts_with, filter_map}
 use Rattle.std.specs.Str.{bytes_eq}
 use Rattle.blk_base.specs.Counts.{Rose}
-use Rattle.blk_base.specs.declared.fault.Fault.{Fault}
 use Rattle.blk_base.specs.declared.fault.Fault.TheVariants as faults
 use Rattle.blk_base.specs.declared.fault.FaultAt.{FaultAt}
 use Rattle.blk_base.specs.declared.fault.FaultFrom.{FaultFrom}
 use Rattle.blk_base.specs.declared.fault.FaultFrom.TheVariants.{Store, Dev, Sink}
 use Rattle.blk_base.specs.declared.fault.Outcome.{Outcome}
-use Rattle.blk_base.specs.declared.fault.Outcome.TheVariants.{Good, Torn, Io, NoSpace}
+use Rattle.blk_base.specs.declared.fault.Outcome.TheVariants.{Torn, Io}
 use Rattle.blk_history.specs.Fold.{With}
 use Rattle.flat_machine.specs.Replies.{desc_of}
 use Rattle.blk_history.specs.declared.entry.JobEnd.{JobEnd}

@@ -1,10 +1,9 @@
 -- The flat machine: what each entry of a history does to its tables and disks.
-use Rattle.std.specs.Prelude.{ℕ, zero, suc, ◌+◌, ◌==◌, if◌then◌else◌, Bool, true, false, not, List, [], ◌∷◌, ◌++◌, map, Option, Some, None, option_map, option_and_then}
+use Rattle.std.specs.Prelude.{ℕ, zero, suc, ◌+◌, ◌==◌, if◌then◌else◌, Bool, true, false, List, [], ◌∷◌, ◌++◌, map, Option, Some, None, option_map, option_and_then}
 use Rattle.std.specs.List.{list_any}
 use Rattle.blk_base.specs.Pieces.{Extent}
 use Rattle.blk_base.specs.declared.fault.Outcome.{Outcome}
-use Rattle.blk_base.specs.declared.fault.Outcome.TheVariants.{Good, Torn, Io, NoSpace}
-use Rattle.blk_base.specs.Outcomes.{is_good}
+use Rattle.blk_base.specs.declared.fault.Outcome.TheVariants.{Good, Torn}
 use Rattle.blk_graph.specs.declared.kind.Kind.{Kind}
 use Rattle.blk_graph.specs.declared.kind.Kind.TheVariants.{CopyOnRead}
 use Rattle.trace_codec.specs.declared.op.Op.{Op}
@@ -12,7 +11,7 @@ use Rattle.trace_codec.specs.declared.op.Op.TheVariants.{Read, Write, Zero}
 use Rattle.qmp_rules.specs.Table.{Table, node_at, job_at}
 use Rattle.qmp_rules.specs.Chains.{filtered, disk_node, written_under}
 use Rattle.blk_history.specs.Fold.{run, change}
-use Rattle.blk_history.specs.Disk.{span_of, piece, done_in}
+use Rattle.blk_history.specs.Disk.{piece, done_in}
 use Rattle.flat_machine.specs.State.{State, Guest, Disk, Dirty, guest_at, drive_of}
 use Rattle.blk_history.specs.Machine.{Flight, one_further, done_by}
 use Rattle.flat_machine.specs.Marking.{marked, where_recording}

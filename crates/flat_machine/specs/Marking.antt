@@ -1,6 +1,5 @@
 -- The dirty granules of bitmaps.
-use Rattle.std.specs.Prelude.{ℕ, ◌+◌, ◌*◌, ◌==◌, Bool, true, false, ◌&&◌, ◌||◌, not, if◌then◌else◌, List, [], ◌∷◌, length, replicate, map, filter, find, count_by, bytes_eq, Option, Some, None, option_map, unwrap_or}
-use Rattle.std.specs.List.{range_with_len}
+use Rattle.std.specs.Prelude.{ℕ, ◌*◌, ◌==◌, Bool, true, false, ◌&&◌, ◌||◌, if◌then◌else◌, List, length, replicate, map, find, count_by, bytes_eq, Option, Some, None, option_map, unwrap_or}
 use Rattle.blk_base.specs.Pieces.{Extent}
 use Rattle.blk_bits.specs.Granules.{contains, those_below, merged}
 use Rattle.blk_bitmaps.specs.Rows.{granule_count, touches, with_frozen}

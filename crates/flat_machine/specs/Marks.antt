@@ -1,16 +1,18 @@
 -- Marks, and drained moments.
-use Rattle.std.specs.Prelude.{◌≡◌, ℕ, ◌+◌, ◌<◌, ◌==◌, Bool, true, false, ◌&&◌, ◌||◌, not, if◌then◌else◌, List, [], ◌∷◌, ◌++◌, length, filter, All, Contains, Option, Some, None, option_and_then, option_map, IsSome, Result, Ok, Err}
+use Rattle.std.specs.Prelude.{◌≡◌, ℕ, ◌<◌, ◌==◌, Bool, true, false, ◌&&◌, not, if◌then◌else◌, List, [], ◌∷◌, ◌++◌, filter, All, Option, Some, None, IsSome, option_and_then, Result, Ok}
 use Rattle.std.specs.List.{list_any}
 use Rattle.qmp_codec.specs.Commands.{Act, Cmd}
 use Rattle.qmp_codec.specs.Lines.{Stop, command_at}
 use Rattle.qmp_codec.specs.declared.command.Action.TheVariants as action
 use Rattle.qmp_codec.specs.declared.command.Command.TheVariants as command
 use Rattle.qmp_codec.specs.declared.event.JobKind.{JobKind}
-use Rattle.qmp_codec.specs.declared.event.JobKind.TheVariants.{Stream, Commit, Mirror, Backup}
+use Rattle.qmp_codec.specs.declared.event.JobKind.TheVariants.{Commit, Mirror, Backup}
 use Rattle.qmp_rules.specs.declared.rows.Asked.{Asked}
 use Rattle.qmp_rules.specs.declared.rows.Asked.TheVariants as asked
 use Rattle.qmp_rules.specs.declared.rows.JobRecord.{JobRecord}
 use Rattle.qmp_rules.specs.Table.{Table, id_named, device_named, job_at}
+use Rattle.qmp_rules.specs.declared.told.Told.{Told}
+use Rattle.qmp_rules.specs.Answers.{refusal_of}
 use Rattle.qmp_rules.specs.Chains.{has_id, disk_node}
 use Rattle.blk_history.specs.Fold.{Each, With}
 use Rattle.flat_machine.specs.State.{State, Guest, guest_at, disk_of_guest}
@@ -141,3 +143,25 @@ holds t drains (Some node) = list_any (is_on t node) (drains.command ++ job_disk
 
 abbrev pub is_held : State → Drains → ℕ → Bool
 is_held s drains g = holds s.table drains (disk_of_guest s.table g)
+
+-- ---- what has to come again
+
+-- a request that is in flight on one of these disks
+pub record IsInTheWay (s : State) (disks : List ℕ) (g r : ℕ) : Type 0 where
+  pub request : With (guest_at s g) (λ row. (r ≡ row.done) × IsSome row.flight)
+  pub on_disk : With (disk_of_guest s.table g) (λ node. list_any (is_on s.table node) disks ≡ true)
+
+-- the first guest's, by number
+pub record MustWait (s : State) (disks : List ℕ) (g r : ℕ) : Type 0 where
+  pub waits : IsInTheWay s disks g r
+  pub first : (other : ℕ) → other < g → (request : ℕ) → IsInTheWay s disks other request → ⊥
+
+-- A command has to come again where nothing refuses it, and such a request is on a disk that it must drain; so has a job that
+-- is asked to end, for its source.
+pub record HasToComeAgain (s : State) (told : Told) (c : Cmd) (g r : ℕ) : Type 0 where
+  pub accepted : refusal_of s.table told c ≡ None
+  pub waits : MustWait s (drained_by s.table c) g r
+
+pub record HasToWait (s : State) (row : JobRow) (g r : ℕ) : Type 0 where
+  pub asked : must_drain row ≡ true
+  pub waits : MustWait s (row.source ∷ []) g r

@@ -1,5 +1,5 @@
 -- The state in which a run begins.
-use Rattle.std.specs.Prelude.{ℕ, List, [], ◌∷◌, map, None}
+use Rattle.std.specs.Prelude.{ℕ, List, [], map, None}
 use Rattle.blk_base.specs.declared.file.File.{File}
 use Rattle.qmp_rules.specs.Table.{Table, opening_table}
 use Rattle.flat_machine.specs.State.{State, Guest}

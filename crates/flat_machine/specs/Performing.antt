@@ -1,5 +1,5 @@
 -- What a change of the table is in the world: when it can be made, and what it does to nodes and files.
-use Rattle.std.specs.Prelude.{◌≡◌, ℕ, max, Bool, true, false, List, [], ◌∷◌, length, replicate, Option, Some, None, IsSome, option_map, unwrap_or}
+use Rattle.std.specs.Prelude.{◌≡◌, ℕ, max, List, [], ◌∷◌, length, replicate, Option, Some, None, IsSome, option_map, unwrap_or}
 use Rattle.q2_format.specs.Contents.{file_disk, raw_disk, image_disk}
 use Rattle.q2_format.specs.Created.{Creation, IsCreated, created_length, creation_of}
 use Rattle.blk_graph.specs.declared.edge.Role.TheVariants.{Backing}
@@ -8,7 +8,7 @@ use Rattle.blk_graph.specs.declared.kind.Kind.TheVariants.{Protocol, Raw, Qcow2}
 use Rattle.qmp_rules.specs.declared.rows.NodeRecord.{NodeRecord}
 use Rattle.qmp_rules.specs.declared.change.Change.{Change}
 use Rattle.qmp_rules.specs.declared.change.Change.TheVariants as change
-use Rattle.qmp_rules.specs.Table.{Table, node_at, child}
+use Rattle.qmp_rules.specs.Table.{node_at, child}
 use Rattle.qmp_rules.specs.Chains.{filter_role}
 use Rattle.blk_history.specs.Fold.{With}
 use Rattle.flat_machine.specs.State.{State, Content, Bytes, Blank, content_in, filename_of}
@@ -109,14 +109,14 @@ pub record IsFormatted (new_image : Creation) (old bytes : List ℕ) : Type 0 wh
   pub created : IsCreated new_image bytes
   pub length_is : length bytes ≡ max (length old) (created_length new_image)
 
-abbrev pub below_as : Contents → Option ℕ → List ℕ
-below_as c None = []
-below_as c (Some node) = c.reads node
+abbrev pub backing_reads : Contents → Option ℕ → List ℕ
+backing_reads c None = []
+backing_reads c (Some node) = c.reads node
 
 -- what a format node reads as when it is added
 abbrev pub format_as : State → Contents → NodeRecord → ℕ → Option ℕ → Kind → List ℕ
 format_as s c row file backing Raw = raw_disk row.offset row.size (c.reads file)
-format_as s c row file backing Qcow2 = image_disk (held_bytes c (unwrap_or (filename_of s.table file) [])) (below_as c backing)
+format_as s c row file backing Qcow2 = image_disk (held_bytes c (unwrap_or (filename_of s.table file) [])) (backing_reads c backing)
 format_as s c row file backing driver = []
 
 abbrev pub Performed : State → Change → Contents → Contents → Type 0

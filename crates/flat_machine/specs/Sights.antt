@@ -5,7 +5,7 @@ use Rattle.q2_format.specs.Sizes.{clusters_for}
 use Rattle.q2_format.specs.Header.{header_of}
 use Rattle.q2_format.specs.Sound.{Refusal as Unsound, InHeader, image_refusal}
 use Rattle.q2_format.specs.Sound as sound
-use Rattle.q2_format.specs.Created.{Creation, created_length}
+use Rattle.q2_format.specs.Created.{created_length}
 use Rattle.q2_format.specs.declared.header.HeaderStop.TheVariants.{TooLarge}
 use Rattle.q2_image.specs.declared.stop.ImageStop.{ImageStop}
 use Rattle.q2_image.specs.declared.stop.ImageStop.TheVariants as stop
@@ -71,14 +71,14 @@ abbrev pub sight_of : Content → FileSight
 sight_of content = record { length = length_of content; image = image_sight content }
 
 -- the file that a command opens, or that of the file node under a new format node
-abbrev pub looked_at : Table → FileRef (List ℕ) → Option (List ℕ)
-looked_at t (file_ref.Name name) = option_and_then (λ row. row.filename) (node_named t name)
-looked_at t (file_ref.Inline file) = Some file.filename
+abbrev pub file_of_ref : Table → FileRef (List ℕ) → Option (List ℕ)
+file_of_ref t (file_ref.Name name) = option_and_then (λ row. row.filename) (node_named t name)
+file_of_ref t (file_ref.Inline file) = Some file.filename
 
 abbrev pub file_looked_at : Table → Added (List ℕ) → Option (List ℕ)
 file_looked_at t (added.File filename) = Some filename
-file_looked_at t (added.Raw raw) = looked_at t raw.file
-file_looked_at t (added.Qcow2 image) = looked_at t image.file
+file_looked_at t (added.Raw raw) = file_of_ref t raw.file
+file_looked_at t (added.Qcow2 image) = file_of_ref t image.file
 file_looked_at t driver = None
 
 abbrev pub sight_for : State → Added (List ℕ) → Option FileSight

@@ -1,5 +1,5 @@
 -- What holds of the tables of every state that a run comes to.
-use Rattle.std.specs.Prelude.{◌≡◌, ◌≢◌, ◌⊎◌, ℕ, Bool, true, false, List, Contains, Option, Some, None, IsSome}
+use Rattle.std.specs.Prelude.{◌≡◌, ◌⊎◌, ℕ, false, List, Contains, Option, Some, None, IsSome}
 use Rattle.blk_graph.specs.declared.edge.Edge.{Edge}
 use Rattle.blk_graph.specs.declared.edge.Parent.TheVariants.{Node}
 use Rattle.blk_graph.specs.declared.edge.Role.TheVariants.{File}
@@ -8,8 +8,7 @@ use Rattle.qmp_rules.specs.declared.rows.NodeRecord.{NodeRecord}
 use Rattle.qmp_rules.specs.declared.rows.FileState.{FileState}
 use Rattle.qmp_rules.specs.declared.rows.FileState.TheVariants.{Made, Formatted, Used}
 use Rattle.qmp_rules.specs.Table.{Table, node_at, file_state}
-use Rattle.blk_history.specs.Fold.{With}
-use Rattle.flat_machine.specs.State.{State, Content, Bytes, Blank, Unknown, content_in}
+use Rattle.flat_machine.specs.State.{State, Content, Bytes, Blank, content_in}
 
 -- ---- rows and edges
 

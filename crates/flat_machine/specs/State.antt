@@ -5,10 +5,7 @@ use Rattle.blk_graph.specs.declared.edge.Parent.TheVariants.{Guest as GuestOf}
 use Rattle.blk_graph.specs.declared.edge.Role.TheVariants.{Drive}
 use Rattle.blk_graph.specs.Edits.{child_of}
 use Rattle.q2_format.specs.Created.{Creation}
-use Rattle.trace_codec.specs.declared.op.Op.{Op}
-use Rattle.qmp_rules.specs.declared.rows.NodeRecord.{NodeRecord}
-use Rattle.qmp_rules.specs.declared.rows.Device.{Device}
-use Rattle.qmp_rules.specs.Table.{Table, node_at, device_at}
+use Rattle.qmp_rules.specs.Table.{Table, node_at}
 use Rattle.qmp_rules.specs.Chains.{disk_node, is_settled}
 use Rattle.blk_history.specs.Machine.{Flight}
 

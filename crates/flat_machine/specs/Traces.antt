@@ -1,7 +1,7 @@
 -- The lines of a guest's trace, whose requests may wait for answers to lines of the script.
 use Rattle.std.specs.Prelude.{ℕ, List, [], ◌∷◌, Option, Some, None}
 use Rattle.trace_codec.specs.declared.line.Line.{Line}
-use Rattle.trace_codec.specs.declared.line.Line.TheVariants.{Passed, Asks, Bad}
+use Rattle.trace_codec.specs.declared.line.Line.TheVariants.{Asks, Bad}
 use Rattle.trace_codec.specs.Line.{line_of}
 use Rattle.trace_codec.specs.Awaits.{trace_wait}
 use Rattle.trace_codec.specs.Trace.{lines_of}

@@ -1,6 +1,5 @@
 -- That a transcript, with its script and traces, is that of one history.
-use Rattle.std.specs.Prelude.{◌≡◌, ◌≢◌, ℕ, ◌<◌, ◌^◌, Bool, true, List, All, AllPairs, codes}
-use Rattle.blk_base.specs.declared.fault.Fault.{Fault}
+use Rattle.std.specs.Prelude.{◌≡◌, ◌≢◌, ℕ, ◌<◌, ◌^◌, true, List, All, AllPairs, codes}
 use Rattle.blk_base.specs.declared.fault.Fault.TheVariants as faults
 use Rattle.blk_base.specs.declared.fault.Outcome.{Outcome}
 use Rattle.blk_base.specs.declared.fault.Outcome.TheVariants.{Good, Torn, Io, NoSpace}

@@ -1,9 +1,9 @@
 -- What a piece of a guest's request does to nodes and files.
-use Rattle.std.specs.Prelude.{◌≡◌, ◌≢◌, ◌⊎◌, ℕ, Bool, true, false, ◌==◌, List, All, find, Option, Some, IsSome, option_and_then}
+use Rattle.std.specs.Prelude.{◌≡◌, ◌≢◌, ◌⊎◌, ℕ, true, ◌==◌, List, All, find, Option, Some, IsSome, option_and_then}
 use Rattle.blk_base.specs.Pieces.{Extent}
 use Rattle.blk_graph.specs.declared.edge.Role.TheVariants.{File}
 use Rattle.trace_codec.specs.declared.op.Op.{Op}
-use Rattle.trace_codec.specs.declared.op.Op.TheVariants.{Read, Write, Zero, Flush, Discard}
+use Rattle.trace_codec.specs.declared.op.Op.TheVariants.{Write, Zero}
 use Rattle.blk_base.specs.declared.fault.Outcome.{Outcome}
 use Rattle.qmp_rules.specs.declared.rows.NodeRecord.{NodeRecord}
 use Rattle.qmp_rules.specs.Table.{Table, node_at, child, has_name}

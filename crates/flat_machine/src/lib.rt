@@ -6,5 +6,8 @@ mod laws;
 mod opening;
 
 pub use blocked::Waits;
-pub use laws::{accepted_changes_can_be_made, changes_keep_disks, pieces_keep_disks, tables_stand};
+pub use laws::{
+    accepted_changes_can_be_made, changes_keep_disks, pieces_keep_disks, replies_keep_disks,
+    tables_stand,
+};
 pub use opening::Opening;

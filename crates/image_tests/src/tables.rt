@@ -1,7 +1,6 @@
-//! Tables that are loaded from a small image, those that are refused, and links.
-ghost use Rattle.std.specs.Prelude.{◌≡◌, IfOk, replicate};
+//! Tables that are loaded from a small image, and those that are refused.
 
-use blk_base::{DevStop, Device};
+use blk_base::Device;
 use blk_fakes::{FailAt, MemDevice};
 use q2_format::read_header;
 use q2_tables::{Mapping, Tables, TablesStop, load_tables};
@@ -131,64 +130,4 @@ fn tells_a_failed_read(rt: HostRuntime) {
     }
     let fails = [FailAt { call: 2, done: 0 }];
     assert!(rt; load(rt.alloc(), &[NAMES_TABLE], &fails).is_ok());
-}
-
-/// Tables of clusters of 64 bytes, with two L1 entries behind the first cluster and no L2 table.
-fn small(alloc: Global) -> Result<Tables, AllocError>
-    ensures { IfOk result (λ tables. tables ≡ record { c = 64; l1_offset = 64; l1 = replicate 2 0; words = replicate 16 0 }) }
-{
-    Ok(Tables {
-        cluster_size: 64,
-        l1_offset: 64,
-        l1: vec![in alloc; 0; 2]?,
-        words: vec![in alloc; 0; 16]?,
-        buffer: vec![in alloc; 7; 64]?,
-    })
-}
-
-#[test]
-fn links_a_new_table(rt: HostRuntime) -> Result<(), Fail> {
-    let alloc = rt.alloc();
-    let mut dev = MemDevice::new(alloc, &[], 2_048, &[], 2, 72)?;
-    let mut tables = small(alloc)?;
-    let linked = tables.link(&mut dev, 9, Mapping::Host { host: 512 }, true, 1_024);
-    assert_eq!(rt; linked, Ok(()));
-    assert_eq!(rt; tables.l1(), [0, (1 << 63) + 1_024].as_slice());
-    assert_eq!(rt; tables.words().len(), 16);
-    assert_eq!(rt; tables.lookup(9), Mapping::Host { host: 512 });
-    assert_eq!(rt; tables.lookup(8), Mapping::Unallocated);
-    // First the table, whole, and then the entry that names it.
-    assert_eq!(rt; dev.length(), 1_088);
-    let bytes = dev.bytes();
-    assert_eq!(rt;
-        bytes.get(72..80),
-        Some([0x80, 0, 0, 0, 0, 0, 4, 0].as_slice())
-    );
-    assert_eq!(rt;
-        bytes.get(1_032..1_040),
-        Some([0x80, 0, 0, 0, 0, 0, 2, 0].as_slice())
-    );
-    assert_eq!(rt; bytes.get(1_024..1_032), Some([0; 8].as_slice()));
-    assert_eq!(rt; bytes.get(1_080..1_088), Some([0; 8].as_slice()));
-    Ok(())
-}
-
-#[test]
-fn a_stopped_link_changes_no_mapping(rt: HostRuntime) -> Result<(), Fail> {
-    let alloc = rt.alloc();
-    let rows = [
-        (0, 2_048, DevStop::Io { count: 1 }),
-        (1, 2_048, DevStop::Io { count: 1 }),
-        (9, 1_087, DevStop::NoSpace),
-    ];
-    for (call, capacity, stop) in rows {
-        let fails = [FailAt { call, done: 8 }];
-        let mut dev = MemDevice::new(alloc, &[], capacity, &fails, 2, 72)?;
-        let mut tables = small(alloc)?;
-        let linked = tables.link(&mut dev, 9, Mapping::Host { host: 512 }, true, 1_024);
-        assert_eq!(rt; linked, Err(stop));
-        assert_eq!(rt; tables.l1(), [0, 0].as_slice());
-        assert_eq!(rt; tables.lookup(9), Mapping::Unallocated);
-    }
-    Ok(())
 }

@@ -1,0 +1,354 @@
+-- What a write to the file of one node leaves of the nodes.
+use Rattle.std.proofs.Common.{◌≡◌, ◌≢◌, ℕ, zero, suc, ◌+◌, ◌<◌, ◌≤◌, List, [], ◌∷◌, length, take, Option, Some, None, refl, sym, ◌∙◌, ap, subst, arith, inl, inr}
+use Rattle.std.specs.Prelude.{IsSome, option_map}
+use Rattle.std.proofs.lemmas.Bool.{cases_eq}
+use Rattle.std.proofs.lemmas.List.{length-take}
+use Rattle.blk_base.specs.Content.{bytes_at, with_bytes}
+use Rattle.blk_base.specs.declared.fault.Outcome.{Outcome}
+use Rattle.blk_base.specs.declared.fault.Outcome.TheVariants.{Good, Torn, Io, NoSpace}
+use Rattle.blk_base.proofs.Contents.{bytes_at-by_place}
+use Rattle.raw_image.proofs.PartLemmas.{with_bytes-part}
+use Rattle.q2_format.proofs.ByPlace.{length-bytes_at as length-format_bytes, get_or-bytes_at as get_or-format_bytes}
+use Rattle.q2_format.specs.Contents.{file_disk, raw_disk, image_disk}
+use Rattle.q2_image.specs.Image.{Known, IsImageOf}
+use Rattle.blk_graph.specs.declared.edge.Edge.{Edge}
+use Rattle.blk_graph.specs.declared.edge.Role.TheVariants.{File as FileRole, Backing}
+use Rattle.blk_nodes.specs.Contents.{told, below, disk_by, disk_in, disk_of, bytes_by, bytes_of, file_node_disk}
+use Rattle.blk_nodes.specs.Joined.{IsFile, HasSize, IsPart, IsOverlay, HasBelow, IsJoined}
+use Rattle.blk_nodes.specs.Nodes.{Nodes, DeviceState, AreTold, row_at, device_in, size_by, size_of, file_of, backing_of}
+use Rattle.blk_nodes.specs.Reading.{LeadsTo}
+use Rattle.blk_nodes.specs.Sources.{in_file, step_by, step_of, source_of}
+use Rattle.blk_nodes.specs.Writing.{taken_by, OnlyAt, IsWriteOf, IsWriteAt, WritesPiece, OwnsFile, IsFileOrRaw, MayWrite, IsApart}
+use Rattle.blk_nodes.specs.Writing as writing
+use Rattle.blk_nodes.specs.declared.row.Driver.{Driver}
+use Rattle.blk_nodes.specs.declared.row.Driver.TheVariants.{File, Raw, Qcow2, CopyOnRead}
+use Rattle.blk_nodes.specs.declared.row.Row.{Row}
+use Rattle.blk_nodes.specs.declared.source.Source.{Source}
+use Rattle.blk_nodes.specs.declared.source.Source.TheVariants as sources
+use Rattle.blk_nodes.specs.declared.source.Step.{Step}
+use Rattle.blk_nodes.specs.declared.source.Step.TheVariants.{Found, Below}
+use Rattle.blk_nodes.proofs.Chains.{walk_ends}
+use Rattle.blk_nodes.proofs.HeldDevices.{told_held}
+use Rattle.blk_nodes.proofs.Joints.{once_by_nodes, held_by}
+use Rattle.blk_nodes.proofs.KeptDisks.{disk_of_file, disk_of_raw}
+use Rattle.blk_nodes.proofs.Leading.{leads_on, child_leads}
+use Rattle.blk_nodes.proofs.Disks.{disk_same}
+use Rattle.blk_nodes.proofs.Additions.{some_row}
+use Rattle.blk_nodes.proofs.Unfolding.{StartsAt, no_path}
+use Rattle.blk_graph.specs.Graph.{HasNode}
+use Rattle.blk_graph.specs.declared.edge.Parent.TheVariants.{Node}
+use Rattle.blk_graph.proofs.ChildLemmas.{child-edge}
+use Rattle.blk_nodes.specs.Flushing.{IsFlushAt, base_in, base_of}
+
+-- where no path leads to the file that changed, the disk stays
+module _ (nodes : Nodes) (devices : List DeviceState) (file : ℕ) (only : OnlyAt file nodes.devices devices) where
+  abbrev after : Nodes
+  after = record nodes { devices = devices }
+
+  bytes_stay : (other : ℕ) → other ≢ file → bytes_of after other ≡ bytes_of nodes other
+  bytes_stay other apart = ap bytes_by (only.others other apart)
+
+  child_apart : (node child : ℕ) → (LeadsTo nodes.graph.edges node file → ⊥) → LeadsTo nodes.graph.edges node child → child ≢ file
+  child_apart node child none leads = λ same. none (subst (LeadsTo nodes.graph.edges node) same leads)
+
+  bytes_below : (node : ℕ) → (LeadsTo nodes.graph.edges node file → ⊥) → (found : Option ℕ) → file_of nodes node ≡ found
+      → below (bytes_of after) found ≡ below (bytes_of nodes) found
+  bytes_below node none None is = refl
+  bytes_below node none (Some child) is =
+      bytes_stay child (child_apart node child none (child_leads nodes.graph.edges node child FileRole is))
+
+  file_below : (node : ℕ) → (LeadsTo nodes.graph.edges node file → ⊥) → (found : Option ℕ) → file_of nodes node ≡ found
+      → below (file_node_disk after) found ≡ below (file_node_disk nodes) found
+  file_below node none None is = refl
+  file_below node none (Some child) is =
+      ap (file_disk (size_of nodes child)) (bytes_stay child (child_apart node child none (child_leads nodes.graph.edges node child FileRole is)))
+
+  over_below : (f g : ℕ → List ℕ) → ((n : ℕ) → (LeadsTo nodes.graph.edges n file → ⊥) → f n ≡ g n) → (node : ℕ) → (LeadsTo nodes.graph.edges node file → ⊥)
+      → (found : Option ℕ) → ((child : ℕ) → found ≡ Some child → LeadsTo nodes.graph.edges node child) → below f found ≡ below g found
+  over_below f g each node none None leads = refl
+  over_below f g each node none (Some child) leads =
+      each child (λ rest. none (leads_on nodes.graph.edges node child file (leads child refl) rest))
+
+  by_driver : (f g : ℕ → List ℕ) → ((n : ℕ) → (LeadsTo nodes.graph.edges n file → ⊥) → f n ≡ g n) → (node : ℕ) → (LeadsTo nodes.graph.edges node file → ⊥)
+      → (driver : Driver) → disk_by after f node driver ≡ disk_by nodes g node driver
+  by_driver f g each node none File = ap (file_disk (size_of nodes node)) (bytes_stay node (λ same. none (inl same)))
+  by_driver f g each node none (Raw part) = ap (raw_disk part.offset part.size) (file_below node none (file_of nodes node) refl)
+  by_driver f g each node none (Qcow2 image) =
+      ap (λ (bytes : List ℕ). image_disk bytes (below f (backing_of nodes node))) (bytes_below node none (file_of nodes node) refl)
+      ∙ ap (image_disk (below (bytes_of nodes) (file_of nodes node)))
+      (over_below f g each node none (backing_of nodes node) (λ child is. child_leads nodes.graph.edges node child Backing is))
+  by_driver f g each node none CopyOnRead =
+      over_below f g each node none (file_of nodes node) (λ child is. child_leads nodes.graph.edges node child FileRole is)
+
+  by_row : (f g : ℕ → List ℕ) → ((n : ℕ) → (LeadsTo nodes.graph.edges n file → ⊥) → f n ≡ g n) → (node : ℕ) → (LeadsTo nodes.graph.edges node file → ⊥)
+      → (found : Option Row) → elim found as (λ _. List ℕ) [ None ↦ [] | Some row ↦ disk_by after f node row.driver ]
+      ≡ elim found as (λ _. List ℕ) [ None ↦ [] | Some row ↦ disk_by nodes g node row.driver ]
+  by_row f g each node none None = refl
+  by_row f g each node none (Some row) = by_driver f g each node none row.driver
+
+  kept_in : (turns node : ℕ) → (LeadsTo nodes.graph.edges node file → ⊥) → disk_in turns after node ≡ disk_in turns nodes node
+  kept_in zero node none = refl
+  kept_in (suc turns) node none = by_row (disk_in turns after) (disk_in turns nodes) (kept_in turns) node none (row_at nodes node)
+
+  pub disk_apart : (node : ℕ) → (LeadsTo nodes.graph.edges node file → ⊥) → disk_of after node ≡ disk_of nodes node
+  unfolding disk_of
+  disk_apart node none = kept_in 64 node none
+
+-- all still belongs together, where what is known of the file's image stays so
+module _ (nodes : Nodes) (devices : List DeviceState) (file : ℕ) (only : OnlyAt file nodes.devices devices)
+    (held : IsSome (device_in nodes.devices file)) (left : IsSome (device_in devices file)) (joined : IsJoined nodes)
+    (keeps : (node : ℕ) (row : Row) (image : Known) → row_at nodes node ≡ Some row → row.driver ≡ Qcow2 image → file_of nodes node ≡ Some file
+    → (device : DeviceState) (bytes : List ℕ) → device_in devices file ≡ Some device → device.content ≡ Some bytes → IsImageOf bytes image) where
+  abbrev changed : Nodes
+  changed = record nodes { devices = devices }
+
+  some_after : (node : ℕ) → IsSome (device_in nodes.devices node) → IsSome (device_in devices node)
+  some_after node some = elim (cases_eq node file) [
+    | inl same ↦ rw same left
+    | inr apart ↦ rw (only.others node apart) some
+  ]
+
+  some_before : (node : ℕ) → IsSome (device_in devices node) → IsSome (device_in nodes.devices node)
+  some_before node some = elim (cases_eq node file) [
+    | inl same ↦ rw same held
+    | inr apart ↦ rw (only.others node apart) at some
+  ]
+
+  file_after : (node : ℕ) → IsFile nodes node → IsFile changed node
+  file_after node is = record { row = is.row; there = is.there; driver = is.driver }
+
+  size_after : (node size : ℕ) → HasSize nodes node size → HasSize changed node size
+  size_after node size has = record { row = has.row; there = has.there; is = has.is }
+
+  known_after : (node : ℕ) (row : Row) (image : Known) → row_at nodes node ≡ Some row → row.driver ≡ Qcow2 image → (is : IsOverlay nodes node image)
+      → (device : DeviceState) (bytes : List ℕ) → device_in devices is.file ≡ Some device → device.content ≡ Some bytes → IsImageOf bytes image
+  known_after node row image there driver is device bytes has content = elim (cases_eq is.file file) [
+    | inl same ↦
+        keeps node row image there driver (is.edge ∙ ap (λ (n : ℕ). Some n) same) device bytes (ap (device_in devices) (sym same) ∙ has) content
+    | inr apart ↦ is.known device bytes (sym (only.others is.file apart) ∙ has) content
+  ]
+
+  below_after : (node : ℕ) (row : Row) (driver : Driver) → row_at nodes node ≡ Some row → row.driver ≡ driver
+      → HasBelow nodes node row.size driver → HasBelow changed node row.size driver
+  below_after node row File there driver is = some_after node is
+  below_after node row (Raw part) there driver is =
+      record { file = is.file; edge = is.edge; is_file = file_after is.file is.is_file; within = is.within }
+  below_after node row (Qcow2 image) there driver is = record {
+    file = is.file;
+    edge = is.edge;
+    is_file = file_after is.file is.is_file;
+    opened = is.opened;
+    known = known_after node row image there driver is;
+    backing = λ over edge. size_after over image.header.size (is.backing over edge);
+  }
+  below_after node row CopyOnRead there driver is =
+      record { child = is.child; edge = is.edge; same = size_after is.child row.size is.same }
+
+  pub joined_changed : IsJoined changed
+  joined_changed = record {
+    rows = joined.rows;
+    sound = joined.sound;
+    kinds = joined.kinds;
+    there = joined.there;
+    only = joined.only;
+    sized = joined.sized;
+    below = λ node row there. below_after node row row.driver there refl (joined.below node row there);
+    devices = λ node some. file_after node (joined.devices node (some_before node some));
+    once = once_by_nodes nodes.devices devices only.nodes joined.once;
+  }
+
+-- no more is written than was given
+pub length-written : (outcome : Outcome) (bytes : List ℕ) → length (taken_by outcome bytes) ≤ length bytes
+length-written Good bytes = omega arith
+length-written (Torn done dev count) bytes = omega (arith, length-take done bytes)
+length-written (Io dev count) bytes = omega arith
+length-written (NoSpace dev) bytes = omega arith
+
+-- the bytes of a file that was written
+pub bytes_written : (nodes : Nodes) (devices : List DeviceState) (file start : ℕ) (bytes : List ℕ) (outcome : Outcome) → AreTold nodes.devices
+    → IsWriteAt file nodes.devices devices start bytes outcome
+    → bytes_of (record nodes { devices = devices }) file ≡ with_bytes (bytes_of nodes file) start (taken_by outcome bytes)
+bytes_written nodes devices file start bytes outcome all at =
+    let old = told_held file nodes.devices all (rw at.held refl) in
+    let same : at.before ≡ old.0 = cc (sym at.held ∙ old.1) in
+    let before : at.before.content ≡ Some (bytes_of nodes file) = ap (λ (d : DeviceState). d.content) same ∙ old.2 in
+    ap bytes_by at.left
+    ∙ ap told (at.wrote.content ∙ ap (option_map (λ (b : List ℕ). with_bytes b start (taken_by outcome bytes))) before)
+
+-- a write within a part is that write of the part
+part_written : (b : List ℕ) (offset size start : ℕ) (xs : List ℕ) → start + length xs ≤ size
+    → raw_disk offset size (with_bytes b (offset + start) xs) ≡ with_bytes (raw_disk offset size b) start xs
+part_written b offset size start xs within =
+    same_bytes (with_bytes b (offset + start) xs) offset size ∙ with_bytes-part b offset size start xs within
+    ∙ ap (λ (d : List ℕ). with_bytes d start xs) (sym (same_bytes b offset size))
+  where
+    same_bytes : (f : List ℕ) (at n : ℕ) → raw_disk at n f ≡ bytes_at f at n
+    same_bytes f at n = bytes_at-by_place f (raw_disk at n f) at n (length-format_bytes f at n) (λ k below. get_or-format_bytes f at n k below)
+
+-- a node that may be written
+module _ (nodes : Nodes) (joined : IsJoined nodes) (node place : ℕ) (may : MayWrite nodes node) where
+  step_there : {driver : Driver} → may.row.driver ≡ driver → step_of nodes node place ≡ step_by node (file_of nodes node) (backing_of nodes node) place driver
+  step_there is =
+      ap (λ (found : Option Row). elim found as (λ _. Step) [
+        | None ↦ Found sources.Zeros
+        | Some row ↦ step_by node (file_of nodes node) (backing_of nodes node) place row.driver
+      ]) may.there ∙ ap (step_by node (file_of nodes node) (backing_of nodes node) place) is
+
+  -- where its bytes stand
+  stands_by : (driver : Driver) → may.row.driver ≡ driver → IsFileOrRaw driver → (file : ℕ) × (start : ℕ) × (source_of nodes node place ≡ sources.File file start)
+      × (writing.own_file nodes node driver ≡ Some file)
+  unfolding source_of
+  stands_by File is plain =
+      let step : step_of nodes node place ≡ Found (sources.File node place) = step_there is in
+      (node, place, walk_ends nodes node place (sources.File node place) 64 (omega arith) step, refl)
+  stands_by (Raw part) is plain =
+      let below : IsPart nodes node part.offset part.size = rw is at (joined.below node may.row may.there) in
+      let step : step_of nodes node place ≡ Found (sources.File below.file (part.offset + place))
+      = step_there is ∙ ap (λ (f : Option ℕ). in_file f (part.offset + place)) below.edge in
+      (below.file, part.offset + place, walk_ends nodes node place (sources.File below.file (part.offset + place)) 64 (omega arith) step, below.edge)
+  stands_by (Qcow2 image) is plain = absurd plain
+  stands_by CopyOnRead is plain = absurd plain
+
+  pub owned : (file start : ℕ) → source_of nodes node place ≡ sources.File file start
+      → (writing.own_file nodes node may.row.driver ≡ Some file) × OwnsFile nodes node file
+  owned file start stands =
+      let at = stands_by may.row.driver refl may.plain in
+      let same : at.0 ≡ file = cc (sym at.2 ∙ stands) in
+      let own : writing.own_file nodes node may.row.driver ≡ Some file = at.3 ∙ ap (λ (n : ℕ). Some n) same in
+      (own, may.owns file own)
+
+  pub stands : (file : ℕ) × (start : ℕ) × (source_of nodes node place ≡ sources.File file start)
+  stands = let at = stands_by may.row.driver refl may.plain in (at.0, at.1, at.2)
+
+  module _ (devices : List DeviceState) (file start : ℕ) (stands : source_of nodes node place ≡ sources.File file start) (bytes : List ℕ) (outcome : Outcome)
+      (at : IsWriteAt file nodes.devices devices start bytes outcome) where
+    abbrev wrote : Nodes
+    wrote = record nodes { devices = devices }
+
+    -- no image is in the file
+    no_image : (other : ℕ) (row : Row) (image : Known) → row_at nodes other ≡ Some row → row.driver ≡ Qcow2 image → file_of nodes other ≡ Some file → ⊥
+    no_image other row image there driver edge =
+        let same : other ≡ node = (owned file start stands).1 other edge in
+        let rows : row ≡ may.row = cc (sym there ∙ ap (row_at nodes) same ∙ may.there) in
+        subst IsFileOrRaw (ap (λ (r : Row). r.driver) (sym rows) ∙ driver) may.plain
+
+    pub joined_wrote : IsJoined wrote
+    joined_wrote =
+        joined_changed nodes devices file at.only (rw at.held refl) (rw at.left refl) joined
+        (λ other row image there driver edge device b has content. absurd (no_image other row image there driver edge))
+
+    pub others_wrote : (other : ℕ) → IsApart nodes other node → disk_of wrote other ≡ disk_of nodes other
+    others_wrote other apart = disk_apart nodes devices file at.only other (apart may.row file may.there (owned file start stands).0)
+
+    abbrev xs : List ℕ
+    xs = taken_by outcome bytes
+
+    disk_by_driver : AreTold nodes.devices → place + length xs ≤ may.row.size → (driver : Driver) → may.row.driver ≡ driver → IsFileOrRaw driver
+        → disk_of wrote node ≡ with_bytes (disk_of nodes node) place xs
+    unfolding source_of
+    disk_by_driver all inside File is plain =
+        let step : step_of nodes node place ≡ Found (sources.File node place) = step_there is in
+        let found = sym (walk_ends nodes node place (sources.File node place) 64 (omega arith) step) ∙ stands in
+        let here : node ≡ file = cc found in
+        let from : place ≡ start = cc found in
+        let bytes_are = bytes_written nodes devices file start bytes outcome all at in
+        disk_of_file wrote node may.row may.there is
+        ∙ ap (λ (n : ℕ). file_disk may.row.size (bytes_of wrote n)) here ∙ ap (file_disk may.row.size) bytes_are
+        ∙ ap (λ (n : ℕ). file_disk may.row.size (with_bytes (bytes_of nodes file) n xs)) (let e : start ≡ 0 + place = omega (arith, from) in e)
+        ∙ part_written (bytes_of nodes file) 0 may.row.size place xs inside
+        ∙ ap (λ (n : ℕ). with_bytes (file_disk may.row.size (bytes_of nodes n)) place xs) (sym here)
+        ∙ ap (λ (b : List ℕ). with_bytes b place xs) (sym (disk_of_file nodes node may.row may.there is))
+    disk_by_driver all inside (Raw part) is plain =
+        let below : IsPart nodes node part.offset part.size = rw is at (joined.below node may.row may.there) in
+        let sized = rw is at (joined.sized node may.row may.there) in
+        let size : part.size ≡ may.row.size = sized.0 in
+        let within = below.within in
+        let step : step_of nodes node place ≡ Found (sources.File below.file (part.offset + place))
+        = step_there is ∙ ap (λ (f : Option ℕ). in_file f (part.offset + place)) below.edge in
+        let found = sym (walk_ends nodes node place (sources.File below.file (part.offset + place)) 64 (omega arith) step) ∙ stands in
+        let here : below.file ≡ file = cc found in
+        let from : part.offset + place ≡ start = cc found in
+        let whole : ℕ = size_of nodes below.file in
+        let b : List ℕ = bytes_of nodes below.file in
+        let bytes_are : bytes_of wrote below.file ≡ with_bytes b (part.offset + place) xs
+        = ap (bytes_of wrote) here ∙ bytes_written nodes devices file start bytes outcome all at
+        ∙ ap (λ (n : ℕ). with_bytes (bytes_of nodes n) start xs) (sym here) ∙ ap (λ (n : ℕ). with_bytes b n xs) (sym from) in
+        disk_of_raw wrote node below.file part.offset part.size may.row may.there is below.edge
+        ∙ ap (λ (f : List ℕ). raw_disk part.offset part.size (file_disk whole f)) bytes_are
+        ∙ ap (λ (n : ℕ). raw_disk part.offset part.size (file_disk whole (with_bytes b n xs))) (let e : part.offset + place ≡ 0 + (part.offset + place) = omega arith in e)
+        ∙ ap (raw_disk part.offset part.size) (part_written b 0 whole (part.offset + place) xs (omega (arith, within, inside, size)))
+        ∙ part_written (file_disk whole b) part.offset part.size place xs (omega (arith, inside, size))
+        ∙ ap (λ (d : List ℕ). with_bytes d place xs) (sym (disk_of_raw nodes node below.file part.offset part.size may.row may.there is below.edge))
+    disk_by_driver all inside (Qcow2 image) is plain = absurd plain
+    disk_by_driver all inside CopyOnRead is plain = absurd plain
+
+    pub disk_wrote : AreTold nodes.devices → (n : ℕ) → length bytes ≡ n → place + n ≤ size_of nodes node
+        → disk_of wrote node ≡ with_bytes (disk_of nodes node) place xs
+    disk_wrote all n whole inside =
+        let size : size_of nodes node ≡ may.row.size = ap size_by may.there in
+        disk_by_driver all (omega (arith, whole, inside, size, length-written outcome bytes)) may.row.driver refl may.plain
+
+-- After a flush each device has the bytes that it had.
+module _ (nodes : Nodes) (devices : List DeviceState) (file : ℕ) (outcome : Outcome) (at : IsFlushAt file nodes.devices devices outcome) (joined : IsJoined nodes) where
+  content_same : at.after.content ≡ at.before.content
+  content_same = ap (λ (d : DeviceState). d.content) at.flush.is
+
+  pub joined_flushed : IsJoined (record nodes { devices = devices })
+  joined_flushed =
+      joined_changed nodes devices file at.only (rw at.held refl) (rw at.left refl) joined
+      (λ node row image there driver edge device bytes has content.
+      let below : IsOverlay nodes node image = rw driver at (joined.below node row there) in
+      let same : below.file ≡ file = cc (sym below.edge ∙ edge) in
+      let now : at.after ≡ device = cc (sym at.left ∙ has) in
+      below.known at.before bytes (ap (device_in nodes.devices) same ∙ at.held) (sym content_same ∙ ap (λ (d : DeviceState). d.content) now ∙ content))
+
+  bytes_same : (node : ℕ) → bytes_of (record nodes { devices = devices }) node ≡ bytes_of nodes node
+  bytes_same node = elim (cases_eq node file) [
+    | inl same ↦ rw (same, at.left, at.held, content_same) refl
+    | inr apart ↦ ap bytes_by (at.only.others node apart)
+  ]
+
+  pub disks_flushed : (node : ℕ) → disk_of (record nodes { devices = devices }) node ≡ disk_of nodes node
+  disks_flushed = disk_same nodes (record nodes { devices = devices }) (λ node. refl) bytes_same (λ node. refl) (λ node. refl)
+
+-- The node at the end of the `file` edges has a device.
+module _ (nodes : Nodes) (joined : IsJoined nodes) where
+  ends : (k turns node : ℕ) → (StartsAt nodes.graph.edges k node → ⊥) → k ≤ turns → file_of nodes (base_in turns nodes node) ≡ None
+  ends zero turns node none h = absurd (none tt)
+  ends (suc k) zero node none h = absurd (omega (arith, h))
+  ends (suc k) (suc turns) node none h = by_child (file_of nodes node) refl (ends k turns)
+    where
+      by_child : (found : Option ℕ) → file_of nodes node ≡ found
+          → ((next : ℕ) → (StartsAt nodes.graph.edges k next → ⊥) → k ≤ turns → file_of nodes (base_in turns nodes next) ≡ None)
+          → file_of nodes (elim found as (λ _. ℕ) [ None ↦ node | Some next ↦ base_in turns nodes next ]) ≡ None
+      by_child None is rest = is
+      by_child (Some next) is rest =
+          let edge = child-edge (Node node) FileRole nodes.graph.edges next is in
+          rest next (λ starts. none (edge.edge, edge.there, edge.from, rw edge.to starts)) (omega (arith, h))
+
+  -- and each of them is a node
+  there_in : (turns node : ℕ) → HasNode nodes.graph node → HasNode nodes.graph (base_in turns nodes node)
+  there_in zero node has = has
+  there_in (suc turns) node has = by_child (file_of nodes node) refl (there_in turns)
+    where
+      by_child : (found : Option ℕ) → file_of nodes node ≡ found → ((next : ℕ) → HasNode nodes.graph next → HasNode nodes.graph (base_in turns nodes next))
+          → HasNode nodes.graph (elim found as (λ _. ℕ) [ None ↦ node | Some next ↦ base_in turns nodes next ])
+      by_child None is rest = has
+      by_child (Some next) is rest =
+          let edge = child-edge (Node node) FileRole nodes.graph.edges next is in
+          rest next (rw edge.to at ((joined.sound.fit.each edge.edge edge.there).child))
+
+  -- a node without a `file` edge is one over a device
+  device_by : (node : ℕ) (row : Row) (driver : Driver) → file_of nodes node ≡ None → HasBelow nodes node row.size driver → IsSome (device_in nodes.devices node)
+  device_by node row File none is = is
+  device_by node row (Raw part) none is = let bad = sym none ∙ is.edge in absurd (cc bad)
+  device_by node row (Qcow2 image) none is = let bad = sym none ∙ is.edge in absurd (cc bad)
+  device_by node row CopyOnRead none is = let bad = sym none ∙ is.edge in absurd (cc bad)
+
+  pub base_held : (node : ℕ) → HasNode nodes.graph node → IsSome (device_in nodes.devices (base_of nodes node))
+  unfolding base_of
+  base_held node has =
+      let base : ℕ = base_in 64 nodes node in
+      let there = joined.there base (there_in 64 node has) in
+      let found = some_row (row_at nodes base) there in
+      device_by base found.0 found.0.driver (ends 64 64 node (no_path nodes joined 64 (omega arith) node) (omega arith)) (joined.below base found.0 found.1)

@@ -1,0 +1,18 @@
+use Rattle.std.proofs.Common.{List, get_or, sym, ◌∙◌, subst}
+use Rattle.blk_nodes.specs.Nodes.{DeviceState}
+use Rattle.blk_nodes.specs.Writing.{IsWriteOf}
+use Rattle.blk_nodes.proofs.HeldDevices.{is_placed, written_over}
+use Rattle.blk_nodes.proofs.devices.Devices.write_file.Goals as goal
+
+pub unreachable-requires : goal.unreachable-requires
+unreachable-requires g c = is_placed c.args.file c.args.self.now (sym c.place_of.ensures.place ∙ c.in-None.is) c.requires
+
+pub returns : goal.returns
+returns g c =
+    let items : List DeviceState = c.self.inside.list.items in
+    let x : DeviceState = c.index_mut-held.result.now in
+    let y : DeviceState = c.write.new.self in
+    let place = rw (sym c.self.view_is) at (sym c.in-Some.ensures.place) in
+    rw (sym c.self.view_is)
+    (written_over c.args.file items c.in-Some.at x y c.args.start c.args.bytes.now c.write.result place
+    (subst (λ (d : DeviceState). IsWriteOf d y c.args.start c.args.bytes.now c.write.result) c.index_mut-held.ensures.value c.write.ensures))

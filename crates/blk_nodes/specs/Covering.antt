@@ -1,0 +1,29 @@
+-- An overlay that is put over a node.
+use Rattle.std.specs.Prelude.{◌≡◌, ◌≢◌, ℕ, ◌==◌, if◌then◌else◌, Some}
+use Rattle.blk_graph.specs.Edits.{with_over}
+use Rattle.blk_graph.specs.Judged.{with_edges}
+use Rattle.q2_image.specs.Image.{Known}
+use Rattle.blk_nodes.specs.Joined.{HasSize}
+use Rattle.blk_nodes.specs.Nodes.{Nodes, row_at, file_of}
+use Rattle.blk_nodes.specs.declared.row.Driver.TheVariants.{Qcow2, CopyOnRead}
+use Rattle.blk_nodes.specs.declared.row.Row.{Row}
+
+-- where an edge leads afterwards
+abbrev pub moved_child : ℕ → ℕ → ℕ → ℕ
+moved_child node overlay child = if child == node then overlay else child
+
+-- the nodes with an overlay over one of them
+abbrev pub covered : ℕ → ℕ → Nodes → Nodes
+covered node overlay nodes = record nodes { graph = with_edges nodes.graph (with_over node overlay nodes.graph.edges) }
+
+-- A qcow2 node may be put over a node: it is another one, of the same size, and the node is no format node's file, since those
+-- edges never move.
+pub record IsCover (nodes : Nodes) (node overlay : ℕ) : Type 0 where
+  pub row : Row
+  pub image : Known
+  pub there : row_at nodes overlay ≡ Some row
+  pub driver : row.driver ≡ Qcow2 image
+  pub other : overlay ≢ node
+  pub same : HasSize nodes node image.header.size
+  pub files : (parent : ℕ) (row : Row) → row_at nodes parent ≡ Some row → file_of nodes parent ≡ Some node
+      → row.driver ≡ CopyOnRead

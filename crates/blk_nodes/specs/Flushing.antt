@@ -1,0 +1,41 @@
+-- What a flush of a node leaves and answers.
+use Rattle.std.specs.Prelude.{◌≡◌, ℕ, zero, suc, ◌||◌, List, Option, Some, None, option_map}
+use Rattle.blk_base.specs.Outcomes.{is_good}
+use Rattle.blk_base.specs.declared.fault.Outcome.{Outcome}
+use Rattle.blk_base.specs.declared.fault.Outcome.TheVariants.{Good, Torn, Io, NoSpace}
+use Rattle.blk_nodes.specs.Nodes.{Nodes, DeviceState, device_in, file_of}
+use Rattle.blk_nodes.specs.Reading.{StoppedBy}
+use Rattle.blk_nodes.specs.Writing.{OnlyAt}
+
+-- the node that stands at the end of a node's `file` edges, of which so many are followed
+abbrev pub base_in : ℕ → Nodes → ℕ → ℕ
+base_in zero nodes node = node
+base_in (suc turns) nodes node = elim (file_of nodes node) as (λ _. ℕ) [
+  | None ↦ node
+  | Some next ↦ base_in turns nodes next
+]
+
+-- no path has so many
+unfoldable pub base_of : Nodes → ℕ → ℕ
+base_of nodes node = base_in 64 nodes node
+
+-- why a flush went so
+abbrev pub HasFlushCause : DeviceState → DeviceState → Outcome → Type 0
+HasFlushCause old new Good = new.faults ≡ old.faults
+HasFlushCause old new (Torn done dev count) = ⊥
+HasFlushCause old new (Io dev count) = StoppedBy old new dev count
+HasFlushCause old new (NoSpace dev) = ⊥
+
+-- a device after a flush
+pub record IsFlushOf (old new : DeviceState) (outcome : Outcome) : Type 0 where
+  pub is : new ≡ record old { is_flushed = option_map (λ f. is_good outcome || f) old.is_flushed; faults = new.faults }
+  pub cause : HasFlushCause old new outcome
+
+-- the device of a `file` node after it, and all others as before
+pub record IsFlushAt (file : ℕ) (old new : List DeviceState) (outcome : Outcome) : Type 0 where
+  pub before : DeviceState
+  pub after : DeviceState
+  pub held : device_in old file ≡ Some before
+  pub left : device_in new file ≡ Some after
+  pub flush : IsFlushOf before after outcome
+  pub only : OnlyAt file old new

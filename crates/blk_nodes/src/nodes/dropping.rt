@@ -1,0 +1,41 @@
+//! A node that goes.
+ghost use Rattle.std.specs.Prelude.{◌≡◌, ℕ, None, Some, Err, IsOk, IfOk, OnOk, OnErr, MatchOption};
+ghost use Rattle.blk_graph.specs.Graph.{HasNode};
+ghost use Rattle.blk_graph.specs.Judged.{first_parent};
+ghost use Rattle.blk_nodes.specs.Contents.{disk_of};
+ghost use Rattle.blk_nodes.specs.Dropping.{without};
+ghost use Rattle.blk_nodes.specs.Nodes.{DeviceState, device_in};
+
+use crate::nodes::Nodes;
+use blk_base::Device;
+use blk_graph::{GraphStop, NodeId};
+
+impl<D: Device> Nodes<D> {
+    /// Drops a node that no edge leads to, with the edges that it makes, and gives a `file` node's device back.
+    pub fn drop_node(&mut self, node: NodeId) -> Result<Option<D>, GraphStop>
+        requires { HasNode self.old.graph node }
+        ensures answer { MatchOption (first_parent node self.old.graph.edges) (IsOk result)
+            (λ parent. result ≡ Err (GraphStop.InUse parent)) }
+        ensures ok { OnOk result (self.new ≡ without node self.old) }
+        ensures back { IfOk result (λ device. MatchOption device (device_in self.old.devices node ≡ None)
+            (λ device. (held : DeviceState) × (device_in self.old.devices node ≡ Some held) × (held ≡ record held {
+              content = D.content device;
+              is_flushed = D.is_flushed device;
+              log = D.log device;
+              size = D.size device;
+              capacity = D.capacity device;
+              faults = D.faults device;
+            }))) }
+        ensures disks { OnOk result ((other : ℕ) → HasNode self.new.graph other
+            → disk_of self.new other ≡ disk_of self.old other) }
+        ensures err { OnErr result (self.new ≡ self.old) }
+    {
+        match self.graph.remove_node(node) {
+            Ok(()) => {
+                self.rows[node.index()] = None;
+                Ok(self.devices.take_out(node))
+            }
+            Err(stop) => Err(stop),
+        }
+    }
+}
