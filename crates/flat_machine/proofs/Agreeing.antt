@@ -5,7 +5,7 @@ use Rattle.std.specs.List.{find, filter}
 use Rattle.std.proofs.lemmas.Bool.{eqb-true, eq-eqb, ne_eqb, cases_eq}
 use Rattle.std.proofs.lemmas.List.Elements.{All-weaker, All-nil, All-cons, All-head, All-tail}
 use Rattle.blk_graph.proofs.Members.{find-Some, Contains-filter}
-use Rattle.qmp_rules.specs.declared.rows.NodeRow.{NodeRow}
+use Rattle.qmp_rules.specs.declared.rows.NodeRecord.{NodeRecord}
 use Rattle.qmp_rules.specs.Table.{node_at, has_name}
 use Rattle.qmp_rules.specs.Changes.{node_changed, unsettled, writable, without_row}
 use Rattle.blk_history.specs.Fold.{With}
@@ -21,20 +21,20 @@ use Rattle.flat_machine.proofs.Finds.{find-push, find-map, find-filter, bytes_in
 
 -- a node with a flat disk had one before
 pub record HadDisk (s : State) (node : ℕ) : Type 0 where
-  pub row : NodeRow
+  pub row : NodeRecord
   pub found : node_at s.table node ≡ Some row
   pub disk : HasDisk row
 
 -- each node with a flat disk but these had one before
 abbrev pub RowsBut : (ℕ → Type 0) → State → State → Type 0
-RowsBut but s now = (node : ℕ) (row : NodeRow) → node_at now.table node ≡ Some row → HasDisk row → but node ⊎ HadDisk s node
+RowsBut but s now = (node : ℕ) (row : NodeRecord) → node_at now.table node ≡ Some row → HasDisk row → but node ⊎ HadDisk s node
 
 module _ (s now : State) where
   pub rows_same : now.table.nodes ≡ s.table.nodes → RowsBut Nothing s now
   rows_same e node row found disk =
       inr (record { row = row; found = subst (λ rows. find (λ r. r.id == node) rows ≡ Some row) e found; disk = disk })
 
-  pub rows_pushed : (new : NodeRow) → now.table.nodes ≡ s.table.nodes ++ new ∷ [] → RowsBut (λ node. node ≡ new.id) s now
+  pub rows_pushed : (new : NodeRecord) → now.table.nodes ≡ s.table.nodes ++ new ∷ [] → RowsBut (λ node. node ≡ new.id) s now
   rows_pushed new e node row found disk =
       let pushed = subst (λ rows. find (λ r. r.id == node) rows ≡ Some row) e found in
       elim (find-push (λ r. r.id == node) s.table.nodes new row pushed) [
@@ -43,7 +43,7 @@ module _ (s now : State) where
       ]
 
   -- a filter says nothing by itself
-  pub rows_filter : (new : NodeRow) → (HasDisk new → ⊥) → now.table.nodes ≡ s.table.nodes ++ new ∷ [] → RowsBut Nothing s now
+  pub rows_filter : (new : NodeRecord) → (HasDisk new → ⊥) → now.table.nodes ≡ s.table.nodes ++ new ∷ [] → RowsBut Nothing s now
   rows_filter new none e node row found disk =
       let pushed = subst (λ rows. find (λ r. r.id == node) rows ≡ Some row) e found in
       elim (find-push (λ r. r.id == node) s.table.nodes new row pushed) [
@@ -52,14 +52,14 @@ module _ (s now : State) where
       ]
 
   -- rows that were changed, and have no flat disk that they hadn't
-  pub rows_mapped : (f : NodeRow → NodeRow) → ((row : NodeRow) → (f row).id ≡ row.id)
-      → ((row : NodeRow) → HasDisk (f row) → HasDisk row) → now.table.nodes ≡ map f s.table.nodes → RowsBut Nothing s now
+  pub rows_mapped : (f : NodeRecord → NodeRecord) → ((row : NodeRecord) → (f row).id ≡ row.id)
+      → ((row : NodeRecord) → HasDisk (f row) → HasDisk row) → now.table.nodes ≡ map f s.table.nodes → RowsBut Nothing s now
   rows_mapped f same less e node row found disk =
       let mapped = subst (λ rows. find (λ r. r.id == node) rows ≡ Some row) e found in
       let of_old = sym (find-map (λ r. r.id == node) f (λ r. ap (λ id. id == node) (same r)) s.table.nodes) ∙ mapped in
       by_row (find (λ r. r.id == node) s.table.nodes) refl of_old
     where
-      by_row : (old : Option NodeRow) → find (λ r. r.id == node) s.table.nodes ≡ old → option_map f old ≡ Some row
+      by_row : (old : Option NodeRecord) → find (λ r. r.id == node) s.table.nodes ≡ old → option_map f old ≡ Some row
           → ⊥ ⊎ HadDisk s node
       by_row None was k = absurd cc
       by_row (Some r) was k =
@@ -67,14 +67,14 @@ module _ (s now : State) where
           inr (record { row = r; found = was; disk = less r (subst HasDisk (sym is) disk) })
 
   pub rows_dropped : (id : ℕ) → now.table.nodes ≡ without_row id s.table.nodes
-      → (node : ℕ) (row : NodeRow) → node_at now.table node ≡ Some row → HasDisk row → (node ≢ id) × HadDisk s node
+      → (node : ℕ) (row : NodeRecord) → node_at now.table node ≡ Some row → HasDisk row → (node ≢ id) × HadDisk s node
   rows_dropped id e node row found disk =
       let kept = subst (λ rows. find (λ r. r.id == node) rows ≡ Some row) e found in
       let passed = find-Some (λ r. r.id == node) (without_row id s.table.nodes) row kept in
       let stays = Contains-filter (λ r. not (r.id == id)) s.table.nodes row passed.0 in
       let is : row.id ≡ node = eqb-true row.id node passed.1 in
       let other : node ≢ id = λ same. gone (row.id == id) (eq-eqb row.id id (is ∙ same)) stays.1 in
-      let keeps : (r : NodeRow) → (r.id == node) ≡ true → not (r.id == id) ≡ true =
+      let keeps : (r : NodeRecord) → (r.id == node) ≡ true → not (r.id == id) ≡ true =
       λ r t. ap not (ne_eqb r.id id (λ same. other (sym (eqb-true r.id node t) ∙ same))) in
       (other, record { row = row; found = sym (find-filter (λ r. r.id == node) (λ r. not (r.id == id)) keeps s.table.nodes) ∙ kept; disk = disk })
     where
@@ -83,28 +83,28 @@ module _ (s now : State) where
       gone false e k = cc
 
 -- rows that lose their disks, or become writable
-pub less_unsettled : (id : ℕ) (row : NodeRow) → HasDisk (node_changed id unsettled row) → HasDisk row
+pub less_unsettled : (id : ℕ) (row : NodeRecord) → HasDisk (node_changed id unsettled row) → HasDisk row
 less_unsettled id row = by_test (row.id == id)
   where
     by_test : (b : Bool) → HasDisk (cond b (unsettled row) row) → HasDisk row
     by_test true h = absurd (let lost = h.settled in cc)
     by_test false h = h
 
-pub same_unsettled : (id : ℕ) (row : NodeRow) → (node_changed id unsettled row).id ≡ row.id
+pub same_unsettled : (id : ℕ) (row : NodeRecord) → (node_changed id unsettled row).id ≡ row.id
 same_unsettled id row = by_test (row.id == id)
   where
     by_test : (b : Bool) → (cond b (unsettled row) row).id ≡ row.id
     by_test true = refl
     by_test false = refl
 
-pub less_writable : (id : ℕ) (row : NodeRow) → HasDisk (node_changed id writable row) → HasDisk row
+pub less_writable : (id : ℕ) (row : NodeRecord) → HasDisk (node_changed id writable row) → HasDisk row
 less_writable id row = by_test (row.id == id)
   where
     by_test : (b : Bool) → HasDisk (cond b (writable row) row) → HasDisk row
     by_test true h = record { settled = h.settled; own = h.own }
     by_test false h = h
 
-pub same_writable : (id : ℕ) (row : NodeRow) → (node_changed id writable row).id ≡ row.id
+pub same_writable : (id : ℕ) (row : NodeRecord) → (node_changed id writable row).id ≡ row.id
 same_writable id row = by_test (row.id == id)
   where
     by_test : (b : Bool) → (cond b (writable row) row).id ≡ row.id
@@ -122,7 +122,7 @@ module _ (s now : State) (old new : Contents) where
 
   -- one node may read otherwise: it has no flat disk
   pub disks_but : (but : ℕ → Type 0) → RowsBut Nothing s now
-      → ((node : ℕ) (row : NodeRow) → node_at now.table node ≡ Some row → HasDisk row → but node → ⊥)
+      → ((node : ℕ) (row : NodeRecord) → node_at now.table node ≡ Some row → HasDisk row → but node → ⊥)
       → now.disks ≡ s.disks → ReadSame but old new → ReadAsDisks s old → ReadAsDisks now new
   disks_but but rows none same reads before node row found disk = elim (rows node row found disk) [
     | inl never ↦ absurd never
@@ -141,7 +141,7 @@ module _ (s now : State) (old new : Contents) where
       ]
 
   pub disks_dropped : (id : ℕ)
-      → ((node : ℕ) (row : NodeRow) → node_at now.table node ≡ Some row → HasDisk row → (node ≢ id) × HadDisk s node)
+      → ((node : ℕ) (row : NodeRecord) → node_at now.table node ≡ Some row → HasDisk row → (node ≢ id) × HadDisk s node)
       → now.disks ≡ filter (λ d. not (d.node == id)) s.disks
       → ReadSame (λ node. node ≡ id) old new → ReadAsDisks s old → ReadAsDisks now new
   disks_dropped id rows dropped reads before node row found disk =

@@ -7,7 +7,7 @@ use Rattle.blk_graph.specs.declared.edge.Edge.{Edge}
 use Rattle.qmp_rules.specs.declared.ask.Ask.TheVariants as ask
 use Rattle.qmp_rules.specs.declared.ask.Drivers.{Drivers}
 use Rattle.qmp_rules.specs.declared.refusal.Refusal.{Refusal}
-use Rattle.qmp_rules.specs.declared.rows.NodeRow.{NodeRow}
+use Rattle.qmp_rules.specs.declared.rows.NodeRecord.{NodeRecord}
 use Rattle.qmp_rules.specs.declared.told.Told.{Told}
 use Rattle.qmp_rules.specs.Table.{Table, node_named, file_state, first_into}
 use Rattle.qmp_rules.specs.Chains.{is_settled}
@@ -47,16 +47,16 @@ good-value t told member ok h = not-false ok (not-refused (not ok) _ h)
 -- ---- asks
 
 module _ (t : Table) (told : Told) where
-  pub found-named : (name : List ℕ) → holds t told (ask.Found (Some name)) ≡ None → (row : NodeRow) × (node_named t name ≡ Some row)
+  pub found-named : (name : List ℕ) → holds t told (ask.Found (Some name)) ≡ None → (row : NodeRecord) × (node_named t name ≡ Some row)
   unfolding holds
   found-named name h = by_row (node_named t name) refl (not-refused _ _ h)
     where
-      by_row : (found : Option NodeRow) → node_named t name ≡ found → is_none found ≡ false
-          → (row : NodeRow) × (node_named t name ≡ Some row)
+      by_row : (found : Option NodeRecord) → node_named t name ≡ found → is_none found ≡ false
+          → (row : NodeRecord) × (node_named t name ≡ Some row)
       by_row None e k = absurd cc
       by_row (Some row) e k = (row, e)
 
-  pub takes-driver : (name : List ℕ) (which : Drivers) (row : NodeRow) → node_named t name ≡ Some row
+  pub takes-driver : (name : List ℕ) (which : Drivers) (row : NodeRecord) → node_named t name ≡ Some row
       → holds t told (ask.Drives (Some name) which) ≡ None → takes which row.kind ≡ true
   unfolding holds
   takes-driver name which row found h = not-false _ (not-refused _ _ (rw found at h))
@@ -73,7 +73,7 @@ module _ (t : Table) (told : Told) where
   unfolding holds
   known-file name is_raw h = not-refused _ _ h
 
-  pub lone-node : (name : List ℕ) (row : NodeRow) → node_named t name ≡ Some row → holds t told (ask.Lone name) ≡ None
+  pub lone-node : (name : List ℕ) (row : NodeRecord) → node_named t name ≡ Some row → holds t told (ask.Lone name) ≡ None
       → first_into row.id t.edges ≡ None
   unfolding holds
   lone-node name row found h = by_edge (first_into row.id t.edges) refl (rw found at h)
@@ -82,12 +82,12 @@ module _ (t : Table) (told : Told) where
       by_edge None e k = e
       by_edge (Some edge) e k = absurd cc
 
-  pub known-under : (name : List ℕ) (is_raw : Bool) (row : NodeRow) → node_named t name ≡ Some row → is_file row ≡ true
+  pub known-under : (name : List ℕ) (is_raw : Bool) (row : NodeRecord) → node_named t name ≡ Some row → is_file row ≡ true
       → holds t told (ask.KnownUnder name is_raw) ≡ None → is_lost is_raw (file_state t (name_of_file row)) ≡ false
   unfolding holds
   known-under name is_raw row found file h = not-refused _ _ (rw (found, file) at h)
 
-  pub settled-node : (name : List ℕ) (row : NodeRow) → node_named t name ≡ Some row → holds t told (ask.Settled (Some name)) ≡ None
+  pub settled-node : (name : List ℕ) (row : NodeRecord) → node_named t name ≡ Some row → holds t told (ask.Settled (Some name)) ≡ None
       → is_settled t row.id ≡ true
   unfolding holds
   settled-node name row found h = not-false _ (not-refused _ _ (rw found at h))

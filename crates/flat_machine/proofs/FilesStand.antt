@@ -9,7 +9,7 @@ use Rattle.blk_graph.specs.Refreshed.{refreshed}
 use Rattle.blk_graph.proofs.Members.{Contains-map, map-Contains}
 use Rattle.q2_format.specs.Created.{creation_of}
 use Rattle.qmp_codec.specs.declared.words.ImageFormat.{ImageFormat}
-use Rattle.qmp_rules.specs.declared.rows.NodeRow.{NodeRow}
+use Rattle.qmp_rules.specs.declared.rows.NodeRecord.{NodeRecord}
 use Rattle.qmp_rules.specs.declared.rows.FileState.{FileState}
 use Rattle.qmp_rules.specs.declared.rows.FileState.TheVariants.{Made, Formatted, Used}
 use Rattle.qmp_rules.specs.declared.change.Change.TheVariants as change
@@ -67,17 +67,17 @@ files_but name state t now is = record {
 
 -- ---- rows that stay, but for their disks
 
-pub record IsLike (row later : NodeRow) : Type 0 where
+pub record IsLike (row later : NodeRecord) : Type 0 where
   pub id : later.id ≡ row.id
   pub filename : later.filename ≡ row.filename
   pub kind : later.kind ≡ row.kind
 
-pub like-itself : (row : NodeRow) → IsLike row row
+pub like-itself : (row : NodeRecord) → IsLike row row
 like-itself row = record { id = refl; filename = refl; kind = refl }
 
 pub record SameRows (t now : Table) : Type 0 where
-  pub back : (later : NodeRow) → Contains now.nodes later → (row : NodeRow) × (Contains t.nodes row × IsLike row later)
-  pub forth : (row : NodeRow) → Contains t.nodes row → (later : NodeRow) × (Contains now.nodes later × IsLike row later)
+  pub back : (later : NodeRecord) → Contains now.nodes later → (row : NodeRecord) × (Contains t.nodes row × IsLike row later)
+  pub forth : (row : NodeRecord) → Contains t.nodes row → (later : NodeRecord) × (Contains now.nodes later × IsLike row later)
   pub apart : AreApart now
   pub there : (node : ℕ) → IsSome (node_at t node) → IsSome (node_at now node)
 
@@ -90,7 +90,7 @@ rows-same t now is apart = record {
   there = λ node h. subst (λ rows. IsSome (find (λ r. r.id == node) rows)) (sym is) h;
 }
 
-pub rows-mapped : (t now : Table) (f : NodeRow → NodeRow) → ((row : NodeRow) → IsLike row (f row)) → now.nodes ≡ map f t.nodes → AreApart t
+pub rows-mapped : (t now : Table) (f : NodeRecord → NodeRecord) → ((row : NodeRecord) → IsLike row (f row)) → now.nodes ≡ map f t.nodes → AreApart t
     → SameRows t now
 rows-mapped t now f like is apart = record {
   back = λ later there.
@@ -109,7 +109,7 @@ rows-mapped t now f like is apart = record {
     found : (node : ℕ) → find (λ r. r.id == node) (map f t.nodes) ≡ option_map f (node_at t node)
     found node = find-map (λ r. r.id == node) f (λ r. ap (λ k. k == node) (like r).id) t.nodes
 
-    still : (o : Option NodeRow) → IsSome o → IsSome (option_map f o)
+    still : (o : Option NodeRecord) → IsSome o → IsSome (option_map f o)
     still None h = absurd cc
     still (Some row) h = refl
 
@@ -118,9 +118,9 @@ rows-mapped t now f like is apart = record {
 module _ (s now : State) (name : List ℕ) (state : FileState) (content : Content) where
   pub file_stands : SameRows s.table now.table → now.table.edges ≡ s.table.edges → FilesBut name state s.table now.table
       → now.files ≡ with_content name content s.files
-      → ((other : List ℕ) (row later : NodeRow) → StandsFor s.table other row → IsLike row later → Contains now.table.nodes later
+      → ((other : List ℕ) (row later : NodeRecord) → StandsFor s.table other row → IsLike row later → Contains now.table.nodes later
       → later.is_settled ≡ false → ((other ≢ name) × (row.is_settled ≡ false)) ⊎ IsLostBy now.table other later)
-      → IsOfState (Some state) content → (state ≡ Formatted → (row : NodeRow) × StandsFor s.table name row) → Stands s → Stands now
+      → IsOfState (Some state) content → (state ≡ Formatted → (row : NodeRecord) × StandsFor s.table name row) → Stands s → Stands now
   file_stands rows edges files contents loses is_of formatted h = record {
     apart = rows.apart;
     edges = λ e there. ends-longer s.table now.table e rows.there (h.edges e (subst (λ es. Contains es e) edges there));
@@ -151,12 +151,12 @@ module _ (s now : State) (name : List ℕ) (state : FileState) (content : Conten
     formatted = λ other is. formatted_as other is (cases_name other name);
   }
     where
-      stood : (other : List ℕ) (later row : NodeRow) → Contains s.table.nodes row → IsLike row later → StandsFor now.table other later
+      stood : (other : List ℕ) (later row : NodeRecord) → Contains s.table.nodes row → IsLike row later → StandsFor now.table other later
           → StandsFor s.table other row
       stood other later row there like over = record { there = there; filename = sym like.filename ∙ over.filename }
 
-      stands_later : (other : List ℕ) (row : NodeRow) → StandsFor s.table other row
-          → (later : NodeRow) × (StandsFor now.table other later × IsLike row later)
+      stands_later : (other : List ℕ) (row : NodeRecord) → StandsFor s.table other row
+          → (later : NodeRecord) × (StandsFor now.table other later × IsLike row later)
       stands_later other row over =
           let after = rows.forth row over.there in
           (after.0, (record { there = after.1.0; filename = after.1.1.filename ∙ over.filename }, after.1.1))
@@ -170,7 +170,7 @@ module _ (s now : State) (name : List ℕ) (state : FileState) (content : Conten
           subst (λ fs. IsSome (content_in fs other)) (sym contents)
           (subst IsSome (sym (content_in-with_other name other content s.files differ)) some)
 
-      lost_as_before : (other : List ℕ) (row later : NodeRow) → IsLike row later → other ≢ name → IsLostBy s.table other row
+      lost_as_before : (other : List ℕ) (row later : NodeRecord) → IsLike row later → other ≢ name → IsLostBy s.table other row
           → IsLostBy now.table other later
       lost_as_before other row later like differ (inl used) = inl (files.others other differ ∙ used)
       lost_as_before other row later like differ (inr (inl image)) = inr (inl (files.others other differ ∙ image))
@@ -198,7 +198,7 @@ module _ (s now : State) (name : List ℕ) (state : FileState) (content : Conten
           subst (λ st. IsOfState st what) (sym (files.others other differ)) (h.states other what before (open_before other is_open))
 
       formatted_as : (other : List ℕ) → file_state now.table other ≡ Some Formatted → ((other ≡ name) ⊎ (other ≢ name))
-          → (row : NodeRow) × StandsFor now.table other row
+          → (row : NodeRecord) × StandsFor now.table other row
       formatted_as other is (inl same) =
           let here : file_state now.table name ≡ Some Formatted = subst (λ n. file_state now.table n ≡ Some Formatted) same is in
           let known = files.here in
@@ -212,14 +212,14 @@ module _ (s now : State) (name : List ℕ) (state : FileState) (content : Conten
           (after.0, after.1.0)
 
 -- rows of one id are one row
-pub same_row : (t : Table) → AreApart t → (row later : NodeRow) → Contains t.nodes row → Contains t.nodes later → later.id ≡ row.id → later ≡ row
+pub same_row : (t : Table) → AreApart t → (row later : NodeRecord) → Contains t.nodes row → Contains t.nodes later → later.id ≡ row.id → later ≡ row
 same_row t apart row later there there_later same =
     let a = apart row there in
     let b = subst (λ n. node_at t n ≡ Some later) same (apart later there_later) in
     cc
 
 -- a row of changed ones is that of the row with its id
-pub changed_row : (t : Table) (f : NodeRow → NodeRow) → ((row : NodeRow) → IsLike row (f row)) → AreApart t → (row later : NodeRow)
+pub changed_row : (t : Table) (f : NodeRecord → NodeRecord) → ((row : NodeRecord) → IsLike row (f row)) → AreApart t → (row later : NodeRecord)
     → Contains t.nodes row → Contains (map f t.nodes) later → later.id ≡ row.id → later ≡ f row
 changed_row t f like apart row later there there_later same =
     let from = Contains-map f t.nodes later there_later in
@@ -227,14 +227,14 @@ changed_row t f like apart row later there there_later same =
     let is : from.0 ≡ row = same_row t apart row from.0 there from.1 ids in
     from.2 ∙ ap f is
 
-pub like_lost : (name : List ℕ) (row : NodeRow) → IsLike row (lost_with name row)
+pub like_lost : (name : List ℕ) (row : NodeRecord) → IsLike row (lost_with name row)
 like_lost name row = by_test (stands_over name row.filename)
   where
     by_test : (b : Bool) → IsLike row (cond b (unsettled row) row)
     by_test true = record { id = refl; filename = refl; kind = refl }
     by_test false = record { id = refl; filename = refl; kind = refl }
 
-pub like_unsettled : (id : ℕ) (row : NodeRow) → IsLike row (node_changed id unsettled row)
+pub like_unsettled : (id : ℕ) (row : NodeRecord) → IsLike row (node_changed id unsettled row)
 like_unsettled id row = by_test (row.id == id)
   where
     by_test : (b : Bool) → IsLike row (cond b (unsettled row) row)
@@ -242,12 +242,12 @@ like_unsettled id row = by_test (row.id == id)
     by_test false = record { id = refl; filename = refl; kind = refl }
 
 -- another row keeps its disk
-pub kept_lost : (name other : List ℕ) (row : NodeRow) → row.filename ≡ Some other → other ≢ name → lost_with name row ≡ row
+pub kept_lost : (name other : List ℕ) (row : NodeRecord) → row.filename ≡ Some other → other ≢ name → lost_with name row ≡ row
 kept_lost name other row is differ =
     let no_match : stands_over name row.filename ≡ false = ap (stands_over name) is ∙ bytes_eq-other other name differ in
     rw no_match refl
 
-pub kept_unsettled : (id : ℕ) (row : NodeRow) → row.id ≢ id → node_changed id unsettled row ≡ row
+pub kept_unsettled : (id : ℕ) (row : NodeRecord) → row.id ≢ id → node_changed id unsettled row ≡ row
 kept_unsettled id row differ = let no_match : (row.id == id) ≡ false = ne_eqb row.id id differ in rw no_match refl
 
 pub use_stands : (s : State) (name : List ℕ) → Stands s → Stands (stepped s (change.UseFile name))
@@ -308,7 +308,7 @@ format_stands s node name size backing_file backing_fmt suits h =
     ])
     tt (λ is. (suits.row, suits.stands)) h
   where
-    one_file : (t : Table) → AreApart t → SuitsFormatting t node name → (row : NodeRow) (other : List ℕ) → StandsFor t other row
+    one_file : (t : Table) → AreApart t → SuitsFormatting t node name → (row : NodeRecord) (other : List ℕ) → StandsFor t other row
         → row.id ≡ node → other ≡ name
     one_file t apart suits row other over same =
         let is : row ≡ suits.row = same_row t apart suits.row row suits.stands.there over.there (same ∙ sym suits.is_node) in

@@ -13,7 +13,7 @@ use Rattle.blk_graph.specs.declared.kind.Kind.{Kind}
 use Rattle.blk_graph.specs.declared.kind.Kind.TheVariants.{Protocol, Raw, Qcow2, CopyOnRead, BeforeWrite, Mirror, Commit}
 use Rattle.blk_graph.proofs.Members.{find-Some}
 use Rattle.qmp_codec.specs.declared.words.ImageFormat.{ImageFormat}
-use Rattle.qmp_rules.specs.declared.rows.NodeRow.{NodeRow}
+use Rattle.qmp_rules.specs.declared.rows.NodeRecord.{NodeRecord}
 use Rattle.qmp_rules.specs.declared.change.Change.{Change}
 use Rattle.qmp_rules.specs.declared.change.Change.TheVariants as change
 use Rattle.qmp_rules.specs.Table.{Table, node_at, child}
@@ -33,7 +33,7 @@ own_node : (t : Table) (id : ℕ) (more : ℕ) → filtered t id ≡ None → di
 own_node t id more none = rw (none, disk_from) refl
 
 -- a node that is no filter reads by itself
-pub own_disk : (t : Table) (id : ℕ) (row : NodeRow) → node_at t id ≡ Some row → filter_role row.kind ≡ None → disk_node t id ≡ id
+pub own_disk : (t : Table) (id : ℕ) (row : NodeRecord) → node_at t id ≡ Some row → filter_role row.kind ≡ None → disk_node t id ≡ id
 unfolding disk_node
 own_disk t id row found own =
     let none : filtered t id ≡ None = rw (found, own) refl in
@@ -76,7 +76,7 @@ module _ (opening : List ℕ → Option (List ℕ)) where
       let held : IsAsKnown (Bytes whole.0) (old.held name) = subst (λ c. IsAsKnown c (old.held name)) whole.1 (known name content is) in
       rw (whole.1, held) refl
 
-  file_keeps : (s : State) (row : NodeRow) (t : Table) (old new : Contents) → t.nodes ≡ s.table.nodes ++ row ∷ [] → CanAddFile s row
+  file_keeps : (s : State) (row : NodeRecord) (t : Table) (old new : Contents) → t.nodes ≡ s.table.nodes ++ row ∷ [] → CanAddFile s row
       → Puts row.id (file_disk row.size (held_bytes old (filename_or row))) old new → Agrees opening s old
       → Agrees opening (record (put row.id (file_bytes row.size (content_in s.files (filename_or row))) s) { table = t }) new
   file_keeps s row t old new nodes can adds h =
@@ -101,7 +101,7 @@ module _ (opening : List ℕ → Option (List ℕ)) where
     unchanged = unchanged_named s (name_file name s) c c opening name refl (λ other differ. refl) h.unchanged;
   }
 
-  add_file_keeps : (s : State) (row : NodeRow) (old new : Contents) → CanAddFile s row
+  add_file_keeps : (s : State) (row : NodeRecord) (old new : Contents) → CanAddFile s row
       → Performed s (change.AddFile row) old new → Agrees opening s old → Agrees opening (stepped s (change.AddFile row)) new
   unfolding changed
   add_file_keeps s row old new can did h =
@@ -117,7 +117,7 @@ module _ (opening : List ℕ → Option (List ℕ)) where
 
   -- ---- a filter: it says nothing by itself
 
-  filter_keeps : (s : State) (row : NodeRow) (t : Table) (old new : Contents) → t.nodes ≡ s.table.nodes ++ row ∷ []
+  filter_keeps : (s : State) (row : NodeRecord) (t : Table) (old new : Contents) → t.nodes ≡ s.table.nodes ++ row ∷ []
       → CanAddFilter s row → ReadSame (λ node. node ≡ row.id) old new → HeldSame Nothing old new
       → Agrees opening s old → Agrees opening (record s { table = t }) new
   filter_keeps s row t old new nodes can reads files h = record {
@@ -135,7 +135,7 @@ module _ (opening : List ℕ → Option (List ℕ)) where
       rows : RowsBut Nothing s (record s { table = t })
       rows = rows_filter s (record s { table = t }) row (λ disk. is_none (filter_role row.kind) can.filter disk.own) nodes
 
-      apart : (node : ℕ) (found : NodeRow) → node_at t node ≡ Some found → HasDisk found → node ≡ row.id → ⊥
+      apart : (node : ℕ) (found : NodeRecord) → node_at t node ≡ Some found → HasDisk found → node ≡ row.id → ⊥
       apart node found is disk same = elim (rows node found is disk) [
         | inl never ↦ never
         | inr had ↦ let was = subst (λ n. node_at s.table n ≡ Some had.row) same had.found in let fresh = can.fresh in cc
@@ -143,7 +143,7 @@ module _ (opening : List ℕ → Option (List ℕ)) where
 
   -- ---- a format node
 
-  backing_bytes : (s : State) (old : Contents) (id : ℕ) → ReadAsDisks s old → (found : Option NodeRow) → node_at s.table id ≡ found
+  backing_bytes : (s : State) (old : Contents) (id : ℕ) → ReadAsDisks s old → (found : Option NodeRecord) → node_at s.table id ≡ found
       → With found HasDisk → old.reads id ≡ bytes_at_node s id
   backing_bytes s old id reads None is has = absurd has
   backing_bytes s old id reads (Some row) is has =
@@ -154,7 +154,7 @@ module _ (opening : List ℕ → Option (List ℕ)) where
   below_bytes s old None reads has = refl
   below_bytes s old (Some id) reads has = backing_bytes s old id reads (node_at s.table id) refl has
 
-  raw_bytes : (s : State) (old : Contents) (file : ℕ) → ReadAsDisks s old → (found : Option NodeRow) → node_at s.table file ≡ found
+  raw_bytes : (s : State) (old : Contents) (file : ℕ) → ReadAsDisks s old → (found : Option NodeRecord) → node_at s.table file ≡ found
       → With found HasDisk → old.reads file ≡ bytes_in s.disks file
   raw_bytes s old file reads None is has = absurd has
   raw_bytes s old file reads (Some row) is has = reads file row is has
@@ -176,7 +176,7 @@ module _ (opening : List ℕ → Option (List ℕ)) where
       by_held (Some bytes) blank = created_disk new bytes below blank.created
   image_reads s old (Some name) below (Some Unknown) known is can = absurd can
 
-  format_reads : (s : State) (old : Contents) (row : NodeRow) (file : ℕ) (backing : Option ℕ) (driver : Kind) → CanRead s file driver
+  format_reads : (s : State) (old : Contents) (row : NodeRecord) (file : ℕ) (backing : Option ℕ) (driver : Kind) → CanRead s file driver
       → IsBacking s backing → Agrees opening s old → format_as s old row file backing driver ≡ format_bytes s row file backing driver
   format_reads s old row file backing Raw can backed h =
       ap (raw_disk row.offset row.size) (raw_bytes s old file h.disks (node_at s.table file) refl can)
@@ -190,7 +190,7 @@ module _ (opening : List ℕ → Option (List ℕ)) where
   format_reads s old row file backing Commit can backed h = absurd can
 
   -- the rows of a table whose `file` node lost its disk, with one more
-  format_rows : (s now : State) (row : NodeRow) (file : ℕ) → now.table.nodes ≡ with_unsettled file s.table.nodes ++ row ∷ []
+  format_rows : (s now : State) (row : NodeRecord) (file : ℕ) → now.table.nodes ≡ with_unsettled file s.table.nodes ++ row ∷ []
       → RowsBut (λ node. node ≡ row.id) s now
   format_rows s now row file nodes node found is disk =
       elim (rows_pushed between now row nodes node found is disk) [
@@ -248,7 +248,7 @@ module _ (opening : List ℕ → Option (List ℕ)) where
   absent_if (Some name) s now old new files held h =
       absent_put s now old new name Unknown files (λ other differ. held other (λ never. never)) h
 
-  add_format_keeps : (s : State) (row : NodeRow) (file : ℕ) (backing : Option ℕ) (old new : Contents) → CanAddFormat s row file backing
+  add_format_keeps : (s : State) (row : NodeRecord) (file : ℕ) (backing : Option ℕ) (old new : Contents) → CanAddFormat s row file backing
       → Performed s (change.AddFormat row file backing) old new → Agrees opening s old
       → Agrees opening (stepped s (change.AddFormat row file backing)) new
   unfolding changed
@@ -269,7 +269,7 @@ module _ (opening : List ℕ → Option (List ℕ)) where
   -- ---- a node that goes
 
   -- the disk that it leaves is what its driver reads from its file
-  left_reads : (s : State) (node : ℕ) (row : NodeRow) (old new : Contents) → node_at s.table node ≡ Some row → Removes s node old new
+  left_reads : (s : State) (node : ℕ) (row : NodeRecord) (old new : Contents) → node_at s.table node ≡ Some row → Removes s node old new
       → Agrees opening s old → (left : Left) → left_disk s row ≡ Some left → IsLeftAs new left
   left_reads s node row old new found did h left is = by_settled row.is_settled refl (child s.table row.id Backing) refl is
     where
@@ -321,7 +321,7 @@ module _ (opening : List ℕ → Option (List ℕ)) where
   left_alone (Some gone) s = record { disks = refl; files = refl; named = refl }
 
   left_keeps : (s now : State) (node : ℕ) (old new : Contents) → Removes s node old new → Agrees opening s old
-      → (found : Option NodeRow) → node_at s.table node ≡ found
+      → (found : Option NodeRecord) → node_at s.table node ≡ found
       → now.left ≡ (leave (option_and_then (left_disk s) found) s).left → All (IsLeftAs new) now.left
   left_keeps s now node old new did h None is left = left_kept s now old new left did.files h.left
   left_keeps s now node old new did h (Some row) is left = by_left (left_disk s row) refl left
@@ -353,7 +353,7 @@ module _ (opening : List ℕ → Option (List ℕ)) where
   -- a file is made anew: no disk is left in it, and a command named it
   made_keeps : (s : State) (t : Table) (name : List ℕ) (content : Content) (but : ℕ → Type 0) (old new : Contents)
       → RowsBut Nothing s (record s { table = t })
-      → ((node : ℕ) (row : NodeRow) → node_at t node ≡ Some row → HasDisk row → but node → ⊥)
+      → ((node : ℕ) (row : NodeRecord) → node_at t node ≡ Some row → HasDisk row → but node → ⊥)
       → Makes but name old new → IsAsKnown content (new.held name) → Agrees opening s old
       → Agrees opening (record (make name content s) { table = t }) new
   made_keeps s t name content but old new rows apart makes is h =
@@ -406,17 +406,17 @@ module _ (opening : List ℕ → Option (List ℕ)) where
   blank_length s old name bytes new_image (Some Unknown) h is long n e = absurd cc
 
   -- a `file` node that lost its disk has none
-  lost : (id : ℕ) (rows : List NodeRow) (row : NodeRow) → find (λ r. r.id == id) (with_unsettled id rows) ≡ Some row
+  lost : (id : ℕ) (rows : List NodeRecord) (row : NodeRecord) → find (λ r. r.id == id) (with_unsettled id rows) ≡ Some row
       → HasDisk row → ⊥
   lost id rows row found disk =
       let of_old = sym (find-map (λ r. r.id == id) (node_changed id unsettled) (λ r. ap (λ k. k == id) (same_unsettled id r)) rows) ∙ found in
       by_row (find (λ r. r.id == id) rows) refl of_old
     where
-      by_test : (r : NodeRow) (b : Bool) → (r.id == id) ≡ b → b ≡ true → cond b (unsettled r) r ≡ row → ⊥
+      by_test : (r : NodeRecord) (b : Bool) → (r.id == id) ≡ b → b ≡ true → cond b (unsettled r) r ≡ row → ⊥
       by_test r true e t is = let settled = disk.settled in cc
       by_test r false e t is = cc
 
-      by_row : (was : Option NodeRow) → find (λ r. r.id == id) rows ≡ was → option_map (node_changed id unsettled) was ≡ Some row → ⊥
+      by_row : (was : Option NodeRecord) → find (λ r. r.id == id) rows ≡ was → option_map (node_changed id unsettled) was ≡ Some row → ⊥
       by_row None e k = cc
       by_row (Some r) e k = by_test r (r.id == id) refl (find-Some (λ x. x.id == id) rows r e).1 cc
 
@@ -445,35 +445,35 @@ module _ (opening : List ℕ → Option (List ℕ)) where
       }
 
   -- a node over a spoiled file has no disk
-  same_lost : (name : List ℕ) (row : NodeRow) → (lost_with name row).id ≡ row.id
+  same_lost : (name : List ℕ) (row : NodeRecord) → (lost_with name row).id ≡ row.id
   same_lost name row = by_test (stands_over name row.filename)
     where
       by_test : (b : Bool) → (cond b (unsettled row) row).id ≡ row.id
       by_test true = refl
       by_test false = refl
 
-  less_lost : (name : List ℕ) (row : NodeRow) → HasDisk (lost_with name row) → HasDisk row
+  less_lost : (name : List ℕ) (row : NodeRecord) → HasDisk (lost_with name row) → HasDisk row
   less_lost name row = by_test (stands_over name row.filename)
     where
       by_test : (b : Bool) → HasDisk (cond b (unsettled row) row) → HasDisk row
       by_test true h = absurd (let settled = h.settled in cc)
       by_test false h = h
 
-  spoiled_node : (s : State) (name : List ℕ) (node : ℕ) (row : NodeRow) → find (λ r. r.id == node) (map (lost_with name) s.table.nodes) ≡ Some row
+  spoiled_node : (s : State) (name : List ℕ) (node : ℕ) (row : NodeRecord) → find (λ r. r.id == node) (map (lost_with name) s.table.nodes) ≡ Some row
       → HasDisk row → filename_of s.table node ≡ Some name → ⊥
   spoiled_node s name node row found disk over =
       let of_old = sym (find-map (λ r. r.id == node) (lost_with name) (λ r. ap (λ k. k == node) (same_lost name r)) s.table.nodes) ∙ found in
       by_row (node_at s.table node) over of_old
     where
-      by_test : (r : NodeRow) (b : Bool) → b ≡ true → cond b (unsettled r) r ≡ row → ⊥
+      by_test : (r : NodeRecord) (b : Bool) → b ≡ true → cond b (unsettled r) r ≡ row → ⊥
       by_test r true t is = let settled = disk.settled in cc
       by_test r false t is = cc
 
-      by_name : (r : NodeRow) (filename : Option (List ℕ)) → filename ≡ Some name → cond (stands_over name filename) (unsettled r) r ≡ row → ⊥
+      by_name : (r : NodeRecord) (filename : Option (List ℕ)) → filename ≡ Some name → cond (stands_over name filename) (unsettled r) r ≡ row → ⊥
       by_name r filename e is =
           by_test r (stands_over name filename) (ap (stands_over name) e ∙ bytes_eq-same name) is
 
-      by_row : (was : Option NodeRow) → option_and_then (λ r. r.filename) was ≡ Some name → option_map (lost_with name) was ≡ Some row → ⊥
+      by_row : (was : Option NodeRecord) → option_and_then (λ r. r.filename) was ≡ Some name → option_map (lost_with name) was ≡ Some row → ⊥
       by_row None e k = cc
       by_row (Some r) e k = by_name r r.filename e cc
 

@@ -15,7 +15,7 @@ use Rattle.blk_graph.specs.Permissions.{node_edge}
 use Rattle.blk_graph.proofs.Members.{find-Some, Contains-filter}
 use Rattle.blk_graph.proofs.CycleLemmas.{same_parent-true}
 use Rattle.blk_graph.proofs.EditLemmas.{Contains-with_edge, Contains-with_edge_new}
-use Rattle.qmp_rules.specs.declared.rows.NodeRow.{NodeRow}
+use Rattle.qmp_rules.specs.declared.rows.NodeRecord.{NodeRecord}
 use Rattle.qmp_rules.specs.declared.rows.Device.{Device}
 use Rattle.qmp_rules.specs.declared.rows.FileState.{FileState}
 use Rattle.qmp_rules.specs.declared.rows.FileState.TheVariants.{Made, Formatted, Used}
@@ -37,7 +37,7 @@ use Rattle.flat_machine.proofs.FilesStand.{under-refreshed, ends-refreshed, ends
 
 -- ---- one node more
 
-record IsNewRow (s now : State) (new : NodeRow) : Type 0 where
+record IsNewRow (s now : State) (new : NodeRecord) : Type 0 where
   driver : (name : List ℕ) → new.filename ≡ Some name → new.kind ≡ Protocol
   named : new.kind ≡ Protocol → IsSome new.filename
   closed : (name : List ℕ) → new.filename ≡ Some name → IsClosed s.table name
@@ -58,11 +58,11 @@ under-kept s now es file h =
     (under-refreshed es.kinds es.before file
     (record { edge = h.edge; there = es.keeps h.edge h.there h.over; over = h.over; child = h.child }))
 
-module _ (s now : State) (between : Table) (new : NodeRow) where
+module _ (s now : State) (between : Table) (new : NodeRecord) where
   added_stands : SameRows s.table between → now.table.nodes ≡ between.nodes ++ new ∷ [] → node_at between new.id ≡ None → HasEdges s now
       → now.table.files ≡ s.table.files → IsNewRow s now new
       → ((name : List ℕ) → IsSome (content_in s.files name) → IsSome (content_in now.files name))
-      → ((other : List ℕ) (row later : NodeRow) → StandsFor s.table other row → IsLike row later → Contains between.nodes later
+      → ((other : List ℕ) (row later : NodeRecord) → StandsFor s.table other row → IsLike row later → Contains between.nodes later
       → later.is_settled ≡ false → (row.is_settled ≡ false) ⊎ IsLostBy now.table other later)
       → FilesAreOfState now → Stands s → Stands now
   added_stands rows nodes fresh es files is_new there loses states h = record {
@@ -105,19 +105,19 @@ module _ (s now : State) (between : Table) (new : NodeRow) where
         );
   }
     where
-      origin : (row : NodeRow) → Contains now.table.nodes row → ((old : NodeRow) × (Contains s.table.nodes old × IsLike old row)) ⊎ (row ≡ new)
+      origin : (row : NodeRecord) → Contains now.table.nodes row → ((old : NodeRecord) × (Contains s.table.nodes old × IsLike old row)) ⊎ (row ≡ new)
       origin row in_now = elim (pushed-cases between.nodes new row (subst (λ ns. Contains ns row) nodes in_now)) [
         | inl in_between ↦ inl (rows.back row in_between)
         | inr same ↦ inr same
       ]
 
-      stood : (name : List ℕ) (row : NodeRow) (old : (r : NodeRow) × (Contains s.table.nodes r × IsLike r row)) → StandsFor now.table name row
+      stood : (name : List ℕ) (row : NodeRecord) (old : (r : NodeRecord) × (Contains s.table.nodes r × IsLike r row)) → StandsFor now.table name row
           → StandsFor s.table name old.0
       stood name row old over = record { there = old.1.0; filename = sym old.1.1.filename ∙ over.filename }
 
-      one_id : (name : List ℕ) (a b : NodeRow) → StandsFor now.table name a → StandsFor now.table name b
-          → (((old : NodeRow) × (Contains s.table.nodes old × IsLike old a)) ⊎ (a ≡ new))
-          → (((old : NodeRow) × (Contains s.table.nodes old × IsLike old b)) ⊎ (b ≡ new)) → a.id ≡ b.id
+      one_id : (name : List ℕ) (a b : NodeRecord) → StandsFor now.table name a → StandsFor now.table name b
+          → (((old : NodeRecord) × (Contains s.table.nodes old × IsLike old a)) ⊎ (a ≡ new))
+          → (((old : NodeRecord) × (Contains s.table.nodes old × IsLike old b)) ⊎ (b ≡ new)) → a.id ≡ b.id
       one_id name a b over_a over_b (inl old_a) (inl old_b) =
           old_a.1.1.id ∙ h.alone name old_a.0 old_b.0 (stood name a old_a over_a) (stood name b old_b over_b) ∙ sym old_b.1.1.id
       one_id name a b over_a over_b (inl old_a) (inr is_b) =
@@ -130,13 +130,13 @@ module _ (s now : State) (between : Table) (new : NodeRow) where
       state_same name state is =
           subst (λ fs. option_map (λ r. r.state) (find (λ r. bytes_eq r.name name) fs) ≡ Some state) (sym files) is
 
-      lost_as_before : (name : List ℕ) (row later : NodeRow) → IsLike row later → IsLostBy s.table name row → IsLostBy now.table name later
+      lost_as_before : (name : List ℕ) (row later : NodeRecord) → IsLike row later → IsLostBy s.table name row → IsLostBy now.table name later
       lost_as_before name row later like (inl used) = inl (state_same name Used used)
       lost_as_before name row later like (inr (inl image)) = inr (inl (state_same name Formatted image))
       lost_as_before name row later like (inr (inr under)) =
           inr (inr (under-kept s now es later.id (subst (IsUnder s.table.edges) (sym like.id) under)))
 
-      apart_in : (row : NodeRow) → (Contains between.nodes row ⊎ (row ≡ new)) → node_at now.table row.id ≡ Some row
+      apart_in : (row : NodeRecord) → (Contains between.nodes row ⊎ (row ≡ new)) → node_at now.table row.id ≡ Some row
       apart_in row (inl old) = subst (λ ns. find (λ r. r.id == row.id) ns ≡ Some row) (sym nodes)
           (found-longer (λ r. r.id == row.id) between.nodes new row (rows.apart row old))
       apart_in row (inr same) = subst (λ ns. find (λ r. r.id == row.id) ns ≡ Some row) (sym nodes)
@@ -144,24 +144,24 @@ module _ (s now : State) (between : Table) (new : NodeRow) where
           (found-new (λ x. x.id == new.id) between.nodes new fresh (eq-eqb new.id new.id refl)))
 
 -- nodes that are there stay in a longer list
-there-longer : (t now : Table) (new : NodeRow) → now.nodes ≡ t.nodes ++ new ∷ [] → (node : ℕ) → IsSome (node_at t node) → IsSome (node_at now node)
+there-longer : (t now : Table) (new : NodeRecord) → now.nodes ≡ t.nodes ++ new ∷ [] → (node : ℕ) → IsSome (node_at t node) → IsSome (node_at now node)
 there-longer t now new nodes node h =
     subst (λ ns. IsSome (find (λ r. r.id == node) ns)) (sym nodes) (by_row (node_at t node) refl h)
   where
-    by_row : (found : Option NodeRow) → node_at t node ≡ found → IsSome found → IsSome (find (λ r. r.id == node) (t.nodes ++ new ∷ []))
+    by_row : (found : Option NodeRecord) → node_at t node ≡ found → IsSome found → IsSome (find (λ r. r.id == node) (t.nodes ++ new ∷ []))
     by_row None e k = absurd cc
     by_row (Some row) e k = subst IsSome (sym (found-longer (λ r. r.id == node) t.nodes new row e)) refl
 
 -- what is open was open before
 open-before : (s now : State) → HasEdges s now
-    → ((name : List ℕ) (row : NodeRow) → StandsFor s.table name row → (later : NodeRow) × (StandsFor now.table name later × (later.id ≡ row.id)))
+    → ((name : List ℕ) (row : NodeRecord) → StandsFor s.table name row → (later : NodeRecord) × (StandsFor now.table name later × (later.id ≡ row.id)))
     → (name : List ℕ) → IsOpen now.table name → IsOpen s.table name
 open-before s now es forth name is_open row over under =
     let later = forth name row over in
     is_open later.0 later.1.0 (under-kept s now es later.0.id (subst (IsUnder s.table.edges) (sym later.1.1) under))
 
-stands-pushed : (t between now : Table) (new : NodeRow) → SameRows t between → now.nodes ≡ between.nodes ++ new ∷ []
-    → (name : List ℕ) (row : NodeRow) → StandsFor t name row → (later : NodeRow) × (StandsFor now name later × (later.id ≡ row.id))
+stands-pushed : (t between now : Table) (new : NodeRecord) → SameRows t between → now.nodes ≡ between.nodes ++ new ∷ []
+    → (name : List ℕ) (row : NodeRecord) → StandsFor t name row → (later : NodeRecord) × (StandsFor now name later × (later.id ≡ row.id))
 stands-pushed t between now new rows nodes name row over =
     let later = rows.forth row over.there in (
       later.0,
@@ -174,7 +174,7 @@ stands-pushed t between now new rows nodes name row over =
       ),
     )
 
-file_node_stands : (s : State) (row : NodeRow) → SuitsFile s row → Stands s → Stands (stepped s (change.AddFile row))
+file_node_stands : (s : State) (row : NodeRecord) → SuitsFile s row → Stands s → Stands (stepped s (change.AddFile row))
 unfolding changed
 file_node_stands s row suits h =
     added_stands s now s.table row (rows-same s.table s.table refl h.apart) refl suits.fresh es refl is_new
@@ -210,7 +210,7 @@ file_node_stands s row suits h =
     }
 
 -- a row that stands for no file
-no_file_row : (s now : State) (row : NodeRow) → row.filename ≡ None → row.kind ≢ Protocol → IsNewRow s now row
+no_file_row : (s now : State) (row : NodeRecord) → row.filename ≡ None → row.kind ≢ Protocol → IsNewRow s now row
 no_file_row s now row none driver = record {
   driver = λ name is. absurd cc;
   named = λ is. absurd (driver is);
@@ -223,7 +223,7 @@ no_file_row s now row none driver = record {
 new_parent : (t : Table) (id : ℕ) → EdgesHaveEnds t → node_at t id ≡ None → (e : Edge) → Contains t.edges e → Node id ≢ e.parent
 new_parent t id ends fresh e there same = let found = (ends e there).parent id (sym same) in let none = subst IsSome fresh found in cc
 
-filter_stands : (s : State) (row : NodeRow) (child : ℕ) → SuitsOver s row child → Stands s → Stands (stepped s (change.AddFilter row child))
+filter_stands : (s : State) (row : NodeRecord) (child : ℕ) → SuitsOver s row child → Stands s → Stands (stepped s (change.AddFilter row child))
 unfolding changed
 filter_stands s row child suits h =
     added_stands s now s.table row (rows-same s.table s.table refl h.apart) refl suits.fresh es refl
@@ -299,7 +299,7 @@ backed-cases id (Some node) edges e h = elim (Contains-with_edge (node_edge id B
   | inr old ↦ inr old
 ]
 
-format_node_stands : (s : State) (row : NodeRow) (file : ℕ) (backing : Option ℕ) → SuitsFormat s row file backing → Stands s
+format_node_stands : (s : State) (row : NodeRecord) (file : ℕ) (backing : Option ℕ) → SuitsFormat s row file backing → Stands s
     → Stands (stepped s (change.AddFormat row file backing))
 unfolding changed
 format_node_stands s row file backing suits h =
@@ -369,7 +369,7 @@ format_node_stands s row file backing suits h =
       child = refl;
     })
 
-    loses : (other : List ℕ) (old later : NodeRow) → StandsFor s.table other old → IsLike old later → Contains between.nodes later
+    loses : (other : List ℕ) (old later : NodeRecord) → StandsFor s.table other old → IsLike old later → Contains between.nodes later
         → later.is_settled ≡ false → (old.is_settled ≡ false) ⊎ IsLostBy now.table other later
     loses other old later over like there gone = elim (cases_eq old.id file) [
       | inl same ↦ inr (inr (inr (subst (IsUnder now.table.edges) (sym (like.id ∙ same)) under_new)))
@@ -380,7 +380,7 @@ format_node_stands s row file backing suits h =
     ]
 
     -- a file under the node is not open
-    closed_now : (name : List ℕ) (found : Option NodeRow) → node_at s.table file ≡ found → option_and_then (λ r. r.filename) found ≡ Some name
+    closed_now : (name : List ℕ) (found : Option NodeRecord) → node_at s.table file ≡ found → option_and_then (λ r. r.filename) found ≡ Some name
         → IsOpen now.table name → ⊥
     closed_now name None e is is_open = cc
     closed_now name (Some r) e is is_open =
@@ -418,16 +418,16 @@ table_stands s now nodes ends unders files contents h = record {
     rows : SameRows s.table now.table
     rows = rows-same s.table now.table nodes h.apart
 
-    stood : (name : List ℕ) (row : NodeRow) → StandsFor now.table name row → StandsFor s.table name row
+    stood : (name : List ℕ) (row : NodeRecord) → StandsFor now.table name row → StandsFor s.table name row
     stood name row over = record { there = subst (λ ns. Contains ns row) nodes over.there; filename = over.filename }
 
-    stands : (name : List ℕ) (row : NodeRow) → StandsFor s.table name row → StandsFor now.table name row
+    stands : (name : List ℕ) (row : NodeRecord) → StandsFor s.table name row → StandsFor now.table name row
     stands name row over = record { there = subst (λ ns. Contains ns row) (sym nodes) over.there; filename = over.filename }
 
     state_same : (name : List ℕ) → file_state now.table name ≡ file_state s.table name
     state_same name = ap (λ fs. option_map (λ r. r.state) (find (λ r. bytes_eq r.name name) fs)) files
 
-    as_before : (name : List ℕ) (row : NodeRow) → IsLostBy s.table name row → IsLostBy now.table name row
+    as_before : (name : List ℕ) (row : NodeRecord) → IsLostBy s.table name row → IsLostBy now.table name row
     as_before name row (inl used) = inl (state_same name ∙ used)
     as_before name row (inr (inl image)) = inr (inl (state_same name ∙ image))
     as_before name row (inr (inr under)) = inr (inr (unders row.id under))
@@ -521,12 +521,12 @@ remove_stands s node suits h = record {
     not_true true e = absurd cc
     not_true false e = refl
 
-    kept : (row : NodeRow) → Contains now.table.nodes row → Contains s.table.nodes row × (row.id ≢ node)
+    kept : (row : NodeRecord) → Contains now.table.nodes row → Contains s.table.nodes row × (row.id ≢ node)
     kept row there =
         let old = Contains-filter (λ r. not (r.id == node)) s.table.nodes row there in
         (old.0, eqb-false row.id node (not_true (row.id == node) old.1))
 
-    others : (row : NodeRow) → row.id ≢ node → (r : NodeRow) → (r.id == row.id) ≡ true → not (r.id == node) ≡ true
+    others : (row : NodeRecord) → row.id ≢ node → (r : NodeRecord) → (r.id == row.id) ≡ true → not (r.id == node) ≡ true
     others row differ r t = ap not (ne_eqb r.id node (λ same. differ (sym (eqb-true r.id row.id t) ∙ same)))
 
     still : (other : ℕ) → other ≢ node → IsSome (node_at s.table other) → IsSome (node_at now.table other)
@@ -540,17 +540,17 @@ remove_stands s node suits h = record {
         let differ = not_true (same_parent e.parent (Node node)) t in
         cc
 
-    stood : (name : List ℕ) (row : NodeRow) → StandsFor now.table name row → StandsFor s.table name row
+    stood : (name : List ℕ) (row : NodeRecord) → StandsFor now.table name row → StandsFor s.table name row
     stood name row over = record { there = (kept row over.there).0; filename = over.filename }
 
-    stays : (name : List ℕ) (row : NodeRow) → StandsFor s.table name row → row.id ≢ node → StandsFor now.table name row
+    stays : (name : List ℕ) (row : NodeRecord) → StandsFor s.table name row → row.id ≢ node → StandsFor now.table name row
     stays name row over differ = record {
       there = filter-keeps (λ r. not (r.id == node)) s.table.nodes row (ap not (ne_eqb row.id node differ)) over.there;
       filename = over.filename;
     }
 
     -- a format node over a `file` node stays, or its file was used
-    under_stays : (name : List ℕ) (row : NodeRow) → StandsFor s.table name row → (under : IsUnder s.table.edges row.id)
+    under_stays : (name : List ℕ) (row : NodeRecord) → StandsFor s.table name row → (under : IsUnder s.table.edges row.id)
         → (file_state s.table name ≡ Some Used) ⊎ IsUnder now.table.edges row.id
     under_stays name row over under = by_parent (same_parent under.edge.parent (Node node)) refl
       where
@@ -565,7 +565,7 @@ remove_stands s node suits h = record {
           child = under.child;
         }))
 
-    as_before : (name : List ℕ) (row : NodeRow) → StandsFor s.table name row → IsLostBy s.table name row → IsLostBy now.table name row
+    as_before : (name : List ℕ) (row : NodeRecord) → StandsFor s.table name row → IsLostBy s.table name row → IsLostBy now.table name row
     as_before name row over (inl used) = inl used
     as_before name row over (inr (inl image)) = inr (inl image)
     as_before name row over (inr (inr under)) = elim (under_stays name row over under) [

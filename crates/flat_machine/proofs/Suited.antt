@@ -19,7 +19,7 @@ use Rattle.qmp_codec.specs.declared.nodes.DeviceAdd.{DeviceAdd}
 use Rattle.qmp_rules.specs.declared.ask.Ask.TheVariants as ask
 use Rattle.qmp_rules.specs.declared.ask.Drivers.TheVariants as drivers
 use Rattle.qmp_rules.specs.declared.change.Change.TheVariants as change
-use Rattle.qmp_rules.specs.declared.rows.NodeRow.{NodeRow}
+use Rattle.qmp_rules.specs.declared.rows.NodeRecord.{NodeRecord}
 use Rattle.qmp_rules.specs.declared.told.Told.{Told}
 use Rattle.qmp_rules.specs.Table.{Table, node_at, node_named, id_named}
 use Rattle.qmp_rules.specs.Changes.{changed}
@@ -44,7 +44,7 @@ with_some : {A : Type 0} (P : A → Type 0) (o : Option A) → With o P → IsSo
 with_some P None h = absurd h
 with_some P (Some a) h = refl
 
-there_as : (t : Table) (node : ℕ) (row : NodeRow) → node_at t node ≡ Some row → IsThere t node
+there_as : (t : Table) (node : ℕ) (row : NodeRecord) → node_at t node ≡ Some row → IsThere t node
 there_as t node row found = subst IsSome (sym found) refl
 
 backing_is : (s : State) (backing : Option ℕ) → IsBacking s backing → (node : ℕ) → backing ≡ Some node → IsThere s.table node
@@ -91,7 +91,7 @@ module _ (s : State) (told : Told) (c : BlockdevAdd (List ℕ)) (name : List ℕ
   unfolding changed
   raw_inline_suits raw file driver inline asks exp =
       let room = room-left s.table told 2 asks.1.1.1.0 in
-      let row : NodeRow = inline_row s.table exp name file in
+      let row : NodeRecord = inline_row s.table exp name file in
       let now : State = stepped s (change.AddFile row) in
       let can = inline_can s told c name read_only stands may file true
       (λ e closed. raw_told_absent s c raw file driver inline closed e) (λ e. rw driver refl) room
@@ -118,7 +118,7 @@ module _ (s : State) (told : Told) (c : BlockdevAdd (List ℕ)) (name : List ℕ
   unfolding changed
   qcow2_inline_suits image file back driver inline asks exp =
       let room = room-left s.table told 2 asks.1.1.1.1.0 in
-      let row : NodeRow = inline_row s.table exp name file in
+      let row : NodeRecord = inline_row s.table exp name file in
       let now : State = stepped s (change.AddFile row) in
       let can = inline_can s told c name read_only stands may file false
       (λ e closed. qcow2_told_absent s c image file driver inline closed e)
@@ -142,7 +142,7 @@ module _ (s : State) (told : Told) (c : BlockdevAdd (List ℕ)) (name : List ℕ
         ),
       )
 
-  named_there : (file : List ℕ) → ((row : NodeRow) × (node_named s.table file ≡ Some row)) → IsThere s.table (id_or 0 s.table (Some file))
+  named_there : (file : List ℕ) → ((row : NodeRecord) × (node_named s.table file ≡ Some row)) → IsThere s.table (id_or 0 s.table (Some file))
   named_there file named =
       let at_id = there_as s.table named.0.id named.0 (row_at s file named.0 stands named.1) in
       rw named.1 at_id
@@ -232,10 +232,10 @@ create_suits s told id (created.File c) stands asks = (
 )
 create_suits s told id (created.Qcow2 c) stands asks = (tt, (by_row (found-named s.table told c.file asks.0), tt))
   where
-    by_row : ((row : NodeRow) × (node_named s.table c.file ≡ Some row))
+    by_row : ((row : NodeRecord) × (node_named s.table c.file ≡ Some row))
         → SuitsFormatting (stepped s (change.KeepId id)).table (id_or 0 s.table (Some c.file)) (file_of_node s.table c.file)
     by_row named =
-        let row : NodeRow = named.0 in
+        let row : NodeRecord = named.0 in
         let found : node_named s.table c.file ≡ Some row = named.1 in
         let driver = is_protocol row.kind (takes-driver s.table told c.file drivers.File row found asks.1.1.0) in
         let there = (find-Some (λ r. bytes_eq r.name c.file) s.table.nodes row found).0 in
@@ -252,19 +252,19 @@ device_suits : (s : State) (told : Told) (c : DeviceAdd (List ℕ)) → Stands s
 unfolding changed
 device_suits s told c stands asks = by_row (found-named s.table told c.drive asks.1.1.1.1.0)
   where
-    on_node : (row : NodeRow) → IsThere s.table row.id → (name : Option (List ℕ))
+    on_node : (row : NodeRecord) → IsThere s.table row.id → (name : Option (List ℕ))
         → AllSuit s (uses name ++ change.AddDevice (new_device s.table c row) row.id ∷ [])
     on_node row there None = (there, tt)
     on_node row there (Some name) = (tt, (there, tt))
 
-    by_use : (row : NodeRow) → IsThere s.table row.id → (b : Bool)
+    by_use : (row : NodeRecord) → IsThere s.table row.id → (b : Bool)
         → AllSuit s ((if b then uses row.filename else []) ++ change.AddDevice (new_device s.table c row) row.id ∷ [])
     by_use row there true = on_node row there row.filename
     by_use row there false = (there, tt)
 
-    by_row : ((row : NodeRow) × (node_named s.table c.drive ≡ Some row)) → AllSuit s (device_add_edits s.table c)
+    by_row : ((row : NodeRecord) × (node_named s.table c.drive ≡ Some row)) → AllSuit s (device_add_edits s.table c)
     by_row named =
-        let row : NodeRow = named.0 in
+        let row : NodeRecord = named.0 in
         let found : node_named s.table c.drive ≡ Some row = named.1 in
         rw found (by_use row (there_as s.table row.id row (row_at s c.drive row stands found)) (is_file row))
 

@@ -9,7 +9,7 @@ use Rattle.blk_base.specs.declared.fault.Outcome.{Outcome}
 use Rattle.blk_graph.proofs.Members.{find-Some}
 use Rattle.trace_codec.specs.declared.op.Op.{Op}
 use Rattle.trace_codec.specs.declared.op.Op.TheVariants.{Read, Write, Zero, Flush, Discard}
-use Rattle.qmp_rules.specs.declared.rows.NodeRow.{NodeRow}
+use Rattle.qmp_rules.specs.declared.rows.NodeRecord.{NodeRecord}
 use Rattle.qmp_rules.specs.Table.{Table, node_at, has_name}
 use Rattle.qmp_rules.specs.Chains.{disk_node, is_over, unsettled_over, written_under}
 use Rattle.blk_history.specs.Fold.{With}
@@ -53,7 +53,7 @@ bytes_in-unchanged node n f (d ∷ disks) differ = by_test (d.node == node) refl
 
 -- ---- rows
 
-like_over : (t : Table) (node : ℕ) (row : NodeRow) → (unsettled_over t node row).id ≡ row.id
+like_over : (t : Table) (node : ℕ) (row : NodeRecord) → (unsettled_over t node row).id ≡ row.id
 like_over t node row = by_test (is_over t node row.id)
   where
     by_test : (b : Bool) → (cond b (record row { is_settled = false }) row).id ≡ row.id
@@ -61,7 +61,7 @@ like_over t node row = by_test (is_over t node row.id)
     by_test false = refl
 
 -- one that keeps its disk doesn't read the node as a backing node
-disk_over : (t : Table) (node : ℕ) (row : NodeRow) → HasDisk (unsettled_over t node row) → (is_over t node row.id ≡ false) × HasDisk row
+disk_over : (t : Table) (node : ℕ) (row : NodeRecord) → HasDisk (unsettled_over t node row) → (is_over t node row.id ≡ false) × HasDisk row
 disk_over t node row = by_test (is_over t node row.id) refl
   where
     by_test : (b : Bool) → is_over t node row.id ≡ b → HasDisk (cond b (record row { is_settled = false }) row)
@@ -69,13 +69,13 @@ disk_over t node row = by_test (is_over t node row.id) refl
     by_test true e h = absurd (let settled = h.settled in cc)
     by_test false e h = (e, h)
 
-not_over : (t : Table) (node n : ℕ) (row : NodeRow) → find (λ r. r.id == n) (map (unsettled_over t node) t.nodes) ≡ Some row → HasDisk row
+not_over : (t : Table) (node n : ℕ) (row : NodeRecord) → find (λ r. r.id == n) (map (unsettled_over t node) t.nodes) ≡ Some row → HasDisk row
     → is_over t node n ≡ false
 not_over t node n row found disk =
     let of_old = sym (find-map (λ r. r.id == n) (unsettled_over t node) (λ r. ap (λ k. k == n) (like_over t node r)) t.nodes) ∙ found in
     by_row (find (λ r. r.id == n) t.nodes) refl of_old
   where
-    by_row : (was : Option NodeRow) → find (λ r. r.id == n) t.nodes ≡ was → option_map (unsettled_over t node) was ≡ Some row
+    by_row : (was : Option NodeRecord) → find (λ r. r.id == n) t.nodes ≡ was → option_map (unsettled_over t node) was ≡ Some row
         → is_over t node n ≡ false
     by_row None e k = absurd cc
     by_row (Some r) e k =

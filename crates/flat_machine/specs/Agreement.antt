@@ -1,8 +1,8 @@
 -- What nodes read as and what files hold, and that it is what the flat machine says.
 use Rattle.std.specs.Prelude.{◌≡◌, ℕ, true, false, List, length, All, Option, Some, None}
 use Rattle.q2_format.specs.Created.{Creation, IsCreated}
-use Rattle.qmp_rules.specs.declared.rows.NodeRow.{NodeRow}
-use Rattle.qmp_rules.specs.declared.rows.JobRow.{JobRow}
+use Rattle.qmp_rules.specs.declared.rows.NodeRecord.{NodeRecord}
+use Rattle.qmp_rules.specs.declared.rows.JobRecord.{JobRecord}
 use Rattle.qmp_rules.specs.Table.{node_at, job_at, has_name}
 use Rattle.qmp_rules.specs.Chains.{filter_role}
 use Rattle.blk_history.specs.Fold.{With}
@@ -17,12 +17,12 @@ pub record Contents : Type 0 where
 -- ---- nodes
 
 -- a row that says by itself whether there is a flat disk: that of a node which is no filter
-pub record HasDisk (row : NodeRow) : Type 0 where
+pub record HasDisk (row : NodeRecord) : Type 0 where
   pub settled : row.is_settled ≡ true
   pub own : filter_role row.kind ≡ None
 
 abbrev pub ReadAsDisks : State → Contents → Type 0
-ReadAsDisks s c = (node : ℕ) (row : NodeRow) → node_at s.table node ≡ Some row → HasDisk row → c.reads node ≡ bytes_in s.disks node
+ReadAsDisks s c = (node : ℕ) (row : NodeRecord) → node_at s.table node ≡ Some row → HasDisk row → c.reads node ≡ bytes_in s.disks node
 
 -- ---- files
 
@@ -63,7 +63,7 @@ pub record Agrees (opening : List ℕ → Option (List ℕ)) (s : State) (c : Co
 -- ---- a job that is ready
 
 -- its target or base reads as its source's disk
-abbrev pub ReadsAsSource : State → Contents → JobRow → Type 0
+abbrev pub ReadsAsSource : State → Contents → JobRecord → Type 0
 ReadsAsSource s c row = With row.target (λ target. c.reads target ≡ bytes_at_node s row.source)
 
 abbrev pub ReadyAgrees : State → Contents → ℕ → Type 0

@@ -1,6 +1,6 @@
 -- Actors that can go no further.
 use Rattle.std.specs.Prelude.{◌≡◌, ◌⊎◌, ℕ, ◌+◌, ◌<◌, ◌≤◌, true, List, [], ◌∷◌, length, Contains, Option, Some, None}
-use Rattle.qmp_rules.specs.declared.rows.JobRow.{JobRow}
+use Rattle.qmp_rules.specs.declared.rows.JobRecord.{JobRecord}
 use Rattle.qmp_rules.specs.declared.rows.Asked.TheVariants as asked
 use Rattle.qmp_rules.specs.Table.{device_at, job_in}
 use Rattle.trace_codec.specs.declared.awaiting.Await.{Await}
@@ -34,7 +34,7 @@ pub record GuestWaits (s : State) (c : Course) (g : ℕ) (waits : Waits (List �
 
 -- A slot without a job is blocked, and one whose job is ready and was not asked to end, while the script or a guest is not
 -- done.
-abbrev pub JobWaits : State → Option JobRow → Type 0
+abbrev pub JobWaits : State → Option JobRecord → Type 0
 JobWaits s None = Unit {0}
 JobWaits s (Some row) = (row.is_ready ≡ true) × (row.asked ≡ asked.Nothing) × (AllDone s → ⊥)
 

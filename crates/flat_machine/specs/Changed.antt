@@ -9,8 +9,8 @@ use Rattle.qmp_codec.specs.declared.words.ImageFormat.{ImageFormat}
 use Rattle.qmp_codec.specs.declared.words.ImageFormat.TheVariants as format
 use Rattle.qmp_codec.specs.declared.event.JobKind.{JobKind}
 use Rattle.qmp_codec.specs.declared.event.JobKind.TheVariants.{Commit}
-use Rattle.qmp_rules.specs.declared.rows.NodeRow.{NodeRow}
-use Rattle.qmp_rules.specs.declared.rows.JobRow.{JobRow}
+use Rattle.qmp_rules.specs.declared.rows.NodeRecord.{NodeRecord}
+use Rattle.qmp_rules.specs.declared.rows.JobRecord.{JobRecord}
 use Rattle.qmp_rules.specs.declared.rows.BitmapRow.{BitmapRow}
 use Rattle.qmp_rules.specs.declared.change.Change.{Change}
 use Rattle.qmp_rules.specs.declared.change.Change.TheVariants as change
@@ -53,11 +53,11 @@ make name content s = name_file name (know name content (forget_left name s))
 
 -- ---- nodes that are added
 
-abbrev pub filename_or : NodeRow → List ℕ
+abbrev pub filename_or : NodeRecord → List ℕ
 filename_or row = unwrap_or row.filename []
 
 -- a `file` node reads as its file, and names it for writing where it may be written
-abbrev pub add_file : NodeRow → State → State
+abbrev pub add_file : NodeRecord → State → State
 add_file row s =
     let added = put row.id (file_bytes row.size (content_in s.files (filename_or row))) s in
     if row.read_only then added else name_file (filename_or row) added
@@ -71,7 +71,7 @@ bytes_below s None = []
 bytes_below s (Some node) = bytes_at_node s node
 
 -- a raw node reads as its part of the `file` node, and a qcow2 node as the image over its backing node
-abbrev pub format_bytes : State → NodeRow → ℕ → Option ℕ → Kind → List ℕ
+abbrev pub format_bytes : State → NodeRecord → ℕ → Option ℕ → Kind → List ℕ
 format_bytes s row file backing Raw = raw_disk row.offset row.size (bytes_in s.disks file)
 format_bytes s row file backing Qcow2 = image_bytes (content_under s file) (bytes_below s backing)
 format_bytes s row file backing kind = []
@@ -86,7 +86,7 @@ know_if None content s = s
 know_if (Some name) content s = know name content s
 
 -- What is written through a format node changes the file, of which nothing is known any more.
-abbrev pub add_format : NodeRow → ℕ → Option ℕ → State → State
+abbrev pub add_format : NodeRecord → ℕ → Option ℕ → State → State
 add_format row file backing s =
     know_if (filename_of s.table file) Unknown
     (note_image row.kind row.id (mapped_in (content_under s file)) (put row.id (format_bytes s row file backing row.kind) s))
@@ -94,21 +94,21 @@ add_format row file backing s =
 -- ---- nodes that go
 
 -- the file that a node reads by itself
-abbrev pub file_of : Table → NodeRow → Kind → Option (List ℕ)
+abbrev pub file_of : Table → NodeRecord → Kind → Option (List ℕ)
 file_of t row Protocol = row.filename
 file_of t row Raw = option_and_then (filename_of t) (child t row.id File)
 file_of t row Qcow2 = option_and_then (filename_of t) (child t row.id File)
 file_of t row kind = None
 
 -- a settled node without a backing node leaves its disk in its file
-abbrev pub left_in : List Disk → NodeRow → List ℕ → Left
+abbrev pub left_in : List Disk → NodeRecord → List ℕ → Left
 left_in disks row file = record { file = file; kind = row.kind; offset = row.offset; bytes = bytes_in disks row.id }
 
 abbrev pub leave : Option Left → State → State
 leave None s = s
 leave (Some left) s = record s { left = s.left ++ left ∷ [] }
 
-abbrev pub left_disk : State → NodeRow → Option Left
+abbrev pub left_disk : State → NodeRecord → Option Left
 left_disk s row =
     if row.is_settled && is_none (child s.table row.id Backing)
     then option_map (left_in s.disks row) (file_of s.table row row.kind)
@@ -132,7 +132,7 @@ add_bitmap row s = record s { dirty = s.dirty ++ clean row (size_of s.table row.
 -- ---- jobs
 
 -- the file of the overlay in whose header a commit to an inner base writes a name
-abbrev pub overlay_file : Table → JobRow → JobKind → Option (List ℕ)
+abbrev pub overlay_file : Table → JobRecord → JobKind → Option (List ℕ)
 overlay_file t row Commit = over_file row.read
   where
     over_file : List ℕ → Option (List ℕ)

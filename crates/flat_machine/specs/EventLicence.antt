@@ -22,7 +22,7 @@ use Rattle.qmp_codec.specs.declared.nodes.Added.{Added}
 use Rattle.qmp_codec.specs.declared.nodes.Added.TheVariants as added
 use Rattle.qmp_codec.specs.declared.nodes.Created.{Created}
 use Rattle.qmp_codec.specs.declared.nodes.Created.TheVariants as created
-use Rattle.qmp_rules.specs.declared.rows.JobRow.{JobRow}
+use Rattle.qmp_rules.specs.declared.rows.JobRecord.{JobRecord}
 use Rattle.qmp_rules.specs.Table.{Table, id_named}
 use Rattle.qmp_rules.specs.Chains.{reaches}
 use Rattle.blk_history.specs.Fold.{With}
@@ -103,7 +103,7 @@ changes_disk (Zero span) = true
 changes_disk op = false
 
 -- it is done for the job: a guest's write copies for a backup whose filter it passes
-abbrev pub IsDoneFor : Table → Deed → JobRow → Type 0
+abbrev pub IsDoneFor : Table → Deed → JobRecord → Type 0
 IsDoneFor t (Turn slot) row = row.slot ≡ slot
 IsDoneFor t (Take slot) row = row.slot ≡ slot
 IsDoneFor t (Settle job) row = row.number ≡ job
@@ -117,7 +117,7 @@ HasCause opened now would_pass (faults.Io dev count) = IsBetween opened now (fau
 HasCause opened now would_pass (faults.NoSpace dev) = would_pass dev.0
 
 -- A job meets a fault once, in what is done for it, of a device that one of its nodes reaches.
-pub record MayMeet (t : Table) (sources : Sources) (deed : Deed) (opened now : Counts) (would_pass : ℕ → Type 0) (row : JobRow)
+pub record MayMeet (t : Table) (sources : Sources) (deed : Deed) (opened now : Counts) (would_pass : ℕ → Type 0) (row : JobRecord)
     (fault : Fault) : Type 0 where
   pub first : sources.met_by row.number ≡ None
   pub done_for : IsDoneFor t deed row

@@ -13,9 +13,9 @@ use Rattle.qmp_codec.specs.declared.event.JobKind.{JobKind}
 use Rattle.qmp_codec.specs.declared.event.JobKind.TheVariants.{Stream, Commit, Mirror, Backup}
 use Rattle.qmp_codec.specs.declared.words.BitmapMode.{BitmapMode}
 use Rattle.qmp_codec.specs.declared.words.BitmapMode.TheVariants.{OnSuccess}
-use Rattle.qmp_rules.specs.declared.rows.NodeRow.{NodeRow}
+use Rattle.qmp_rules.specs.declared.rows.NodeRecord.{NodeRecord}
 use Rattle.qmp_rules.specs.declared.rows.BitmapRow.{BitmapRow}
-use Rattle.qmp_rules.specs.declared.rows.JobRow.{JobRow}
+use Rattle.qmp_rules.specs.declared.rows.JobRecord.{JobRecord}
 use Rattle.qmp_rules.specs.declared.rows.UsedBitmap.{UsedBitmap}
 use Rattle.qmp_rules.specs.Table.{Table, node_at, child, kinds_of}
 use Rattle.qmp_rules.specs.Chains.{has_id}
@@ -29,11 +29,11 @@ use Rattle.blk_history.specs.declared.entry.Cause.TheVariants.{Command}
 -- ---- kinds of jobs and of ends
 
 -- a commit is active where it has no overlay above its top; an overlay is held for reading
-abbrev pub has_no_overlay : JobRow → Bool
+abbrev pub has_no_overlay : JobRecord → Bool
 has_no_overlay row = not (list_any (λ id. true) row.read)
 
 -- it can be ready, and then goes on until it is asked to end
-abbrev pub can_be_ready : JobRow → JobKind → Bool
+abbrev pub can_be_ready : JobRecord → JobKind → Bool
 can_be_ready row Mirror = true
 can_be_ready row Commit = has_no_overlay row
 can_be_ready row kind = false
@@ -64,19 +64,19 @@ is_cause outcome = false
 -- ---- starts
 
 -- the target that a job writes
-abbrev pub written_by : JobRow → Option ℕ
+abbrev pub written_by : JobRecord → Option ℕ
 written_by row = if writes_target row.kind then row.target else None
 
 abbrev pub target_bytes : State → Option ℕ → List ℕ
 target_bytes s None = []
 target_bytes s (Some node) = bytes_at_node s node
 
-abbrev pub granules_of : State → JobRow → Option UsedBitmap → Option Dirty
+abbrev pub granules_of : State → JobRecord → Option UsedBitmap → Option Dirty
 granules_of s row None = None
 granules_of s row (Some used) = dirty_at s.dirty row.source used.name
 
 -- the disks as the job finds them
-abbrev pub begin : State → JobRow → Begun
+abbrev pub begin : State → JobRecord → Begun
 begin s row = record {
   job = row.number;
   source = bytes_at_node s row.source;
@@ -97,18 +97,18 @@ aside_by node None ds = ds
 aside_by node (Some used) ds = where_so (is_dirty_of node used.name) put_aside ds
 
 -- the bitmap that it copies by is put aside, and those of its target or base are wholly dirty
-abbrev pub dirty_at_start : State → JobRow → Option ℕ → List Dirty
+abbrev pub dirty_at_start : State → JobRecord → Option ℕ → List Dirty
 dirty_at_start s row None = aside_by row.source row.bitmap s.dirty
 dirty_at_start s row (Some node) = where_recording s.table node filled (aside_by row.source row.bitmap s.dirty)
 
 -- the target of a backup or mirror
-abbrev pub copied_to : JobRow → JobKind → Option ℕ
+abbrev pub copied_to : JobRecord → JobKind → Option ℕ
 copied_to row Backup = row.target
 copied_to row Mirror = row.target
 copied_to row kind = None
 
 -- the file of a target that is a `file` node
-abbrev pub target_file : Table → Option NodeRow → Option (List ℕ)
+abbrev pub target_file : Table → Option NodeRecord → Option (List ℕ)
 target_file t None = None
 target_file t (Some row) = file_name row.kind
   where
@@ -120,7 +120,7 @@ abbrev pub unleft : Option (List ℕ) → State → State
 unleft None s = s
 unleft (Some name) s = forget_left name s
 
-abbrev pub noted_start : State → JobRow → State
+abbrev pub noted_start : State → JobRecord → State
 noted_start s row = record s {
   begun = s.begun ++ begin s row ∷ [];
   images = map (unsure (row.held ++ row.read)) s.images;
@@ -129,7 +129,7 @@ noted_start s row = record s {
 }
 
 -- The reply that made the job's row stands before: what is left here is what the job finds and holds.
-abbrev pub started : State → Option JobRow → State
+abbrev pub started : State → Option JobRecord → State
 started s None = s
 started s (Some row) =
     unleft (target_file s.table (option_and_then (node_at s.table) (copied_to row row.kind))) (noted_start s row)
@@ -154,7 +154,7 @@ copy_bytes None = []
 copy_bytes (Some b) = backed_up b b.granules
 
 -- what the target or base reads as after an end without error
-abbrev pub result_bytes : State → JobRow → JobKind → List ℕ
+abbrev pub result_bytes : State → JobRecord → JobKind → List ℕ
 result_bytes s row Backup = copy_bytes (begun_of s.begun row.number)
 result_bytes s row kind = bytes_at_node s row.source
 
@@ -162,7 +162,7 @@ abbrev pub put_target : Option ℕ → List ℕ → State → State
 put_target None bytes s = s
 put_target (Some node) bytes s = put node bytes s
 
-abbrev pub disks_at_end : State → JobRow → JobEnd → State
+abbrev pub disks_at_end : State → JobRecord → JobEnd → State
 disks_at_end s row outcome = if is_success outcome then put_target (written_by row) (result_bytes s row row.kind) s else s
 
 -- the bitmap is given back: what stands aside is dropped after a success where that is its mode
@@ -170,7 +170,7 @@ abbrev pub drops : JobEnd → BitmapMode → Bool
 drops outcome OnSuccess = is_success outcome
 drops outcome mode = false
 
-abbrev pub dirty_at_end : List Dirty → JobRow → JobEnd → Option UsedBitmap → List Dirty
+abbrev pub dirty_at_end : List Dirty → JobRecord → JobEnd → Option UsedBitmap → List Dirty
 dirty_at_end ds row outcome None = ds
 dirty_at_end ds row outcome (Some used) = where_so (is_dirty_of row.source used.name) (taken_back (drops outcome used.mode)) ds
 
@@ -191,7 +191,7 @@ abbrev pub overlay_rebased : Option ℕ → List ℕ → List Edge → List Edge
 overlay_rebased base [] edges = edges
 overlay_rebased base (overlay ∷ rest) edges = rebased base overlay edges
 
-abbrev pub moved_by : JobRow → JobKind → List Edge → List Edge
+abbrev pub moved_by : JobRecord → JobKind → List Edge → List Edge
 moved_by row Stream edges = rebased row.target row.source edges
 moved_by row Backup edges = edges
 moved_by row Mirror edges = parents_moved row.target row.source edges
@@ -203,16 +203,16 @@ abbrev pub unfiltered : Option ℕ → List Edge → List Edge
 unfiltered None edges = edges
 unfiltered (Some filter) edges = without_filter filter edges
 
-abbrev pub edges_at_end : JobRow → JobEnd → List Edge → List Edge
+abbrev pub edges_at_end : JobRecord → JobEnd → List Edge → List Edge
 edges_at_end row outcome edges =
     let released = unfiltered row.filter (without_parent (Job row.slot) edges) in
     if is_move outcome then moved_by row row.kind released else released
 
-abbrev pub is_filter_of : Option ℕ → NodeRow → Bool
+abbrev pub is_filter_of : Option ℕ → NodeRecord → Bool
 is_filter_of None row = false
 is_filter_of (Some id) row = row.id == id
 
-abbrev pub settle_if : Bool → Bool → Option ℕ → NodeRow → NodeRow
+abbrev pub settle_if : Bool → Bool → Option ℕ → NodeRecord → NodeRecord
 settle_if so settled None row = row
 settle_if so settled (Some id) row = if so && row.id == id then record row { is_settled = settled } else row
 
@@ -226,7 +226,7 @@ abbrev pub loses_top : JobKind → JobEnd → Bool
 loses_top Commit Pivoted = true
 loses_top kind outcome = false
 
-abbrev pub settled_at_end : JobRow → JobEnd → NodeRow → NodeRow
+abbrev pub settled_at_end : JobRecord → JobEnd → NodeRecord → NodeRecord
 settled_at_end row outcome node =
     settle_if (loses_top row.kind outcome) false (Some row.source)
     (settle_if (is_success outcome && settles_target row.bitmap) true (written_by row) node)
@@ -236,20 +236,20 @@ abbrev pub is_pivot : JobEnd → Bool
 is_pivot Pivoted = true
 is_pivot outcome = false
 
-abbrev pub read_only_if : Bool → Option ℕ → NodeRow → NodeRow
+abbrev pub read_only_if : Bool → Option ℕ → NodeRecord → NodeRecord
 read_only_if so None row = row
 read_only_if so (Some id) row = if so && row.id == id then record row { read_only = true } else row
 
-abbrev pub writable_at_end : Table → JobRow → JobEnd → NodeRow → NodeRow
+abbrev pub writable_at_end : Table → JobRecord → JobEnd → NodeRecord → NodeRecord
 writable_at_end t row outcome node =
     let again = not (is_pivot outcome) in
     read_only_if (again && row.made_writable.base) row.target
     (read_only_if (again && row.made_writable.file) (option_and_then (λ base. child t base File) row.target) node)
 
-abbrev pub node_at_end : Table → JobRow → JobEnd → NodeRow → NodeRow
+abbrev pub node_at_end : Table → JobRecord → JobEnd → NodeRecord → NodeRecord
 node_at_end t row outcome node = writable_at_end t row outcome (settled_at_end row outcome node)
 
-abbrev pub nodes_at_end : Table → JobRow → JobEnd → List NodeRow
+abbrev pub nodes_at_end : Table → JobRecord → JobEnd → List NodeRecord
 nodes_at_end t row outcome = map (node_at_end t row outcome) (filter (λ node. not (is_filter_of row.filter node)) t.nodes)
 
 abbrev pub is_number : ℕ → Option ℕ → Bool
@@ -261,7 +261,7 @@ abbrev pub bitmap_at_end : ℕ → BitmapRow → BitmapRow
 bitmap_at_end job row = if is_number job row.busy then record row { busy = None } else row
 
 -- the table without the job: its row, its edges and its filter are gone, and its moves are made
-abbrev pub table_at_end : Table → JobRow → JobEnd → Table
+abbrev pub table_at_end : Table → JobRecord → JobEnd → Table
 table_at_end t row outcome = record t {
   nodes = nodes_at_end t row outcome;
   edges = refreshed (kinds_of (nodes_at_end t row outcome)) (edges_at_end row outcome t.edges);
@@ -271,7 +271,7 @@ table_at_end t row outcome = record t {
 
 -- ---- groups
 
-abbrev pub in_group : ℕ → JobRow → Bool
+abbrev pub in_group : ℕ → JobRecord → Bool
 in_group group row = is_number group row.group
 
 -- other members are in the table
@@ -290,7 +290,7 @@ ending_after s job outcome (Some group) =
     then Some (record { group = group; is_completed = is_success outcome; has_cause = had_cause s.ending || is_cause outcome })
     else None
 
-abbrev pub noted_end : State → JobRow → JobEnd → State
+abbrev pub noted_end : State → JobRecord → JobEnd → State
 noted_end s row outcome = record (disks_at_end s row outcome) {
   table = table_at_end s.table row outcome;
   dirty = dirty_at_end s.dirty row outcome row.bitmap;
@@ -298,13 +298,13 @@ noted_end s row outcome = record (disks_at_end s row outcome) {
   ending = ending_after s row.number outcome row.group;
 }
 
-abbrev pub ended : State → Option JobRow → JobEnd → State
+abbrev pub ended : State → Option JobRecord → JobEnd → State
 ended s None outcome = s
 ended s (Some row) outcome = noted_end s row outcome
 
 -- ---- ready
 
-abbrev pub ready_row : ℕ → JobRow → JobRow
+abbrev pub ready_row : ℕ → JobRecord → JobRecord
 ready_row job row = if row.number == job then record row { is_ready = true } else row
 
 abbrev pub readied : ℕ → State → State

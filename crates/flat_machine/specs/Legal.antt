@@ -6,7 +6,7 @@ use Rattle.trace_codec.specs.declared.awaiting.Await.{Await}
 use Rattle.trace_codec.specs.declared.awaiting.Await.TheVariants as await
 use Rattle.qmp_codec.specs.declared.event.JobKind.TheVariants.{Mirror}
 use Rattle.qmp_rules.specs.declared.rows.Asked.TheVariants as asked
-use Rattle.qmp_rules.specs.declared.rows.JobRow.{JobRow}
+use Rattle.qmp_rules.specs.declared.rows.JobRecord.{JobRecord}
 use Rattle.qmp_rules.specs.Table.{device_at, job_at, job_named}
 use Rattle.blk_history.specs.Fold.{Each, With}
 use Rattle.blk_history.specs.Disk.{span_of, is_write}
@@ -78,7 +78,7 @@ IsMet s (await.Ended id) = job_named s.table id ≡ None
 abbrev pub AllDone : State → Type 0
 AllDone s = (actor : ℕ) → actor ≤ length s.guests → Contains s.ended actor
 
-abbrev pub MayEnd : State → JobRow → JobEnd → Type 0
+abbrev pub MayEnd : State → JobRecord → JobEnd → Type 0
 MayEnd s row Completed = (can_be_ready row row.kind ≡ false) × (row.asked ≢ asked.Stop)
 MayEnd s row Pivoted = (can_be_ready row row.kind ≡ true) × (row.is_ready ≡ true) × (row.asked ≡ asked.Complete)
 MayEnd s row Copied = (row.kind ≡ Mirror) × (row.is_ready ≡ true) × (row.asked ≡ asked.Leave)
@@ -88,7 +88,7 @@ MayEnd s row (Cancelled Group) = IsSome row.group
 MayEnd s row (Cancelled RunEnd) = AllDone s × (row.is_ready ≡ true) × (row.asked ≡ asked.Nothing)
 
 -- the source's size once the job was ready and at an end without error, and else 0
-abbrev pub offset_at_end : State → JobRow → JobEnd → ℕ
+abbrev pub offset_at_end : State → JobRecord → JobEnd → ℕ
 offset_at_end s row outcome = if row.is_ready || is_success outcome then size_of s.table row.source else 0
 
 -- members of a group end without error side by side or not at all
@@ -101,11 +101,11 @@ abbrev pub HasReason : State → ℕ → ℕ → JobEnd → Type 0
 HasReason s group job outcome = has_others s.table group job ≡ false
     → (is_success outcome ≡ true) ⊎ ((had_cause s.ending || is_cause outcome) ≡ true)
 
-abbrev pub EndsBeside : State → JobRow → JobEnd → Option ℕ → Type 0
+abbrev pub EndsBeside : State → JobRecord → JobEnd → Option ℕ → Type 0
 EndsBeside s row outcome None = Unit {0}
 EndsBeside s row outcome (Some group) = IsLike s.ending outcome × HasReason s group row.number outcome
 
-pub record CanEnd (s : State) (outcome : JobEnd) (offset : ℕ) (row : JobRow) : Type 0 where
+pub record CanEnd (s : State) (outcome : JobEnd) (offset : ℕ) (row : JobRecord) : Type 0 where
   pub cause : MayEnd s row outcome
   pub progress : offset ≡ offset_at_end s row outcome
   pub beside : EndsBeside s row outcome row.group
@@ -121,7 +121,7 @@ pub record IsAtRest (s : State) : Type 0 where
   pub started : AllStarted s
   pub ended : s.ending ≡ None
 
-abbrev pub IsMember : Option Ending → JobRow → Type 0
+abbrev pub IsMember : Option Ending → JobRecord → Type 0
 IsMember None row = Unit {0}
 IsMember (Some ending) row = row.group ≡ Some ending.group
 

@@ -162,6 +162,6 @@ pub record HasToComeAgain (s : State) (told : Told) (c : Cmd) (g r : ℕ) : Type
   pub accepted : refusal_of s.table told c ≡ None
   pub waits : MustWait s (drained_by s.table c) g r
 
-pub record HasToWait (s : State) (row : JobRow) (g r : ℕ) : Type 0 where
+pub record HasToWait (s : State) (row : JobRecord) (g r : ℕ) : Type 0 where
   pub asked : must_drain row ≡ true
   pub waits : MustWait s (row.source ∷ []) g r

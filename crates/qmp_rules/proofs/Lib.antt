@@ -8,3 +8,4 @@ pub mod EditLemmas
 pub mod JudgeLemmas
 pub mod ReachLemmas
 pub mod ClashLemmas
+pub mod ItemLemmas

@@ -20,3 +20,4 @@ pub mod Room
 pub mod Reach
 pub mod Prepared
 pub mod Fitting
+pub mod Printed

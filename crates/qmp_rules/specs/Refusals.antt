@@ -86,6 +86,12 @@ io_text from.Store count = codes "io store " ++ decimal count
 io_text (from.Dev dev) count = codes "io dev" ++ decimal dev.0 ++ codes " " ++ decimal count
 io_text from.Sink count = codes "io sink " ++ decimal count
 
+-- one parent of a node asks what another doesn't share
+abbrev pub conflict_text : List ℕ → List ℕ → List ℕ → Perm → List ℕ
+conflict_text node asks denies perm =
+    codes "permission conflict on node " ++ node ++ codes ": " ++ asks ++ codes " asks " ++ perm_text perm
+    ++ codes ", " ++ denies ++ codes " does not share it"
+
 -- the words of the answer
 abbrev pub refusal_text : Refusal → List ℕ
 refusal_text refusal.BadJson = codes "the line is not a JSON command"
@@ -116,9 +122,7 @@ refusal_text (refusal.HasBacking node) = codes "node " ++ node ++ codes " has a 
 refusal_text (refusal.NotEmpty node) = codes "node " ++ node ++ codes " holds clusters"
 refusal_text (refusal.InUse node parent) = codes "node " ++ node ++ codes " is in use by " ++ parent
 refusal_text (refusal.NotReady job) = codes "job " ++ job ++ codes " is not ready"
-refusal_text (refusal.Conflict node asks denies perm) =
-    codes "permission conflict on node " ++ node ++ codes ": " ++ asks ++ codes " asks " ++ perm_text perm
-    ++ codes ", " ++ denies ++ codes " does not share it"
+refusal_text (refusal.Conflict node asks denies perm) = conflict_text node asks denies perm
 refusal_text refusal.Aborted = codes "the transaction was aborted"
 refusal_text (refusal.Io source count) = io_text source count
 refusal_text (refusal.NoSpace dev) = codes "nospace dev" ++ decimal dev.0

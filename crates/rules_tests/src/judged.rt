@@ -32,7 +32,7 @@ pub fn answer(alloc: Global, names: &mut Names, line: &str) -> Result<String, Fa
             names.apply(edits);
             Ok(String::new(alloc))
         }
-        Err(PrepareStop::Refused(refusal)) => Ok(refusal.to_string(alloc)?),
+        Err(PrepareStop::Refused(refusal)) => Ok(refusal.text(alloc)?),
         Err(PrepareStop::NoMemory) => Err(Fail::from(NoMemory)),
     }
 }
