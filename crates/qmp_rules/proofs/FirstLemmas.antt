@@ -55,6 +55,6 @@ pub first-append : (t : Table) (told : Told) (xs ys : List Asking)
 first-append t told [] ys = refl
 first-append t told (x ∷ xs) ys = elim (holds t told x)
     as (λ found. or_else found (first t told (xs ++ ys)) ≡ or_else (or_else found (first t told xs)) (first t told ys)) [
-  | None ↦ first-append t told xs ys
-  | Some cause ↦ refl
-]
+      | None ↦ first-append t told xs ys
+      | Some cause ↦ refl
+    ]

@@ -24,6 +24,7 @@ fits_one t _ h = tt
 
 pub all_fit : (t : Table) (changes : List Change) → list_all fits_always changes ≡ true → AllFit t changes
 all_fit t [] h = tt
-all_fit t (c ∷ changes) h =
-    (fits_one t c (both_left (fits_always c) (list_all fits_always changes) h),
-     all_fit (changed t c) changes (both_right (fits_always c) (list_all fits_always changes) h))
+all_fit t (c ∷ changes) h = (
+  fits_one t c (both_left (fits_always c) (list_all fits_always changes) h),
+  all_fit (changed t c) changes (both_right (fits_always c) (list_all fits_always changes) h),
+)

@@ -24,7 +24,7 @@ pub bitmaps_step : (node : ℕ) (rows : List BitmapRow) (counts : List ℕ) (i :
     → i < length rows → i < length counts → row ≡ get_or rows i row → dirty ≡ get_or counts i dirty
     → bitmap_items node (drop i rows) (drop i counts)
     ≡ (if row.node == node then item (bitmap_data row dirty) (bitmap_items node (drop (i + 1) rows) (drop (i + 1) counts))
-      else bitmap_items node (drop (i + 1) rows) (drop (i + 1) counts))
+    else bitmap_items node (drop (i + 1) rows) (drop (i + 1) counts))
 bitmaps_step node rows counts i row dirty less_rows less_counts at_row at_count =
     at_drop_more (λ rs. bitmap_items node rs (drop i counts)) rows i row less_rows
     ∙ ap (λ r. bitmap_items node (r ∷ drop (i + 1) rows) (drop i counts)) (sym at_row)

@@ -40,6 +40,6 @@ pub built_unless : (t : Table) (told : Told) (c : Cmd) → refusal_of t told c �
 unfolding refusal_of
 built_unless t told c h = elim (is_built c)
     as (λ b. (later : Option Refusal) → or_else (refused (not b) (refusal.UnknownCommand (command_name c))) later ≡ None → b ≡ true) [
-  | true ↦ λ later e. refl
-  | false ↦ λ later e. cc
-] _ h
+      | true ↦ λ later e. refl
+      | false ↦ λ later e. cc
+    ] _ h

@@ -11,28 +11,46 @@ use blk_base::NoMemory;
 use qmp_codec::{BitmapAdd, BitmapMerge, BitmapName, Source};
 
 /// What `block-dirty-bitmap-add` asks of the values of its members.
-pub(crate) fn put_bitmap_add_values<'x>(asks: &mut Asks<'x>, c: &'x BitmapAdd) -> Result<(), NoMemory>
+pub(crate) fn put_bitmap_add_values<'x>(
+    asks: &mut Asks<'x>,
+    c: &'x BitmapAdd,
+) -> Result<(), NoMemory>
     ensures { OnOk result (seen_asks asks.new.items
         ≡ seen_asks asks.old.items ++ bitmap_add_values (seen_bitmap_add c.now)) }
 {
     put(
         asks,
         &[
-            Ask::Good { member: "granularity", ok: is_granularity(c.granularity) },
-            Ask::Good { member: "persistent", ok: is_false(c.persistent) },
+            Ask::Good {
+                member: "granularity",
+                ok: is_granularity(c.granularity),
+            },
+            Ask::Good {
+                member: "persistent",
+                ok: is_false(c.persistent),
+            },
         ],
     )
 }
 
-pub(crate) fn put_bitmap_add_names<'x>(asks: &mut Asks<'x>, c: &'x BitmapAdd) -> Result<(), NoMemory>
+pub(crate) fn put_bitmap_add_names<'x>(
+    asks: &mut Asks<'x>,
+    c: &'x BitmapAdd,
+) -> Result<(), NoMemory>
     ensures { OnOk result (seen_asks asks.new.items
         ≡ seen_asks asks.old.items ++ bitmap_add_names (seen_bitmap_add c.now)) }
 {
     put(
         asks,
         &[
-            Ask::Named { member: "node", text: Some(c.node.as_str()) },
-            Ask::Named { member: "name", text: Some(c.name.as_str()) },
+            Ask::Named {
+                member: "node",
+                text: Some(c.node.as_str()),
+            },
+            Ask::Named {
+                member: "name",
+                text: Some(c.name.as_str()),
+            },
         ],
     )
 }
@@ -45,7 +63,10 @@ pub(crate) fn put_bitmap_add_rest<'x>(asks: &mut Asks<'x>, c: &'x BitmapAdd) -> 
         asks,
         &[
             Ask::Found(Some(c.node.as_str())),
-            Ask::FreshBitmap { node: c.node.as_str(), name: c.name.as_str() },
+            Ask::FreshBitmap {
+                node: c.node.as_str(),
+                name: c.name.as_str(),
+            },
             Ask::RoomForBitmap,
         ],
     )
@@ -59,8 +80,14 @@ pub(crate) fn put_bitmap_names<'x>(asks: &mut Asks<'x>, c: &'x BitmapName) -> Re
     put(
         asks,
         &[
-            Ask::Named { member: "node", text: Some(c.node.as_str()) },
-            Ask::Named { member: "name", text: Some(c.name.as_str()) },
+            Ask::Named {
+                member: "node",
+                text: Some(c.node.as_str()),
+            },
+            Ask::Named {
+                member: "name",
+                text: Some(c.name.as_str()),
+            },
         ],
     )
 }
@@ -105,7 +132,13 @@ fn put_source_names<'x>(asks: &mut Asks<'x>, source: &'x Source) -> Result<(), N
         ≡ seen_asks asks.old.items ++ source_names (seen_source source.now)) }
 {
     match source {
-        Source::Name(name) => put(asks, &[Ask::Named { member: "bitmaps", text: Some(name.as_str()) }]),
+        Source::Name(name) => put(
+            asks,
+            &[Ask::Named {
+                member: "bitmaps",
+                text: Some(name.as_str()),
+            }],
+        ),
         Source::Of(bitmap) => put_bitmap_names(asks, bitmap),
     }
 }
@@ -120,7 +153,11 @@ fn put_all_source_names<'x>(asks: &mut Asks<'x>, sources: &'x [Source]) -> Resul
     Ok(())
 }
 
-fn put_sources_found<'x>(asks: &mut Asks<'x>, node: &'x str, sources: &'x [Source]) -> Result<(), NoMemory>
+fn put_sources_found<'x>(
+    asks: &mut Asks<'x>,
+    node: &'x str,
+    sources: &'x [Source],
+) -> Result<(), NoMemory>
     ensures { OnOk result (seen_asks asks.new.items
         ≡ seen_asks asks.old.items ++ sources_found node.now (map seen_source sources.now)) }
 {
@@ -130,30 +167,53 @@ fn put_sources_found<'x>(asks: &mut Asks<'x>, node: &'x str, sources: &'x [Sourc
             asks,
             &[
                 Ask::Found(Some(of)),
-                Ask::BitmapFound { node: of, name: Some(source_name(source)) },
+                Ask::BitmapFound {
+                    node: of,
+                    name: Some(source_name(source)),
+                },
             ],
         )?;
     }
     Ok(())
 }
 
-fn put_sources_free<'x>(asks: &mut Asks<'x>, node: &'x str, sources: &'x [Source]) -> Result<(), NoMemory>
+fn put_sources_free<'x>(
+    asks: &mut Asks<'x>,
+    node: &'x str,
+    sources: &'x [Source],
+) -> Result<(), NoMemory>
     ensures { OnOk result (seen_asks asks.new.items
         ≡ seen_asks asks.old.items ++ sources_free node.now (map seen_source sources.now)) }
 {
     for source in sources {
         let name = Some(source_name(source));
-        put(asks, &[Ask::BitmapFree { node: source_node(node, source), name }])?;
+        put(
+            asks,
+            &[Ask::BitmapFree {
+                node: source_node(node, source),
+                name,
+            }],
+        )?;
     }
     Ok(())
 }
 
-fn put_sources_equal<'x>(asks: &mut Asks<'x>, node: &'x str, sources: &'x [Source]) -> Result<(), NoMemory>
+fn put_sources_equal<'x>(
+    asks: &mut Asks<'x>,
+    node: &'x str,
+    sources: &'x [Source],
+) -> Result<(), NoMemory>
     ensures { OnOk result (seen_asks asks.new.items
         ≡ seen_asks asks.old.items ++ sources_equal node.now (map seen_source sources.now)) }
 {
     for source in sources {
-        put(asks, &[Ask::SameSize { first: node, second: source_node(node, source) }])?;
+        put(
+            asks,
+            &[Ask::SameSize {
+                first: node,
+                second: source_node(node, source),
+            }],
+        )?;
     }
     Ok(())
 }
@@ -166,8 +226,14 @@ pub(crate) fn put_merge_names<'x>(asks: &mut Asks<'x>, c: &'x BitmapMerge) -> Re
     put(
         asks,
         &[
-            Ask::Named { member: "node", text: Some(c.node.as_str()) },
-            Ask::Named { member: "target", text: Some(c.target.as_str()) },
+            Ask::Named {
+                member: "node",
+                text: Some(c.node.as_str()),
+            },
+            Ask::Named {
+                member: "target",
+                text: Some(c.target.as_str()),
+            },
         ],
     )?;
     put_all_source_names(asks, c.bitmaps.as_slice())
@@ -181,7 +247,10 @@ pub(crate) fn put_merge_rest<'x>(asks: &mut Asks<'x>, c: &'x BitmapMerge) -> Res
     let node = c.node.as_str();
     let name = Some(c.target.as_str());
     let sources = c.bitmaps.as_slice();
-    put(asks, &[Ask::Found(Some(node)), Ask::BitmapFound { node, name }])?;
+    put(
+        asks,
+        &[Ask::Found(Some(node)), Ask::BitmapFound { node, name }],
+    )?;
     put_sources_found(asks, node, sources)?;
     put(asks, &[Ask::BitmapFree { node, name }])?;
     put_sources_free(asks, node, sources)?;

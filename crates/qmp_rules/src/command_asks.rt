@@ -26,7 +26,9 @@ use crate::node_asks::{
 };
 use crate::values::is_completion_mode;
 use blk_base::NoMemory;
-use qmp_codec::{Action, Backup, BitmapAdd, BitmapMerge, BitmapName, Command, Snapshot, Transaction};
+use qmp_codec::{
+    Action, Backup, BitmapAdd, BitmapMerge, BitmapName, Command, Snapshot, Transaction,
+};
 use std::alloc::Global;
 
 /// Whether nothing is to be enabled.
@@ -44,7 +46,13 @@ fn put_action_values<'x>(asks: &mut Asks<'x>, action: &'x Action) -> Result<(), 
         ≡ seen_asks asks.old.items ++ action_values (seen_action action.now)) }
 {
     match action {
-        Action::Unknown => put(asks, &[Ask::Good { member: "type", ok: false }]),
+        Action::Unknown => put(
+            asks,
+            &[Ask::Good {
+                member: "type",
+                ok: false,
+            }],
+        ),
         Action::Snapshot(c) => put_snapshot_values(asks, c),
         Action::Backup(c) => put_backup_values(asks, c),
         Action::BitmapAdd(c) => put_bitmap_add_values(asks, c),
@@ -119,7 +127,13 @@ fn put_transaction_names<'x>(asks: &mut Asks<'x>, c: &'x Transaction) -> Result<
         ≡ seen_asks asks.old.items ++ transaction_names (seen_transaction c.now)) }
 {
     let ok = is_completion_mode(c.completion_mode);
-    put(asks, &[Ask::Good { member: "completion-mode", ok }])?;
+    put(
+        asks,
+        &[Ask::Good {
+            member: "completion-mode",
+            ok,
+        }],
+    )?;
     put_all_names(asks, c.actions.as_slice())
 }
 
@@ -189,12 +203,21 @@ fn put_command<'x>(asks: &mut Asks<'x>, command: &'x Command) -> Result<(), NoMe
         ≡ seen_asks asks.old.items ++ asks_of (seen_command command.now)) }
 {
     match command {
-        Command::Capabilities(texts) => put(asks, &[Ask::Good { member: "enable", ok: is_nothing(texts) }]),
+        Command::Capabilities(texts) => put(
+            asks,
+            &[Ask::Good {
+                member: "enable",
+                ok: is_nothing(texts),
+            }],
+        ),
         Command::BlockdevCreate(c) => put_create(asks, c),
         Command::JobDismiss(id) => put(
             asks,
             &[
-                Ask::Named { member: "id", text: Some(id.as_str()) },
+                Ask::Named {
+                    member: "id",
+                    text: Some(id.as_str()),
+                },
                 Ask::Kept(id.as_str()),
             ],
         ),

@@ -148,7 +148,9 @@ fn place_of(names: &[Name], name: &str) -> Option<usize>
 fn has_number(devices: &[Device], number: u128) -> bool
     ensures { result ≡ list_any (λ device. device.number == number) devices.now }
 {
-    devices.iter().any(|device| u128::from(device.number) == number)
+    devices
+        .iter()
+        .any(|device| u128::from(device.number) == number)
 }
 
 /// The lowest of 64 numbers from one on that no device has, or else the one behind them.
@@ -220,7 +222,14 @@ fn raw_row(
 {
     let size = part_size(raw.offset, raw.size, length);
     let name = Name::copied(alloc, name)?;
-    Ok(format_row(Kind::Raw, id, name, size, part_offset(raw.offset), read_only))
+    Ok(format_row(
+        Kind::Raw,
+        id,
+        name,
+        size,
+        part_offset(raw.offset),
+        read_only,
+    ))
 }
 
 fn image_row(
@@ -305,15 +314,28 @@ impl Names {
         }
     }
 
-    fn plan_create(&self, alloc: Global, edits: &mut Vec<Change>, c: &BlockdevCreate) -> Result<(), NoMemory>
+    fn plan_create(
+        &self,
+        alloc: Global,
+        edits: &mut Vec<Change>,
+        c: &BlockdevCreate,
+    ) -> Result<(), NoMemory>
         ensures { OnOk result (edits.new.items
             ≡ edits.old.items ++ create_edits self.now.table (seen_blockdev_create c.now)) }
     {
-        put(edits, Change::KeepId(Name::copied(alloc, c.job_id.as_str())?))?;
+        put(
+            edits,
+            Change::KeepId(Name::copied(alloc, c.job_id.as_str())?),
+        )?;
         self.plan_created(alloc, edits, &c.options)
     }
 
-    fn plan_created(&self, alloc: Global, edits: &mut Vec<Change>, options: &Created) -> Result<(), NoMemory>
+    fn plan_created(
+        &self,
+        alloc: Global,
+        edits: &mut Vec<Change>,
+        options: &Created,
+    ) -> Result<(), NoMemory>
         ensures { OnOk result (edits.new.items
             ≡ edits.old.items ++ created_change self.now.table (seen_created options.now)) }
     {
@@ -340,11 +362,19 @@ impl Names {
     }
 
     /// What a creation leaves of which a call failed: its file used.
-    fn plan_spoiled(&self, alloc: Global, edits: &mut Vec<Change>, options: &Created) -> Result<(), NoMemory>
+    fn plan_spoiled(
+        &self,
+        alloc: Global,
+        edits: &mut Vec<Change>,
+        options: &Created,
+    ) -> Result<(), NoMemory>
         ensures { OnOk result (edits.new.items ≡ edits.old.items ++ spoiled self.now.table (seen_created options.now)) }
     {
         match options {
-            Created::File(c) => put(edits, Change::SpoilFile(Name::copied(alloc, c.filename.as_str())?)),
+            Created::File(c) => put(
+                edits,
+                Change::SpoilFile(Name::copied(alloc, c.filename.as_str())?),
+            ),
             Created::Qcow2(c) => {
                 let file = self.file_of_node(c.file.as_str());
                 put(edits, Change::SpoilFile(Name::copied(alloc, file)?))
@@ -400,14 +430,35 @@ impl Names {
         let free = self.free_ids(alloc)?;
         match &raw.file {
             FileRef::Name(file) => {
-                let row = raw_row(alloc, free.first, name, self.size_of(file.as_str()), read_only, raw)?;
-                put(edits, Change::AddFormat { row, file: self.id_of(file.as_str()), backing: None })
+                let row = raw_row(
+                    alloc,
+                    free.first,
+                    name,
+                    self.size_of(file.as_str()),
+                    read_only,
+                    raw,
+                )?;
+                put(
+                    edits,
+                    Change::AddFormat {
+                        row,
+                        file: self.id_of(file.as_str()),
+                        backing: None,
+                    },
+                )
             }
             FileRef::Inline(file) => {
                 let under = self.inline_row(alloc, &free, told, name, file)?;
                 let row = raw_row(alloc, free.next, name, length_told(told), read_only, raw)?;
                 put(edits, Change::AddFile(under))?;
-                put(edits, Change::AddFormat { row, file: free.first, backing: None })
+                put(
+                    edits,
+                    Change::AddFormat {
+                        row,
+                        file: free.first,
+                        backing: None,
+                    },
+                )
             }
         }
     }
@@ -430,13 +481,27 @@ impl Names {
         match &image.file {
             FileRef::Name(file) => {
                 let row = image_row(alloc, free.first, told, name, read_only)?;
-                put(edits, Change::AddFormat { row, file: self.id_of(file.as_str()), backing })
+                put(
+                    edits,
+                    Change::AddFormat {
+                        row,
+                        file: self.id_of(file.as_str()),
+                        backing,
+                    },
+                )
             }
             FileRef::Inline(file) => {
                 let under = self.inline_row(alloc, &free, told, name, file)?;
                 let row = image_row(alloc, free.next, told, name, read_only)?;
                 put(edits, Change::AddFile(under))?;
-                put(edits, Change::AddFormat { row, file: free.first, backing })
+                put(
+                    edits,
+                    Change::AddFormat {
+                        row,
+                        file: free.first,
+                        backing,
+                    },
+                )
             }
         }
     }
@@ -451,7 +516,13 @@ impl Names {
         }
     }
 
-    fn plan_add(&self, alloc: Global, edits: &mut Vec<Change>, told: &Told, c: &BlockdevAdd) -> Result<(), NoMemory>
+    fn plan_add(
+        &self,
+        alloc: Global,
+        edits: &mut Vec<Change>,
+        told: &Told,
+        c: &BlockdevAdd,
+    ) -> Result<(), NoMemory>
         ensures { OnOk result (edits.new.items
             ≡ edits.old.items ++ add_edits self.now.table told.now (seen_blockdev_add c.now)) }
     {
@@ -470,7 +541,13 @@ impl Names {
                 let (id, size) = (self.free_id(alloc)?, self.size_of(file.as_str()));
                 let name = Name::copied(alloc, name)?;
                 let row = format_row(Kind::CopyOnRead, id, name, size, 0, read_only);
-                put(edits, Change::AddFilter { row, child: self.id_of(file.as_str()) })
+                put(
+                    edits,
+                    Change::AddFilter {
+                        row,
+                        child: self.id_of(file.as_str()),
+                    },
+                )
             }
             Added::Unknown => Ok(()),
         }
@@ -516,7 +593,12 @@ impl Names {
     }
 
     #[tactic(auto, using(std::proofs::lemmas::List::append_assoc))]
-    fn plan_row_gone(&self, alloc: Global, edits: &mut Vec<Change>, row: &NodeRecord) -> Result<(), NoMemory>
+    fn plan_row_gone(
+        &self,
+        alloc: Global,
+        edits: &mut Vec<Change>,
+        row: &NodeRecord,
+    ) -> Result<(), NoMemory>
         ensures { OnOk result (edits.new.items ≡ edits.old.items ++ row_gone self.now.table row.now) }
     {
         put_uses(alloc, edits, self.file_under(row))?;
@@ -545,16 +627,33 @@ impl Names {
     }
 
     #[tactic(auto, using(std::proofs::lemmas::List::append_assoc))]
-    fn plan_device(&self, alloc: Global, edits: &mut Vec<Change>, c: &DeviceAdd, row: &NodeRecord) -> Result<(), NoMemory>
+    fn plan_device(
+        &self,
+        alloc: Global,
+        edits: &mut Vec<Change>,
+        c: &DeviceAdd,
+        row: &NodeRecord,
+    ) -> Result<(), NoMemory>
         ensures { OnOk result (edits.new.items ≡ edits.old.items ++ (device_uses row.now
             ++ Change.AddDevice (new_device self.now.table (seen_device_add c.now) row.now) row.now.id ∷ [])) }
     {
         put_device_uses(alloc, edits, row)?;
         let device = self.new_device(alloc, c, row)?;
-        put(edits, Change::AddDevice { device, node: row.id })
+        put(
+            edits,
+            Change::AddDevice {
+                device,
+                node: row.id,
+            },
+        )
     }
 
-    fn plan_device_add(&self, alloc: Global, edits: &mut Vec<Change>, c: &DeviceAdd) -> Result<(), NoMemory>
+    fn plan_device_add(
+        &self,
+        alloc: Global,
+        edits: &mut Vec<Change>,
+        c: &DeviceAdd,
+    ) -> Result<(), NoMemory>
         ensures { OnOk result (edits.new.items
             ≡ edits.old.items ++ device_add_edits self.now.table (seen_device_add c.now)) }
     {
@@ -566,7 +665,13 @@ impl Names {
 
     /// What a command that is carried out makes of the table, once it is accepted.
     #[tactic(auto, unfolding(crate::specs::Edits::edits_of))]
-    fn plan_edits(&self, alloc: Global, edits: &mut Vec<Change>, told: &Told, command: &Command) -> Result<(), NoMemory>
+    fn plan_edits(
+        &self,
+        alloc: Global,
+        edits: &mut Vec<Change>,
+        told: &Told,
+        command: &Command,
+    ) -> Result<(), NoMemory>
         requires { is_built (seen_command command.now) ≡ true }
         ensures { OnOk result (edits.new.items
             ≡ edits.old.items ++ edits_of self.now.table told.now (seen_command command.now)) }
@@ -574,7 +679,10 @@ impl Names {
         match command {
             Command::Capabilities(_) => put(edits, Change::Negotiate),
             Command::BlockdevCreate(c) => self.plan_create(alloc, edits, c),
-            Command::JobDismiss(id) => put(edits, Change::DropId(Name::copied(alloc, id.as_str())?)),
+            Command::JobDismiss(id) => put(
+                edits,
+                Change::DropId(Name::copied(alloc, id.as_str())?),
+            ),
             Command::BlockdevAdd(c) => self.plan_add(alloc, edits, told, c),
             Command::BlockdevDel(name) => self.plan_del(alloc, edits, name.as_str()),
             Command::DeviceAdd(c) => self.plan_device_add(alloc, edits, c),
@@ -584,7 +692,12 @@ impl Names {
     }
 
     /// The same, alone.
-    pub(crate) fn edits_of(&self, alloc: Global, told: &Told, command: &Command) -> Result<Vec<Change>, NoMemory>
+    pub(crate) fn edits_of(
+        &self,
+        alloc: Global,
+        told: &Told,
+        command: &Command,
+    ) -> Result<Vec<Change>, NoMemory>
         requires { is_built (seen_command command.now) ≡ true }
         ensures { IfOk result (λ edits. edits.items ≡ edits_of self.now.table told.now (seen_command command.now)) }
     {

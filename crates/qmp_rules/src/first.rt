@@ -4,8 +4,8 @@ ghost use Rattle.qmp_rules.specs.Asks.{first, holds};
 ghost use Rattle.qmp_rules.specs.Seen.{seen_ask, seen_asks};
 
 use crate::ask::Ask;
-use crate::refuse::{self, Found};
 use crate::refusal::{FileFault, Refusal};
+use crate::refuse::{self, Found};
 use crate::table::Names;
 use crate::told::Told;
 use crate::unmet;

@@ -15,7 +15,10 @@ use qmp_codec::{Backup, Commit, JobOptions, Mirror, OnError, Stream};
 fn on_error_value(member: &str, policy: Option<OnError>) -> Ask<&str>
     ensures { seen_ask result ≡ on_error_value member.now policy }
 {
-    Ask::Good { member, ok: is_on_error(policy) }
+    Ask::Good {
+        member,
+        ok: is_on_error(policy),
+    }
 }
 
 /// What every job takes.
@@ -25,9 +28,18 @@ fn put_job_values<'x>(asks: &mut Asks<'x>, options: &JobOptions) -> Result<(), N
     put(
         asks,
         &[
-            Ask::Good { member: "speed", ok: is_just(0, options.speed) },
-            Ask::Good { member: "auto-finalize", ok: is_true(options.auto_finalize) },
-            Ask::Good { member: "auto-dismiss", ok: is_true(options.auto_dismiss) },
+            Ask::Good {
+                member: "speed",
+                ok: is_just(0, options.speed),
+            },
+            Ask::Good {
+                member: "auto-finalize",
+                ok: is_true(options.auto_finalize),
+            },
+            Ask::Good {
+                member: "auto-dismiss",
+                ok: is_true(options.auto_dismiss),
+            },
         ],
     )
 }
@@ -48,10 +60,22 @@ fn put_stream_names<'x>(asks: &mut Asks<'x>, c: &'x Stream) -> Result<(), NoMemo
     put(
         asks,
         &[
-            Ask::Named { member: "job-id", text: Some(c.job_id.as_str()) },
-            Ask::Named { member: "device", text: Some(c.device.as_str()) },
-            Ask::Named { member: "base-node", text: maybe(&c.base_node) },
-            Ask::FileNamed { member: "backing-file", text: maybe(&c.backing_file) },
+            Ask::Named {
+                member: "job-id",
+                text: Some(c.job_id.as_str()),
+            },
+            Ask::Named {
+                member: "device",
+                text: Some(c.device.as_str()),
+            },
+            Ask::Named {
+                member: "base-node",
+                text: maybe(&c.base_node),
+            },
+            Ask::FileNamed {
+                member: "backing-file",
+                text: maybe(&c.backing_file),
+            },
         ],
     )
 }
@@ -68,8 +92,14 @@ fn put_stream_rest<'x>(asks: &mut Asks<'x>, c: &'x Stream) -> Result<(), NoMemor
             Ask::Found(maybe(&c.base_node)),
             Ask::FreshJob(c.job_id.as_str()),
             Ask::RoomForJob,
-            Ask::Drives { node: Some(device), which: Drivers::Qcow2 },
-            Ask::Drives { node: maybe(&c.base_node), which: Drivers::FileRawOrQcow2 },
+            Ask::Drives {
+                node: Some(device),
+                which: Drivers::Qcow2,
+            },
+            Ask::Drives {
+                node: maybe(&c.base_node),
+                which: Drivers::FileRawOrQcow2,
+            },
             Ask::Settled(Some(device)),
             Ask::Free(stream_nodes(c)),
             Ask::Writable(device),
@@ -106,11 +136,26 @@ fn put_commit_names<'x>(asks: &mut Asks<'x>, c: &'x Commit) -> Result<(), NoMemo
     put(
         asks,
         &[
-            Ask::Named { member: "job-id", text: Some(c.job_id.as_str()) },
-            Ask::Named { member: "device", text: Some(c.device.as_str()) },
-            Ask::Named { member: "base-node", text: maybe(&c.base_node) },
-            Ask::Named { member: "top-node", text: maybe(&c.top_node) },
-            Ask::FileNamed { member: "backing-file", text: maybe(&c.backing_file) },
+            Ask::Named {
+                member: "job-id",
+                text: Some(c.job_id.as_str()),
+            },
+            Ask::Named {
+                member: "device",
+                text: Some(c.device.as_str()),
+            },
+            Ask::Named {
+                member: "base-node",
+                text: maybe(&c.base_node),
+            },
+            Ask::Named {
+                member: "top-node",
+                text: maybe(&c.top_node),
+            },
+            Ask::FileNamed {
+                member: "backing-file",
+                text: maybe(&c.backing_file),
+            },
         ],
     )
 }
@@ -129,9 +174,18 @@ fn put_commit_rest<'x>(asks: &mut Asks<'x>, c: &'x Commit) -> Result<(), NoMemor
             Ask::FreshJob(c.job_id.as_str()),
             Ask::RoomForNodes(1),
             Ask::RoomForJob,
-            Ask::Drives { node: Some(device), which: Drivers::Qcow2 },
-            Ask::Drives { node: maybe(&c.base_node), which: Drivers::FileRawOrQcow2 },
-            Ask::Drives { node: maybe(&c.top_node), which: Drivers::Qcow2 },
+            Ask::Drives {
+                node: Some(device),
+                which: Drivers::Qcow2,
+            },
+            Ask::Drives {
+                node: maybe(&c.base_node),
+                which: Drivers::FileRawOrQcow2,
+            },
+            Ask::Drives {
+                node: maybe(&c.top_node),
+                which: Drivers::Qcow2,
+            },
             Ask::Settled(Some(device)),
             Ask::Settled(maybe(&c.top_node)),
             Ask::Free(commit_nodes(c)),
@@ -166,9 +220,18 @@ fn put_mirror_choices<'x>(asks: &mut Asks<'x>, c: &'x Mirror) -> Result<(), NoMe
     put(
         asks,
         &[
-            Ask::Good { member: "target", ok: is_other(c.target.as_str(), c.device.as_str()) },
-            Ask::Good { member: "sync", ok: is_full(c.sync) },
-            Ask::Good { member: "copy-mode", ok: is_copy_mode(c.copy_mode) },
+            Ask::Good {
+                member: "target",
+                ok: is_other(c.target.as_str(), c.device.as_str()),
+            },
+            Ask::Good {
+                member: "sync",
+                ok: is_full(c.sync),
+            },
+            Ask::Good {
+                member: "copy-mode",
+                ok: is_copy_mode(c.copy_mode),
+            },
             on_error_value("on-source-error", c.on_source_error),
             on_error_value("on-target-error", c.on_target_error),
         ],
@@ -191,9 +254,18 @@ fn put_mirror_names<'x>(asks: &mut Asks<'x>, c: &'x Mirror) -> Result<(), NoMemo
     put(
         asks,
         &[
-            Ask::Named { member: "job-id", text: Some(c.job_id.as_str()) },
-            Ask::Named { member: "device", text: Some(c.device.as_str()) },
-            Ask::Named { member: "target", text: Some(c.target.as_str()) },
+            Ask::Named {
+                member: "job-id",
+                text: Some(c.job_id.as_str()),
+            },
+            Ask::Named {
+                member: "device",
+                text: Some(c.device.as_str()),
+            },
+            Ask::Named {
+                member: "target",
+                text: Some(c.target.as_str()),
+            },
         ],
     )
 }
@@ -212,8 +284,14 @@ fn put_mirror_rest<'x>(asks: &mut Asks<'x>, c: &'x Mirror) -> Result<(), NoMemor
             Ask::FreshJob(c.job_id.as_str()),
             Ask::RoomForNodes(1),
             Ask::RoomForJob,
-            Ask::Drives { node: Some(device), which: Drivers::FileRawOrQcow2 },
-            Ask::Drives { node: Some(target), which: Drivers::FileRawOrQcow2 },
+            Ask::Drives {
+                node: Some(device),
+                which: Drivers::FileRawOrQcow2,
+            },
+            Ask::Drives {
+                node: Some(target),
+                which: Drivers::FileRawOrQcow2,
+            },
             Ask::Settled(Some(device)),
             Ask::Free(JobNodes::Copy { device, target }),
             Ask::Writable(target),
@@ -241,10 +319,22 @@ fn put_backup_choices<'x>(asks: &mut Asks<'x>, c: &'x Backup) -> Result<(), NoMe
     put(
         asks,
         &[
-            Ask::Good { member: "target", ok: is_other(c.target.as_str(), c.device.as_str()) },
-            Ask::Good { member: "sync", ok: is_sync(c.sync) },
-            Ask::Good { member: "bitmap", ok: is_bitmap_for(c.sync, &c.bitmap) },
-            Ask::Good { member: "bitmap-mode", ok: is_mode_for(c.sync, c.bitmap_mode) },
+            Ask::Good {
+                member: "target",
+                ok: is_other(c.target.as_str(), c.device.as_str()),
+            },
+            Ask::Good {
+                member: "sync",
+                ok: is_sync(c.sync),
+            },
+            Ask::Good {
+                member: "bitmap",
+                ok: is_bitmap_for(c.sync, &c.bitmap),
+            },
+            Ask::Good {
+                member: "bitmap-mode",
+                ok: is_mode_for(c.sync, c.bitmap_mode),
+            },
             on_error_value("on-source-error", c.on_source_error),
             on_error_value("on-target-error", c.on_target_error),
         ],
@@ -268,10 +358,22 @@ pub(crate) fn put_backup_names<'x>(asks: &mut Asks<'x>, c: &'x Backup) -> Result
     put(
         asks,
         &[
-            Ask::Named { member: "job-id", text: Some(c.job_id.as_str()) },
-            Ask::Named { member: "device", text: Some(c.device.as_str()) },
-            Ask::Named { member: "target", text: Some(c.target.as_str()) },
-            Ask::Named { member: "bitmap", text: maybe(&c.bitmap) },
+            Ask::Named {
+                member: "job-id",
+                text: Some(c.job_id.as_str()),
+            },
+            Ask::Named {
+                member: "device",
+                text: Some(c.device.as_str()),
+            },
+            Ask::Named {
+                member: "target",
+                text: Some(c.target.as_str()),
+            },
+            Ask::Named {
+                member: "bitmap",
+                text: maybe(&c.bitmap),
+            },
         ],
     )
 }
@@ -287,15 +389,27 @@ pub(crate) fn put_backup_rest<'x>(asks: &mut Asks<'x>, c: &'x Backup) -> Result<
         &[
             Ask::Found(Some(device)),
             Ask::Found(Some(target)),
-            Ask::BitmapFound { node: device, name: maybe(&c.bitmap) },
+            Ask::BitmapFound {
+                node: device,
+                name: maybe(&c.bitmap),
+            },
             Ask::FreshJob(c.job_id.as_str()),
             Ask::RoomForNodes(1),
             Ask::RoomForJob,
-            Ask::Drives { node: Some(device), which: Drivers::FileRawOrQcow2 },
-            Ask::Drives { node: Some(target), which: Drivers::FileRawOrQcow2 },
+            Ask::Drives {
+                node: Some(device),
+                which: Drivers::FileRawOrQcow2,
+            },
+            Ask::Drives {
+                node: Some(target),
+                which: Drivers::FileRawOrQcow2,
+            },
             Ask::Settled(Some(device)),
             Ask::Free(JobNodes::Copy { device, target }),
-            Ask::BitmapFree { node: device, name: maybe(&c.bitmap) },
+            Ask::BitmapFree {
+                node: device,
+                name: maybe(&c.bitmap),
+            },
             Ask::Writable(target),
             Ask::EqualSizes(JobNodes::Copy { device, target }),
             Ask::Lone(target),
@@ -311,7 +425,10 @@ pub(crate) fn put_cancel<'x>(asks: &mut Asks<'x>, job: &'x str) -> Result<(), No
     put(
         asks,
         &[
-            Ask::Named { member: "device", text: Some(job) },
+            Ask::Named {
+                member: "device",
+                text: Some(job),
+            },
             Ask::JobFound(job),
         ],
     )
@@ -324,7 +441,10 @@ pub(crate) fn put_complete<'x>(asks: &mut Asks<'x>, job: &'x str) -> Result<(), 
     put(
         asks,
         &[
-            Ask::Named { member: "device", text: Some(job) },
+            Ask::Named {
+                member: "device",
+                text: Some(job),
+            },
             Ask::JobFound(job),
             Ask::JobReady(job),
         ],

@@ -9,13 +9,12 @@ ghost use Rattle.qmp_rules.specs.Seen.{seen_nodes, seen_text};
 ghost use Rattle.qmp_rules.specs.Table.{name_at, node_at};
 
 use crate::ask::JobNodes;
-use crate::find;
-use crate::reach;
 use crate::refusal::Refusal;
 use crate::refuse::{self, Found};
 use crate::rows::{JobRecord, NodeRecord};
 use crate::table::Names;
 use crate::unmet::differ;
+use crate::{find, reach};
 use blk_base::NoMemory;
 use blk_graph::{Edge, NodeId, Parent, Role, free_id};
 use qmp_codec::JobKind;
@@ -137,8 +136,14 @@ impl Names {
     {
         match nodes {
             JobNodes::Stream { base: None, .. } => None,
-            JobNodes::Stream { base: Some(base), .. } => self.id_named(base),
-            JobNodes::Commit { base, .. } => Some(self.id_or(self.lowest(self.top_of(nodes)), *base)),
+            JobNodes::Stream {
+                base: Some(base),
+                ..
+            } => self.id_named(base),
+            JobNodes::Commit { base, .. } => Some(self.id_or(
+                self.lowest(self.top_of(nodes)),
+                *base,
+            )),
             JobNodes::Copy { target, .. } => self.id_named(target),
         }
     }
@@ -169,7 +174,10 @@ impl Names {
         match nodes {
             JobNodes::Stream { .. } => put_all(ids, &[self.top_of(nodes)]),
             JobNodes::Commit { .. } => self.put_committed(ids, nodes),
-            JobNodes::Copy { target, .. } => put_all(ids, &[self.top_of(nodes), self.id_of(target)]),
+            JobNodes::Copy { target, .. } => put_all(
+                ids,
+                &[self.top_of(nodes), self.id_of(target)],
+            ),
         }
     }
 
@@ -301,7 +309,11 @@ impl Names {
         ensures { IfOk result (λ found. found ≡ not_in_chain self.now.table (seen_nodes nodes.now)) }
     {
         match nodes {
-            JobNodes::Stream { .. } => self.not_below(alloc, self.top_of(nodes), self.base_of(nodes)),
+            JobNodes::Stream { .. } => self.not_below(
+                alloc,
+                self.top_of(nodes),
+                self.base_of(nodes),
+            ),
             JobNodes::Commit { device, .. } => {
                 let top = self.top_of(nodes);
                 let found = self.not_below(alloc, top, self.base_of(nodes))?;

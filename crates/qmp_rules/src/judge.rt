@@ -244,7 +244,12 @@ impl Names {
 
     /// The first refusal of a command that holds, where the files tell this.
     #[tactic(auto, using(crate::proofs::JudgeLemmas::built_by, crate::proofs::JudgeLemmas::else_some, crate::proofs::JudgeLemmas::else_none), unfolding(crate::specs::Answers::refusal_of))]
-    pub fn refusal(&self, alloc: Global, told: &Told, command: &Command) -> Result<Option<Refusal>, NoMemory>
+    pub fn refusal(
+        &self,
+        alloc: Global,
+        told: &Told,
+        command: &Command,
+    ) -> Result<Option<Refusal>, NoMemory>
         ensures { IfOk result (λ found. found ≡ refusal_of self.now.table told.now (seen_command command.now)) }
     {
         let found = unbuilt(alloc, command)?;
@@ -255,7 +260,11 @@ impl Names {
     }
 
     /// The first refusal that the table decides.
-    pub fn first_refusal(&self, alloc: Global, command: &Command) -> Result<Option<Refusal>, NoMemory>
+    pub fn first_refusal(
+        &self,
+        alloc: Global,
+        command: &Command,
+    ) -> Result<Option<Refusal>, NoMemory>
         ensures { IfOk result (λ found. found ≡ refusal_of self.now.table untold (seen_command command.now)) }
     {
         self.refusal(alloc, &Told::nothing(alloc), command)
@@ -263,7 +272,12 @@ impl Names {
 
     /// Looks at a command, and takes all the memory that its changes need. The table stays.
     #[tactic(auto, using(crate::proofs::JudgeLemmas::edits_built, crate::proofs::JudgeLemmas::built_unless, crate::proofs::FitLemmas::all_fit))]
-    pub fn prepare(&mut self, alloc: Global, command: &Command, told: &Told) -> Result<Edits, PrepareStop>
+    pub fn prepare(
+        &mut self,
+        alloc: Global,
+        command: &Command,
+        told: &Told,
+    ) -> Result<Edits, PrepareStop>
         ensures accepted { IfOk result (λ _. refusal_of self.old.table told.now (seen_command command.now) ≡ None) }
         ensures edits { IfOk result (λ edits. edits ≡ command_edits self.old.table told.now (seen_command command.now)) }
         ensures room { IfOk result (λ edits. HasRoom (length edits) self.new) }

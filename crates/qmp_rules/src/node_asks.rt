@@ -41,11 +41,26 @@ fn put_create_qcow2_values<'x>(asks: &mut Asks<'x>, c: &'x CreateQcow2) -> Resul
     put(
         asks,
         &[
-            Ask::Good { member: "size", ok: is_image_size(c.size) },
-            Ask::Good { member: "backing-fmt", ok: is_image_format(c.backing_fmt) },
-            Ask::Good { member: "cluster-size", ok: is_just(65536, c.cluster_size) },
-            Ask::Good { member: "refcount-bits", ok: is_just(16, c.refcount_bits) },
-            Ask::Good { member: "version", ok: is_version(c.version) },
+            Ask::Good {
+                member: "size",
+                ok: is_image_size(c.size),
+            },
+            Ask::Good {
+                member: "backing-fmt",
+                ok: is_image_format(c.backing_fmt),
+            },
+            Ask::Good {
+                member: "cluster-size",
+                ok: is_just(65536, c.cluster_size),
+            },
+            Ask::Good {
+                member: "refcount-bits",
+                ok: is_just(16, c.refcount_bits),
+            },
+            Ask::Good {
+                member: "version",
+                ok: is_version(c.version),
+            },
         ],
     )
 }
@@ -55,9 +70,21 @@ fn put_create_values<'x>(asks: &mut Asks<'x>, options: &'x Created) -> Result<()
         ≡ seen_asks asks.old.items ++ create_values (seen_created options.now)) }
 {
     match options {
-        Created::File(c) => put(asks, &[Ask::Good { member: "size", ok: is_size(c.size) }]),
+        Created::File(c) => put(
+            asks,
+            &[Ask::Good {
+                member: "size",
+                ok: is_size(c.size),
+            }],
+        ),
         Created::Qcow2(c) => put_create_qcow2_values(asks, c),
-        Created::Unknown => put(asks, &[Ask::Good { member: "driver", ok: false }]),
+        Created::Unknown => put(
+            asks,
+            &[Ask::Good {
+                member: "driver",
+                ok: false,
+            }],
+        ),
     }
 }
 
@@ -68,8 +95,14 @@ fn put_create_qcow2_names<'x>(asks: &mut Asks<'x>, c: &'x CreateQcow2) -> Result
     put(
         asks,
         &[
-            Ask::Named { member: "file", text: Some(c.file.as_str()) },
-            Ask::FileNamed { member: "backing-file", text: maybe(&c.backing_file) },
+            Ask::Named {
+                member: "file",
+                text: Some(c.file.as_str()),
+            },
+            Ask::FileNamed {
+                member: "backing-file",
+                text: maybe(&c.backing_file),
+            },
         ],
     )
 }
@@ -81,7 +114,10 @@ fn put_create_names<'x>(asks: &mut Asks<'x>, options: &'x Created) -> Result<(),
     match options {
         Created::File(c) => put(
             asks,
-            &[Ask::FileNamed { member: "filename", text: Some(c.filename.as_str()) }],
+            &[Ask::FileNamed {
+                member: "filename",
+                text: Some(c.filename.as_str()),
+            }],
         ),
         Created::Qcow2(c) => put_create_qcow2_names(asks, c),
         Created::Unknown => Ok(()),
@@ -110,7 +146,10 @@ fn put_create_rest<'x>(
             &[
                 Ask::Found(Some(c.file.as_str())),
                 Ask::FreshJob(job),
-                Ask::Drives { node: Some(c.file.as_str()), which: Drivers::File },
+                Ask::Drives {
+                    node: Some(c.file.as_str()),
+                    which: Drivers::File,
+                },
                 Ask::Lone(c.file.as_str()),
                 Ask::Files(Look::Format),
             ],
@@ -126,7 +165,13 @@ pub(crate) fn put_create<'x>(asks: &mut Asks<'x>, c: &'x BlockdevCreate) -> Resu
         ≡ seen_asks asks.old.items ++ create_asks (seen_blockdev_create c.now)) }
 {
     put_create_values(asks, &c.options)?;
-    put(asks, &[Ask::Named { member: "job-id", text: Some(c.job_id.as_str()) }])?;
+    put(
+        asks,
+        &[Ask::Named {
+            member: "job-id",
+            text: Some(c.job_id.as_str()),
+        }],
+    )?;
     put_create_names(asks, &c.options)?;
     put_create_rest(asks, c.job_id.as_str(), &c.options)
 }
@@ -134,7 +179,13 @@ pub(crate) fn put_create<'x>(asks: &mut Asks<'x>, c: &'x BlockdevCreate) -> Resu
 fn put_option_values<'x>(asks: &mut Asks<'x>, options: &NodeOptions) -> Result<(), NoMemory>
     ensures { OnOk result (seen_asks asks.new.items ≡ seen_asks asks.old.items ++ option_values options.now) }
 {
-    put(asks, &[Ask::Good { member: "discard", ok: is_discard(options.discard) }])
+    put(
+        asks,
+        &[Ask::Good {
+            member: "discard",
+            ok: is_discard(options.discard),
+        }],
+    )
 }
 
 #[tactic(auto, using(std::proofs::lemmas::List::append_assoc))]
@@ -145,7 +196,13 @@ fn put_file_values<'x>(asks: &mut Asks<'x>, file: &'x FileRef) -> Result<(), NoM
     match file {
         FileRef::Name(_) => Ok(()),
         FileRef::Inline(file) => {
-            put(asks, &[Ask::Good { member: "driver", ok: is_file_driver(file.driver) }])?;
+            put(
+                asks,
+                &[Ask::Good {
+                    member: "driver",
+                    ok: is_file_driver(file.driver),
+                }],
+            )?;
             put_option_values(asks, &file.options)
         }
     }
@@ -156,12 +213,24 @@ fn put_file_names<'x>(asks: &mut Asks<'x>, file: &'x FileRef) -> Result<(), NoMe
         ≡ seen_asks asks.old.items ++ file_names (seen_file_ref file.now)) }
 {
     match file {
-        FileRef::Name(name) => put(asks, &[Ask::Named { member: "file", text: Some(name.as_str()) }]),
+        FileRef::Name(name) => put(
+            asks,
+            &[Ask::Named {
+                member: "file",
+                text: Some(name.as_str()),
+            }],
+        ),
         FileRef::Inline(file) => put(
             asks,
             &[
-                Ask::FileNamed { member: "filename", text: Some(file.filename.as_str()) },
-                Ask::Named { member: "node-name", text: maybe(&file.node_name) },
+                Ask::FileNamed {
+                    member: "filename",
+                    text: Some(file.filename.as_str()),
+                },
+                Ask::Named {
+                    member: "node-name",
+                    text: maybe(&file.node_name),
+                },
             ],
         ),
     }
@@ -172,7 +241,10 @@ fn begins_in(raw: &AddRaw) -> Ask<&str>
     ensures { seen_ask result ≡ begins_in (seen_add_raw raw.now).file raw.now.offset }
 {
     match &raw.file {
-        FileRef::Name(name) => Ask::Begins { file: name.as_str(), offset: raw.offset },
+        FileRef::Name(name) => Ask::Begins {
+            file: name.as_str(),
+            offset: raw.offset,
+        },
         FileRef::Inline(_) => Ask::Files(Look::Begin),
     }
 }
@@ -197,9 +269,15 @@ fn put_part_values<'x>(asks: &mut Asks<'x>, raw: &'x AddRaw) -> Result<(), NoMem
     put(
         asks,
         &[
-            Ask::Good { member: "offset", ok: is_offset(raw.offset) },
+            Ask::Good {
+                member: "offset",
+                ok: is_offset(raw.offset),
+            },
             begins_in(raw),
-            Ask::Good { member: "size", ok: is_maybe_size(raw.size) },
+            Ask::Good {
+                member: "size",
+                ok: is_maybe_size(raw.size),
+            },
             ends_in(raw),
         ],
     )
@@ -228,14 +306,29 @@ fn put_added_names<'x>(asks: &mut Asks<'x>, driver: &'x Added) -> Result<(), NoM
     match driver {
         Added::File(name) => put(
             asks,
-            &[Ask::FileNamed { member: "filename", text: Some(name.as_str()) }],
+            &[Ask::FileNamed {
+                member: "filename",
+                text: Some(name.as_str()),
+            }],
         ),
         Added::Raw(raw) => put_file_names(asks, &raw.file),
         Added::Qcow2(image) => {
             put_file_names(asks, &image.file)?;
-            put(asks, &[Ask::Named { member: "backing", text: backing_name(&image.backing) }])
+            put(
+                asks,
+                &[Ask::Named {
+                    member: "backing",
+                    text: backing_name(&image.backing),
+                }],
+            )
         }
-        Added::CopyOnRead(file) => put(asks, &[Ask::Named { member: "file", text: Some(file.as_str()) }]),
+        Added::CopyOnRead(file) => put(
+            asks,
+            &[Ask::Named {
+                member: "file",
+                text: Some(file.as_str()),
+            }],
+        ),
         Added::Unknown => Ok(()),
     }
 }
@@ -262,7 +355,10 @@ fn put_file_rest<'x>(asks: &mut Asks<'x>, name: &'x str, filename: &'x str) -> R
             Ask::RoomForNodes(1),
             Ask::Closed(filename),
             Ask::Files(Look::File),
-            Ask::Known { file: filename, is_raw: false },
+            Ask::Known {
+                file: filename,
+                is_raw: false,
+            },
         ],
     )
 }
@@ -283,8 +379,15 @@ fn put_raw_over<'x>(
             Ask::Found(Some(file)),
             Ask::FreshNode(Some(name)),
             Ask::RoomForNodes(1),
-            Ask::Drives { node: Some(file), which: Drivers::File },
-            Ask::Fits { file, offset: raw.offset, size: raw.size },
+            Ask::Drives {
+                node: Some(file),
+                which: Drivers::File,
+            },
+            Ask::Fits {
+                file,
+                offset: raw.offset,
+                size: raw.size,
+            },
             Ask::KnownUnder { file, is_raw: true },
             Ask::WritableUnder { file, read_only },
             Ask::Lone(file),
@@ -308,11 +411,17 @@ fn put_raw_with<'x>(
         &[
             Ask::FreshNode(Some(name)),
             Ask::FreshNode(maybe(&file.node_name)),
-            Ask::Apart { first: name, second: maybe(&file.node_name) },
+            Ask::Apart {
+                first: name,
+                second: maybe(&file.node_name),
+            },
             Ask::RoomForNodes(2),
             Ask::Closed(file.filename.as_str()),
             Ask::Files(Look::File),
-            Ask::Known { file: file.filename.as_str(), is_raw: true },
+            Ask::Known {
+                file: file.filename.as_str(),
+                is_raw: true,
+            },
             writable_with(name, read_only, file),
         ],
     )
@@ -335,9 +444,18 @@ fn put_qcow2_over<'x>(
             Ask::Found(backing),
             Ask::FreshNode(Some(name)),
             Ask::RoomForNodes(1),
-            Ask::Drives { node: Some(file), which: Drivers::File },
-            Ask::Drives { node: backing, which: Drivers::FileRawOrQcow2 },
-            Ask::KnownUnder { file, is_raw: false },
+            Ask::Drives {
+                node: Some(file),
+                which: Drivers::File,
+            },
+            Ask::Drives {
+                node: backing,
+                which: Drivers::FileRawOrQcow2,
+            },
+            Ask::KnownUnder {
+                file,
+                is_raw: false,
+            },
             Ask::Files(Look::Image),
             Ask::Files(Look::Backing),
             Ask::Settled(backing),
@@ -365,12 +483,21 @@ fn put_qcow2_with<'x>(
             Ask::Found(backing),
             Ask::FreshNode(Some(name)),
             Ask::FreshNode(maybe(&file.node_name)),
-            Ask::Apart { first: name, second: maybe(&file.node_name) },
+            Ask::Apart {
+                first: name,
+                second: maybe(&file.node_name),
+            },
             Ask::RoomForNodes(2),
-            Ask::Drives { node: backing, which: Drivers::FileRawOrQcow2 },
+            Ask::Drives {
+                node: backing,
+                which: Drivers::FileRawOrQcow2,
+            },
             Ask::Closed(file.filename.as_str()),
             Ask::Files(Look::File),
-            Ask::Known { file: file.filename.as_str(), is_raw: false },
+            Ask::Known {
+                file: file.filename.as_str(),
+                is_raw: false,
+            },
             Ask::Files(Look::Image),
             Ask::Files(Look::Backing),
             Ask::Settled(backing),
@@ -390,7 +517,10 @@ fn put_copy_on_read<'x>(asks: &mut Asks<'x>, name: &'x str, file: &'x str) -> Re
             Ask::Found(Some(file)),
             Ask::FreshNode(Some(name)),
             Ask::RoomForNodes(1),
-            Ask::Drives { node: Some(file), which: Drivers::RawOrQcow2 },
+            Ask::Drives {
+                node: Some(file),
+                which: Drivers::RawOrQcow2,
+            },
             Ask::Writable(file),
         ],
     )
@@ -456,7 +586,13 @@ fn put_add_values<'x>(asks: &mut Asks<'x>, c: &'x BlockdevAdd) -> Result<(), NoM
     ensures { OnOk result (seen_asks asks.new.items
         ≡ seen_asks asks.old.items ++ add_values (seen_blockdev_add c.now)) }
 {
-    put(asks, &[Ask::Good { member: "driver", ok: is_added(&c.driver) }])?;
+    put(
+        asks,
+        &[Ask::Good {
+            member: "driver",
+            ok: is_added(&c.driver),
+        }],
+    )?;
     put_option_values(asks, &c.options)?;
     put_added_values(asks, &c.driver)
 }
@@ -466,7 +602,13 @@ fn put_add_names<'x>(asks: &mut Asks<'x>, c: &'x BlockdevAdd) -> Result<(), NoMe
     ensures { OnOk result (seen_asks asks.new.items
         ≡ seen_asks asks.old.items ++ add_names (seen_blockdev_add c.now)) }
 {
-    put(asks, &[Ask::Named { member: "node-name", text: Some(c.node_name.as_str()) }])?;
+    put(
+        asks,
+        &[Ask::Named {
+            member: "node-name",
+            text: Some(c.node_name.as_str()),
+        }],
+    )?;
     put_added_names(asks, &c.driver)
 }
 
@@ -478,7 +620,12 @@ pub(crate) fn put_add<'x>(asks: &mut Asks<'x>, c: &'x BlockdevAdd) -> Result<(),
 {
     put_add_values(asks, c)?;
     put_add_names(asks, c)?;
-    put_added_rest(asks, c.node_name.as_str(), is_read_only(&c.options), &c.driver)
+    put_added_rest(
+        asks,
+        c.node_name.as_str(),
+        is_read_only(&c.options),
+        &c.driver,
+    )
 }
 
 /// What `blockdev-del` asks.
@@ -488,7 +635,10 @@ pub(crate) fn put_del<'x>(asks: &mut Asks<'x>, name: &'x str) -> Result<(), NoMe
     put(
         asks,
         &[
-            Ask::Named { member: "node-name", text: Some(name) },
+            Ask::Named {
+                member: "node-name",
+                text: Some(name),
+            },
             Ask::Found(Some(name)),
             Ask::Unheld(name),
             Ask::Lone(name),
@@ -506,10 +656,22 @@ pub(crate) fn put_device_add<'x>(asks: &mut Asks<'x>, c: &'x DeviceAdd) -> Resul
     put(
         asks,
         &[
-            Ask::Good { member: "driver", ok: is_device_driver(c.driver) },
-            Ask::Good { member: "share-rw", ok: is_sharing(c.share_rw) },
-            Ask::Named { member: "id", text: Some(id) },
-            Ask::Named { member: "drive", text: Some(drive) },
+            Ask::Good {
+                member: "driver",
+                ok: is_device_driver(c.driver),
+            },
+            Ask::Good {
+                member: "share-rw",
+                ok: is_sharing(c.share_rw),
+            },
+            Ask::Named {
+                member: "id",
+                text: Some(id),
+            },
+            Ask::Named {
+                member: "drive",
+                text: Some(drive),
+            },
             Ask::Found(Some(drive)),
             Ask::FreshDevice(id),
             Ask::RoomForDevice,
@@ -525,7 +687,10 @@ pub(crate) fn put_device_del<'x>(asks: &mut Asks<'x>, id: &'x str) -> Result<(),
     put(
         asks,
         &[
-            Ask::Named { member: "id", text: Some(id) },
+            Ask::Named {
+                member: "id",
+                text: Some(id),
+            },
             Ask::DeviceFound(id),
         ],
     )
@@ -537,7 +702,13 @@ pub(crate) fn put_snapshot_values<'x>(asks: &mut Asks<'x>, c: &'x Snapshot) -> R
         ≡ seen_asks asks.old.items ++ snapshot_values (seen_snapshot c.now)) }
 {
     let ok = c.overlay.as_str() != c.node.as_str();
-    put(asks, &[Ask::Good { member: "overlay", ok }])
+    put(
+        asks,
+        &[Ask::Good {
+            member: "overlay",
+            ok,
+        }],
+    )
 }
 
 /// What it asks of the members that are names.
@@ -548,8 +719,14 @@ pub(crate) fn put_snapshot_names<'x>(asks: &mut Asks<'x>, c: &'x Snapshot) -> Re
     put(
         asks,
         &[
-            Ask::Named { member: "node", text: Some(c.node.as_str()) },
-            Ask::Named { member: "overlay", text: Some(c.overlay.as_str()) },
+            Ask::Named {
+                member: "node",
+                text: Some(c.node.as_str()),
+            },
+            Ask::Named {
+                member: "overlay",
+                text: Some(c.overlay.as_str()),
+            },
         ],
     )
 }
@@ -566,13 +743,22 @@ pub(crate) fn put_snapshot_rest<'x>(asks: &mut Asks<'x>, c: &'x Snapshot) -> Res
         &[
             Ask::Found(Some(node)),
             Ask::Found(Some(overlay)),
-            Ask::Drives { node: Some(node), which: Drivers::FileRawOrQcow2 },
-            Ask::Drives { node: Some(overlay), which: Drivers::Qcow2 },
+            Ask::Drives {
+                node: Some(node),
+                which: Drivers::FileRawOrQcow2,
+            },
+            Ask::Drives {
+                node: Some(overlay),
+                which: Drivers::Qcow2,
+            },
             Ask::Settled(Some(node)),
             Ask::Settled(Some(overlay)),
             Ask::Unheld(node),
             Ask::Writable(overlay),
-            Ask::SameSize { first: node, second: overlay },
+            Ask::SameSize {
+                first: node,
+                second: overlay,
+            },
             Ask::NoBacking(overlay),
             Ask::Empty(overlay),
             Ask::Lone(overlay),

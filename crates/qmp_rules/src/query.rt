@@ -141,7 +141,12 @@ impl Names {
         }
     }
 
-    fn node_value(&self, alloc: Global, counts: &[u64], row: &NodeRecord) -> Result<Value, AllocError>
+    fn node_value(
+        &self,
+        alloc: Global,
+        counts: &[u64],
+        row: &NodeRecord,
+    ) -> Result<Value, AllocError>
         ensures { IfOk result (λ v. view v ≡ node_data self.now.table counts.now row.now) }
     {
         let bitmaps = Value::Array(bitmap_values(alloc, row.id, self.bitmaps(), counts)?);

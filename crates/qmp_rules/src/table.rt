@@ -2,6 +2,7 @@
 ghost use Rattle.std.specs.Prelude.{◌≡◌, [], IfOk, option_map, unwrap_or};
 ghost use Rattle.std.specs.List.{list_any};
 ghost use Rattle.std.specs.Option.{option_copied};
+ghost use Rattle.blk_graph.specs.Edits.{child_of};
 ghost use Rattle.blk_graph.specs.Rule.{first_conflict};
 ghost use Rattle.qmp_rules.specs.Asks.{stands_for};
 ghost use Rattle.qmp_rules.specs.Chains.{holder, keeper};
@@ -40,26 +41,26 @@ impl Model for Names {
     ghost Value = { Roomy };
 
     ghost view = { λ n. record {
-        table = record {
-            nodes = n.nodes.items;
-            edges = n.edges;
-            guests = n.guests.items;
-            devices = n.devices.items;
-            jobs = n.jobs.items;
-            started = n.started;
-            bitmaps = n.bitmaps.items;
-            files = n.files.items;
-            kept = n.kept.items;
-            negotiated = n.negotiated;
-        };
-        spare = record {
-            nodes = vec_capacity n.nodes - vec_len n.nodes;
-            devices = vec_capacity n.devices - vec_len n.devices;
-            jobs = vec_capacity n.jobs - vec_len n.jobs;
-            bitmaps = vec_capacity n.bitmaps - vec_len n.bitmaps;
-            files = vec_capacity n.files - vec_len n.files;
-            kept = vec_capacity n.kept - vec_len n.kept;
-        };
+      table = record {
+        nodes = n.nodes.items;
+        edges = n.edges;
+        guests = n.guests.items;
+        devices = n.devices.items;
+        jobs = n.jobs.items;
+        started = n.started;
+        bitmaps = n.bitmaps.items;
+        files = n.files.items;
+        kept = n.kept.items;
+        negotiated = n.negotiated;
+      };
+      spare = record {
+        nodes = vec_capacity n.nodes - vec_len n.nodes;
+        devices = vec_capacity n.devices - vec_len n.devices;
+        jobs = vec_capacity n.jobs - vec_len n.jobs;
+        bitmaps = vec_capacity n.bitmaps - vec_len n.bitmaps;
+        files = vec_capacity n.files - vec_len n.files;
+        kept = vec_capacity n.kept - vec_len n.kept;
+      };
     } };
 }
 
@@ -217,6 +218,13 @@ impl Names {
         ensures { result ≡ child self.now.table id role }
     {
         self.edges.child(Parent::Node(id), role)
+    }
+
+    /// The node that a guest's device is on.
+    pub fn drive(&self, guest: u32) -> Option<NodeId>
+        ensures { result ≡ child_of (Parent.Guest guest) Role.Drive self.now.table.edges }
+    {
+        self.edges.child(Parent::Guest(guest), Role::Drive)
     }
 
     /// The first pair of edges that breaks the rule on permissions, by the nodes in this order.

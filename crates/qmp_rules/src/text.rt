@@ -134,15 +134,21 @@ fn image_text(alloc: Global, stop: ImageStop) -> Result<String, NoMemory>
     Ok(format!(in alloc; "image refused: {stop}")?)
 }
 
+fn dev_text(alloc: Global, number: u32, count: u64) -> Result<String, NoMemory>
+    ensures { IfOk result (λ text. string_bytes text
+        ≡ codes "io dev" ++ decimal number ++ codes " " ++ decimal count) }
+{
+    let source = format!(in alloc; "io dev{number} ")?;
+    let count = format!(in alloc; "{count}")?;
+    two(alloc, source.as_str(), count.as_str())
+}
+
 fn io_text(alloc: Global, from: FaultFrom, count: u64) -> Result<String, NoMemory>
     ensures { IfOk result (λ text. string_bytes text ≡ io_text from count) }
 {
     match from {
         FaultFrom::Store => Ok(format!(in alloc; "io store {count}")?),
-        FaultFrom::Dev(dev) => {
-            let number = dev.0;
-            Ok(format!(in alloc; "io dev{number} {count}")?)
-        }
+        FaultFrom::Dev(dev) => dev_text(alloc, dev.0, count),
         FaultFrom::Sink => Ok(format!(in alloc; "io sink {count}")?),
     }
 }
@@ -160,12 +166,21 @@ impl Refusal {
     {
         match self {
             Refusal::BadJson => one(alloc, "the line is not a JSON command"),
-            Refusal::UnknownCommand(name) => three(alloc, "command ", name.as_str(), " is not known"),
+            Refusal::UnknownCommand(name) => three(
+                alloc,
+                "command ",
+                name.as_str(),
+                " is not known",
+            ),
             Refusal::Negotiation { again } => one(alloc, negotiation_text(*again)),
             Refusal::Missing(member) => member_text(alloc, member, " is missing"),
             Refusal::Unexpected(member) => member_text(alloc, member, " is not accepted"),
             Refusal::BadType(member) => member_text(alloc, member, " has the wrong type"),
-            Refusal::BadValue(member) => member_text(alloc, member, " has a value that is not accepted"),
+            Refusal::BadValue(member) => member_text(
+                alloc,
+                member,
+                " has a value that is not accepted",
+            ),
             Refusal::BadName(member) => member_text(alloc, member, " is not a name"),
             Refusal::NotFound { name, .. } => two(alloc, name.as_str(), " is not found"),
             Refusal::NotActive(job) => two(alloc, "no job ", job.as_str()),
@@ -180,10 +195,22 @@ impl Refusal {
             Refusal::BackingNeeded(node) => node_text(alloc, node, " needs a backing member"),
             Refusal::Unsettled(node) => node_text(alloc, node, " is not settled"),
             Refusal::JobHolds { node, job } => {
-                four(alloc, "node ", node.as_str(), " is held by job ", job.as_str())
+                four(
+                    alloc,
+                    "node ",
+                    node.as_str(),
+                    " is held by job ",
+                    job.as_str(),
+                )
             }
             Refusal::BitmapBusy { bitmap, job } => {
-                four(alloc, "bitmap ", bitmap.as_str(), " is in use by job ", job.as_str())
+                four(
+                    alloc,
+                    "bitmap ",
+                    bitmap.as_str(),
+                    " is in use by job ",
+                    job.as_str(),
+                )
             }
             Refusal::ReadOnly(node) => node_text(alloc, node, " is read-only"),
             Refusal::NotInChain(node) => node_text(alloc, node, " is not in the chain"),
@@ -194,12 +221,21 @@ impl Refusal {
             Refusal::HasBacking(node) => node_text(alloc, node, " has a backing node"),
             Refusal::NotEmpty(node) => node_text(alloc, node, " holds clusters"),
             Refusal::InUse { node, parent } => {
-                four(alloc, "node ", node.as_str(), " is in use by ", parent.as_str())
+                four(
+                    alloc,
+                    "node ",
+                    node.as_str(),
+                    " is in use by ",
+                    parent.as_str(),
+                )
             }
             Refusal::NotReady(job) => three(alloc, "job ", job.as_str(), " is not ready"),
-            Refusal::Conflict { node, asks, denies, perm } => {
-                conflict_text(alloc, node, asks, denies, *perm)
-            }
+            Refusal::Conflict {
+                node,
+                asks,
+                denies,
+                perm,
+            } => { conflict_text(alloc, node, asks, denies, *perm) }
             Refusal::Aborted => one(alloc, "the transaction was aborted"),
             Refusal::Io { from, count } => io_text(alloc, *from, *count),
             Refusal::NoSpace(dev) => no_space_text(alloc, dev.0),
@@ -212,7 +248,10 @@ impl Refusal {
     {
         match self {
             Refusal::UnknownCommand(_) | Refusal::Negotiation { .. } => Class::CommandNotFound,
-            Refusal::NotFound { is_device: true, .. } => Class::DeviceNotFound,
+            Refusal::NotFound {
+                is_device: true,
+                ..
+            } => Class::DeviceNotFound,
             Refusal::NotActive(_) => Class::DeviceNotActive,
             _ => Class::GenericError,
         }

@@ -106,7 +106,11 @@ pub(crate) fn sizes_differ(alloc: Global, first: &NodeRecord, second: &NodeRecor
     )
 }
 
-pub(crate) fn differ(alloc: Global, first: Option<&NodeRecord>, second: Option<&NodeRecord>) -> Found
+pub(crate) fn differ(
+    alloc: Global,
+    first: Option<&NodeRecord>,
+    second: Option<&NodeRecord>,
+) -> Found
     ensures { IfOk result (λ found. found ≡ differ (option_copied first.entry) (option_copied second.entry)) }
 {
     match (first, second) {
@@ -422,4 +426,3 @@ impl Names {
         }
     }
 }
-

@@ -155,7 +155,9 @@ impl Names {
         requires room { 0 < self.old.spare.jobs }
         requires count { self.old.table.started + 1 < 2 ^ 32 }
         ensures table { self.new.table ≡ record self.old.table {
-            jobs = self.old.table.jobs ++ row ∷ []; started = self.old.table.started + 1 } }
+          jobs = self.old.table.jobs ++ row ∷ [];
+          started = self.old.table.started + 1;
+        } }
         ensures spare { self.new.spare ≡ record self.old.spare { jobs = self.old.spare.jobs - 1 } }
     {
         self.jobs.push_reserved(row);

@@ -10,5 +10,5 @@ returns c =
     let counts = c.args.counts.now in
     let past : min (length rows) (length counts) ≤ c.loop-i.i = omega (arith, c.min-i-end.ensures) in
     joined_end (items_view c.loop-i.values.items)
-      (bitmap_items c.args.node (drop c.loop-i.i rows) (drop c.loop-i.i counts)) (bitmap_items c.args.node rows counts)
-      (bitmaps_all c.args.node rows counts c.loop-i.i past) c.loop-i.invariant
+    (bitmap_items c.args.node (drop c.loop-i.i rows) (drop c.loop-i.i counts)) (bitmap_items c.args.node rows counts)
+    (bitmaps_all c.args.node rows counts c.loop-i.i past) c.loop-i.invariant

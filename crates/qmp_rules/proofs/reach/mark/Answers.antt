@@ -8,7 +8,7 @@ loop-i-preserved c =
     let within : c.loop-i.i ≤ length c.args.edges.now = omega arith in
     record {
       marks = mark_step c.args.edges.now c.args.to c.loop-i.i c.index-edges-i.result c.args.before.now c.loop-i.after
-        c.mark_one.new.after some within c.index-edges-i.is c.mark_one.ensures c.loop-i.invariant.marks;
+          c.mark_one.new.after some within c.index-edges-i.is c.mark_one.ensures c.loop-i.invariant.marks;
       room = first_of (omega arith, search rules);
     }
 

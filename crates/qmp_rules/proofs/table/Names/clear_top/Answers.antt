@@ -13,7 +13,7 @@ pub returns : goal.returns
 returns c base =
     let t = c.args.self.now.table in
     let judged : ℕ → ℕ → Option Refusal = λ (id : ℕ) (device : ℕ).
-      in_use t (name_at t id) (if id == device then overlay_edge t id else second_into id t.edges) in
+    in_use t (name_at t id) (if id == device then overlay_edge t id else second_into id t.edges) in
     subst (λ (r : Option Refusal). IfOk c.in_use.result (λ found. found ≡ r))
     (ap (λ (n : List ℕ). in_use t n (option_copied c.edge_in_the_way-edge.result)) c.name_at.ensures
     ∙ ap (λ (e : Option Edge). in_use t (name_at t c.id_or-id.result) e) c.edge_in_the_way-edge.ensures

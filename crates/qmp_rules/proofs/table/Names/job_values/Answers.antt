@@ -10,5 +10,5 @@ returns c =
     let items = c.jobs-job-items.result.now in
     let past : length items ≤ c.loop-job.job-index = omega arith in
     joined_end (items_view c.loop-job.values.items) (jobs_items c.args.self.now.table (drop c.loop-job.job-index items))
-      (jobs_items c.args.self.now.table c.args.self.now.table.jobs)
-      (at_drop_all (jobs_items c.args.self.now.table) items c.loop-job.job-index past) c.loop-job.invariant
+    (jobs_items c.args.self.now.table c.args.self.now.table.jobs)
+    (at_drop_all (jobs_items c.args.self.now.table) items c.loop-job.job-index past) c.loop-job.invariant

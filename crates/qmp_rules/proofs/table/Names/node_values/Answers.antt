@@ -10,5 +10,5 @@ returns c =
     let items = c.nodes-row-items.result.now in
     let past : length items ≤ c.loop-row.row-index = omega arith in
     joined_end (items_view c.loop-row.values.items) (nodes_items c.args.self.now.table c.args.counts.now (drop c.loop-row.row-index items))
-      (nodes_items c.args.self.now.table c.args.counts.now c.args.self.now.table.nodes)
-      (at_drop_all (nodes_items c.args.self.now.table c.args.counts.now) items c.loop-row.row-index past) c.loop-row.invariant
+    (nodes_items c.args.self.now.table c.args.counts.now c.args.self.now.table.nodes)
+    (at_drop_all (nodes_items c.args.self.now.table c.args.counts.now) items c.loop-row.row-index past) c.loop-row.invariant

@@ -10,6 +10,6 @@ pub loop-preserved : goal.loop-preserved
 loop-preserved c =
     let less : c.loop.counter < 64 = omega arith in
     ap (λ ids. ids ++ drop 1 (chain_from (64 - (c.loop.counter + 1)) c.args.self.now.table c.in-Some.below))
-      c.in_ok-push-in-Some.ensures.items
+    c.in_ok-push-in-Some.ensures.items
     ∙ below_some c.loop.counter c.args.self.now.table c.loop.node c.in-Some.below c.loop.ids.items
-      (c.args.ids.now.items ++ below c.args.self.now.table c.args.id) less (sym c.in-Some.ensures) c.loop.invariant
+    (c.args.ids.now.items ++ below c.args.self.now.table c.args.id) less (sym c.in-Some.ensures) c.loop.invariant
