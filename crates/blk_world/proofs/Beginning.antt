@@ -1,20 +1,20 @@
 -- A new world comes of its store's files, its room and its guests.
-use Rattle.std.proofs.Common.{◌≡◌, ℕ, zero, suc, true, false, cond, Bool, List, [], ◌∷◌, length, map, replicate, refl, sym, ◌∙◌, ap, subst, inl, inr, arith, Option, Some, None}
-use Rattle.std.specs.Prelude.{◌&&◌, IfOk, Result, Ok, Err, is_some, bytes_eq, nat_eq, option_map, All, AllPairs}
+use Rattle.std.proofs.Common.{◌≡◌, ℕ, true, false, Bool, List, [], ◌∷◌, length, map, replicate, refl, sym, ◌∙◌, ap, subst, inl, inr, arith, Option, Some, None}
+use Rattle.std.specs.Prelude.{IfOk, Result, Ok, Err, is_some, bytes_eq, option_map}
 use Rattle.std.proofs.lemmas.List.Elements.{All-nil}
 use Rattle.blk_base.specs.declared.file.File.{File}
-use Rattle.blk_base.specs.Files.{file_at}
+use Rattle.blk_base.specs.Files.{file_at, is_out}
 use Rattle.blk_base.specs.declared.memory.Room.{Room}
 use Rattle.qmp_rules.specs.Table.{opening_table}
-use Rattle.flat_machine.specs.State.{State, Content, Bytes, content_in}
+use Rattle.flat_machine.specs.State.{Content, Bytes, content_in}
 use Rattle.flat_machine.specs.Contents.{found}
 use Rattle.flat_machine.specs.Opening.{start, new_guest}
-use Rattle.flat_machine.specs.Agreement.{Agrees, AreAsKnown, AreAbsent, IsAsKnown, IsLeftAs}
-use Rattle.flat_machine.specs.Licence.{Counts, AreLicensed, IsBetween, Differ}
+use Rattle.flat_machine.specs.Agreement.{IsAsKnown}
+use Rattle.flat_machine.specs.Licence.{Counts, AreLicensed, IsBetween}
 use Rattle.flat_machine.specs.declared.opening.Opening.{Opening}
-use Rattle.flat_machine.proofs.Finds.{bytes_eq-same, same-bytes_eq, cases_name, bytes_eq-other}
-use Rattle.blk_world.specs.Face.{Face, contents_of, told_bytes}
+use Rattle.flat_machine.proofs.Finds.{cases_name, bytes_eq-other}
 use Rattle.blk_world.specs.Comes.{Comes, Shows}
+use Rattle.blk_world.proofs.Coherence.{coherent-new}
 use Rattle.blk_world.specs.Steps.{StoreSeen, new_world, IsOpeningOf}
 
 -- names are compared alike from both sides
@@ -51,7 +51,8 @@ guests-start : (names : List (List ℕ)) → map (λ name. new_guest) names ≡ 
 guests-start [] = refl
 guests-start (name ∷ names) = ap (λ guests. new_guest ∷ guests) (guests-start names)
 
-module _ (store : StoreSeen) (guests : List (List ℕ)) (room : Room) (o : Opening) (is : IsOpeningOf store guests o) where
+module _ (store : StoreSeen) (guests : List (List ℕ)) (room : Room) (none_out : (name : List ℕ) → is_out name store.opened ≡ false)
+    (o : Opening) (is : IsOpeningOf store guests o) where
   shows-start : is_some store.files ≡ true → Shows o (start o) (new_world store guests room)
   shows-start told =
       let files = is.files_are told in
@@ -75,6 +76,7 @@ module _ (store : StoreSeen) (guests : List (List ℕ)) (room : Room) (o : Openi
       history = λ told. record { legal = tt; rest = record { started = refl; ended = refl }; marks = tt };
     };
     requests = sym (guests-start guests) ∙ ap (map (λ name. new_guest)) is.guests_are;
+    coherent = coherent-new guests room store.opened none_out;
     shows = λ told. shows-start told;
   }
 

@@ -1,7 +1,6 @@
 -- The parts of the world belong together after each event.
-use Rattle.std.proofs.Common.{◌≡◌, ℕ, zero, suc, ◌+◌, ◌≤◌, true, false, cond, Bool, List, [], ◌∷◌, ◌++◌, length, map, get_or, replicate, inl, inr, refl, sym, ◌∙◌, ap, subst, arith, Option, Some, None}
-use Rattle.std.specs.Prelude.{slice_get, option_and_then, option_map, IsSome, AllPairs, Contains, bytes_eq, is_none, ◌&&◌, ◌||◌}
-use Rattle.std.specs.List.{list_any}
+use Rattle.std.proofs.Common.{◌≡◌, ℕ, zero, suc, ◌≤◌, true, false, List, [], ◌∷◌, length, get_or, replicate, inl, inr, refl, sym, ◌∙◌, ap, subst, arith, Option, Some, None}
+use Rattle.std.specs.Prelude.{slice_get, ◌||◌}
 use Rattle.std.proofs.lemmas.Bool.{false≢true, cases_lt}
 use Rattle.std.proofs.lemmas.List.{length-replicate, get_or-replicate, get_or_past}
 use Rattle.blk_base.specs.Files.{is_out, is_out_as}
@@ -19,8 +18,8 @@ use Rattle.flat_machine.specs.State.{Guest, disk_of_guest, size_of}
 use Rattle.flat_machine.specs.Machine.{admitted, finished}
 use Rattle.flat_machine.specs.Opening.{new_guest}
 use Rattle.flat_machine.proofs.Finds.{bytes_eq-same}
-use Rattle.blk_world.specs.Progress.{Progress, flight_at, no_progress, with_admission, with_refusal, with_retirement, with_entry}
-use Rattle.blk_world.specs.Coherent.{IsCoherent, AreWithin, AreOut}
+use Rattle.blk_world.specs.Progress.{Progress, flight_at, no_progress, with_admission}
+use Rattle.blk_world.specs.Coherent.{IsCoherent, AreWithin}
 
 -- ---- guests
 
@@ -62,8 +61,8 @@ module _ (t : Table) (nodes : Nodes) (opened : List Opened) (p : Progress) (was 
   pub coherent-admission : (g : ℕ) (op : Op) → With (disk_of_guest t g) (λ node. end_of (span_of op) ≤ size_of t node) → IsCoherent t nodes opened (with_admission g op p)
   coherent-admission g op fits =
       coherent-with (with_admission g op p)
-          (within-put t p.guests g (admitted op) was.within (λ row f there is. let same : op ≡ f.op = ap op_or is in subst (λ o. With (disk_of_guest t g) (λ node. end_of (span_of o) ≤ size_of t node)) same fits))
-          (length-change g (admitted op) p.guests)
+      (within-put t p.guests g (admitted op) was.within (λ row f there is. let same : op ≡ f.op = ap op_or is in subst (λ o. With (disk_of_guest t g) (λ node. end_of (span_of o) ≤ size_of t node)) same fits))
+      (length-change g (admitted op) p.guests)
     where
       op_or : Option Flight → Op
       op_or None = op
@@ -72,8 +71,8 @@ module _ (t : Table) (nodes : Nodes) (opened : List Opened) (p : Progress) (was 
   pub coherent-end : (q : Progress) (g : ℕ) → q.guests ≡ change g finished p.guests → IsCoherent t nodes opened q
   coherent-end q g is =
       coherent-with q
-          (rw is (within-put t p.guests g finished was.within (λ row f there none. absurd (let bad : ⊥ = cc none in bad))))
-          (ap length is ∙ length-change g finished p.guests)
+      (rw is (within-put t p.guests g finished was.within (λ row f there none. absurd (let bad : ⊥ = cc none in bad))))
+      (ap length is ∙ length-change g finished p.guests)
 
   pub coherent-same : (q : Progress) → q.guests ≡ p.guests → IsCoherent t nodes opened q
   coherent-same q is = coherent-with q (rw is was.within) (ap length is)

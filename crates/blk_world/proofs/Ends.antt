@@ -1,7 +1,7 @@
 -- Which actors are done, by the rows of guests and by the history.
-use Rattle.std.proofs.Common.{◌≡◌, ◌≢◌, ◌↔◌, ℕ, zero, suc, ◌+◌, ◌≤◌, ◌<◌, true, false, cond, Bool, List, [], ◌∷◌, ◌++◌, length, set, refl, sym, ◌∙◌, ap, subst, arith, add-one, ◌-◌, inl, inr, eq-eqb, Option, Some, None}
-use Rattle.std.specs.Prelude.{◌==◌, ◌&&◌, ◌||◌, slice_get, slice_index_or, Contains}
-use Rattle.std.specs.List.{list_any, list_all}
+use Rattle.std.proofs.Common.{◌≡◌, ◌≢◌, ◌↔◌, ℕ, zero, suc, ◌+◌, ◌≤◌, ◌<◌, true, false, Bool, List, [], ◌∷◌, ◌++◌, length, set, refl, sym, ◌∙◌, ap, subst, arith, ◌-◌, inl, inr, eq-eqb, Some}
+use Rattle.std.specs.Prelude.{◌==◌, ◌||◌, slice_get, slice_index_or, Contains}
+use Rattle.std.specs.List.{list_all}
 use Rattle.std.proofs.lemmas.Bool.{false≢true, eqb-true, ne_eqb, cases_lt}
 use Rattle.qmp_rules.specs.Chains.{has_id}
 use Rattle.blk_world.specs.declared.row.GuestProgress.{GuestProgress}

@@ -1,7 +1,6 @@
 -- Rows and history stay in step with each entry.
-use Rattle.std.proofs.Common.{◌≡◌, ℕ, suc, ◌+◌, ◌-◌, ◌≤◌, ◌<◌, ◌^◌, List, [], ◌∷◌, ◌++◌, length, set, replicate, zero, refl, sym, ◌∙◌, ap, subst, arith, Option, Some, None, Bool, false, not}
+use Rattle.std.proofs.Common.{◌≡◌, ℕ, suc, ◌+◌, ◌-◌, ◌≤◌, ◌<◌, List, [], ◌∷◌, ◌++◌, length, set, replicate, zero, refl, sym, ◌∙◌, ap, subst, arith, Option, Some, None, Bool, false, not}
 use Rattle.std.specs.Prelude.{slice_get, option_and_then, option_map, unwrap_or}
-use Rattle.std.specs.List.{filter_map}
 use Rattle.std.proofs.lemmas.List.{append-nil, length-append}
 use Rattle.std.proofs.lemmas.List.Elements.{filter_map-append}
 use Rattle.blk_base.specs.declared.memory.Room.{Room}

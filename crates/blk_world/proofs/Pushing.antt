@@ -1,24 +1,23 @@
 -- One more entry leaves a world that comes of the same opening.
-use Rattle.std.proofs.Common.{◌≡◌, ℕ, zero, suc, ◌+◌, ◌≤◌, true, Bool, List, [], ◌∷◌, ◌++◌, length, map, refl, sym, ◌∙◌, ap, subst, arith, Option, Some, None}
-use Rattle.std.specs.Prelude.{is_some, All, AllPairs}
-use Rattle.std.specs.List.{filter_map}
+use Rattle.std.proofs.Common.{◌≡◌, true, List, [], ◌∷◌, ◌++◌, map, refl, sym, ◌∙◌, subst, None}
+use Rattle.std.specs.Prelude.{is_some, All}
 use Rattle.std.proofs.lemmas.List.{append-nil}
-use Rattle.std.proofs.lemmas.List.Elements.{filter_map-append, All-nil}
-use Rattle.blk_history.specs.Fold.{run, Each, With}
+use Rattle.std.proofs.lemmas.List.Elements.{filter_map-append}
+use Rattle.blk_history.specs.Fold.{run}
 use Rattle.blk_history.specs.declared.event.Event.{Event}
 use Rattle.blk_history.proofs.Folds.{run-push, each-push}
-use Rattle.flat_machine.specs.State.{State, Guest}
+use Rattle.flat_machine.specs.State.{State}
 use Rattle.flat_machine.specs.Machine.{after, replay}
-use Rattle.flat_machine.specs.Legal.{Fits, Legal, IsAtRest}
-use Rattle.flat_machine.specs.Marks.{IsCalm, marks_of, NoneSplits}
+use Rattle.flat_machine.specs.Legal.{Fits}
+use Rattle.flat_machine.specs.Marks.{IsCalm, marks_of}
 use Rattle.flat_machine.specs.Licence.{Counts, AreLicensed, named_in, faults_of}
 use Rattle.flat_machine.specs.Opening.{start, new_guest}
-use Rattle.flat_machine.specs.Comes.{ComesOf, IsHistoryOf}
-use Rattle.flat_machine.specs.Agreement.{Agrees, Contents}
+use Rattle.flat_machine.specs.Comes.{IsHistoryOf}
 use Rattle.flat_machine.specs.declared.opening.Opening.{Opening}
-use Rattle.blk_world.specs.Progress.{Progress, guest_step, ended_in}
-use Rattle.blk_world.specs.Face.{Face, contents_of, first_counts, counts_now}
-use Rattle.blk_world.specs.Comes.{Comes, Shows, ShowsTable, ShowsGuests}
+use Rattle.blk_world.specs.Progress.{guest_step}
+use Rattle.blk_world.specs.Coherent.{IsCoherent}
+use Rattle.blk_world.specs.Face.{Face, first_counts, counts_now}
+use Rattle.blk_world.specs.Comes.{Comes, Shows}
 
 -- what one more entry has to be
 pub record Pushes (o : Opening) (w v : Face) (e : Event) : Type 0 where
@@ -26,6 +25,7 @@ pub record Pushes (o : Opening) (w v : Face) (e : Event) : Type 0 where
   pub names : v.table.guests ≡ w.table.guests
   pub told : is_some v.files ≡ is_some w.files
   pub guests : v.progress.guests ≡ guest_step w.progress.guests e
+  pub coherent : IsCoherent w.table w.nodes w.opened w.progress → IsCoherent v.table v.nodes v.opened v.progress
   pub licensed : AreLicensed (first_counts w) (counts_now w) w.progress.log.events
       → AreLicensed (first_counts v) (counts_now v) (w.progress.log.events ++ e ∷ [])
   pub fits : is_some w.files ≡ true → (s : State) → Shows o s w → Fits s e × All (IsCalm s) (marks_of s e) × Shows o (after s e) v
@@ -38,6 +38,7 @@ comes-push o w v e comes pushes = record {
     history = λ told. history (sym pushes.told ∙ told);
   };
   requests = pushes.guests ∙ rw (comes.requests, pushes.events, run-push guest_step (map (λ name. new_guest) o.guests) w.progress.log.events e) refl;
+  coherent = pushes.coherent comes.coherent;
   shows = λ told. shows (sym pushes.told ∙ told);
 }
   where

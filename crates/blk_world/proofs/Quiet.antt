@@ -1,7 +1,6 @@
 -- Events that touch no device: each leaves a world that comes of the same opening.
-use Rattle.std.proofs.Common.{◌≡◌, ℕ, zero, suc, ◌+◌, ◌≤◌, true, false, Bool, List, [], ◌∷◌, ◌++◌, length, map, refl, sym, ◌∙◌, ap, subst, arith, add-one, Option, Some, None}
-use Rattle.std.specs.Prelude.{is_some, is_none, All, slice_get, option_map, option_and_then, unwrap_or}
-use Rattle.std.specs.List.{filter_map}
+use Rattle.std.proofs.Common.{◌≡◌, ℕ, zero, suc, true, false, Bool, List, [], ◌∷◌, ◌++◌, refl, sym, ◌∙◌, ap, subst, add-one, Option, Some, None}
+use Rattle.std.specs.Prelude.{is_some, is_none, slice_get, option_map, option_and_then, unwrap_or}
 use Rattle.std.proofs.lemmas.List.Elements.{filter_map-append, All-nil}
 use Rattle.trace_codec.specs.declared.op.Op.{Op}
 use Rattle.trace_codec.specs.declared.awaiting.Await.{Await}
@@ -14,19 +13,21 @@ use Rattle.blk_history.specs.declared.event.Event.{Event}
 use Rattle.blk_history.specs.declared.event.Event.TheVariants.{Admit, Refuse, Retire, Reached, Done}
 use Rattle.flat_machine.specs.State.{State, Guest}
 use Rattle.flat_machine.specs.Machine.{after, admitted, finished}
-use Rattle.flat_machine.specs.Legal.{Fits, IsAtRest, IsNext, IsJudged, IsMet, IsNotDone, CanAdmit, IsRefusedFor}
+use Rattle.flat_machine.specs.Legal.{Fits, IsNext, IsJudged, IsMet, IsNotDone, CanAdmit, IsRefusedFor}
 use Rattle.flat_machine.specs.Marks.{IsCalm, marks_of}
 use Rattle.flat_machine.specs.Licence.{named_in}
-use Rattle.flat_machine.specs.Agreement.{Agrees}
 use Rattle.flat_machine.specs.declared.opening.Opening.{Opening}
 use Rattle.blk_world.specs.declared.admission.Admission.{Admission}
 use Rattle.blk_world.specs.declared.admission.Admission.TheVariants.{Admitted, Refused as NotAdmitted, Away}
 use Rattle.blk_world.specs.Progress.{Progress, guest_step, ended_in, done_by, done_at, flight_at, with_admission, with_refusal, with_retirement, with_entry}
-use Rattle.blk_world.specs.Face.{Face, seen_state, contents_of}
-use Rattle.blk_world.specs.Comes.{Comes, Shows, ShowsTable, ShowsGuests}
+use Rattle.blk_world.specs.Face.{Face, seen_state}
+use Rattle.blk_world.specs.Comes.{Comes, Shows}
 use Rattle.blk_world.specs.Steps.{onward, after_admission, IsAnswered, after_wait, after_end, IsIdle}
 use Rattle.blk_world.proofs.InStep.{ended-push}
-use Rattle.blk_world.proofs.Pushing.{Pushes, comes-push, licensed-quiet}
+use Rattle.blk_world.proofs.Coherence.{coherent-admission, coherent-end, coherent-same}
+use Rattle.blk_world.proofs.Judging.{judged-inside}
+use Rattle.blk_world.specs.Coherent.{IsCoherent}
+use Rattle.blk_world.proofs.Pushing.{comes-push, licensed-quiet}
 
 -- ---- the state with other guests shows the world with another history
 
@@ -46,12 +47,14 @@ shows-onward o s w p guests ended shows are ends = record {
 
 -- an entry that names no fault and marks no disk
 quiet : (o : Opening) (w : Face) (p : Progress) (e : Event) → Comes o w → p.log.events ≡ w.progress.log.events ++ e ∷ [] → p.guests ≡ guest_step w.progress.guests e
+    → (IsCoherent w.table w.nodes w.opened w.progress → IsCoherent w.table w.nodes w.opened p)
     → named_in e ≡ None → ((s : State) → marks_of s e ≡ []) → ((s : State) → Shows o s w → Fits s e × Shows o (after s e) (record w { progress = p })) → Comes o (record w { progress = p })
-quiet o w p e comes events guests names marks fits = comes-push o w (record w { progress = p }) e comes (record {
+quiet o w p e comes events guests coherent names marks fits = comes-push o w (record w { progress = p }) e comes (record {
   events = events;
   names = refl;
   told = refl;
   guests = guests;
+  coherent = coherent;
   licensed = licensed-quiet _ _ w.progress.log.events e names;
   fits = λ told s shows.
       let does = fits s shows in
@@ -66,7 +69,8 @@ judged o s w g r P shows is = rw (shows.guests.ended_are, shows.guests.guests_ar
 
 admission-kept : (o : Opening) (w : Face) (g : ℕ) (op : Op) → IsJudged (seen_state w) g (done_at w.progress.guests g) (CanAdmit op) → Comes o w → Comes o (onward w (with_admission g op))
 admission-kept o w g op is comes =
-    quiet o w (with_admission g op w.progress) (Admit g (done_at w.progress.guests g) op) comes refl refl refl (λ s. refl)
+    quiet o w (with_admission g op w.progress) (Admit g (done_at w.progress.guests g) op) comes refl refl
+    (λ was. coherent-admission _ _ _ _ was g op (judged-inside w g (done_at w.progress.guests g) op is)) refl (λ s. refl)
     (λ s shows. (
       (shows.table.rest, judged o s w g (done_at w.progress.guests g) (CanAdmit op) shows is),
       shows-onward o s w (with_admission g op w.progress) (change g (admitted op) s.guests) s.ended shows (ap (change g (admitted op)) shows.guests.guests_are)
@@ -76,7 +80,8 @@ admission-kept o w g op is comes =
 refusal-kept : (o : Opening) (w : Face) (g : ℕ) (op : Op) (why : Refused) → IsJudged (seen_state w) g (done_at w.progress.guests g) (λ access size. IsRefusedFor op access size why)
     → Comes o w → Comes o (onward w (with_refusal g op why))
 refusal-kept o w g op why is comes =
-    quiet o w (with_refusal g op why w.progress) (Refuse g (done_at w.progress.guests g) op why) comes refl refl refl (λ s. refl)
+    quiet o w (with_refusal g op why w.progress) (Refuse g (done_at w.progress.guests g) op why) comes refl refl
+    (λ was. coherent-end _ _ _ _ was (with_refusal g op why w.progress) g refl) refl (λ s. refl)
     (λ s shows. (
       (shows.table.rest, judged o s w g (done_at w.progress.guests g) (λ access size. IsRefusedFor op access size why) shows is),
       shows-onward o s w (with_refusal g op why w.progress) (change g finished s.guests) s.ended shows (ap (change g finished) shows.guests.guests_are)
@@ -111,7 +116,8 @@ in-flight guests g P is = at (slice_get guests g) refl is
 
 pub retirement-comes : (w : Face) (g : ℕ) → With (flight_at w.progress.guests g) IsOver → (o : Opening) → Comes o w → Comes o (onward w (with_retirement g))
 retirement-comes w g is o comes =
-    quiet o w (with_retirement g w.progress) (Retire g (done_at w.progress.guests g)) comes refl refl refl (λ s. refl)
+    quiet o w (with_retirement g w.progress) (Retire g (done_at w.progress.guests g)) comes refl refl
+    (λ was. coherent-end _ _ _ _ was (with_retirement g w.progress) g refl) refl (λ s. refl)
     (λ s shows. (
       (shows.table.rest, rw shows.guests.guests_are (in-flight w.progress.guests g IsOver is)),
       shows-onward o s w (with_retirement g w.progress) (change g finished s.guests) s.ended shows (ap (change g finished) shows.guests.guests_are)
@@ -135,7 +141,8 @@ undone o s w actor shows is = rw shows.guests.ended_are is
 pub wait-comes : (w : Face) (line : ℕ) (what : Await (List ℕ)) (is_over : Bool) → IsNotDone (seen_state w) 0 → (is_over ≡ true → IsMet (seen_state w) what)
     → (o : Opening) → Comes o w → Comes o (after_wait w line what is_over)
 wait-comes w line what true not_done is o comes =
-    quiet o w (with_entry (Reached line what) w.progress) (Reached line what) comes refl refl refl (λ s. refl)
+    quiet o w (with_entry (Reached line what) w.progress) (Reached line what) comes refl refl
+    (λ was. coherent-same _ _ _ _ was (with_entry (Reached line what) w.progress) refl) refl (λ s. refl)
     (λ s shows. (
       (shows.table.rest, (undone o s w 0 shows not_done, met o s w what shows (is refl))),
       shows-onward o s w (with_entry (Reached line what) w.progress) s.guests s.ended shows shows.guests.guests_are
@@ -151,7 +158,8 @@ end-fits o s w (suc g) shows not_done idle = (shows.table.rest, (rw (add-one g) 
 
 pub end-comes : (w : Face) (actor : ℕ) → IsNotDone (seen_state w) actor → IsIdle w.progress.guests actor → (o : Opening) → Comes o w → Comes o (after_end w actor)
 end-comes w actor not_done idle o comes =
-    quiet o w (with_entry (Done actor) w.progress) (Done actor) comes refl refl refl (λ s. refl)
+    quiet o w (with_entry (Done actor) w.progress) (Done actor) comes refl refl
+    (λ was. coherent-same _ _ _ _ was (with_entry (Done actor) w.progress) refl) refl (λ s. refl)
     (λ s shows. (
       end-fits o s w actor shows not_done idle,
       shows-onward o s w (with_entry (Done actor) w.progress) s.guests (s.ended ++ actor ∷ []) shows shows.guests.guests_are

@@ -1,17 +1,15 @@
 -- Rows of guests, and the history that they point into.
-use Rattle.std.proofs.Common.{◌≡◌, ℕ, zero, suc, ◌+◌, ◌-◌, ◌≤◌, ◌<◌, List, [], ◌∷◌, ◌++◌, length, map, set, refl, sym, ◌∙◌, ap, arith, Option, Some, None, Bool}
-use Rattle.std.specs.Prelude.{slice_get, option_and_then, option_map, unwrap_or}
+use Rattle.std.proofs.Common.{◌≡◌, ℕ, zero, suc, ◌+◌, ◌≤◌, List, [], ◌∷◌, ◌++◌, length, set, refl, sym, ◌∙◌, ap, arith, Option, Some, None}
+use Rattle.std.specs.Prelude.{slice_get, option_and_then}
 use Rattle.trace_codec.specs.declared.op.Op.{Op}
-use Rattle.qmp_rules.specs.Chains.{has_id}
 use Rattle.blk_history.specs.Fold.{change}
 use Rattle.blk_history.specs.Line.{admitted_by}
-use Rattle.blk_history.specs.Machine.{Flight}
 use Rattle.blk_history.specs.declared.event.Event.{Event}
 use Rattle.blk_history.specs.declared.event.Event.TheVariants.{Admit}
 use Rattle.flat_machine.specs.State.{Guest}
 use Rattle.blk_world.specs.declared.row.InFlight.{InFlight}
 use Rattle.blk_world.specs.declared.row.GuestProgress.{GuestProgress}
-use Rattle.blk_world.specs.Progress.{request_at, flight_in, guest_in, guests_in, IsPlaced, IsPlacedIn, ArePlaced, AreMarked, owed, owed_by, owed_bytes, owed_bytes_by, done_at}
+use Rattle.blk_world.specs.Progress.{request_at, flight_in, guest_in, guests_in, IsPlacedIn, ArePlaced, AreMarked, owed, owed_by, owed_bytes, owed_bytes_by}
 
 -- ---- an entry that is there stays where it is
 

@@ -13,7 +13,7 @@ use Rattle.qmp_rules.specs.Chains.{disk_node}
 use Rattle.flat_machine.specs.Agreement.{HasDisk}
 use Rattle.flat_machine.specs.State.{Guest, drive_of, disk_of_guest, size_of, filename_of}
 use Rattle.blk_world.specs.Progress.{Progress, flight_at}
-use Rattle.blk_world.specs.Face.{Face, device_numbered}
+use Rattle.blk_world.specs.Face.{device_numbered}
 
 -- ---- the table
 
@@ -62,11 +62,13 @@ pub record IsOut (t : Table) (opened : List Opened) (device : DeviceState) : Typ
 pub record AreOut (t : Table) (nodes : Nodes) (opened : List Opened) : Type 0 where
   pub each : (device : DeviceState) → Contains nodes.devices device → IsOut t opened device
   pub once : AllPairs (λ a b. a.number ≢ b.number) nodes.devices
-  pub all : (n : ℕ) (o : Opened) → slice_get opened n ≡ Some o → o.returned ≡ None → IsSome (device_numbered nodes.devices n)
+  pub all : (n : ℕ) (o : Opened) → slice_get opened n ≡ Some o → o.returned ≡ None
+      → IsSome (device_numbered nodes.devices n)
 
 -- ---- all of it; no command that starts a job is carried out yet
 
-pub record IsCoherent (t : Table) (nodes : Nodes) (opened : List Opened) (p : Progress) : Type 0 where
+pub record IsCoherent (t : Table) (nodes : Nodes) (opened : List Opened)
+    (p : Progress) : Type 0 where
   pub drives : HaveDrives t
   pub disks : AreOnDisks t
   pub alike : AreNodesOf t nodes

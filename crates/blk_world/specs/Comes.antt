@@ -1,8 +1,7 @@
 -- Worlds that come of an opening.
-use Rattle.std.specs.Prelude.{◌≡◌, ℕ, true, List, [], map, Option, Some, is_some}
+use Rattle.std.specs.Prelude.{◌≡◌, true, map, Some, is_some}
 use Rattle.blk_history.specs.Fold.{run}
-use Rattle.blk_history.specs.declared.event.Event.{Event}
-use Rattle.flat_machine.specs.State.{State, Guest}
+use Rattle.flat_machine.specs.State.{State}
 use Rattle.flat_machine.specs.Machine.{replay}
 use Rattle.flat_machine.specs.Legal.{IsAtRest}
 use Rattle.flat_machine.specs.Opening.{start, new_guest}
@@ -10,6 +9,7 @@ use Rattle.flat_machine.specs.Comes.{ComesOf}
 use Rattle.flat_machine.specs.Agreement.{Agrees}
 use Rattle.flat_machine.specs.declared.opening.Opening.{Opening}
 use Rattle.blk_world.specs.Progress.{guest_step, ended_in}
+use Rattle.blk_world.specs.Coherent.{IsCoherent}
 use Rattle.blk_world.specs.Face.{Face, contents_of, first_counts, counts_now, told_bytes}
 
 -- ---- facts about one moment, each over the parts that it names
@@ -37,10 +37,13 @@ pub record Shows (o : Opening) (s : State) (w : Face) : Type 0 where
 
 -- ---- the whole
 
--- The guests are the opening's, their rows are what their own entries make of them, and each fault that the history names
--- is a rise that it names once. Where the store tells its files, the history is one of that opening, and what the world shows
+-- The guests are the opening's, their rows are what their own entries make of them, the parts of the world belong together,
+-- and each fault that the history names is a rise that it names once. Where the store tells its files, the history is one of that opening, and what the world shows
 -- at this moment is what the flat machine comes to by it.
 pub record Comes (o : Opening) (w : Face) : Type 0 where
-  pub history : ComesOf o (is_some w.files) w.table.guests (first_counts w) (counts_now w) w.progress.log.events
-  pub requests : w.progress.guests ≡ run guest_step (map (λ name. new_guest) o.guests) w.progress.log.events
+  pub history : ComesOf o (is_some w.files) w.table.guests
+      (first_counts w) (counts_now w) w.progress.log.events
+  pub requests : w.progress.guests
+      ≡ run guest_step (map (λ name. new_guest) o.guests) w.progress.log.events
+  pub coherent : IsCoherent w.table w.nodes w.opened w.progress
   pub shows : is_some w.files ≡ true → Shows o (replay (start o) w.progress.log.events) w

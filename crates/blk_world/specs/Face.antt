@@ -1,5 +1,5 @@
 -- What contracts see of the world.
-use Rattle.std.specs.Prelude.{◌≡◌, ℕ, ◌+◌, ◌==◌, Bool, false, List, [], ◌∷◌, map, find, Option, Some, None, option_and_then, option_map, unwrap_or}
+use Rattle.std.specs.Prelude.{ℕ, ◌+◌, ◌==◌, List, [], ◌∷◌, map, find, Option, Some, None, option_and_then, option_map, unwrap_or}
 use Rattle.blk_base.specs.Files.{file_at}
 use Rattle.blk_base.specs.declared.file.File.{File}
 use Rattle.blk_base.specs.declared.file.Opened.{Opened}
@@ -56,7 +56,8 @@ told_bytes (Some files) name = option_map (λ f. f.bytes) (file_at name files)
 -- what a file holds: in the device of the node over it, or else in the store
 abbrev pub held_by : Face → List ℕ → Option ℕ → Option (List ℕ)
 held_by w name None = told_bytes w.files name
-held_by w name (Some node) = option_and_then (λ device. device.content) (device_in w.nodes.devices node)
+held_by w name (Some node) =
+    option_and_then (λ device. device.content) (device_in w.nodes.devices node)
 
 abbrev pub held : Face → List ℕ → Option (List ℕ)
 held w name = held_by w name (node_over w.table name)
@@ -72,11 +73,13 @@ device_numbered devices number = find (λ device. device.number.0 == number) dev
 
 abbrev pub count_of_opening : List DeviceState → ℕ → Opened → ℕ
 count_of_opening devices number o =
-    unwrap_or o.returned (unwrap_or (option_map (λ device. device.faults) (device_numbered devices number)) o.faults)
+    unwrap_or o.returned
+    (unwrap_or (option_map (λ device. device.faults) (device_numbered devices number)) o.faults)
 
 abbrev pub counts_from : List DeviceState → ℕ → List Opened → List ℕ
 counts_from devices number [] = []
-counts_from devices number (o ∷ opened) = count_of_opening devices number o ∷ counts_from devices (number + 1) opened
+counts_from devices number (o ∷ opened) =
+    count_of_opening devices number o ∷ counts_from devices (number + 1) opened
 
 -- when the world was made, and of a device when it was opened; and now
 abbrev pub first_counts : Face → Counts

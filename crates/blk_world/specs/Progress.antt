@@ -1,22 +1,21 @@
 -- The history of a run, and how far each guest is by it.
-use Rattle.std.specs.Prelude.{◌≡◌, ◌≢◌, ℕ, ◌+◌, ◌-◌, ◌*◌, ◌/◌, ◌^◌, ◌<◌, ◌≤◌, min, max, Bool, false, List, [], ◌∷◌, ◌++◌, length, map, replicate, slice_get, Option, Some, None, option_map, option_and_then, unwrap_or}
+use Rattle.std.specs.Prelude.{◌≡◌, ℕ, ◌+◌, ◌-◌, ◌*◌, ◌/◌, ◌^◌, ◌<◌, ◌≤◌, min, max, Bool, false, List, [], ◌∷◌, ◌++◌, length, map, replicate, slice_get, Option, Some, None, option_map, option_and_then, unwrap_or}
 use Rattle.std.specs.List.{filter_map}
-use Rattle.blk_base.specs.Pieces.{Extent, end_of}
+use Rattle.blk_base.specs.Pieces.{end_of}
 use Rattle.blk_base.specs.declared.memory.Room.{Room}
 use Rattle.blk_base.specs.declared.fault.Outcome.{Outcome}
 use Rattle.trace_codec.specs.declared.op.Op.{Op}
 use Rattle.trace_codec.specs.declared.op.Op.TheVariants.{Read, Write, Zero, Flush, Discard}
-use Rattle.trace_codec.specs.declared.awaiting.Await.{Await}
 use Rattle.trace_codec.specs.Request.{pieces_of, read_bytes_of}
 use Rattle.qmp_rules.specs.Chains.{has_id}
-use Rattle.blk_history.specs.Fold.{run, change, With}
+use Rattle.blk_history.specs.Fold.{change}
 use Rattle.blk_history.specs.Disk.{piece}
 use Rattle.blk_history.specs.Line.{admitted_by}
 use Rattle.blk_history.specs.Machine.{Flight}
 use Rattle.blk_history.specs.Recorded.{Recorded}
 use Rattle.blk_history.specs.declared.entry.Refused.{Refused}
 use Rattle.blk_history.specs.declared.event.Event.{Event}
-use Rattle.blk_history.specs.declared.event.Event.TheVariants.{Admit, Refuse, Piece, Retire, Reply, Reached, Start, Ready, End, Done}
+use Rattle.blk_history.specs.declared.event.Event.TheVariants.{Admit, Refuse, Piece, Retire, Reply, Reached, Done}
 use Rattle.flat_machine.specs.State.{Guest}
 use Rattle.flat_machine.specs.Opening.{new_guest}
 use Rattle.flat_machine.specs.Machine.{admitted, finished, past_piece}
@@ -68,7 +67,8 @@ abbrev pub flight_in : List Event → InFlight → Option Flight
 flight_in events f = option_map (flight_as f) (request_at events f.place)
 
 abbrev pub guest_in : List Event → GuestProgress → Guest
-guest_in events row = record { done = row.done; flight = option_and_then (flight_in events) row.flight }
+guest_in events row =
+    record { done = row.done; flight = option_and_then (flight_in events) row.flight }
 
 abbrev pub guests_in : List Event → List GuestProgress → List Guest
 guests_in events rows = map (guest_in events) rows
@@ -81,7 +81,8 @@ flight_at guests g = option_and_then (λ row. row.flight) (slice_get guests g)
 
 -- how many bytes the first k pieces of a read show
 abbrev pub shown_before : Op → ℕ → ℕ
-shown_before (Read span) k = min (max span.start ((span.start / 65536 + k) * 65536)) (end_of span) - span.start
+shown_before (Read span) k =
+    min (max span.start ((span.start / 65536 + k) * 65536)) (end_of span) - span.start
 shown_before (Write span payload) k = 0
 shown_before (Zero span) k = 0
 shown_before Flush k = 0
@@ -125,9 +126,11 @@ ArePlaced events (row ∷ rows) = IsPlacedIn events row.done row.flight × ArePl
 -- rows say whether their guests are done; the first of them has this number as an actor
 abbrev pub AreMarked : List ℕ → ℕ → List GuestProgress → Type 0
 AreMarked ended actor [] = Unit {0}
-AreMarked ended actor (row ∷ rows) = (row.is_done ≡ has_id actor ended) × AreMarked ended (actor + 1) rows
+AreMarked ended actor (row ∷ rows) =
+    (row.is_done ≡ has_id actor ended) × AreMarked ended (actor + 1) rows
 
-pub record IsInStep (log : Recorded) (spare : Room) (rows : List GuestProgress) (is_done : Bool) (lines : List ℕ) (capacity : ℕ) : Type 0 where
+pub record IsInStep (log : Recorded) (spare : Room) (rows : List GuestProgress)
+    (is_done : Bool) (lines : List ℕ) (capacity : ℕ) : Type 0 where
   pub placed : ArePlaced log.events rows
   pub script : is_done ≡ has_id 0 (ended_in log.events)
   pub guests : AreMarked (ended_in log.events) 1 rows
@@ -145,7 +148,8 @@ abbrev pub no_log : Room → Recorded
 no_log room = record { events = []; bytes = []; room = room.entries; byte_room = room.bytes }
 
 abbrev pub no_progress : ℕ → Room → Progress
-no_progress guests room = record { guests = replicate guests new_guest; spare = room; log = no_log room }
+no_progress guests room =
+    record { guests = replicate guests new_guest; spare = room; log = no_log room }
 
 -- ---- what each entry leaves
 

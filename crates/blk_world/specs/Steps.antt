@@ -1,24 +1,21 @@
 -- What each event leaves of the world, and when each of its answers comes.
-use Rattle.std.specs.Prelude.{◌≡◌, ℕ, zero, suc, ◌+◌, Bool, true, false, List, [], length, slice_get, Option, Some, None, is_some}
+use Rattle.std.specs.Prelude.{◌≡◌, ℕ, zero, suc, Bool, true, false, List, length, slice_get, Option, Some, None, is_some}
 use Rattle.blk_base.specs.declared.file.File.{File}
 use Rattle.blk_base.specs.declared.file.Opened.{Opened}
 use Rattle.blk_base.specs.declared.memory.Room.{Room}
 use Rattle.trace_codec.specs.declared.op.Op.{Op}
 use Rattle.trace_codec.specs.declared.awaiting.Await.{Await}
-use Rattle.trace_codec.specs.Awaits.{seen_await}
 use Rattle.blk_history.specs.Fold.{With}
-use Rattle.blk_history.specs.declared.entry.Refused.{Refused}
-use Rattle.blk_history.specs.declared.event.Event.{Event}
 use Rattle.blk_history.specs.declared.event.Event.TheVariants.{Reached, Done}
 use Rattle.blk_nodes.specs.Nodes.{no_nodes}
 use Rattle.qmp_rules.specs.Table.{Table, device_at, opening_table}
 use Rattle.flat_machine.specs.declared.opening.Opening.{Opening}
-use Rattle.flat_machine.specs.State.{State, Guest, disk_of_guest, size_of}
+use Rattle.flat_machine.specs.State.{Guest, disk_of_guest, size_of}
 use Rattle.flat_machine.specs.Legal.{IsJudged, CanAdmit, IsRefusedFor}
 use Rattle.blk_world.specs.declared.admission.Admission.{Admission}
 use Rattle.blk_world.specs.declared.admission.Admission.TheVariants.{Admitted, Refused as NotAdmitted, Away}
 use Rattle.blk_world.specs.declared.admission.Seat.{Seat}
-use Rattle.blk_world.specs.Progress.{Progress, with_admission, with_refusal, with_retirement, with_entry, done_at, no_progress}
+use Rattle.blk_world.specs.Progress.{Progress, with_admission, with_refusal, with_entry, done_at, no_progress}
 use Rattle.blk_world.specs.Face.{Face, seen_state}
 
 -- a store as it is found
@@ -27,6 +24,9 @@ pub record StoreSeen : Type 0 where
   pub opened : List Opened
   pub room : ℕ
   pub faults : ℕ
+
+abbrev pub seen_store : Option (List File) → List Opened → ℕ → ℕ → StoreSeen
+seen_store files opened room faults = record { files = files; opened = opened; room = room; faults = faults }
 
 -- a new world: no node is there, and no guest has asked for anything
 abbrev pub new_world : StoreSeen → List (List ℕ) → Room → Face
@@ -66,7 +66,8 @@ after_admission w g op (Away back) = w
 -- A request is away exactly where its guest has no device. Else its span is judged, and then whether the guest may write.
 abbrev pub IsAnswered : Face → ℕ → Op → Admission → Type 0
 IsAnswered w g op (Admitted r) = IsJudged (seen_state w) g r (CanAdmit op)
-IsAnswered w g op (NotAdmitted why) = IsJudged (seen_state w) g (done_at w.progress.guests g) (λ access size. IsRefusedFor op access size why)
+IsAnswered w g op (NotAdmitted why) =
+    IsJudged (seen_state w) g (done_at w.progress.guests g) (λ access size. IsRefusedFor op access size why)
 IsAnswered w g op (Away back) = (device_at w.table g ≡ None) × (back ≡ op)
 
 -- ---- waits and ends of actors

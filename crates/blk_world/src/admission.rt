@@ -49,7 +49,8 @@ fn is_write(op: &Op) -> bool
 
 /// Why a request is refused.
 pub(crate) fn refusal_of(op: &Op, seat: Seat) -> Option<Refused>
-    ensures { MatchOption result (CanAdmit op.now seat.read_only seat.size) (IsRefusedFor op.now seat.read_only seat.size) }
+    ensures { MatchOption result (CanAdmit op.now seat.read_only seat.size)
+        (IsRefusedFor op.now seat.read_only seat.size) }
 {
     let span = request_span(op);
     if seat.size < span.start + span.len {
@@ -64,7 +65,8 @@ pub(crate) fn refusal_of(op: &Op, seat: Seat) -> Option<Refused>
 /// What a guest's requests are judged by, where its device is there.
 pub(crate) fn seat_of(names: &Names, guest: u32) -> Option<Seat>
     requires { HaveDrives names.now.table }
-    ensures { MatchOption result (device_at names.now.table guest ≡ None) (IsSeat names.now.table guest) }
+    ensures { MatchOption result (device_at names.now.table guest ≡ None)
+        (IsSeat names.now.table guest) }
 {
     let read_only = names.device_at(guest)?.read_only;
     let Some(drive) = names.drive(guest) else {

@@ -24,13 +24,7 @@ pub(crate) fn note_admission(history: &mut History, guest: u32, request: u32, op
 }
 
 /// That a request is refused.
-pub(crate) fn note_refusal(
-    history: &mut History,
-    guest: u32,
-    request: u32,
-    op: Op,
-    why: Refused,
-)
+pub(crate) fn note_refusal(history: &mut History, guest: u32, request: u32, op: Op, why: Refused)
     requires { 0 < history.old.room }
     ensures { history.new ≡ log_of history.old (Event.Refuse guest request op why) }
 {
@@ -53,7 +47,8 @@ pub(crate) fn note_piece(
 )
     requires room { 0 < history.old.room }
     requires byte_room { length shown.now ≤ history.old.byte_room }
-    ensures { history.new ≡ log_with history.old (Event.Piece guest request k outcome shown.now) shown.now }
+    ensures { history.new
+        ≡ log_with history.old (Event.Piece guest request k outcome shown.now) shown.now }
 {
     let got = history.push_read(shown);
     history.push(Entry::Piece {

@@ -39,7 +39,8 @@ impl Model for Progress {
       log = p.history;
     } };
 
-    ghost invariant = { λ p. IsInStep p.history p.spare p.rows.items p.script_is_done p.lines.items (vec_capacity p.lines) };
+    ghost invariant = { λ p. IsInStep p.history p.spare p.rows.items
+        p.script_is_done p.lines.items (vec_capacity p.lines) };
 }
 
 /// The row of a guest.
@@ -73,17 +74,28 @@ fn less(room: Room, entries: u64, bytes: u64) -> Room
 /// Marks an actor as done.
 fn mark_done(script: &mut bool, rows: &mut Vec<GuestProgress>, actor: u32)
     requires { actor ≤ vec_len rows.old }
-    ensures script { (ended : List ℕ) → script.old ≡ has_id 0 ended → script.new ≡ has_id 0 (ended ++ actor ∷ []) }
-    ensures guests { (ended : List ℕ) → AreMarked ended 1 rows.old.items → AreMarked (ended ++ actor ∷ []) 1 rows.new.items }
-    ensures placed { (events : List Event) → ArePlaced events rows.old.items → ArePlaced events rows.new.items }
-    ensures kept { (events : List Event) → guests_in events rows.new.items ≡ guests_in events rows.old.items }
+    ensures script { (ended : List ℕ) → script.old ≡ has_id 0 ended
+        → script.new ≡ has_id 0 (ended ++ actor ∷ []) }
+    ensures guests { (ended : List ℕ) → AreMarked ended 1 rows.old.items
+        → AreMarked (ended ++ actor ∷ []) 1 rows.new.items }
+    ensures placed { (events : List Event) → ArePlaced events rows.old.items
+        → ArePlaced events rows.new.items }
+    ensures kept { (events : List Event) → guests_in events rows.new.items
+        ≡ guests_in events rows.old.items }
 {
     if actor == 0 {
         *script = true;
         return;
     }
     let row = row_at(rows.as_slice(), actor - 1);
-    put_row(rows, actor - 1, GuestProgress { is_done: true, ..row });
+    put_row(
+        rows,
+        actor - 1,
+        GuestProgress {
+            is_done: true,
+            ..row
+        },
+    );
 }
 
 /// Rows of guests that have asked for nothing yet.
@@ -166,7 +178,15 @@ impl Progress {
         let spare = less(self.spare, 1, 0);
         entries::note_refusal(&mut self.history, guest, row.done, op, why);
         let done = row.done + 1;
-        put_row(&mut self.rows, guest, GuestProgress { done, flight: None, ..row });
+        put_row(
+            &mut self.rows,
+            guest,
+            GuestProgress {
+                done,
+                flight: None,
+                ..row
+            },
+        );
         self.spare = spare;
     }
 
@@ -178,7 +198,15 @@ impl Progress {
         let row = row_at(self.rows.as_slice(), guest);
         entries::note_retirement(&mut self.history, guest, row.done);
         let done = row.done + 1;
-        put_row(&mut self.rows, guest, GuestProgress { done, flight: None, ..row });
+        put_row(
+            &mut self.rows,
+            guest,
+            GuestProgress {
+                done,
+                flight: None,
+                ..row
+            },
+        );
     }
 
     /// Notes that what a line of the script waits for has come.
@@ -242,7 +270,14 @@ impl Progress {
         let Some(flight) = row.flight else {
             unreachable!()
         };
-        entries::note_piece(&mut self.history, guest, row.done, flight.next, outcome, shown);
+        entries::note_piece(
+            &mut self.history,
+            guest,
+            row.done,
+            flight.next,
+            outcome,
+            shown,
+        );
         let flight = Some(InFlight {
             place: flight.place,
             next: flight.next + 1,
@@ -265,7 +300,8 @@ impl Progress {
 
     /// Whether so many requests of a guest are done; of no guest, none is.
     pub(crate) fn has_done(&self, guest: u32, requests: u32) -> bool
-        ensures { IsTrue result ↔ With (slice_get self.now.guests guest) (λ row. requests ≤ row.done) }
+        ensures { IsTrue result
+            ↔ With (slice_get self.now.guests guest) (λ row. requests ≤ row.done) }
     {
         if guest as usize >= self.rows.len() {
             return false;
@@ -275,7 +311,8 @@ impl Progress {
 
     /// Whether the script and all guests are done.
     pub(crate) fn all_done(&self) -> bool
-        ensures { IsTrue result ↔ ((actor : ℕ) → actor ≤ length self.now.guests → Contains (ended_in self.now.log.events) actor) }
+        ensures { IsTrue result
+            ↔ ((actor : ℕ) → actor ≤ length self.now.guests → Contains (ended_in self.now.log.events) actor) }
     {
         self.script_is_done && all_marked(self.rows.as_slice())
     }

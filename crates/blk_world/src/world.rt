@@ -66,7 +66,8 @@ struct Parts<D: Device> {
 fn new_parts<D: Device>(alloc: Global, guests: &Names1, room: Room) -> Result<Parts<D>, NoMemory>
     ensures nodes { IfOk result (λ parts. parts.nodes ≡ no_nodes) }
     ensures names { IfOk result (λ parts. parts.names.table ≡ opening_table guests.now) }
-    ensures progress { IfOk result (λ parts. parts.progress ≡ no_progress (length guests.now) room) }
+    ensures progress { IfOk result (λ parts.
+        parts.progress ≡ no_progress (length guests.now) room) }
 {
     Ok(Parts {
         names: Names::new(alloc, names_of(alloc, guests)?)?,
@@ -87,26 +88,24 @@ impl<S: Store> World<S> {
     ghost use Rattle.blk_world.specs.Face.{seen_state};
     ghost use Rattle.blk_world.specs.Comes.{Comes};
     ghost use Rattle.blk_world.specs.Progress.{IsFree, HasRoomFor, flight_at, answered_in, with_retirement};
-    ghost use Rattle.blk_world.specs.Steps.{new_world, IsOpeningOf, onward, after_admission, IsAnswered, after_wait, after_end, IsIdle};
+    ghost use Rattle.blk_world.specs.Steps.{new_world, seen_store, IsOpeningOf, onward, after_admission, IsAnswered, after_wait, after_end, IsIdle};
 
     /// A world over a store, with guests that have asked for nothing yet and room for what a run adds to its history.
-    fn put_world(
-        alloc: Global,
-        store: S,
-        guests: Names1,
-        room: Room,
-    ) -> Result<Self, (NoMemory, S)>
+    fn put_world(alloc: Global, store: S, guests: Names1, room: Room) -> Result<Self, (NoMemory, S)>
         requires none_out { (name : List ℕ) → is_out name (S.opened store) ≡ false }
-        ensures ok { IfOk result (λ world. world ≡ new_world (record { files = S.files store; opened = S.opened store; room = S.room store; faults = S.faults store }) guests room) }
+        ensures ok { IfOk result (λ world. world ≡ new_world
+            (seen_store (S.files store) (S.opened store) (S.room store) (S.faults store)) guests room) }
         ensures err { IfErr result (λ e. e.1 ≡ store) }
     {
         match new_parts(alloc, &guests, room) {
             Err(stop) => Err((stop, store)),
-            Ok(Parts {
-                names,
-                progress,
-                nodes,
-            }) => Ok(World {
+            Ok(
+                Parts {
+                    names,
+                    progress,
+                    nodes,
+                },
+            ) => Ok(World {
                 first_faults: store.faults(),
                 store,
                 nodes,
@@ -118,15 +117,13 @@ impl<S: Store> World<S> {
 
     /// A world over a store of which no device is out, with guests that have asked for nothing yet and room for what a run
     /// adds to its history. The store is given back where memory isn't had.
-    pub fn new(
-        alloc: Global,
-        store: S,
-        guests: Names1,
-        room: Room,
-    ) -> Result<Self, (NoMemory, S)>
+    pub fn new(alloc: Global, store: S, guests: Names1, room: Room) -> Result<Self, (NoMemory, S)>
         requires none_out { (name : List ℕ) → is_out name (S.opened store) ≡ false }
-        ensures ok { IfOk result (λ world. world ≡ new_world (record { files = S.files store; opened = S.opened store; room = S.room store; faults = S.faults store }) guests room) }
-        ensures comes { IfOk result (λ world. (o : Opening) → IsOpeningOf (record { files = S.files store; opened = S.opened store; room = S.room store; faults = S.faults store }) guests o → Comes o world) }
+        ensures ok { IfOk result (λ world. world ≡ new_world
+            (seen_store (S.files store) (S.opened store) (S.room store) (S.faults store)) guests room) }
+        ensures comes { IfOk result (λ world. (o : Opening)
+            → IsOpeningOf (seen_store (S.files store) (S.opened store) (S.room store) (S.faults store)) guests o
+            → Comes o world) }
         ensures err { IfErr result (λ e. e.1 ≡ store) }
     {
         Self::put_world(alloc, store, guests, room)

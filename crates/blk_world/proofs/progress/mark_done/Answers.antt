@@ -1,4 +1,4 @@
-use Rattle.std.proofs.Common.{◌≡◌, ◌≢◌, ◌+◌, ◌-◌, ◌<◌, refl, sym, ◌∙◌, ap, subst, arith}
+use Rattle.std.proofs.Common.{refl, arith}
 use Rattle.blk_world.proofs.Ends.{marked-other, marked-done}
 use Rattle.blk_world.proofs.Rows.{placed-put, placed-at, guests-same}
 use Rattle.blk_world.proofs.progress.mark_done.Goals as goal

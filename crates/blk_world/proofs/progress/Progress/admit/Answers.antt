@@ -1,7 +1,7 @@
 use Rattle.std.specs.Prelude.{slice_get}
 use Rattle.blk_history.specs.Fold.{With}
 use Rattle.blk_world.specs.Progress.{Progress, IsFree, HasRoomFor}
-use Rattle.std.proofs.Common.{◌≡◌, ◌<◌, refl, sym, ◌∙◌, ap, subst, arith}
+use Rattle.std.proofs.Common.{◌<◌, refl, sym, subst, arith}
 use Rattle.blk_world.proofs.InStep.{idle-row, done-is, puts-admission, in-step-put, guests-then}
 use Rattle.blk_world.proofs.progress.Progress.admit.Goals as goal
 
@@ -16,9 +16,9 @@ invariant_of-self c =
     let some : 0 < c.self.inside.history.room = omega arith in
     let free = idle-row c.self.inside.history.events c.self.inside.rows.items c.args.guest c.row_at-row.result there (subst (λ (p : Progress). With (slice_get p.guests c.args.guest) IsFree) (sym c.self.view_is) c.requires.free) in
     rw (c.put_row.ensures, c.note_admission-place.ensures.place) (in-step-put _ _ _ _ _ _ _ _ _ _
-        (puts-admission c.self.inside.history c.note_admission-place.new.history c.self.inside.spare c.less-spare.result c.self.inside.rows.items c.args.guest c.row_at-row.result c.args.op
-            c.note_admission-place.ensures.noted spared some there free has)
-        _ _ _ was)
+    (puts-admission c.self.inside.history c.note_admission-place.new.history c.self.inside.spare c.less-spare.result c.self.inside.rows.items c.args.guest c.row_at-row.result c.args.op
+    c.note_admission-place.ensures.noted spared some there free has)
+    _ _ _ was)
 
 pub returns-clause-number : goal.returns-clause-number
 returns-clause-number c =
@@ -36,8 +36,8 @@ returns-clause-kept c =
     let some : 0 < c.self.inside.history.room = omega arith in
     let free = idle-row c.self.inside.history.events c.self.inside.rows.items c.args.guest c.row_at-row.result there (subst (λ (p : Progress). With (slice_get p.guests c.args.guest) IsFree) (sym c.self.view_is) c.requires.free) in
     let now = guests-then _ _ _ _ _ _ _ _ _ _
-        (puts-admission c.self.inside.history c.note_admission-place.new.history c.self.inside.spare c.less-spare.result c.self.inside.rows.items c.args.guest c.row_at-row.result c.args.op
-            c.note_admission-place.ensures.noted spared some there free has)
-        was.placed in
+    (puts-admission c.self.inside.history c.note_admission-place.new.history c.self.inside.spare c.less-spare.result c.self.inside.rows.items c.args.guest c.row_at-row.result c.args.op
+    c.note_admission-place.ensures.noted spared some there free has)
+    was.placed in
     let number = done-is c.self.inside.history.events c.self.inside.rows.items c.args.guest c.row_at-row.result there in
     rw (c.put_row.ensures, c.note_admission-place.ensures.place, now, c.note_admission-place.ensures.noted, spared, number, ← c.self.view_is) refl

@@ -1,6 +1,6 @@
 use Rattle.blk_world.specs.Progress.{Progress}
 use Rattle.blk_history.specs.declared.event.Event.TheVariants.{Done}
-use Rattle.std.proofs.Common.{[], ◌∷◌, ◌≡◌, ◌<◌, refl, sym, ◌∙◌, ap, arith}
+use Rattle.std.proofs.Common.{[], ◌∷◌, ◌≡◌, ◌<◌, refl, ap, arith}
 use Rattle.blk_world.proofs.InStep.{in-step-done}
 use Rattle.blk_world.proofs.Rows.{guests-append}
 use Rattle.blk_world.proofs.progress.Progress.finish.Goals as goal
@@ -11,8 +11,8 @@ invariant_of-self c =
     let viewed : c.self.inside.spare.entries ≡ c.args.self.now.spare.entries = ap (λ (p : Progress). p.spare.entries) c.self.view_is in
     let spared : 0 < c.self.inside.spare.entries = omega arith in
     in-step-done c.self.inside.history c.note_done.new.history c.self.inside.spare c.less-spare.result c.self.inside.rows.items c.mark_done.new.rows.items
-        c.self.inside.script_is_done c.mark_done.new.script c.self.inside.lines.items _ c.args.actor c.note_done.ensures c.less-spare.ensures spared
-        c.mark_done.ensures.script c.mark_done.ensures.guests c.mark_done.ensures.placed c.mark_done.ensures.kept c.self.invariant
+    c.self.inside.script_is_done c.mark_done.new.script c.self.inside.lines.items _ c.args.actor c.note_done.ensures c.less-spare.ensures spared
+    c.mark_done.ensures.script c.mark_done.ensures.guests c.mark_done.ensures.placed c.mark_done.ensures.kept c.self.invariant
 
 pub returns : goal.returns
 returns c =

@@ -1,4 +1,4 @@
-use Rattle.std.proofs.Common.{◌≡◌, ◌+◌, ◌-◌, refl, sym, ◌∙◌, ap, subst, arith}
+use Rattle.std.proofs.Common.{◌≡◌, ◌+◌, ◌-◌, ◌∙◌, ap, arith}
 use Rattle.qmp_rules.specs.Chains.{has_id}
 use Rattle.blk_world.specs.Progress.{ended_in}
 use Rattle.blk_world.proofs.Ends.{marked-at}

@@ -1,4 +1,4 @@
-use Rattle.std.proofs.Common.{◌≡◌, ◌≤◌, refl, sym, ◌∙◌, ap, arith}
+use Rattle.std.proofs.Common.{refl}
 use Rattle.blk_world.proofs.InStep.{in-step-new, guests-new}
 use Rattle.blk_world.proofs.progress.Progress.new.Goals as goal
 

@@ -1,7 +1,6 @@
 use Rattle.blk_history.specs.Fold.{With}
-use Rattle.std.proofs.Common.{◌≡◌, ◌<◌, ◌+◌, ◌^◌, ℕ, length, refl, sym, ◌∙◌, ap, subst, arith, Option, Some}
+use Rattle.std.proofs.Common.{◌≡◌, length, refl, sym, ap, subst, arith, Some}
 use Rattle.std.proofs.lemmas.Option.{slice_get_within}
-use Rattle.blk_history.specs.Machine.{Flight}
 use Rattle.blk_world.specs.Progress.{Progress, CanShow, flight_at}
 use Rattle.blk_world.specs.declared.row.InFlight.{InFlight}
 use Rattle.blk_world.proofs.InStep.{flying-row, room-owed, bytes-owed, done-is, puts-piece, in-step-put, guests-then, flying-is, next-is, same-flight}
@@ -42,9 +41,9 @@ invariant_of-self c =
     let some = room-owed _ _ _ _ _ _ c.self.invariant c.args.guest c.row_at-row.result there _ flies.sees in
     let bytes = bytes-owed _ _ _ _ _ _ c.self.invariant c.args.guest c.row_at-row.result there _ _ flies.sees flies.holds in
     rw (c.put_row.ensures, c.is_good.ensures) (in-step-put _ _ _ _ _ _ _ _ _ _
-        (puts-piece c.self.inside.history c.note_piece.new.history c.self.inside.spare c.self.inside.rows.items c.args.guest c.row_at-row.result c.in-Some.flight c.args.outcome c.args.shown.now _
-            c.note_piece.ensures refl refl some bytes there c.in-Some.is flies.placed flies.holds)
-        _ _ _ c.self.invariant)
+    (puts-piece c.self.inside.history c.note_piece.new.history c.self.inside.spare c.self.inside.rows.items c.args.guest c.row_at-row.result c.in-Some.flight c.args.outcome c.args.shown.now _
+    c.note_piece.ensures refl refl some bytes there c.in-Some.is flies.placed flies.holds)
+    _ _ _ c.self.invariant)
 
 pub returns : goal.returns
 returns c = λ f is.
@@ -53,9 +52,9 @@ returns c = λ f is.
     let some = room-owed _ _ _ _ _ _ c.self.invariant c.args.guest c.row_at-row.result there _ flies.sees in
     let bytes = bytes-owed _ _ _ _ _ _ c.self.invariant c.args.guest c.row_at-row.result there _ _ flies.sees flies.holds in
     let now = guests-then _ _ _ _ _ _ _ _ _ _
-        (puts-piece c.self.inside.history c.note_piece.new.history c.self.inside.spare c.self.inside.rows.items c.args.guest c.row_at-row.result c.in-Some.flight c.args.outcome c.args.shown.now _
-            c.note_piece.ensures refl refl some bytes there c.in-Some.is flies.placed flies.holds)
-        c.self.invariant.placed in
+    (puts-piece c.self.inside.history c.note_piece.new.history c.self.inside.spare c.self.inside.rows.items c.args.guest c.row_at-row.result c.in-Some.flight c.args.outcome c.args.shown.now _
+    c.note_piece.ensures refl refl some bytes there c.in-Some.is flies.placed flies.holds)
+    c.self.invariant.placed in
     let number = done-is c.self.inside.history.events c.self.inside.rows.items c.args.guest c.row_at-row.result there in
     let next = next-is c.self.inside.history.events c.self.inside.rows.items c.args.guest c.row_at-row.result there _ flies.sees f (subst (λ (p : Progress). flight_at p.guests c.args.guest ≡ Some f) (sym c.self.view_is) is) in
     rw (c.put_row.ensures, c.is_good.ensures, now, c.note_piece.ensures, number, next, ← c.self.view_is) refl

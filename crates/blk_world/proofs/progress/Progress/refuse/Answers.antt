@@ -1,7 +1,7 @@
 use Rattle.std.specs.Prelude.{slice_get}
 use Rattle.blk_history.specs.Fold.{With}
 use Rattle.blk_world.specs.Progress.{Progress, IsFree}
-use Rattle.std.proofs.Common.{◌≡◌, ◌<◌, refl, sym, ◌∙◌, ap, subst, arith}
+use Rattle.std.proofs.Common.{◌≡◌, ◌<◌, refl, sym, ap, subst, arith}
 use Rattle.blk_world.proofs.InStep.{idle-row, done-is, puts-refusal, in-step-put, guests-then}
 use Rattle.blk_world.proofs.progress.Progress.refuse.Goals as goal
 
@@ -16,9 +16,9 @@ invariant_of-self c =
     let spared : 0 < c.self.inside.spare.entries = omega arith in
     let free = idle-row c.self.inside.history.events c.self.inside.rows.items c.args.guest c.row_at-row.result there (subst (λ (p : Progress). With (slice_get p.guests c.args.guest) IsFree) (sym c.self.view_is) c.requires.free) in
     rw c.put_row.ensures (in-step-put _ _ _ _ _ _ _ _ _ _
-        (puts-refusal c.self.inside.history c.note_refusal.new.history c.self.inside.spare c.less-spare.result c.self.inside.rows.items c.args.guest c.row_at-row.result _
-            c.note_refusal.ensures refl refl c.less-spare.ensures some spared there free)
-        _ _ _ was)
+    (puts-refusal c.self.inside.history c.note_refusal.new.history c.self.inside.spare c.less-spare.result c.self.inside.rows.items c.args.guest c.row_at-row.result _
+    c.note_refusal.ensures refl refl c.less-spare.ensures some spared there free)
+    _ _ _ was)
 
 pub returns : goal.returns
 returns c =
@@ -31,8 +31,8 @@ returns c =
     let spared : 0 < c.self.inside.spare.entries = omega arith in
     let free = idle-row c.self.inside.history.events c.self.inside.rows.items c.args.guest c.row_at-row.result there (subst (λ (p : Progress). With (slice_get p.guests c.args.guest) IsFree) (sym c.self.view_is) c.requires.free) in
     let now = guests-then _ _ _ _ _ _ _ _ _ _
-        (puts-refusal c.self.inside.history c.note_refusal.new.history c.self.inside.spare c.less-spare.result c.self.inside.rows.items c.args.guest c.row_at-row.result _
-            c.note_refusal.ensures refl refl c.less-spare.ensures some spared there free)
-        was.placed in
+    (puts-refusal c.self.inside.history c.note_refusal.new.history c.self.inside.spare c.less-spare.result c.self.inside.rows.items c.args.guest c.row_at-row.result _
+    c.note_refusal.ensures refl refl c.less-spare.ensures some spared there free)
+    was.placed in
     let number = done-is c.self.inside.history.events c.self.inside.rows.items c.args.guest c.row_at-row.result there in
     rw (c.put_row.ensures, now, c.note_refusal.ensures, c.less-spare.ensures, number, ← c.self.view_is) refl

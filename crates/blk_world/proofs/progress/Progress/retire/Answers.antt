@@ -1,6 +1,6 @@
 use Rattle.blk_history.specs.Fold.{With}
 use Rattle.blk_world.specs.Progress.{Progress, flight_at}
-use Rattle.std.proofs.Common.{◌≡◌, ◌<◌, ◌^◌, refl, sym, ◌∙◌, ap, subst, arith, Fits}
+use Rattle.std.proofs.Common.{refl, sym, subst, arith}
 use Rattle.blk_history.specs.Legal.{IsOver}
 use Rattle.std.proofs.lemmas.Option.{slice_get_within}
 use Rattle.blk_world.proofs.InStep.{flying-row, room-owed, done-is, puts-retirement, in-step-put, guests-then}
@@ -30,9 +30,9 @@ invariant_of-self c =
     let flies = flying-row c.self.inside.history.events c.self.inside.rows.items c.args.guest c.row_at-row.result IsOver c.self.invariant.placed there (subst (λ (p : Progress). With (flight_at p.guests c.args.guest) IsOver) (sym c.self.view_is) c.requires) in
     let some = room-owed _ _ _ _ _ _ c.self.invariant c.args.guest c.row_at-row.result there _ flies.sees in
     rw c.put_row.ensures (in-step-put _ _ _ _ _ _ _ _ _ _
-        (puts-retirement c.self.inside.history c.note_retirement.new.history c.self.inside.spare c.self.inside.rows.items c.args.guest c.row_at-row.result _ _
-            c.note_retirement.ensures refl refl some there flies.sees)
-        _ _ _ c.self.invariant)
+    (puts-retirement c.self.inside.history c.note_retirement.new.history c.self.inside.spare c.self.inside.rows.items c.args.guest c.row_at-row.result _ _
+    c.note_retirement.ensures refl refl some there flies.sees)
+    _ _ _ c.self.invariant)
 
 pub returns : goal.returns
 returns c =
@@ -40,8 +40,8 @@ returns c =
     let flies = flying-row c.self.inside.history.events c.self.inside.rows.items c.args.guest c.row_at-row.result IsOver c.self.invariant.placed there (subst (λ (p : Progress). With (flight_at p.guests c.args.guest) IsOver) (sym c.self.view_is) c.requires) in
     let some = room-owed _ _ _ _ _ _ c.self.invariant c.args.guest c.row_at-row.result there _ flies.sees in
     let now = guests-then _ _ _ _ _ _ _ _ _ _
-        (puts-retirement c.self.inside.history c.note_retirement.new.history c.self.inside.spare c.self.inside.rows.items c.args.guest c.row_at-row.result _ _
-            c.note_retirement.ensures refl refl some there flies.sees)
-        c.self.invariant.placed in
+    (puts-retirement c.self.inside.history c.note_retirement.new.history c.self.inside.spare c.self.inside.rows.items c.args.guest c.row_at-row.result _ _
+    c.note_retirement.ensures refl refl some there flies.sees)
+    c.self.invariant.placed in
     let number = done-is c.self.inside.history.events c.self.inside.rows.items c.args.guest c.row_at-row.result there in
     rw (c.put_row.ensures, now, c.note_retirement.ensures, number, ← c.self.view_is) refl

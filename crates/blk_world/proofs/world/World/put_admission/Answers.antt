@@ -9,4 +9,4 @@ invariant_of-self g c = rw c.refuse.ensures (coherent-end _ _ _ _ c.self.invaria
 pub invariant_of-self-in-None : goal.invariant_of-self-in-None
 invariant_of-self-in-None g c =
     rw c.admit.ensures.kept (coherent-admission _ _ _ _ c.self.invariant c.args.guest c.args.op
-        (seat-fits _ c.args.guest c.in-Some.seat c.args.op c.in-Some.ensures c.in-None.ensures.inside))
+    (seat-fits _ c.args.guest c.in-Some.seat c.args.op c.in-Some.ensures c.in-None.ensures.inside))
