@@ -16,10 +16,11 @@ use Rattle.flat_machine.specs.Machine.{after, admitted, finished}
 use Rattle.flat_machine.specs.Legal.{Fits, IsNext, IsJudged, IsMet, IsNotDone, CanAdmit, IsRefusedFor}
 use Rattle.flat_machine.specs.Marks.{IsCalm, marks_of}
 use Rattle.flat_machine.specs.Licence.{named_in}
+use Rattle.flat_machine.specs.Comes.{guest_step}
 use Rattle.flat_machine.specs.declared.opening.Opening.{Opening}
 use Rattle.blk_world.specs.declared.admission.Admission.{Admission}
 use Rattle.blk_world.specs.declared.admission.Admission.TheVariants.{Admitted, Refused as NotAdmitted, Away}
-use Rattle.blk_world.specs.Progress.{Progress, guest_step, ended_in, done_by, done_at, flight_at, with_admission, with_refusal, with_retirement, with_entry}
+use Rattle.blk_world.specs.Progress.{Progress, ended_in, done_by, done_at, flight_at, with_admission, with_refusal, with_retirement, with_entry}
 use Rattle.blk_world.specs.Face.{Face, seen_state}
 use Rattle.blk_world.specs.Comes.{Comes, Shows}
 use Rattle.blk_world.specs.Steps.{onward, after_admission, IsAnswered, after_wait, after_end, IsIdle}

@@ -1,16 +1,16 @@
 -- Worlds that come of an opening.
-use Rattle.std.specs.Prelude.{◌≡◌, true, map, Some, is_some}
-use Rattle.blk_history.specs.Fold.{run}
+use Rattle.std.specs.Prelude.{◌≡◌, true, is_some}
 use Rattle.flat_machine.specs.State.{State}
 use Rattle.flat_machine.specs.Machine.{replay}
 use Rattle.flat_machine.specs.Legal.{IsAtRest}
-use Rattle.flat_machine.specs.Opening.{start, new_guest}
-use Rattle.flat_machine.specs.Comes.{ComesOf}
+use Rattle.flat_machine.specs.Opening.{start}
+use Rattle.flat_machine.specs.Comes.{ComesOf, guests_after}
+use Rattle.flat_machine.specs.Final.{bytes_of}
 use Rattle.flat_machine.specs.Agreement.{Agrees}
 use Rattle.flat_machine.specs.declared.opening.Opening.{Opening}
-use Rattle.blk_world.specs.Progress.{guest_step, ended_in}
+use Rattle.blk_world.specs.Progress.{ended_in}
 use Rattle.blk_world.specs.Coherent.{IsCoherent}
-use Rattle.blk_world.specs.Face.{Face, contents_of, first_counts, counts_now, told_bytes}
+use Rattle.blk_world.specs.Face.{Face, contents_of, first_counts, counts_now}
 
 -- ---- facts about one moment, each over the parts that it names
 
@@ -28,7 +28,7 @@ pub record ShowsGuests (s : State) (w : Face) : Type 0 where
 -- Nodes with a flat disk read as it, left disks are what their drivers read, and files that no command named for writing
 -- are as they were.
 abbrev pub ShowsContents : Opening → State → Face → Type 0
-ShowsContents o s w = Agrees (told_bytes (Some o.files)) s (contents_of w)
+ShowsContents o s w = Agrees (bytes_of o.files) s (contents_of w)
 
 pub record Shows (o : Opening) (s : State) (w : Face) : Type 0 where
   pub table : ShowsTable s w
@@ -38,12 +38,11 @@ pub record Shows (o : Opening) (s : State) (w : Face) : Type 0 where
 -- ---- the whole
 
 -- The guests are the opening's, their rows are what their own entries make of them, the parts of the world belong together,
--- and each fault that the history names is a rise that it names once. Where the store tells its files, the history is one of that opening, and what the world shows
--- at this moment is what the flat machine comes to by it.
+-- and each fault that the history names is a rise that it names once. Where the store tells its files, the history is one of
+-- that opening, and what the world shows at this moment is what the flat machine comes to by it.
 pub record Comes (o : Opening) (w : Face) : Type 0 where
   pub history : ComesOf o (is_some w.files) w.table.guests
       (first_counts w) (counts_now w) w.progress.log.events
-  pub requests : w.progress.guests
-      ≡ run guest_step (map (λ name. new_guest) o.guests) w.progress.log.events
+  pub requests : w.progress.guests ≡ guests_after o w.progress.log.events
   pub coherent : IsCoherent w.table w.nodes w.opened w.progress
   pub shows : is_some w.files ≡ true → Shows o (replay (start o) w.progress.log.events) w

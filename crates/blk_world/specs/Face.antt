@@ -1,6 +1,5 @@
 -- What contracts see of the world.
 use Rattle.std.specs.Prelude.{ℕ, ◌+◌, ◌==◌, List, [], ◌∷◌, map, find, Option, Some, None, option_and_then, option_map, unwrap_or}
-use Rattle.blk_base.specs.Files.{file_at}
 use Rattle.blk_base.specs.declared.file.File.{File}
 use Rattle.blk_base.specs.declared.file.Opened.{Opened}
 use Rattle.blk_nodes.specs.Nodes.{Nodes, DeviceState, device_in}
@@ -8,6 +7,7 @@ use Rattle.blk_nodes.specs.Contents.{disk_of}
 use Rattle.qmp_rules.specs.Asks.{stands_for}
 use Rattle.qmp_rules.specs.Table.{Table}
 use Rattle.flat_machine.specs.Agreement.{Contents}
+use Rattle.flat_machine.specs.Final.{bytes_of}
 use Rattle.flat_machine.specs.Licence.{Counts}
 use Rattle.flat_machine.specs.State.{State}
 use Rattle.blk_world.specs.Progress.{Progress, ended_in}
@@ -51,7 +51,7 @@ node_over t name = option_map (λ row. row.id) (find (stands_for name) t.nodes)
 
 abbrev pub told_bytes : Option (List File) → List ℕ → Option (List ℕ)
 told_bytes None name = None
-told_bytes (Some files) name = option_map (λ f. f.bytes) (file_at name files)
+told_bytes (Some files) name = bytes_of files name
 
 -- what a file holds: in the device of the node over it, or else in the store
 abbrev pub held_by : Face → List ℕ → Option ℕ → Option (List ℕ)

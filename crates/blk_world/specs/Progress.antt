@@ -30,14 +30,6 @@ pub record Progress : Type 0 where
 
 -- ---- what the history says by itself
 
--- the guests after the entries, each of which changes the row of its guest alone
-abbrev pub guest_step : List Guest → Event → List Guest
-guest_step guests (Admit g r op) = change g (admitted op) guests
-guest_step guests (Refuse g r op why) = change g finished guests
-guest_step guests (Piece g r k outcome got) = change g (past_piece outcome) guests
-guest_step guests (Retire g r) = change g finished guests
-guest_step guests e = guests
-
 -- the actors that are done, in order
 abbrev pub done_by : Event → Option ℕ
 done_by (Done actor) = Some actor
