@@ -7,7 +7,7 @@ use Rattle.blk_history.specs.Fold.{With}
 use Rattle.blk_history.specs.Machine.{Flight}
 use Rattle.blk_nodes.specs.Nodes.{Nodes, DeviceState, row_at, kind_of}
 use Rattle.blk_nodes.specs.declared.row.Row.{Row}
-use Rattle.qmp_rules.specs.declared.rows.NodeRecord.{NodeRecord}
+use Rattle.qmp_rules.specs.declared.rows.NodeRow.{NodeRow}
 use Rattle.qmp_rules.specs.Table.{Table, node_at, device_at}
 use Rattle.qmp_rules.specs.Chains.{disk_node}
 use Rattle.flat_machine.specs.Agreement.{HasDisk}
@@ -28,12 +28,12 @@ AreOnDisks t = (g node : ℕ) → drive_of t g ≡ Some node → With (node_at t
 -- ---- table and nodes
 
 -- a node's row says what the node is
-pub record IsRowOf (record' : NodeRecord) (row : Row) : Type 0 where
+pub record IsRowOf (record' : NodeRow) (row : Row) : Type 0 where
   pub kind : record'.kind ≡ kind_of row.driver
   pub size : record'.size ≡ row.size
   pub access : record'.read_only ≡ row.is_read_only
 
-abbrev pub AreAlike : Option NodeRecord → Option Row → Type 0
+abbrev pub AreAlike : Option NodeRow → Option Row → Type 0
 AreAlike None None = Unit {0}
 AreAlike (Some a) (Some b) = IsRowOf a b
 AreAlike _ _ = ⊥

@@ -2,11 +2,14 @@
 #![tactic(auto)]
 
 mod ask;
+mod chains;
 mod change;
+mod find;
 mod laws;
 mod name;
 mod refusal;
 mod rows;
+mod table;
 mod told;
 
 pub use ask::{Ask, Drivers, JobNodes};
@@ -18,4 +21,5 @@ pub use rows::{
     Asked, BitmapRow, Device, FileRow, FileState, JobRow, MadeWritable, NodeList, NodeRow,
     UsedBitmap,
 };
+pub use table::Names;
 pub use told::{Amounts, Look, Stopped, Told};

@@ -1,0 +1,123 @@
+//! Rows by name and by number.
+ghost use Rattle.std.specs.Prelude.{◌≡◌, ◌==◌, ◌&&◌, bytes_eq, find};
+ghost use Rattle.std.specs.List.{list_any};
+ghost use Rattle.std.specs.Option.{option_copied, option_map};
+ghost use Rattle.qmp_rules.specs.Asks.{stands_for};
+ghost use Rattle.qmp_rules.specs.Chains.{holds_any, holds_so};
+ghost use Rattle.qmp_rules.specs.Table.{first_into, has_name, is_bitmap};
+
+use crate::name::Name;
+use crate::rows::{BitmapRow, Device, FileRow, FileState, JobRow, NodeRow};
+use blk_graph::{Edge, NodeId};
+
+pub(crate) fn node_named<'x>(rows: &'x [NodeRow], name: &str) -> Option<&'x NodeRow>
+    ensures { option_copied result ≡ find (λ row. bytes_eq row.name name.now) rows.now }
+{
+    rows.iter().find(|row| row.name.as_str() == name)
+}
+
+pub(crate) fn node_at(rows: &[NodeRow], id: NodeId) -> Option<&NodeRow>
+    ensures { option_copied result ≡ find (λ row. row.id == id) rows.now }
+{
+    rows.iter().find(|row| row.id == id)
+}
+
+pub(crate) fn device_named<'x>(rows: &'x [Device], name: &str) -> Option<&'x Device>
+    ensures { option_copied result ≡ find (λ device. bytes_eq device.id name.now) rows.now }
+{
+    rows.iter().find(|device| device.id.as_str() == name)
+}
+
+pub(crate) fn device_at(rows: &[Device], number: u32) -> Option<&Device>
+    ensures { option_copied result ≡ find (λ device. device.number == number) rows.now }
+{
+    rows.iter().find(|device| device.number == number)
+}
+
+pub(crate) fn job_named<'x>(rows: &'x [JobRow], name: &str) -> Option<&'x JobRow>
+    ensures { option_copied result ≡ find (λ job. bytes_eq job.id name.now) rows.now }
+{
+    rows.iter().find(|job| job.id.as_str() == name)
+}
+
+pub(crate) fn job_at(rows: &[JobRow], number: u32) -> Option<&JobRow>
+    ensures { option_copied result ≡ find (λ job. job.number == number) rows.now }
+{
+    rows.iter().find(|job| job.number == number)
+}
+
+pub(crate) fn job_in(rows: &[JobRow], slot: u32) -> Option<&JobRow>
+    ensures { option_copied result ≡ find (λ job. job.slot == slot) rows.now }
+{
+    rows.iter().find(|job| job.slot == slot)
+}
+
+pub(crate) fn is_bitmap(row: &BitmapRow, node: NodeId, name: &str) -> bool
+    ensures { result ≡ is_bitmap node name.now row.now }
+{
+    row.node == node && row.name.as_str() == name
+}
+
+pub(crate) fn bitmap_at<'x>(rows: &'x [BitmapRow], node: NodeId, name: &str) -> Option<&'x BitmapRow>
+    ensures { option_copied result ≡ find (is_bitmap node name.now) rows.now }
+{
+    rows.iter().find(|row| is_bitmap(row, node, name))
+}
+
+pub(crate) fn has_name(names: &[Name], name: &str) -> bool
+    ensures { result ≡ has_name name.now names.now }
+{
+    names.iter().any(|other| other.as_str() == name)
+}
+
+pub(crate) fn file_state(rows: &[FileRow], name: &str) -> Option<FileState>
+    ensures { result ≡ option_map (λ row. row.state) (find (λ row. bytes_eq row.name name.now) rows.now) }
+{
+    match rows.iter().find(|row| row.name.as_str() == name) {
+        Some(row) => Some(row.state),
+        None => None,
+    }
+}
+
+/// The first edge into a node.
+pub(crate) fn first_into(edges: &[Edge], id: NodeId) -> Option<&Edge>
+    ensures { option_copied result ≡ first_into id edges.now }
+{
+    edges.iter().find(|edge| edge.child == id)
+}
+
+/// Whether a node stands for the file.
+fn stands_for(row: &NodeRow, name: &str) -> bool
+    ensures { result ≡ stands_for name.now row.now }
+{
+    match &row.filename {
+        Some(filename) => filename.as_str() == name,
+        None => false,
+    }
+}
+
+pub(crate) fn is_open(rows: &[NodeRow], name: &str) -> bool
+    ensures { result ≡ list_any (stands_for name.now) rows.now }
+{
+    rows.iter().any(|row| stands_for(row, name))
+}
+
+fn holds_any(job: &JobRow, id: NodeId) -> bool
+    ensures { result ≡ holds_any id job.now }
+{
+    job.held.has(id) || job.read.has(id)
+}
+
+/// The first job that holds a node, be it for reading.
+pub(crate) fn holder(rows: &[JobRow], id: NodeId) -> Option<&JobRow>
+    ensures { option_copied result ≡ find (holds_any id) rows.now }
+{
+    rows.iter().find(|job| holds_any(job, id))
+}
+
+/// The first that holds it for itself.
+pub(crate) fn keeper(rows: &[JobRow], id: NodeId) -> Option<&JobRow>
+    ensures { option_copied result ≡ find (holds_so id) rows.now }
+{
+    rows.iter().find(|job| job.held.has(id))
+}
