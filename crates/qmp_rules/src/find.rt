@@ -58,7 +58,11 @@ pub(crate) fn is_bitmap(row: &BitmapRow, node: NodeId, name: &str) -> bool
     row.node == node && row.name.as_str() == name
 }
 
-pub(crate) fn bitmap_at<'x>(rows: &'x [BitmapRow], node: NodeId, name: &str) -> Option<&'x BitmapRow>
+pub(crate) fn bitmap_at<'x>(
+    rows: &'x [BitmapRow],
+    node: NodeId,
+    name: &str,
+) -> Option<&'x BitmapRow>
     ensures { option_copied result ≡ find (is_bitmap node name.now) rows.now }
 {
     rows.iter().find(|row| is_bitmap(row, node, name))

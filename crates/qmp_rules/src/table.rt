@@ -37,22 +37,22 @@ impl Model for Names {
     ghost Value = { Roomy };
 
     ghost view = { λ n. record {
-        table = record {
-            nodes = n.nodes.items;
-            edges = n.edges;
-            guests = n.guests.items;
-            devices = n.devices.items;
-            jobs = n.jobs.items;
-            started = n.started;
-            bitmaps = n.bitmaps.items;
-            files = n.files.items;
-            kept = n.kept.items;
-            negotiated = n.negotiated;
-        };
-        room = room_of
-            (vec_capacity n.nodes - vec_len n.nodes) (length n.edges)
-            (vec_capacity n.devices - vec_len n.devices) (vec_capacity n.bitmaps - vec_len n.bitmaps)
-            (vec_capacity n.files - vec_len n.files) (vec_capacity n.kept - vec_len n.kept);
+      table = record {
+        nodes = n.nodes.items;
+        edges = n.edges;
+        guests = n.guests.items;
+        devices = n.devices.items;
+        jobs = n.jobs.items;
+        started = n.started;
+        bitmaps = n.bitmaps.items;
+        files = n.files.items;
+        kept = n.kept.items;
+        negotiated = n.negotiated;
+      };
+      room = room_of
+          (vec_capacity n.nodes - vec_len n.nodes) (length n.edges)
+          (vec_capacity n.devices - vec_len n.devices) (vec_capacity n.bitmaps - vec_len n.bitmaps)
+          (vec_capacity n.files - vec_len n.files) (vec_capacity n.kept - vec_len n.kept);
     } };
 }
 
