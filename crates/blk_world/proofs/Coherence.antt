@@ -1,0 +1,121 @@
+-- The parts of the world belong together after each event.
+use Rattle.std.proofs.Common.{◌≡◌, ℕ, zero, suc, ◌≤◌, true, false, List, [], ◌∷◌, length, get_or, replicate, inl, inr, refl, sym, ◌∙◌, ap, subst, arith, Option, Some, None}
+use Rattle.std.specs.Prelude.{slice_get, ◌||◌}
+use Rattle.std.proofs.lemmas.Bool.{false≢true, cases_lt}
+use Rattle.std.proofs.lemmas.List.{length-replicate, get_or-replicate, get_or_past}
+use Rattle.blk_base.specs.Files.{is_out, is_out_as}
+use Rattle.blk_base.specs.Pieces.{end_of}
+use Rattle.blk_base.specs.declared.file.Opened.{Opened}
+use Rattle.blk_base.specs.declared.memory.Room.{Room}
+use Rattle.trace_codec.specs.declared.op.Op.{Op}
+use Rattle.blk_history.specs.Disk.{span_of}
+use Rattle.blk_history.specs.Fold.{change, With}
+use Rattle.blk_history.specs.Machine.{Flight}
+use Rattle.blk_nodes.specs.Nodes.{Nodes, no_nodes}
+use Rattle.blk_nodes.specs.declared.row.Row.{Row}
+use Rattle.qmp_rules.specs.Table.{Table, opening_table}
+use Rattle.flat_machine.specs.State.{Guest, disk_of_guest, size_of}
+use Rattle.flat_machine.specs.Machine.{admitted, finished}
+use Rattle.flat_machine.specs.Opening.{new_guest}
+use Rattle.flat_machine.proofs.Finds.{bytes_eq-same}
+use Rattle.blk_world.specs.Progress.{Progress, flight_at, no_progress, with_admission}
+use Rattle.blk_world.specs.Coherent.{IsCoherent, AreWithin}
+
+-- ---- guests
+
+pub length-change : {A : Type 0} (g : ℕ) (h : A → A) (xs : List A) → length (change g h xs) ≡ length xs
+length-change g h [] = refl
+length-change zero h (x ∷ xs) = refl
+length-change (suc g) h (x ∷ xs) = ap suc (length-change g h xs)
+
+-- what holds of each request in flight, after one guest's row has changed
+flights-change : (Q : ℕ → Flight → Type 0) (guests : List Guest) (g : ℕ) (h : Guest → Guest)
+    → ((k : ℕ) (f : Flight) → flight_at guests k ≡ Some f → Q k f)
+    → ((row : Guest) (f : Flight) → slice_get guests g ≡ Some row → (h row).flight ≡ Some f → Q g f)
+    → (k : ℕ) (f : Flight) → flight_at (change g h guests) k ≡ Some f → Q k f
+flights-change Q [] g h all one k f is = absurd (let bad : ⊥ = cc is in bad)
+flights-change Q (x ∷ guests) zero h all one zero f is = one x f refl is
+flights-change Q (x ∷ guests) zero h all one (suc k) f is = all (suc k) f is
+flights-change Q (x ∷ guests) (suc g) h all one zero f is = all zero f is
+flights-change Q (x ∷ guests) (suc g) h all one (suc k) f is =
+    flights-change (λ n. Q (suc n)) guests g h (λ n. all (suc n)) one k f is
+
+within-put : (t : Table) (guests : List Guest) (g : ℕ) (h : Guest → Guest) → AreWithin t guests
+    → ((row : Guest) (f : Flight) → slice_get guests g ≡ Some row → (h row).flight ≡ Some f → With (disk_of_guest t g) (λ node. end_of (span_of f.op) ≤ size_of t node))
+    → AreWithin t (change g h guests)
+within-put t guests g h all one = flights-change (λ k f. With (disk_of_guest t k) (λ node. end_of (span_of f.op) ≤ size_of t node)) guests g h all one
+
+module _ (t : Table) (nodes : Nodes) (opened : List Opened) (p : Progress) (was : IsCoherent t nodes opened p) where
+  -- guests' rows alone change
+  coherent-with : (q : Progress) → AreWithin t q.guests → length q.guests ≡ length p.guests → IsCoherent t nodes opened q
+  coherent-with q within count = record {
+    drives = was.drives;
+    disks = was.disks;
+    alike = was.alike;
+    within = within;
+    count = count ∙ was.count;
+    jobs = was.jobs;
+    out = was.out;
+  }
+
+  pub coherent-admission : (g : ℕ) (op : Op) → With (disk_of_guest t g) (λ node. end_of (span_of op) ≤ size_of t node) → IsCoherent t nodes opened (with_admission g op p)
+  coherent-admission g op fits =
+      coherent-with (with_admission g op p)
+      (within-put t p.guests g (admitted op) was.within (λ row f there is. let same : op ≡ f.op = ap op_or is in subst (λ o. With (disk_of_guest t g) (λ node. end_of (span_of o) ≤ size_of t node)) same fits))
+      (length-change g (admitted op) p.guests)
+    where
+      op_or : Option Flight → Op
+      op_or None = op
+      op_or (Some f) = f.op
+
+  pub coherent-end : (q : Progress) (g : ℕ) → q.guests ≡ change g finished p.guests → IsCoherent t nodes opened q
+  coherent-end q g is =
+      coherent-with q
+      (rw is (within-put t p.guests g finished was.within (λ row f there none. absurd (let bad : ⊥ = cc none in bad))))
+      (ap length is ∙ length-change g finished p.guests)
+
+  pub coherent-same : (q : Progress) → q.guests ≡ p.guests → IsCoherent t nodes opened q
+  coherent-same q is = coherent-with q (rw is was.within) (ap length is)
+
+-- ---- a new world
+
+nobody-flies : (n k : ℕ) (f : Flight) → flight_at (replicate n new_guest) k ≡ Some f → ⊥
+nobody-flies zero k f is = let bad : ⊥ = cc is in bad
+nobody-flies (suc n) zero f is = let bad : ⊥ = cc is in bad
+nobody-flies (suc n) (suc k) f is = nobody-flies n k f is
+
+-- a device that is out makes its name one that is out
+is-out : (name : List ℕ) (opened : List Opened) (n : ℕ) (o : Opened) → slice_get opened n ≡ Some o → is_out_as name o ≡ true → is_out name opened ≡ true
+is-out name [] n o there is = absurd (let bad : ⊥ = cc there in bad)
+is-out name (x ∷ opened) zero o there is =
+    let same : x ≡ o = cc there in
+    ap (λ b. b || is_out name opened) (ap (is_out_as name) same ∙ is)
+is-out name (x ∷ opened) (suc n) o there is =
+    let rest = is-out name opened n o there is in
+    elim (is_out_as name x) as (λ b. (b || is_out name opened) ≡ true) [ true ↦ refl | false ↦ rest ]
+
+none-out : (opened : List Opened) → ((name : List ℕ) → is_out name opened ≡ false) → (n : ℕ) (o : Opened) → slice_get opened n ≡ Some o → o.returned ≡ None → ⊥
+none-out opened none n o there out =
+    let named : is_out_as o.name o ≡ true = rw (bytes_eq-same o.name, out) refl in
+    false≢true (sym (none o.name) ∙ is-out o.name opened n o there named)
+
+no-row : (n k : ℕ) → get_or (replicate {A = Option Row} n None) k None ≡ None
+no-row n k =
+    let len = length-replicate {A = Option Row} n None in
+    elim (cases_lt k n) [ inl below ↦ get_or-replicate n k None None below | inr past ↦ get_or_past (replicate n None) k None (omega arith) ]
+
+pub coherent-new : (guests : List (List ℕ)) (room : Room) (opened : List Opened) → ((name : List ℕ) → is_out name opened ≡ false)
+    → IsCoherent (opening_table guests) no_nodes opened (no_progress (length guests) room)
+coherent-new guests room opened none = record {
+  drives = λ g there. absurd (false≢true there);
+  disks = λ g node on. absurd (let bad : ⊥ = cc on in bad);
+  alike = record { edges = refl; rows = λ id. rw (no-row 64 id) tt };
+  within = λ g f flies. absurd (nobody-flies (length guests) g f flies);
+  count = length-replicate (length guests) new_guest;
+  jobs = refl;
+  out = record {
+    each = λ device held. absurd (omega (arith, held.1));
+    once = λ i j d less within. absurd (omega arith);
+    all = λ n o there out. absurd (none-out opened none n o there out);
+  };
+}

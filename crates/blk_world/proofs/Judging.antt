@@ -1,0 +1,36 @@
+-- What a guest's request is judged by.
+use Rattle.std.proofs.Common.{◌≡◌, ℕ, ◌≤◌, Option, Some, None}
+use Rattle.blk_base.specs.Pieces.{end_of}
+use Rattle.trace_codec.specs.declared.op.Op.{Op}
+use Rattle.blk_history.specs.Disk.{span_of}
+use Rattle.blk_history.specs.Fold.{With}
+use Rattle.qmp_rules.specs.declared.rows.Device.{Device}
+use Rattle.qmp_rules.specs.Table.{Table, device_at}
+use Rattle.flat_machine.specs.State.{disk_of_guest, size_of}
+use Rattle.flat_machine.specs.Legal.{IsJudged, IsInside, CanAdmit}
+use Rattle.blk_world.specs.declared.admission.Seat.{Seat}
+use Rattle.blk_world.specs.Face.{Face, seen_state}
+use Rattle.blk_world.specs.Steps.{IsSeat}
+
+-- what follows of what is there
+with-map : {A : Type 0} (x : Option A) (P Q : A → Type 0) → ((a : A) → P a → Q a) → With x P → With x Q
+with-map None P Q f is = is
+with-map (Some a) P Q f is = f a is
+
+-- a request that ends within a size ends within the guest's disk
+pub seat-fits : (t : Table) (g : ℕ) (seat : Seat) (op : Op) → IsSeat t g seat → IsInside op seat.size
+    → With (disk_of_guest t g) (λ node. end_of (span_of op) ≤ size_of t node)
+seat-fits t g seat op is inside =
+    with-map (disk_of_guest t g) (λ node. seat.size ≡ size_of t node) (λ node. end_of (span_of op) ≤ size_of t node) (λ node same. rw (← same) inside) is.size_is
+
+-- what was judged to be admitted lies within the guest's disk
+pub judged-inside : (w : Face) (g r : ℕ) (op : Op) → IsJudged (seen_state w) g r (CanAdmit op)
+    → With (disk_of_guest w.table g) (λ node. end_of (span_of op) ≤ size_of w.table node)
+judged-inside w g r op is = at (device_at w.table g) is.2
+  where
+    at : (device : Option Device) → With device (λ d. With (disk_of_guest w.table g) (λ node. CanAdmit op d.read_only (size_of w.table node)))
+        → With (disk_of_guest w.table g) (λ node. end_of (span_of op) ≤ size_of w.table node)
+    at None none = absurd none
+    at (Some device) holds =
+        with-map (disk_of_guest w.table g) (λ node. CanAdmit op device.read_only (size_of w.table node)) (λ node. end_of (span_of op) ≤ size_of w.table node)
+        (λ node can. can.inside) holds

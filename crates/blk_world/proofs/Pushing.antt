@@ -1,0 +1,64 @@
+-- One more entry leaves a world that comes of the same opening.
+use Rattle.std.proofs.Common.{◌≡◌, true, List, [], ◌∷◌, ◌++◌, map, refl, sym, ◌∙◌, subst, None}
+use Rattle.std.specs.Prelude.{is_some, All}
+use Rattle.std.proofs.lemmas.List.{append-nil}
+use Rattle.std.proofs.lemmas.List.Elements.{filter_map-append}
+use Rattle.blk_history.specs.Fold.{run}
+use Rattle.blk_history.specs.declared.event.Event.{Event}
+use Rattle.blk_history.proofs.Folds.{run-push, each-push}
+use Rattle.flat_machine.specs.State.{State}
+use Rattle.flat_machine.specs.Machine.{after, replay}
+use Rattle.flat_machine.specs.Legal.{Fits}
+use Rattle.flat_machine.specs.Marks.{IsCalm, marks_of}
+use Rattle.flat_machine.specs.Licence.{Counts, AreLicensed, named_in, faults_of}
+use Rattle.flat_machine.specs.Opening.{start, new_guest}
+use Rattle.flat_machine.specs.Comes.{IsHistoryOf, guest_step, guests_after}
+use Rattle.flat_machine.specs.declared.opening.Opening.{Opening}
+use Rattle.blk_world.specs.Coherent.{IsCoherent}
+use Rattle.blk_world.specs.Face.{Face, first_counts, counts_now}
+use Rattle.blk_world.specs.Comes.{Comes, Shows}
+
+-- what one more entry has to be
+pub record Pushes (o : Opening) (w v : Face) (e : Event) : Type 0 where
+  pub events : v.progress.log.events ≡ w.progress.log.events ++ e ∷ []
+  pub names : v.table.guests ≡ w.table.guests
+  pub told : is_some v.files ≡ is_some w.files
+  pub guests : v.progress.guests ≡ guest_step w.progress.guests e
+  pub coherent : IsCoherent w.table w.nodes w.opened w.progress → IsCoherent v.table v.nodes v.opened v.progress
+  pub licensed : AreLicensed (first_counts w) (counts_now w) w.progress.log.events
+      → AreLicensed (first_counts v) (counts_now v) (w.progress.log.events ++ e ∷ [])
+  pub fits : is_some w.files ≡ true → (s : State) → Shows o s w → Fits s e × All (IsCalm s) (marks_of s e) × Shows o (after s e) v
+
+pub comes-push : (o : Opening) (w v : Face) (e : Event) → Comes o w → Pushes o w v e → Comes o v
+comes-push o w v e comes pushes = record {
+  history = record {
+    guests_are = pushes.names ∙ comes.history.guests_are;
+    licensed = rw pushes.events (pushes.licensed comes.history.licensed);
+    history = λ told. history (sym pushes.told ∙ told);
+  };
+  requests = pushes.guests ∙ rw (comes.requests, pushes.events, run-push guest_step (map (λ name. new_guest) o.guests) w.progress.log.events e) refl;
+  coherent = pushes.coherent comes.coherent;
+  shows = λ told. shows (sym pushes.told ∙ told);
+}
+  where
+    shows : is_some w.files ≡ true → Shows o (replay (start o) v.progress.log.events) v
+    shows told =
+        subst (λ (es : List Event). Shows o (replay (start o) es) v) (sym pushes.events)
+        (subst (λ (s : State). Shows o s v) (sym (run-push after (start o) w.progress.log.events e))
+        (pushes.fits told (run after (start o) w.progress.log.events) (comes.shows told)).2)
+
+    history : is_some w.files ≡ true → IsHistoryOf o v.progress.log.events
+    history told =
+        let was = comes.history.history told in
+        let fits = pushes.fits told (run after (start o) w.progress.log.events) (comes.shows told) in
+        record {
+          legal = rw pushes.events (each-push after Fits (start o) w.progress.log.events e was.legal fits.0);
+          rest = (shows told).table.rest;
+          marks = rw pushes.events (each-push after (λ s e. All (IsCalm s) (marks_of s e)) (start o) w.progress.log.events e was.marks fits.1);
+        }
+
+-- an entry that names no fault, where counts stay
+pub licensed-quiet : (opening now : Counts) (es : List Event) (e : Event) → named_in e ≡ None → AreLicensed opening now es → AreLicensed opening now (es ++ e ∷ [])
+licensed-quiet opening now es e none was =
+    let same : faults_of (es ++ e ∷ []) ≡ faults_of es = filter_map-append named_in es (e ∷ []) ∙ rw none (append-nil (faults_of es)) in
+    record { rises = rw same was.rises; once = rw same was.once }

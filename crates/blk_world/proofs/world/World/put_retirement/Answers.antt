@@ -1,0 +1,6 @@
+use Rattle.std.proofs.Common.{refl}
+use Rattle.blk_world.proofs.Coherence.{coherent-end}
+use Rattle.blk_world.proofs.world.World.put_retirement.Goals as goal
+
+pub invariant_of-self : goal.invariant_of-self
+invariant_of-self g c = rw c.retire.ensures (coherent-end _ _ _ _ c.self.invariant _ c.args.guest refl)

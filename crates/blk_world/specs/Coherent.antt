@@ -1,0 +1,78 @@
+-- How the parts of the world belong together between events, whatever the store tells.
+use Rattle.std.specs.Prelude.{◌≡◌, ◌≢◌, ℕ, ◌≤◌, List, [], length, slice_get, AllPairs, Contains, Option, Some, None, IsSome}
+use Rattle.blk_base.specs.Pieces.{end_of}
+use Rattle.blk_base.specs.declared.file.Opened.{Opened}
+use Rattle.blk_history.specs.Disk.{span_of}
+use Rattle.blk_history.specs.Fold.{With}
+use Rattle.blk_history.specs.Machine.{Flight}
+use Rattle.blk_nodes.specs.Nodes.{Nodes, DeviceState, row_at, kind_of}
+use Rattle.blk_nodes.specs.declared.row.Row.{Row}
+use Rattle.qmp_rules.specs.declared.rows.NodeRecord.{NodeRecord}
+use Rattle.qmp_rules.specs.Table.{Table, node_at, device_at}
+use Rattle.qmp_rules.specs.Chains.{disk_node}
+use Rattle.flat_machine.specs.Agreement.{HasDisk}
+use Rattle.flat_machine.specs.State.{Guest, drive_of, disk_of_guest, size_of, filename_of}
+use Rattle.blk_world.specs.Progress.{Progress, flight_at}
+use Rattle.blk_world.specs.Face.{device_numbered}
+
+-- ---- the table
+
+-- a device that is there is on a node
+abbrev pub HaveDrives : Table → Type 0
+HaveDrives t = (g : ℕ) → IsSome (device_at t g) → IsSome (drive_of t g)
+
+-- and that node has a flat disk: it is settled, or is a filter over such a node
+abbrev pub AreOnDisks : Table → Type 0
+AreOnDisks t = (g node : ℕ) → drive_of t g ≡ Some node → With (node_at t (disk_node t node)) HasDisk
+
+-- ---- table and nodes
+
+-- a node's row says what the node is
+pub record IsRowOf (record' : NodeRecord) (row : Row) : Type 0 where
+  pub kind : record'.kind ≡ kind_of row.driver
+  pub size : record'.size ≡ row.size
+  pub access : record'.read_only ≡ row.is_read_only
+
+abbrev pub AreAlike : Option NodeRecord → Option Row → Type 0
+AreAlike None None = Unit {0}
+AreAlike (Some a) (Some b) = IsRowOf a b
+AreAlike _ _ = ⊥
+
+pub record AreNodesOf (t : Table) (nodes : Nodes) : Type 0 where
+  pub edges : nodes.graph.edges ≡ t.edges
+  pub rows : (id : ℕ) → AreAlike (node_at t id) (row_at nodes id)
+
+-- ---- guests
+
+-- a request in flight lies within its guest's disk
+abbrev pub AreWithin : Table → List Guest → Type 0
+AreWithin t guests = (g : ℕ) (f : Flight) → flight_at guests g ≡ Some f
+    → With (disk_of_guest t g) (λ node. end_of (span_of f.op) ≤ size_of t node)
+
+-- ---- openings
+
+-- a device that is held is that of an opening of its node's file, and not back yet
+pub record IsOut (t : Table) (opened : List Opened) (device : DeviceState) : Type 0 where
+  pub opening : Opened
+  pub there : slice_get opened device.number.0 ≡ Some opening
+  pub out : opening.returned ≡ None
+  pub named : filename_of t device.node ≡ Some opening.name
+  pub faults : opening.faults ≤ device.faults
+
+pub record AreOut (t : Table) (nodes : Nodes) (opened : List Opened) : Type 0 where
+  pub each : (device : DeviceState) → Contains nodes.devices device → IsOut t opened device
+  pub once : AllPairs (λ a b. a.number ≢ b.number) nodes.devices
+  pub all : (n : ℕ) (o : Opened) → slice_get opened n ≡ Some o → o.returned ≡ None
+      → IsSome (device_numbered nodes.devices n)
+
+-- ---- all of it; no command that starts a job is carried out yet
+
+pub record IsCoherent (t : Table) (nodes : Nodes) (opened : List Opened)
+    (p : Progress) : Type 0 where
+  pub drives : HaveDrives t
+  pub disks : AreOnDisks t
+  pub alike : AreNodesOf t nodes
+  pub within : AreWithin t p.guests
+  pub count : length p.guests ≡ length t.guests
+  pub jobs : t.jobs ≡ []
+  pub out : AreOut t nodes opened

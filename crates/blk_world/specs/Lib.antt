@@ -1,0 +1,5 @@
+pub mod Progress
+pub mod Face
+pub mod Comes
+pub mod Coherent
+pub mod Steps

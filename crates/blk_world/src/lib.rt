@@ -1,0 +1,14 @@
+//! The world of a run: a store's files and the nodes over them, the table of names, the guests' requests, and the history
+//! of all that happened. Each call is one event.
+#![tactic(auto)]
+
+mod admission;
+mod entries;
+mod progress;
+mod row;
+mod turned;
+mod world;
+
+pub use admission::Admission;
+pub use turned::Turned;
+pub use world::World;
