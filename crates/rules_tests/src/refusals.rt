@@ -135,7 +135,7 @@ static VALUES: [Row; 19] = [
             "{\"execute\":\"qmp_capabilities\"}",
             "{\"execute\":\"blockdev-add\",\"arguments\":{\"driver\":\"file\",\"node-name\":\"f0\",\"filename\":\"f\"}}",
         ],
-        line: "{\"execute\":\"blockdev-add\",\"arguments\":{\"driver\":\"raw\",\"node-name\":\"r0\",\"file\":\"f0\",\"offset\":1048576}}",
+        line: "{\"execute\":\"blockdev-add\",\"arguments\":{\"driver\":\"raw\",\"node-name\":\"raw0\",\"file\":\"f0\",\"offset\":1048576}}",
         answer: "",
     },
     Row {
@@ -143,7 +143,7 @@ static VALUES: [Row; 19] = [
             "{\"execute\":\"qmp_capabilities\"}",
             "{\"execute\":\"blockdev-add\",\"arguments\":{\"driver\":\"file\",\"node-name\":\"f0\",\"filename\":\"f\"}}",
         ],
-        line: "{\"execute\":\"blockdev-add\",\"arguments\":{\"driver\":\"raw\",\"node-name\":\"r0\",\"file\":\"f0\",\"offset\":1048577}}",
+        line: "{\"execute\":\"blockdev-add\",\"arguments\":{\"driver\":\"raw\",\"node-name\":\"raw0\",\"file\":\"f0\",\"offset\":1048577}}",
         answer: "member offset has a value that is not accepted",
     },
     Row {
@@ -151,7 +151,7 @@ static VALUES: [Row; 19] = [
             "{\"execute\":\"qmp_capabilities\"}",
             "{\"execute\":\"blockdev-add\",\"arguments\":{\"driver\":\"file\",\"node-name\":\"f0\",\"filename\":\"f\"}}",
         ],
-        line: "{\"execute\":\"blockdev-add\",\"arguments\":{\"driver\":\"raw\",\"node-name\":\"r0\",\"file\":\"f0\",\"offset\":512,\"size\":1048064}}",
+        line: "{\"execute\":\"blockdev-add\",\"arguments\":{\"driver\":\"raw\",\"node-name\":\"raw0\",\"file\":\"f0\",\"offset\":512,\"size\":1048064}}",
         answer: "",
     },
     Row {
@@ -159,7 +159,7 @@ static VALUES: [Row; 19] = [
             "{\"execute\":\"qmp_capabilities\"}",
             "{\"execute\":\"blockdev-add\",\"arguments\":{\"driver\":\"file\",\"node-name\":\"f0\",\"filename\":\"f\"}}",
         ],
-        line: "{\"execute\":\"blockdev-add\",\"arguments\":{\"driver\":\"raw\",\"node-name\":\"r0\",\"file\":\"f0\",\"offset\":512,\"size\":1048065}}",
+        line: "{\"execute\":\"blockdev-add\",\"arguments\":{\"driver\":\"raw\",\"node-name\":\"raw0\",\"file\":\"f0\",\"offset\":512,\"size\":1048065}}",
         answer: "member size has a value that is not accepted",
     },
     Row {
@@ -242,7 +242,7 @@ static MISSING_AND_TAKEN: [Row; 13] = [
     },
     Row {
         before: &["{\"execute\":\"qmp_capabilities\"}"],
-        line: "{\"execute\":\"blockdev-add\",\"arguments\":{\"driver\":\"raw\",\"node-name\":\"r0\",\"file\":\"f0\"}}",
+        line: "{\"execute\":\"blockdev-add\",\"arguments\":{\"driver\":\"raw\",\"node-name\":\"raw0\",\"file\":\"f0\"}}",
         answer: "f0 is not found",
     },
     Row {
@@ -321,8 +321,8 @@ static MISSING_AND_TAKEN: [Row; 13] = [
     },
     Row {
         before: &["{\"execute\":\"qmp_capabilities\"}"],
-        line: "{\"execute\":\"blockdev-add\",\"arguments\":{\"driver\":\"raw\",\"node-name\":\"r0\",\"file\":{\"driver\":\"file\",\"filename\":\"f\",\"node-name\":\"r0\"}}}",
-        answer: "name r0 is taken",
+        line: "{\"execute\":\"blockdev-add\",\"arguments\":{\"driver\":\"raw\",\"node-name\":\"raw0\",\"file\":{\"driver\":\"file\",\"filename\":\"f\",\"node-name\":\"raw0\"}}}",
+        answer: "name raw0 is taken",
     },
 ];
 
@@ -376,7 +376,7 @@ static FILES: [Row; 8] = [
             "{\"execute\":\"blockdev-add\",\"arguments\":{\"driver\":\"file\",\"node-name\":\"f0\",\"filename\":\"f\"}}",
             "{\"execute\":\"blockdev-create\",\"arguments\":{\"job-id\":\"j\",\"options\":{\"driver\":\"qcow2\",\"file\":\"f0\",\"size\":512}}}",
         ],
-        line: "{\"execute\":\"blockdev-add\",\"arguments\":{\"driver\":\"raw\",\"node-name\":\"r0\",\"file\":\"f0\"}}",
+        line: "{\"execute\":\"blockdev-add\",\"arguments\":{\"driver\":\"raw\",\"node-name\":\"raw0\",\"file\":\"f0\"}}",
         answer: "file f was used before",
     },
     Row {
@@ -404,10 +404,10 @@ static NODES: [Row; 21] = [
         before: &[
             "{\"execute\":\"qmp_capabilities\"}",
             "{\"execute\":\"blockdev-add\",\"arguments\":{\"driver\":\"file\",\"node-name\":\"f0\",\"filename\":\"f\"}}",
-            "{\"execute\":\"blockdev-add\",\"arguments\":{\"driver\":\"raw\",\"node-name\":\"r0\",\"file\":\"f0\"}}",
+            "{\"execute\":\"blockdev-add\",\"arguments\":{\"driver\":\"raw\",\"node-name\":\"raw0\",\"file\":\"f0\"}}",
         ],
-        line: "{\"execute\":\"blockdev-add\",\"arguments\":{\"driver\":\"raw\",\"node-name\":\"r1\",\"file\":\"r0\"}}",
-        answer: "node r0 has the wrong driver",
+        line: "{\"execute\":\"blockdev-add\",\"arguments\":{\"driver\":\"raw\",\"node-name\":\"raw1\",\"file\":\"raw0\"}}",
+        answer: "node raw0 has the wrong driver",
     },
     Row {
         before: &[
@@ -421,44 +421,44 @@ static NODES: [Row; 21] = [
         before: &[
             "{\"execute\":\"qmp_capabilities\"}",
             "{\"execute\":\"blockdev-add\",\"arguments\":{\"driver\":\"file\",\"node-name\":\"f0\",\"filename\":\"f\"}}",
-            "{\"execute\":\"blockdev-add\",\"arguments\":{\"driver\":\"raw\",\"node-name\":\"r0\",\"file\":\"f0\"}}",
+            "{\"execute\":\"blockdev-add\",\"arguments\":{\"driver\":\"raw\",\"node-name\":\"raw0\",\"file\":\"f0\"}}",
         ],
-        line: "{\"execute\":\"blockdev-add\",\"arguments\":{\"driver\":\"copy-on-read\",\"node-name\":\"c0\",\"file\":\"r0\"}}",
+        line: "{\"execute\":\"blockdev-add\",\"arguments\":{\"driver\":\"copy-on-read\",\"node-name\":\"c0\",\"file\":\"raw0\"}}",
         answer: "",
     },
     Row {
         before: &[
             "{\"execute\":\"qmp_capabilities\"}",
             "{\"execute\":\"blockdev-add\",\"arguments\":{\"driver\":\"file\",\"node-name\":\"f0\",\"filename\":\"f\"}}",
-            "{\"execute\":\"blockdev-add\",\"arguments\":{\"driver\":\"raw\",\"node-name\":\"r0\",\"file\":\"f0\"}}",
+            "{\"execute\":\"blockdev-add\",\"arguments\":{\"driver\":\"raw\",\"node-name\":\"raw0\",\"file\":\"f0\"}}",
         ],
-        line: "{\"execute\":\"blockdev-add\",\"arguments\":{\"driver\":\"raw\",\"node-name\":\"r1\",\"file\":\"f0\"}}",
-        answer: "node f0 is in use by r0",
+        line: "{\"execute\":\"blockdev-add\",\"arguments\":{\"driver\":\"raw\",\"node-name\":\"raw1\",\"file\":\"f0\"}}",
+        answer: "node f0 is in use by raw0",
     },
     Row {
         before: &[
             "{\"execute\":\"qmp_capabilities\"}",
             "{\"execute\":\"blockdev-add\",\"arguments\":{\"driver\":\"file\",\"node-name\":\"f0\",\"filename\":\"f\"}}",
-            "{\"execute\":\"blockdev-add\",\"arguments\":{\"driver\":\"raw\",\"node-name\":\"r0\",\"file\":\"f0\"}}",
+            "{\"execute\":\"blockdev-add\",\"arguments\":{\"driver\":\"raw\",\"node-name\":\"raw0\",\"file\":\"f0\"}}",
         ],
         line: "{\"execute\":\"blockdev-create\",\"arguments\":{\"job-id\":\"j\",\"options\":{\"driver\":\"qcow2\",\"file\":\"f0\",\"size\":512}}}",
-        answer: "node f0 is in use by r0",
+        answer: "node f0 is in use by raw0",
     },
     Row {
         before: &[
             "{\"execute\":\"qmp_capabilities\"}",
             "{\"execute\":\"blockdev-add\",\"arguments\":{\"driver\":\"file\",\"node-name\":\"f0\",\"filename\":\"f\"}}",
-            "{\"execute\":\"blockdev-add\",\"arguments\":{\"driver\":\"raw\",\"node-name\":\"r0\",\"file\":\"f0\"}}",
+            "{\"execute\":\"blockdev-add\",\"arguments\":{\"driver\":\"raw\",\"node-name\":\"raw0\",\"file\":\"f0\"}}",
         ],
         line: "{\"execute\":\"blockdev-del\",\"arguments\":{\"node-name\":\"f0\"}}",
-        answer: "node f0 is in use by r0",
+        answer: "node f0 is in use by raw0",
     },
     Row {
         before: &[
             "{\"execute\":\"qmp_capabilities\"}",
             "{\"execute\":\"blockdev-add\",\"arguments\":{\"driver\":\"file\",\"node-name\":\"f0\",\"filename\":\"f\"}}",
-            "{\"execute\":\"blockdev-add\",\"arguments\":{\"driver\":\"raw\",\"node-name\":\"r0\",\"file\":\"f0\"}}",
-            "{\"execute\":\"blockdev-del\",\"arguments\":{\"node-name\":\"r0\"}}",
+            "{\"execute\":\"blockdev-add\",\"arguments\":{\"driver\":\"raw\",\"node-name\":\"raw0\",\"file\":\"f0\"}}",
+            "{\"execute\":\"blockdev-del\",\"arguments\":{\"node-name\":\"raw0\"}}",
         ],
         line: "{\"execute\":\"blockdev-del\",\"arguments\":{\"node-name\":\"f0\"}}",
         answer: "",
@@ -467,17 +467,17 @@ static NODES: [Row; 21] = [
         before: &[
             "{\"execute\":\"qmp_capabilities\"}",
             "{\"execute\":\"blockdev-add\",\"arguments\":{\"driver\":\"file\",\"node-name\":\"f0\",\"filename\":\"f\"}}",
-            "{\"execute\":\"blockdev-add\",\"arguments\":{\"driver\":\"raw\",\"node-name\":\"r0\",\"file\":\"f0\"}}",
-            "{\"execute\":\"device_add\",\"arguments\":{\"driver\":\"virtio-blk\",\"id\":\"g\",\"drive\":\"r0\"}}",
+            "{\"execute\":\"blockdev-add\",\"arguments\":{\"driver\":\"raw\",\"node-name\":\"raw0\",\"file\":\"f0\"}}",
+            "{\"execute\":\"device_add\",\"arguments\":{\"driver\":\"virtio-blk\",\"id\":\"g\",\"drive\":\"raw0\"}}",
         ],
-        line: "{\"execute\":\"blockdev-del\",\"arguments\":{\"node-name\":\"r0\"}}",
-        answer: "node r0 is in use by g",
+        line: "{\"execute\":\"blockdev-del\",\"arguments\":{\"node-name\":\"raw0\"}}",
+        answer: "node raw0 is in use by g",
     },
     Row {
         before: &[
             "{\"execute\":\"qmp_capabilities\"}",
             "{\"execute\":\"blockdev-add\",\"arguments\":{\"driver\":\"file\",\"node-name\":\"f0\",\"filename\":\"f\"}}",
-            "{\"execute\":\"blockdev-add\",\"arguments\":{\"driver\":\"raw\",\"node-name\":\"r0\",\"file\":\"f0\"}}",
+            "{\"execute\":\"blockdev-add\",\"arguments\":{\"driver\":\"raw\",\"node-name\":\"raw0\",\"file\":\"f0\"}}",
         ],
         line: "{\"execute\":\"device_add\",\"arguments\":{\"driver\":\"virtio-blk\",\"id\":\"g\",\"drive\":\"f0\"}}",
         answer: "node f0 is not settled",
@@ -486,9 +486,9 @@ static NODES: [Row; 21] = [
         before: &[
             "{\"execute\":\"qmp_capabilities\"}",
             "{\"execute\":\"blockdev-add\",\"arguments\":{\"driver\":\"file\",\"node-name\":\"f0\",\"filename\":\"f\"}}",
-            "{\"execute\":\"blockdev-add\",\"arguments\":{\"driver\":\"raw\",\"node-name\":\"r0\",\"file\":\"f0\"}}",
+            "{\"execute\":\"blockdev-add\",\"arguments\":{\"driver\":\"raw\",\"node-name\":\"raw0\",\"file\":\"f0\"}}",
         ],
-        line: "{\"execute\":\"device_add\",\"arguments\":{\"driver\":\"virtio-blk\",\"id\":\"g\",\"drive\":\"r0\"}}",
+        line: "{\"execute\":\"device_add\",\"arguments\":{\"driver\":\"virtio-blk\",\"id\":\"g\",\"drive\":\"raw0\"}}",
         answer: "",
     },
     Row {
@@ -513,7 +513,7 @@ static NODES: [Row; 21] = [
             "{\"execute\":\"qmp_capabilities\"}",
             "{\"execute\":\"blockdev-add\",\"arguments\":{\"driver\":\"file\",\"node-name\":\"f0\",\"filename\":\"f\",\"read-only\":true}}",
         ],
-        line: "{\"execute\":\"blockdev-add\",\"arguments\":{\"driver\":\"raw\",\"node-name\":\"r0\",\"file\":\"f0\"}}",
+        line: "{\"execute\":\"blockdev-add\",\"arguments\":{\"driver\":\"raw\",\"node-name\":\"raw0\",\"file\":\"f0\"}}",
         answer: "node f0 is read-only",
     },
     Row {
@@ -521,36 +521,36 @@ static NODES: [Row; 21] = [
             "{\"execute\":\"qmp_capabilities\"}",
             "{\"execute\":\"blockdev-add\",\"arguments\":{\"driver\":\"file\",\"node-name\":\"f0\",\"filename\":\"f\",\"read-only\":true}}",
         ],
-        line: "{\"execute\":\"blockdev-add\",\"arguments\":{\"driver\":\"raw\",\"node-name\":\"r0\",\"file\":\"f0\",\"read-only\":true}}",
+        line: "{\"execute\":\"blockdev-add\",\"arguments\":{\"driver\":\"raw\",\"node-name\":\"raw0\",\"file\":\"f0\",\"read-only\":true}}",
         answer: "",
     },
     Row {
         before: &[
             "{\"execute\":\"qmp_capabilities\"}",
             "{\"execute\":\"blockdev-add\",\"arguments\":{\"driver\":\"file\",\"node-name\":\"f0\",\"filename\":\"f\"}}",
-            "{\"execute\":\"blockdev-add\",\"arguments\":{\"driver\":\"raw\",\"node-name\":\"r0\",\"file\":\"f0\",\"read-only\":true}}",
+            "{\"execute\":\"blockdev-add\",\"arguments\":{\"driver\":\"raw\",\"node-name\":\"raw0\",\"file\":\"f0\",\"read-only\":true}}",
         ],
-        line: "{\"execute\":\"blockdev-add\",\"arguments\":{\"driver\":\"copy-on-read\",\"node-name\":\"c0\",\"file\":\"r0\"}}",
-        answer: "node r0 is read-only",
+        line: "{\"execute\":\"blockdev-add\",\"arguments\":{\"driver\":\"copy-on-read\",\"node-name\":\"c0\",\"file\":\"raw0\"}}",
+        answer: "node raw0 is read-only",
     },
     Row {
         before: &["{\"execute\":\"qmp_capabilities\"}"],
-        line: "{\"execute\":\"blockdev-add\",\"arguments\":{\"driver\":\"raw\",\"node-name\":\"r0\",\"file\":{\"driver\":\"file\",\"filename\":\"f\",\"read-only\":true}}}",
-        answer: "node #r0 is read-only",
+        line: "{\"execute\":\"blockdev-add\",\"arguments\":{\"driver\":\"raw\",\"node-name\":\"raw0\",\"file\":{\"driver\":\"file\",\"filename\":\"f\",\"read-only\":true}}}",
+        answer: "node #raw0 is read-only",
     },
     Row {
         before: &[
             "{\"execute\":\"qmp_capabilities\"}",
-            "{\"execute\":\"blockdev-add\",\"arguments\":{\"driver\":\"raw\",\"node-name\":\"r0\",\"file\":{\"driver\":\"file\",\"filename\":\"f\"}}}",
+            "{\"execute\":\"blockdev-add\",\"arguments\":{\"driver\":\"raw\",\"node-name\":\"raw0\",\"file\":{\"driver\":\"file\",\"filename\":\"f\"}}}",
         ],
-        line: "{\"execute\":\"blockdev-add\",\"arguments\":{\"driver\":\"raw\",\"node-name\":\"r1\",\"file\":\"#r0\"}}",
+        line: "{\"execute\":\"blockdev-add\",\"arguments\":{\"driver\":\"raw\",\"node-name\":\"raw1\",\"file\":\"#raw0\"}}",
         answer: "member file is not a name",
     },
     Row {
         before: &[
             "{\"execute\":\"qmp_capabilities\"}",
-            "{\"execute\":\"blockdev-add\",\"arguments\":{\"driver\":\"raw\",\"node-name\":\"r0\",\"file\":{\"driver\":\"file\",\"filename\":\"f\"}}}",
-            "{\"execute\":\"blockdev-del\",\"arguments\":{\"node-name\":\"r0\"}}",
+            "{\"execute\":\"blockdev-add\",\"arguments\":{\"driver\":\"raw\",\"node-name\":\"raw0\",\"file\":{\"driver\":\"file\",\"filename\":\"f\"}}}",
+            "{\"execute\":\"blockdev-del\",\"arguments\":{\"node-name\":\"raw0\"}}",
         ],
         line: "{\"execute\":\"blockdev-add\",\"arguments\":{\"driver\":\"file\",\"node-name\":\"f0\",\"filename\":\"f\"}}",
         answer: "file f was used before",
@@ -559,30 +559,30 @@ static NODES: [Row; 21] = [
         before: &[
             "{\"execute\":\"qmp_capabilities\"}",
             "{\"execute\":\"blockdev-add\",\"arguments\":{\"driver\":\"file\",\"node-name\":\"f0\",\"filename\":\"f\"}}",
-            "{\"execute\":\"blockdev-add\",\"arguments\":{\"driver\":\"raw\",\"node-name\":\"r0\",\"file\":\"f0\"}}",
-            "{\"execute\":\"device_add\",\"arguments\":{\"driver\":\"virtio-blk\",\"id\":\"g\",\"drive\":\"r0\"}}",
+            "{\"execute\":\"blockdev-add\",\"arguments\":{\"driver\":\"raw\",\"node-name\":\"raw0\",\"file\":\"f0\"}}",
+            "{\"execute\":\"device_add\",\"arguments\":{\"driver\":\"virtio-blk\",\"id\":\"g\",\"drive\":\"raw0\"}}",
         ],
-        line: "{\"execute\":\"device_add\",\"arguments\":{\"driver\":\"virtio-blk\",\"id\":\"h\",\"drive\":\"r0\"}}",
-        answer: "permission conflict on node r0: g asks write, h does not share it",
+        line: "{\"execute\":\"device_add\",\"arguments\":{\"driver\":\"virtio-blk\",\"id\":\"h\",\"drive\":\"raw0\"}}",
+        answer: "permission conflict on node raw0: g asks write, h does not share it",
     },
     Row {
         before: &[
             "{\"execute\":\"qmp_capabilities\"}",
             "{\"execute\":\"blockdev-add\",\"arguments\":{\"driver\":\"file\",\"node-name\":\"f0\",\"filename\":\"f\"}}",
-            "{\"execute\":\"blockdev-add\",\"arguments\":{\"driver\":\"raw\",\"node-name\":\"r0\",\"file\":\"f0\"}}",
-            "{\"execute\":\"device_add\",\"arguments\":{\"driver\":\"virtio-blk\",\"id\":\"g\",\"drive\":\"r0\",\"share-rw\":true}}",
+            "{\"execute\":\"blockdev-add\",\"arguments\":{\"driver\":\"raw\",\"node-name\":\"raw0\",\"file\":\"f0\"}}",
+            "{\"execute\":\"device_add\",\"arguments\":{\"driver\":\"virtio-blk\",\"id\":\"g\",\"drive\":\"raw0\",\"share-rw\":true}}",
         ],
-        line: "{\"execute\":\"device_add\",\"arguments\":{\"driver\":\"virtio-blk\",\"id\":\"h\",\"drive\":\"r0\"}}",
-        answer: "permission conflict on node r0: g asks write, h does not share it",
+        line: "{\"execute\":\"device_add\",\"arguments\":{\"driver\":\"virtio-blk\",\"id\":\"h\",\"drive\":\"raw0\"}}",
+        answer: "permission conflict on node raw0: g asks write, h does not share it",
     },
     Row {
         before: &[
             "{\"execute\":\"qmp_capabilities\"}",
             "{\"execute\":\"blockdev-add\",\"arguments\":{\"driver\":\"file\",\"node-name\":\"f0\",\"filename\":\"f\"}}",
-            "{\"execute\":\"blockdev-add\",\"arguments\":{\"driver\":\"raw\",\"node-name\":\"r0\",\"file\":\"f0\"}}",
-            "{\"execute\":\"device_add\",\"arguments\":{\"driver\":\"virtio-blk\",\"id\":\"g\",\"drive\":\"r0\",\"share-rw\":\"on\"}}",
+            "{\"execute\":\"blockdev-add\",\"arguments\":{\"driver\":\"raw\",\"node-name\":\"raw0\",\"file\":\"f0\"}}",
+            "{\"execute\":\"device_add\",\"arguments\":{\"driver\":\"virtio-blk\",\"id\":\"g\",\"drive\":\"raw0\",\"share-rw\":\"on\"}}",
         ],
-        line: "{\"execute\":\"device_add\",\"arguments\":{\"driver\":\"virtio-blk\",\"id\":\"h\",\"drive\":\"r0\",\"share-rw\":true}}",
+        line: "{\"execute\":\"device_add\",\"arguments\":{\"driver\":\"virtio-blk\",\"id\":\"h\",\"drive\":\"raw0\",\"share-rw\":true}}",
         answer: "",
     },
 ];
