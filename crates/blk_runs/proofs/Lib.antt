@@ -1,3 +1,4 @@
 pub mod FirstRun
 pub mod Longest
 pub mod LaneLemmas
+pub mod ReadBack

@@ -7,12 +7,14 @@ ghost use Rattle.blk_base.specs.Written.{memory_of};
 ghost use Rattle.blk_runs.specs.Runs.{Run, AreLongest, runs_of, bytes_of, run_text, runs_text};
 
 mod lanes;
+mod reading;
 #[cfg(test)]
 mod tests;
 
 use blk_base::{NoMemory, Text};
 use lanes::front_count;
 pub use lanes::is_zero;
+pub use reading::{RunsStop, read_runs};
 
 /// Appends the runs of some bytes: two lower-case hexadecimal digits, `*` and a decimal count for each, longest
 /// possible, parted by single spaces. It can't be refused where `out` has 5 bytes to spare for each byte.

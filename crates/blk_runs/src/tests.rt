@@ -1,4 +1,5 @@
 use super::*;
+use std::alloc::Global;
 use std::test::Fail;
 
 #[test]
@@ -33,4 +34,55 @@ fn runs_stand_behind_what_is_there(rt: HostRuntime) -> Result<(), Fail> {
     push_runs(&mut out, &[1, 1, 2])?;
     assert_eq!(rt; out.as_str(), "ok 01*2 02*1");
     Ok(())
+}
+
+/// Whether a text is read as these bytes.
+fn reads_as(alloc: Global, text: &str, want: &[u8]) -> bool {
+    match read_runs(alloc, text) {
+        Ok(bytes) => bytes.as_slice() == want,
+        Err(_) => false,
+    }
+}
+
+/// Whether a text is the runs of no block.
+fn is_bad(alloc: Global, text: &str) -> bool {
+    matches!(read_runs(alloc, text), Err(RunsStop::BadRun))
+}
+
+#[test]
+fn runs_are_read_back(rt: HostRuntime) {
+    let good: [(&str, &[u8]); 5] = [
+        ("", &[]),
+        ("07*1", &[7]),
+        ("00*2 55*6", &[0, 0, 85, 85, 85, 85, 85, 85]),
+        ("ff*1 00*1 ff*1", &[255, 0, 255]),
+        ("5a*65536", &[0x5a; 65_536]),
+    ];
+    for (text, want) in &good {
+        assert!(rt; reads_as(rt.alloc(), text, want));
+    }
+    let bad = [
+        " ",
+        "07",
+        "07*",
+        "07*0",
+        "07*01",
+        "07*+1",
+        "7*1",
+        "007*1",
+        "0A*1",
+        "0g*1",
+        "07*1 ",
+        " 07*1",
+        "07*1  08*1",
+        "07*1 07*1",
+        "07*65537",
+        "07*65536 08*1",
+        "07*99999999999999999999",
+        "07-1",
+        "07*1\n",
+    ];
+    for text in &bad {
+        assert!(rt; is_bad(rt.alloc(), text));
+    }
 }

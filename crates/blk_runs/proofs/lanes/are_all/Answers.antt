@@ -1,4 +1,4 @@
-use Rattle.std.proofs.Common.{◌≡◌, not, eqb, sym, ◌∙◌, arith, w8}
+use Rattle.std.proofs.Common.{not, eqb, sym, ◌∙◌, arith, w8}
 use Rattle.std.proofs.lemmas.Bool.{eqb-true}
 use Rattle.std.proofs.lemmas.Simd.{bitmask_splat}
 use Rattle.blk_runs.proofs.LaneLemmas.{same_mask}

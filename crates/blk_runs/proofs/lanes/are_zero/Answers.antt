@@ -1,4 +1,4 @@
-use Rattle.std.proofs.Common.{◌≡◌, ◌%◌, ◌^◌, not, eqb, sym, ◌∙◌, arith, w8, eq-eqb}
+use Rattle.std.proofs.Common.{not, eqb, sym, ◌∙◌, arith, w8, eq-eqb}
 use Rattle.std.proofs.lemmas.Bool.{eqb-true}
 use Rattle.std.proofs.lemmas.Simd.{bitmask_splat}
 use Rattle.blk_runs.proofs.LaneLemmas.{empty_mask, mask_of_zeros}

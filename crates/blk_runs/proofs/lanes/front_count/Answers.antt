@@ -1,4 +1,4 @@
-use Rattle.std.proofs.Common.{◌≡◌, List, ℕ, subst}
+use Rattle.std.proofs.Common.{List, ℕ, subst}
 use Rattle.std.proofs.lemmas.List.{take_rest}
 use Rattle.blk_runs.specs.Runs.{IsFront}
 use Rattle.blk_runs.proofs.LaneLemmas.{front-joined}

@@ -1,6 +1,4 @@
-use Rattle.std.proofs.Common.{◌≡◌, ℕ, get_or, ap, sym, refl, ◌∙◌}
-use Rattle.std.specs.Int.Bits.{bit_or}
-use Rattle.std.specs.Simd.Lanes.{zip2}
+use Rattle.std.proofs.Common.{◌≡◌, get_or, ap, sym, refl, ◌∙◌}
 use Rattle.blk_runs.proofs.LaneLemmas.{quarters, quarters-zero, zero-quarters}
 use Rattle.blk_runs.proofs.lanes.is_zero_block.Goals as goal
 

@@ -1,4 +1,4 @@
-use Rattle.std.proofs.Common.{◌≡◌, ℕ, ◌<◌, true, get_or, sym, ap, ◌∙◌, arith, rules}
+use Rattle.std.proofs.Common.{◌≡◌, true, get_or, sym, ap, ◌∙◌, arith, rules}
 use Rattle.blk_runs.proofs.LaneLemmas.{same-further}
 use Rattle.blk_runs.proofs.lanes.whole_lanes.Goals as goal
 
