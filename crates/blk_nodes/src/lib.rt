@@ -4,6 +4,7 @@
 mod adding;
 mod backing;
 mod devices;
+mod handing;
 mod nodes;
 mod opening;
 mod row;
@@ -14,5 +15,6 @@ mod tests;
 mod zeros;
 
 pub use backing::Backing;
+pub use handing::DevicesLeft;
 pub use nodes::Nodes;
 pub use stop::AddStop;

@@ -20,6 +20,7 @@ ghost use Rattle.blk_nodes.specs.Reading.{HaveRisen, IsReadAt, IsReadBelow, Read
 
 mod covering;
 mod dropping;
+mod ending;
 mod flushing;
 mod looks;
 mod writing;
