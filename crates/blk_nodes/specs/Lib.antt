@@ -10,3 +10,4 @@ pub mod Dropping
 pub mod Writing
 pub mod Flushing
 pub mod Covering
+pub mod Formatting

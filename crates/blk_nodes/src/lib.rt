@@ -15,4 +15,4 @@ mod zeros;
 
 pub use backing::Backing;
 pub use nodes::Nodes;
-pub use stop::AddStop;
+pub use stop::{AddStop, FormatStop};

@@ -21,6 +21,7 @@ ghost use Rattle.blk_nodes.specs.Reading.{HaveRisen, IsReadAt, IsReadBelow, Read
 mod covering;
 mod dropping;
 mod flushing;
+mod formatting;
 mod looks;
 mod writing;
 
