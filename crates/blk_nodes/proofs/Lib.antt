@@ -4,10 +4,11 @@ mod Chains
 mod Leading
 mod Disks
 mod Additions
-mod KeptDisks
+pub mod KeptDisks
 mod Unfolding
 mod Drawn
 mod OverlayAdded
-mod Dropped
+pub mod Dropped
 mod Written
 mod Covered
+mod Formatted

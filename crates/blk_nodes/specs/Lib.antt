@@ -11,3 +11,4 @@ pub mod Writing
 pub mod Flushing
 pub mod Covering
 pub mod Handing
+pub mod Formatting

@@ -1,7 +1,10 @@
 //! The devices that the nodes hold.
-ghost use Rattle.std.specs.Prelude.{◌≡◌, ◌<◌, ◌/◌, ℕ, List, [], length, AllPairs, MatchOption, None, Some, IsSome, IfSome, IfOk, IfErr};
+ghost use Rattle.std.specs.Prelude.{◌≡◌, ◌<◌, ◌/◌, ℕ, ◌≤◌, List, [], length, AllPairs, MatchOption, None, Some, IsSome, IfSome, IfOk, IfErr};
 ghost use Rattle.std.specs.List.{position};
+ghost use Rattle.std.specs.Option.{ForSome, option_copied};
 ghost use Rattle.blk_base.specs.Content.{bytes_at};
+ghost use Rattle.q2_format.specs.Created.{creation_of, IsNewName, IsNewFormat};
+ghost use Rattle.q2_format.specs.declared.header.TheConstants.{MAX_DISK_SIZE};
 ghost use Rattle.q2_image.specs.Guest.{guest_bytes};
 ghost use Rattle.q2_image.specs.Image.{Known, IsImageOf, clusters_in, entry_in};
 ghost use Rattle.q2_image.specs.Reading.{IsHost, IsWithinCluster};
@@ -11,12 +14,14 @@ ghost use Rattle.blk_nodes.specs.Joined.{DifferInNode};
 ghost use Rattle.blk_nodes.specs.Nodes.{AreTold, DeviceState, is_of, device_in};
 ghost use Rattle.blk_nodes.specs.Overlays.{IsOpened, IsOpenedOn, IsUnopened, IsUnopenedOn};
 ghost use Rattle.blk_nodes.specs.Flushing.{IsFlushOf, IsFlushAt};
+ghost use Rattle.blk_nodes.specs.Formatting.{format_stop, IsFormatOf, IsFormatAt};
 ghost use Rattle.blk_nodes.specs.Writing.{IsWriteOf, IsWriteAt, write_outcome};
 ghost use Rattle.blk_nodes.specs.Reading.{HasRisen, HaveRisen, IsReadOf, IsReadAt};
 
+use crate::stop::FormatStop;
 use blk_base::{DevNo, DevStop, Device, NoMemory, Outcome, Span, Stop, WriteStop};
 use blk_graph::{MOST_NODES, NodeId};
-use q2_image::{Image, ImageStop, open_image};
+use q2_image::{CreateStop, Image, ImageStop, create_image, open_image};
 use std::alloc::Global;
 use std::marker::Model;
 
@@ -138,6 +143,39 @@ impl<D: Device> Held<D> {
         ensures kept { HasRisen self.old self.new }
     {
         open_image(alloc, &mut self.device)
+    }
+
+    /// Why no image was created in the file.
+    fn unformatted(&self, stop: CreateStop) -> FormatStop
+        ensures { result ≡ format_stop self.now.number stop }
+    {
+        match stop {
+            CreateStop::Io { count } => FormatStop::Io {
+                dev: self.number,
+                count,
+            },
+            CreateStop::NoSpace => FormatStop::NoSpace { dev: self.number },
+            CreateStop::NoMemory => FormatStop::NoMemory,
+        }
+    }
+
+    /// Creates an image in the file.
+    fn create_image(
+        &mut self,
+        alloc: Global,
+        size: u64,
+        name: Option<&str>,
+        format: Option<&str>,
+    ) -> Result<(), FormatStop>
+        requires size { size ≤ MAX_DISK_SIZE }
+        requires name { ForSome name (λ name. IsNewName name.now) }
+        requires format { ForSome format (λ format. IsNewFormat format.now) }
+        ensures { IsFormatOf self.old self.new (creation_of size (option_copied name.entry) (option_copied format.entry)) result }
+    {
+        match create_image(alloc, &mut self.device, size, name, format) {
+            Ok(()) => Ok(()),
+            Err(stop) => Err(self.unformatted(stop)),
+        }
     }
 }
 
@@ -281,6 +319,30 @@ impl<D: Device> Devices<D> {
             Some(at) => {
                 let held = &mut self.list[at];
                 held.open_image(alloc)
+            }
+            None => unreachable!(),
+        }
+    }
+
+    /// Creates an image in the file of a `file` node.
+    pub(crate) fn create_image(
+        &mut self,
+        alloc: Global,
+        file: NodeId,
+        size: u64,
+        name: Option<&str>,
+        format: Option<&str>,
+    ) -> Result<(), FormatStop>
+        requires held { IsSome (device_in self.old file) }
+        requires size { size ≤ MAX_DISK_SIZE }
+        requires name { ForSome name (λ name. IsNewName name.now) }
+        requires format { ForSome format (λ format. IsNewFormat format.now) }
+        ensures { IsFormatAt file self.old self.new (creation_of size (option_copied name.entry) (option_copied format.entry)) result }
+    {
+        match self.place_of(file) {
+            Some(at) => {
+                let held = &mut self.list[at];
+                held.create_image(alloc, size, name, format)
             }
             None => unreachable!(),
         }

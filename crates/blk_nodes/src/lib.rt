@@ -17,4 +17,4 @@ mod zeros;
 pub use backing::Backing;
 pub use handing::DevicesLeft;
 pub use nodes::Nodes;
-pub use stop::AddStop;
+pub use stop::{AddStop, FormatStop};

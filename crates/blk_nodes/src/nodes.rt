@@ -22,6 +22,7 @@ mod covering;
 mod dropping;
 mod ending;
 mod flushing;
+mod formatting;
 mod looks;
 mod writing;
 

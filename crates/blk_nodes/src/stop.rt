@@ -1,5 +1,6 @@
-//! Why a node isn't added.
+//! Why a node isn't added, and why no image is created in a node's file.
 
+use blk_base::DevNo;
 use blk_graph::Conflict;
 use q2_image::ImageStop;
 
@@ -19,5 +20,16 @@ pub enum AddStop {
     /// The backing node's disk has another size than the image's.
     SizeDiffers,
     /// Want of memory.
+    NoMemory,
+}
+
+/// Why no image is created in the file of a node.
+#[derive(Clone, Copy, Debug, PartialEq, Eq)]
+pub enum FormatStop {
+    /// A write failed: of which device, and its count of faults afterwards.
+    Io { dev: DevNo, count: u64 },
+    /// The image would end above the device's capacity. Nothing was written.
+    NoSpace { dev: DevNo },
+    /// Want of memory. Nothing was written.
     NoMemory,
 }

@@ -267,6 +267,8 @@ pub fn create_image<D: Device>(
     ensures sound { OnOk result ((file : List ℕ) → D.content dev.new ≡ Some file
         → clusters_for (cluster_size (header_of file).cluster_bits) (length file) ≤ MAX_FILE_CLUSTERS → IsSound file) }
 
+    ensures readable { OnOk result (CanBeCreated size (option_copied name.entry) (option_copied format.entry)) }
+
     // why it is created or not
     ensures cause { let end = created_length (creation_of size (option_copied name.entry) (option_copied format.entry))
         in CreateAnswers end (D.capacity dev.old) (D.faults dev.old) (D.faults dev.new) result }

@@ -1,0 +1,63 @@
+-- What is left where an image is created in a node's file.
+use Rattle.std.proofs.Common.{◌≡◌, ◌≢◌, ◌⊎◌, ℕ, ◌<◌, ◌≤◌, max, cond, false, List, length, get_or, set, Option, Some, None, Result, Ok, Err, refl, sym, ◌∙◌, ap, subst, arith, inl, inr}
+use Rattle.std.specs.Prelude.{IsSome, Contains, option_map, OnOk, OnErr}
+use Rattle.std.specs.List.{position}
+use Rattle.std.specs.Bool.{OnFalse}
+use Rattle.blk_base.specs.declared.fault.DevNo.{DevNo}
+use Rattle.blk_graph.specs.Judged.{first_parent}
+use Rattle.blk_graph.specs.declared.edge.Edge.{Edge}
+use Rattle.blk_graph.specs.declared.edge.Parent.TheVariants.{Node}
+use Rattle.blk_graph.specs.declared.edge.Role.TheVariants.{File as FileRole}
+use Rattle.blk_graph.proofs.ChildLemmas.{child-edge, reached-entered}
+use Rattle.blk_graph.proofs.NodeLemmas.{no_child_from_None}
+use Rattle.q2_format.specs.Created.{Creation, created_length, IsCreated}
+use Rattle.q2_format.specs.Sound.{InHeader, image_refusal}
+use Rattle.q2_format.specs.declared.header.HeaderStop.TheVariants.{Magic}
+use Rattle.q2_image.specs.Creating.{ChangesWithin, CreateAnswers, wrote}
+use Rattle.q2_image.specs.Image.{Known, IsImageOf}
+use Rattle.q2_image.specs.declared.create.CreateStop.{CreateStop}
+use Rattle.q2_image.specs.declared.create.CreateStop.TheVariants as image
+use Rattle.blk_nodes.specs.Contents.{disk_of}
+use Rattle.blk_nodes.specs.Formatting.{format_stop, IsFormatOf, IsFormatAt, HoldsAfter, HasFormatCause, is_tried}
+use Rattle.blk_nodes.specs.Joined.{IsJoined}
+use Rattle.blk_nodes.specs.Nodes.{Nodes, DeviceState, is_of, row_at, device_in, file_of}
+use Rattle.blk_nodes.specs.Reading.{LeadsTo}
+use Rattle.blk_nodes.specs.declared.row.Driver.TheVariants.{Qcow2}
+use Rattle.blk_nodes.specs.declared.row.Row.{Row}
+use Rattle.blk_nodes.specs.declared.stop.FormatStop.{FormatStop}
+use Rattle.blk_nodes.specs.declared.stop.FormatStop.TheVariants.{Io, NoSpace, NoMemory}
+use Rattle.blk_nodes.proofs.HeldDevices.{at_place, put_held, only_at}
+use Rattle.blk_nodes.proofs.Written.{disk_apart, joined_changed}
+
+-- one of the devices
+pub formatted_over : (file : ℕ) (devices : List DeviceState) (at : ℕ) (d y : DeviceState) (new : Creation) (result : Result (Unit {0}) FormatStop)
+    → position (is_of file) devices ≡ Some at → IsFormatOf (get_or devices at d) y new result → IsFormatAt file devices (set devices at y) new result
+formatted_over file devices at d y new result place formatted = record {
+  before = get_or devices at d;
+  after = y;
+  held = at_place file devices at d place;
+  left = put_held file devices at d y place formatted.node;
+  formatted = formatted;
+  only = only_at file devices at d y place formatted.node;
+}
+
+-- a node that no edge leads to
+module _ (nodes : Nodes) (node : ℕ) (lone : first_parent node nodes.graph.edges ≡ None) where
+  unentered : (edge : Edge) → Contains nodes.graph.edges edge → edge.child ≢ node
+  unentered = no_child_from_None node nodes.graph.edges lone
+
+  no_way : (other : ℕ) → other ≢ node → LeadsTo nodes.graph.edges other node → ⊥
+  no_way other apart (inl same) = apart same
+  no_way other apart (inr reaches) = reached-entered nodes.graph.edges other node reaches.first reaches.rest reaches.path unentered
+
+  not_over : (other : ℕ) → file_of nodes other ≡ Some node → ⊥
+  not_over other is = let e = child-edge (Node other) FileRole nodes.graph.edges node is in unentered e.edge e.there e.to
+
+  module _ (devices : List DeviceState) (new : Creation) (result : Result (Unit {0}) FormatStop) (at : IsFormatAt node nodes.devices devices new result) where
+    pub others_formatted : (other : ℕ) → other ≢ node → disk_of (record nodes { devices = devices }) other ≡ disk_of nodes other
+    others_formatted other apart = disk_apart nodes devices node at.only other (no_way other apart)
+
+    pub joined_formatted : IsJoined nodes → IsJoined (record nodes { devices = devices })
+    joined_formatted joined =
+        joined_changed nodes devices node at.only (rw at.held refl) (rw at.left refl) joined
+        (λ other row image there driver edge device bytes has content. absurd (not_over other edge))
