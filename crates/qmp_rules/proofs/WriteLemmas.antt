@@ -1,5 +1,5 @@
 -- What a guest's write makes of the rows, one after another.
-use Rattle.std.proofs.Common.{◌≡◌, ◌==◌, ℕ, zero, suc, ◌+◌, ◌-◌, ◌<◌, ◌≤◌, Bool, true, false, cond, List, [], ◌∷◌, ◌++◌, map, take, drop, set, get_or, length, refl, sym, ◌∙◌, ap, subst, arith, add-one, append-nil, Option, Some, None, option_map}
+use Rattle.std.proofs.Common.{◌≡◌, ◌==◌, ℕ, zero, suc, ◌+◌, ◌-◌, ◌<◌, ◌≤◌, Bool, true, false, cond, List, [], ◌∷◌, ◌++◌, map, take, drop, set, get_or, length, refl, sym, ◌∙◌, ap, subst, arith, add-one, Option, Some, None, option_map}
 use Rattle.std.specs.Prelude.{slice_get, option_and_then, find, ◌||◌}
 use Rattle.std.proofs.lemmas.Option.{same_Some, get_or_from_slice_get}
 use Rattle.std.proofs.lemmas.List.{length-set}
@@ -8,7 +8,7 @@ use Rattle.blk_graph.specs.declared.edge.Role.TheVariants.{Backing}
 use Rattle.qmp_rules.specs.declared.rows.NodeRecord.{NodeRecord}
 use Rattle.qmp_rules.specs.Table.{Table, child}
 use Rattle.qmp_rules.specs.Chains.{filter_role, filtered, disk_from, disk_node, backing, chain_from, chain, below, has_id, is_over, unsettled_over, written_under}
-use Rattle.qmp_rules.proofs.ChainLemmas.{below_none, below_end, below_some}
+use Rattle.qmp_rules.proofs.ChainLemmas.{below_some}
 
 -- ---- rows of the same nodes, which are of the same kinds
 
@@ -179,11 +179,5 @@ kept_row t node at seen row read apart is =
 -- ---- down a chain
 
 module _ (i : ℕ) (t : Table) (top node : ℕ) (is : Bool) (so : has_id node (drop 1 (chain_from (64 - i) t top)) ≡ is) where
-  pub has_none : backing t top ≡ None → false ≡ is
-  has_none none = ap (has_id node) (below_none i t top [] (drop 1 (chain_from (64 - i) t top)) none refl) ∙ so
-
-  pub has_end : 64 ≤ i → false ≡ is
-  has_end past = ap (has_id node) (below_end i t top [] (drop 1 (chain_from (64 - i) t top)) past refl) ∙ so
-
   pub has_more : (under : ℕ) → i < 64 → backing t top ≡ Some under → ((under == node) || has_id node (drop 1 (chain_from (64 - (i + 1)) t under))) ≡ is
   has_more under less some = ap (has_id node) (below_some i t top under [] (drop 1 (chain_from (64 - i) t top)) less some refl) ∙ so

@@ -1,4 +1,4 @@
-use Rattle.std.proofs.Common.{◌≡◌, ◌<◌, ◌∙◌, sym, ap, arith}
+use Rattle.std.proofs.Common.{◌<◌, ◌∙◌, sym, ap, arith}
 use Rattle.qmp_rules.specs.Chains.{below, has_id}
 use Rattle.qmp_rules.proofs.ChainLemmas.{below_start}
 use Rattle.qmp_rules.proofs.WriteLemmas.{has_more}
