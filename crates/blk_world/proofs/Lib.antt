@@ -6,3 +6,4 @@ pub mod Quiet
 pub mod Beginning
 pub mod Coherence
 pub mod Judging
+pub mod CountLemmas

@@ -3,3 +3,4 @@ pub mod Face
 pub mod Comes
 pub mod Coherent
 pub mod Steps
+pub mod Counting

@@ -9,3 +9,4 @@ pub mod JudgeLemmas
 pub mod ReachLemmas
 pub mod ClashLemmas
 pub mod ItemLemmas
+pub mod WriteLemmas

@@ -10,6 +10,7 @@ ghost use Rattle.qmp_rules.specs.Table.{opening_table, node_named, node_at, id_n
 
 mod changing;
 mod room;
+mod writing;
 
 use crate::find;
 use crate::name::Name;
