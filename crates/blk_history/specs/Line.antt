@@ -87,6 +87,11 @@ abbrev pub admitted_by : Event → Option Op
 admitted_by (Admit g r op) = Some op
 admitted_by e = None
 
+-- the text of a reply
+abbrev pub reply_by : Event → Option (List ℕ)
+reply_by (Reply line given command text) = Some text
+reply_by e = None
+
 -- that holds of the event at a place
 abbrev pub At : List Event → ℕ → (Event → Type 0) → Type 0
 At events place P = (e : Event) → slice_get events place ≡ Some e → P e

@@ -35,10 +35,10 @@ impl Model for History {
 }
 
 impl History {
-    ghost use Rattle.std.specs.Prelude.{◌≡◌, ◌+◌, ◌-◌, ◌<◌, ◌≤◌, max, [], ◌∷◌, ◌++◌, length, option_copied, IfOk, IsOk, OnOk, OnErr};
+    ghost use Rattle.std.specs.Prelude.{◌≡◌, ◌+◌, ◌-◌, ◌<◌, ◌≤◌, max, [], ◌∷◌, ◌++◌, length, option_copied, option_map, IfOk, IsOk, OnOk, OnErr};
     ghost use Rattle.blk_history.specs.Recorded.{Recorded, event_of, PointsWithin};
     ghost use Rattle.blk_history.specs.Transcript.{line_of};
-    ghost use Rattle.blk_history.specs.Line.{admitted_by, At, HasName, line_room, Appends};
+    ghost use Rattle.blk_history.specs.Line.{admitted_by, reply_by, At, HasName, line_room, Appends};
 
     /// No entry yet, and room for so many entries and bytes.
     pub fn with_room(alloc: Global, room: Room) -> Result<Self, NoMemory>
@@ -104,6 +104,17 @@ impl History {
     {
         match &self.entries[at as usize] {
             Entry::Admit { op, .. } => Some(op.op()),
+            _ => None,
+        }
+    }
+
+    /// The text of the reply at a place, where the entry is one.
+    pub fn reply_at(&self, at: u64) -> Option<&str>
+        requires { at < length self.now.events }
+        ensures { At self.now.events at (λ e. option_map (λ t. t.now) result ≡ reply_by e) }
+    {
+        match &self.entries[at as usize] {
+            Entry::Reply { text, .. } => Some(text.as_str()),
             _ => None,
         }
     }

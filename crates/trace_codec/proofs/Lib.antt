@@ -7,3 +7,5 @@ pub mod Figures
 pub mod Spelled
 pub mod ReadBack
 pub mod CauseLemmas
+pub mod WishLemmas
+pub mod ScriptLemmas

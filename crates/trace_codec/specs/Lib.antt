@@ -9,5 +9,7 @@ pub mod Reading
 pub mod Trace
 pub mod Causes
 pub mod Traced
+pub mod Wishes
+pub mod Script
 pub mod Spelling
 pub mod Stop

@@ -32,7 +32,7 @@ pub fn first_await(text: &str) -> Option<u32>
     let mut rest = Some(text.as_bytes());
     while let Some(lines) = rest {
         let (line, after) = cut(lines, b'\n');
-        if is_wait(line) {
+        if line_awaited(line).is_some() {
             return Some(number);
         }
         number = number.saturating_add(1);
@@ -41,23 +41,22 @@ pub fn first_await(text: &str) -> Option<u32>
     None
 }
 
-/// Whether a line of a trace is `await N`.
+/// The number of the script's line that a line of a trace waits for, where it is `await N`.
 #[tactic(auto, using(crate::proofs::Waiting::more_lines))]
-fn is_wait(line: &[u8]) -> bool
-    ensures { result ≡ is_some (trace_wait line.now) }
+pub(crate) fn line_awaited(line: &[u8]) -> Option<u32>
+    ensures { result ≡ trace_wait line.now }
 {
     let (verb, words) = cut(line, b' ');
-    let Some(words) = words else {
-        return false;
-    };
+    let words = words?;
     if verb != b"await".as_slice() {
-        return false;
+        return None;
     }
     let (number, more) = cut(words, b' ');
     if more.is_some() {
-        return false;
+        return None;
     }
-    read_number(number, 1 << 32).is_some()
+    let number = read_number(number, 1 << 32)?;
+    Some(number as u32)
 }
 
 /// The wait of a script's line, where it is one: `await guest NAME N` of one of these guests, `await ready JOB` or
@@ -152,7 +151,7 @@ fn read_id(alloc: Global, words: &[u8]) -> Result<Option<Text>, NoMemory>
     ensures { IfOk result (λ found. option_map (λ (t : Written). t.bytes) found ≡ id_in (words_of words.now)) }
 {
     let (id, more) = cut(words, b' ');
-    if more.is_some() || !is_id(id) {
+    if more.is_some() || !is_name(id) {
         return Ok(None);
     }
     let Ok(text) = str::from_utf8(id) else {
@@ -161,8 +160,8 @@ fn read_id(alloc: Global, words: &[u8]) -> Result<Option<Text>, NoMemory>
     Ok(Some(Text::copied(alloc, text)?))
 }
 
-/// Whether a word is a name.
-fn is_id(word: &[u8]) -> bool
+/// Whether a word is a name: 1 to 31 bytes, a letter, and then letters, digits, `-`, `.` and `_`.
+pub fn is_name(word: &[u8]) -> bool
     ensures { result ≡ is_name word.now }
 {
     begins_with_letter(word) && word.len() <= 31 && has_id_bytes(word)

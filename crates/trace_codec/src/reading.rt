@@ -11,7 +11,7 @@ use std::alloc::Global;
 use std::marker::Model;
 
 /// The most requests of one trace.
-const MAX_REQUESTS: usize = 65_536;
+pub(crate) const MAX_REQUESTS: usize = 65_536;
 
 /// How far a trace is read.
 #[derive(Drop)]
