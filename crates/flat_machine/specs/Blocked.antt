@@ -8,9 +8,13 @@ use Rattle.trace_codec.specs.declared.awaiting.Await.TheVariants as await
 use Rattle.blk_history.specs.Fold.{With}
 use Rattle.flat_machine.specs.State.{State, guest_at}
 use Rattle.flat_machine.specs.Legal.{IsMet, AllDone}
-use Rattle.flat_machine.specs.Courses.{Course, Wish, Ask, Wait, Order, Watch, past_waits, rest_of}
-use Rattle.flat_machine.specs.declared.blocked.Waits.{Waits}
-use Rattle.flat_machine.specs.declared.blocked.Waits.TheVariants.{Attached, Line, Guest, Ready, Ended}
+use Rattle.trace_codec.specs.declared.wish.Wish.{Wish}
+use Rattle.trace_codec.specs.declared.wish.Wish.TheVariants.{Ask, Wait}
+use Rattle.trace_codec.specs.declared.order.Order.TheVariants.{Watch}
+use Rattle.trace_codec.specs.declared.waits.Waits.{Waits}
+use Rattle.trace_codec.specs.declared.waits.Waits.TheVariants.{Attached, Line, Guest, Ready, Ended}
+use Rattle.trace_codec.specs.Script.{Order}
+use Rattle.flat_machine.specs.Courses.{Course, past_waits, rest_of}
 
 -- The script's next line is an await that isn't met; this is what it waits for.
 abbrev pub what_of : Await (List ℕ) → Waits (List ℕ)

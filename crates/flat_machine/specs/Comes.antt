@@ -8,7 +8,9 @@ use Rattle.flat_machine.specs.State.{State, Guest, size_of}
 use Rattle.flat_machine.specs.Machine.{after, replay, admitted, finished, past_piece}
 use Rattle.flat_machine.specs.Legal.{Legal, IsAtRest}
 use Rattle.flat_machine.specs.Marks.{NoneSplits}
-use Rattle.flat_machine.specs.Courses.{Order, Wish, KeepsOrder, course_of, IsWhole}
+use Rattle.trace_codec.specs.declared.wish.Wish.{Wish}
+use Rattle.trace_codec.specs.Script.{Order}
+use Rattle.flat_machine.specs.Courses.{KeepsOrder, course_of, IsWhole}
 use Rattle.flat_machine.specs.Licence.{Counts, AreLicensed}
 use Rattle.flat_machine.specs.Opening.{start, new_guest}
 use Rattle.blk_history.specs.Transcript.{transcript}

@@ -2,20 +2,14 @@
 use Rattle.std.specs.Prelude.{◌≡◌, ℕ, zero, suc, ◌<◌, ◌≤◌, ◌==◌, Bool, if◌then◌else◌, List, [], ◌∷◌, ◌++◌, length, slice_get, Contains, Option}
 use Rattle.std.specs.List.{list_any}
 use Rattle.trace_codec.specs.declared.op.Op.{Op}
+use Rattle.trace_codec.specs.declared.wish.Wish.{Wish}
+use Rattle.trace_codec.specs.declared.wish.Wish.TheVariants.{Ask, Wait}
+use Rattle.trace_codec.specs.Script.{Order}
 use Rattle.trace_codec.specs.declared.awaiting.Await.{Await}
+use Rattle.trace_codec.specs.declared.order.Order.TheVariants.{Give, Watch}
 use Rattle.blk_history.specs.Fold.{run, Each, With, change}
 use Rattle.blk_history.specs.declared.event.Event.{Event}
 use Rattle.blk_history.specs.declared.event.Event.TheVariants.{Admit, Refuse, Reply, Reached, Done}
-
--- a line of a trace: a request, or a wait for the answer to a line of the script
-pub data Wish : Type 0 where
-  Ask : Op → Wish
-  Wait : ℕ → Wish
-
--- a line of the script that isn't passed over, by its number: a command as it is given, or an await
-pub data Order : Type 0 where
-  Give : ℕ → List ℕ → Order
-  Watch : ℕ → Await (List ℕ) → Order
 
 -- what is left to do: of the script, and of each guest's trace; the lines that were answered; and the actors that are done
 pub record Course : Type 0 where

@@ -9,8 +9,6 @@ pub mod Machine
 pub mod Legal
 pub mod Entries
 pub mod Courses
-pub mod Script
-pub mod Traces
 pub mod Marks
 pub mod Licence
 pub mod EventLicence

@@ -6,7 +6,9 @@ use Rattle.blk_base.specs.declared.fault.Outcome.TheVariants.{Good, Torn, Io, No
 use Rattle.trace_codec.specs.Awaits.{is_name}
 use Rattle.flat_machine.specs.Opening.{start}
 use Rattle.flat_machine.specs.Legal.{Legal}
-use Rattle.flat_machine.specs.Courses.{Order, Wish, KeepsOrder, course_of}
+use Rattle.trace_codec.specs.declared.wish.Wish.{Wish}
+use Rattle.trace_codec.specs.Script.{Order}
+use Rattle.flat_machine.specs.Courses.{KeepsOrder, course_of}
 use Rattle.flat_machine.specs.Comes.{transcript_of}
 use Rattle.flat_machine.specs.declared.opening.Opening.{Opening}
 use Rattle.blk_history.specs.declared.entry.JobEnd.{JobEnd}

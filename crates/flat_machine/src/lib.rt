@@ -1,11 +1,9 @@
 //! The flat machine that histories are judged by: tables and flat disks, changed by entries alone. Definitions, in `specs/`.
 #![tactic(auto)]
 
-mod blocked;
 mod laws;
 mod opening;
 
-pub use blocked::Waits;
 pub use laws::{
     accepted_changes_can_be_made, changes_keep_disks, pieces_keep_disks, replies_keep_disks,
     tables_stand,
