@@ -50,7 +50,8 @@ use Rattle.flat_machine.specs.Changed.{stepped, put, name_file, add_file, filena
 use Rattle.flat_machine.specs.Sights.{told_by, MayStop, IsReached, calls_at, may_be_large, is_opened}
 use Rattle.flat_machine.specs.Agreement.{HasDisk}
 use Rattle.flat_machine.specs.Performing.{IsWholly, IsReadable, IsBacking, CanAddFile, Can, AllCan}
-use Rattle.flat_machine.specs.Standing.{Stands, StandsFor, IsOfState, IsOpen, IsWhole}
+use Rattle.flat_machine.specs.Wiring.{StandsFor}
+use Rattle.flat_machine.specs.Standing.{Stands, IsOfState, IsOpen, IsWhole}
 use Rattle.flat_machine.proofs.Finds.{bytes_eq-same}
 use Rattle.flat_machine.proofs.Kept.{own_disk}
 use Rattle.flat_machine.proofs.Fresh.{lowest_free-free, free-row, found-longer, found-new}
@@ -141,10 +142,10 @@ wholly_known s name stands none lost (Some content) is there =
 -- a row that has a name is found by its id
 pub row_at : (s : State) (name : List ℕ) (row : NodeRecord) → Stands s → node_named s.table name ≡ Some row → node_at s.table row.id ≡ Some row
 row_at s name row stands found =
-    stands.apart row (find-Some (λ r. bytes_eq r.name name) s.table.nodes row found).0
+    stands.table.apart row (find-Some (λ r. bytes_eq r.name name) s.table.nodes row found).0
 
 -- a driver by which a node is no filter
-no_filter : (kind : Kind) → takes drivers.FileRawOrQcow2 kind ≡ true → filter_role kind ≡ None
+pub no_filter : (kind : Kind) → takes drivers.FileRawOrQcow2 kind ≡ true → filter_role kind ≡ None
 no_filter Protocol h = refl
 no_filter Raw h = refl
 no_filter Qcow2 h = refl
@@ -170,7 +171,7 @@ has_disk t row found own settled =
     record { settled = rw (here, found) at settled; own = own }
 
 -- an edge into a node
-no_edge : (id : ℕ) (edges : List Edge) → first_into id edges ≡ None → (edge : Edge) → Contains edges edge → edge.child ≡ id → ⊥
+pub no_edge : (id : ℕ) (edges : List Edge) → first_into id edges ≡ None → (edge : Edge) → Contains edges edge → edge.child ≡ id → ⊥
 no_edge id [] h edge there is = Contains-nil edge there
 no_edge id (e ∷ edges) h edge there is = by_test (e.child == id) refl (no_edge id edges) h (Contains-cases e edges edge there)
   where
@@ -205,7 +206,7 @@ file_disk_there s name row stands found driver lone lost =
     by_settled : (settled : Bool) → row.is_settled ≡ settled → (filename : Option (List ℕ)) → row.filename ≡ filename → HasDisk row
     by_settled true e filename is = record { settled = e; own = own }
     by_settled false e (Some filename) is = absurd (refuted filename is e)
-    by_settled false e None is = absurd (let named = stands.names row there driver in let none = rw is at named in cc)
+    by_settled false e None is = absurd (let named = stands.table.names row there driver in let none = rw is at named in cc)
 
 -- ---- additions: a file that is opened is there
 
@@ -327,11 +328,11 @@ readable_under s name row stands found driver lone lost = by_name row.filename r
     by_content filename is (Some content) e some =
         let over : StandsFor s.table filename row = record { there = there; filename = is } in
         let is_open : IsOpen s.table filename = λ other stands_too under. no_edge row.id s.table.edges lone under.edge under.there
-        (under.child ∙ stands.alone filename other row stands_too over) in
+        (under.child ∙ stands.table.alone filename other row stands_too over) in
         by_state (file_state s.table filename) content (rw is at lost) (stands.states filename content e is_open)
 
     by_name : (filename : Option (List ℕ)) → row.filename ≡ filename → With (option_and_then (content_in s.files) filename) IsReadable
-    by_name None is = absurd (let named = stands.names row there driver in let none = rw is at named in cc)
+    by_name None is = absurd (let named = stands.table.names row there driver in let none = rw is at named in cc)
     by_name (Some filename) is =
         by_content filename is (content_in s.files filename) refl
         (stands.files filename row (record { there = there; filename = is }))

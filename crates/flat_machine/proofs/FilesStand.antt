@@ -1,54 +1,32 @@
--- Changes of files leave what holds of all tables.
-use Rattle.std.proofs.Common.{◌≡◌, ◌≢◌, ◌⊎◌, ℕ, Bool, true, false, cond, List, map, replicate, refl, sym, ap, subst, ◌∙◌, inl, inr, Option, Some, None, option_map}
-use Rattle.std.specs.Prelude.{◌==◌, bytes_eq, IsSome}
-use Rattle.std.specs.List.{find, Contains}
-use Rattle.std.proofs.lemmas.Bool.{ne_eqb}
-use Rattle.blk_graph.specs.declared.edge.Edge.{Edge}
-use Rattle.blk_graph.specs.declared.kind.NodeKind.{NodeKind}
-use Rattle.blk_graph.specs.Refreshed.{refreshed}
-use Rattle.blk_graph.proofs.Members.{Contains-map, map-Contains}
+-- Changes of files leave what holds of all states.
+use Rattle.std.proofs.Common.{◌≡◌, ◌≢◌, ◌⊎◌, ℕ, Bool, true, false, cond, List, [], ◌∷◌, map, replicate, refl, sym, ap, subst, ◌∙◌, inl, inr, Option, Some, None, option_map}
+use Rattle.std.specs.Prelude.{◌==◌, not, bytes_eq, All, IsSome}
+use Rattle.std.specs.List.{find, filter, Contains}
+use Rattle.std.proofs.lemmas.List.Elements.{All-weaker, All-nil, All-cons, All-head, All-tail}
+use Rattle.blk_graph.specs.declared.edge.Parent.TheVariants.{Node, Guest}
+use Rattle.blk_graph.specs.declared.edge.Role.TheVariants.{Drive, File}
+use Rattle.blk_graph.specs.Edits.{child_of}
 use Rattle.q2_format.specs.Created.{creation_of}
 use Rattle.qmp_codec.specs.declared.words.ImageFormat.{ImageFormat}
 use Rattle.qmp_rules.specs.declared.rows.NodeRecord.{NodeRecord}
 use Rattle.qmp_rules.specs.declared.rows.FileState.{FileState}
 use Rattle.qmp_rules.specs.declared.rows.FileState.TheVariants.{Made, Formatted, Used}
 use Rattle.qmp_rules.specs.declared.change.Change.TheVariants as change
-use Rattle.qmp_rules.specs.Table.{Table, node_at, file_state, with_file}
-use Rattle.qmp_rules.specs.Changes.{changed, node_changed, unsettled, lost_with, stands_over}
-use Rattle.flat_machine.specs.State.{State, Content, Bytes, Unknown, content_in}
+use Rattle.qmp_rules.specs.Table.{Table, file_state, with_file, has_name}
+use Rattle.qmp_rules.specs.Changes.{changed, node_changed, unsettled, lost_with}
+use Rattle.flat_machine.specs.State.{State, Content, Bytes, Unknown, Left, content_in}
 use Rattle.flat_machine.specs.Contents.{with_content, formatted}
 use Rattle.flat_machine.specs.Changed.{stepped, format_name}
-use Rattle.flat_machine.specs.Standing.{AreApart, HasEnds, EdgesHaveEnds, StandsFor, IsUnder, IsLostBy, IsOfState, IsOpen, Stands}
-use Rattle.flat_machine.specs.Suiting.{IsClosed, SuitsFormatting}
-use Rattle.flat_machine.proofs.Finds.{find-map, content_in-with, content_in-with_other, cases_name, bytes_eq-other}
-use Rattle.flat_machine.proofs.Tables.{refreshed-old, refreshed-new, file_state-with, file_state-other}
-
--- ---- edges that were derived anew
-
-pub under-refreshed : (kinds : List NodeKind) (edges : List Edge) (file : ℕ) → IsUnder edges file → IsUnder (refreshed kinds edges) file
-under-refreshed kinds edges file h =
-    let like = refreshed-new kinds edges h.edge h.there in
-    record { edge = like.edge; there = like.there; over = like.same.role ∙ h.over; child = like.same.child ∙ h.child }
-
-pub under-before : (kinds : List NodeKind) (edges : List Edge) (file : ℕ) → IsUnder (refreshed kinds edges) file → IsUnder edges file
-under-before kinds edges file h =
-    let like = refreshed-old kinds edges h.edge h.there in
-    record { edge = like.edge; there = like.there; over = like.same.role ∙ h.over; child = like.same.child ∙ h.child }
-
--- a table whose edges, before that, have their ends in it
-pub ends-refreshed : (t : Table) (kinds : List NodeKind) (edges : List Edge) → t.edges ≡ refreshed kinds edges
-    → ((e : Edge) → Contains edges e → HasEnds t e) → EdgesHaveEnds t
-ends-refreshed t kinds edges is h e there =
-    let like = refreshed-old kinds edges e (subst (λ es. Contains es e) is there) in
-    let ends = h like.edge like.there in
-    record {
-      parent = λ node k. ends.parent node (like.same.parent ∙ k);
-      child = subst (λ n. IsSome (node_at t n)) like.same.child ends.child;
-    }
-
--- nodes that are there stay
-pub ends-longer : (t now : Table) (e : Edge) → ((node : ℕ) → IsSome (node_at t node) → IsSome (node_at now node)) → HasEnds t e → HasEnds now e
-ends-longer t now e more h = record { parent = λ node k. more node (h.parent node k); child = more e.child h.child }
+use Rattle.flat_machine.specs.Wiring.{AreApart, StandsFor, IsUnder, HasFile, TableStands}
+use Rattle.flat_machine.specs.Standing.{IsLostBy, IsOfState, IsOpen, IsUsedUp, WritingStands, Stands}
+use Rattle.flat_machine.specs.Suiting.{IsThere, IsClosed, FormattingSuits}
+use Rattle.flat_machine.proofs.Finds.{content_in-with, content_in-with_other, cases_name, name_differs}
+use Rattle.flat_machine.proofs.Tables.{file_state-with, file_state-other}
+use Rattle.flat_machine.proofs.Rows.{IsLike, SameRows, rows-same, rows-mapped, same_row, changed_row, like_lost, like_unsettled, kept_lost, kept_unsettled}
+use Rattle.flat_machine.proofs.Wired.{Grows, NoRow, NoEdge}
+use Rattle.flat_machine.proofs.TablesKept.{rows_grow, rows_table}
+use Rattle.flat_machine.proofs.WritingKept.{role_edge, IsEntered, WritesFile, Leaves, grown_writing, left_still}
+use Rattle.flat_machine.proofs.WritingAdded.{has_name-grows, drive_there, same_devices}
 
 -- ---- a file whose state changes, over rows that stand as they did
 
@@ -65,53 +43,88 @@ files_but name state t now is = record {
       (file_state-other name other state t.files differ);
 }
 
--- ---- rows that stay, but for their disks
+-- ---- what a guest's writing rests on
 
-pub record IsLike (row later : NodeRecord) : Type 0 where
-  pub id : later.id ≡ row.id
-  pub filename : later.filename ≡ row.filename
-  pub kind : later.kind ≡ row.kind
-
-pub like-itself : (row : NodeRecord) → IsLike row row
-like-itself row = record { id = refl; filename = refl; kind = refl }
-
-pub record SameRows (t now : Table) : Type 0 where
-  pub back : (later : NodeRecord) → Contains now.nodes later → (row : NodeRecord) × (Contains t.nodes row × IsLike row later)
-  pub forth : (row : NodeRecord) → Contains t.nodes row → (later : NodeRecord) × (Contains now.nodes later × IsLike row later)
-  pub apart : AreApart now
-  pub there : (node : ℕ) → IsSome (node_at t node) → IsSome (node_at now node)
-
-pub rows-same : (t now : Table) → now.nodes ≡ t.nodes → AreApart t → SameRows t now
-rows-same t now is apart = record {
-  back = λ row there. (row, (subst (λ rows. Contains rows row) is there, like-itself row));
-  forth = λ row there. (row, (subst (λ rows. Contains rows row) (sym is) there, like-itself row));
-  apart = λ row there. subst (λ rows. find (λ r. r.id == row.id) rows ≡ Some row) (sym is)
-      (apart row (subst (λ rows. Contains rows row) is there));
-  there = λ node h. subst (λ rows. IsSome (find (λ r. r.id == node) rows)) (sym is) h;
-}
-
-pub rows-mapped : (t now : Table) (f : NodeRecord → NodeRecord) → ((row : NodeRecord) → IsLike row (f row)) → now.nodes ≡ map f t.nodes → AreApart t
-    → SameRows t now
-rows-mapped t now f like is apart = record {
-  back = λ later there.
-      let from = Contains-map f t.nodes later (subst (λ rows. Contains rows later) is there) in
-      (from.0, (from.1, subst (IsLike from.0) (sym from.2) (like from.0)));
-  forth = λ row there. (f row, (subst (λ rows. Contains rows (f row)) (sym is) (map-Contains f t.nodes row there), like row));
-  apart = λ later there.
-      let from = Contains-map f t.nodes later (subst (λ rows. Contains rows later) is there) in
-      let same_id : later.id ≡ from.0.id = ap (λ r. r.id) from.2 ∙ (like from.0).id in
-      subst (λ rows. find (λ r. r.id == later.id) rows ≡ Some later) (sym is)
-      (found later.id ∙ ap (option_map f) (subst (λ n. node_at t n ≡ Some from.0) (sym same_id) (apart from.0 from.1)) ∙ ap Some (sym from.2));
-  there = λ node h. subst (λ rows. IsSome (find (λ r. r.id == node) rows)) (sym is)
-      (subst IsSome (sym (found node)) (still (node_at t node) h));
-}
+all-filter : {A : Type 0} (P : A → Type 0) (p : A → Bool) (xs : List A) → All P xs → All P (filter p xs)
+all-filter P p [] h = All-nil P
+all-filter P p (x ∷ xs) h = by_test (p x) (all-filter P p xs (All-tail P x xs h))
   where
-    found : (node : ℕ) → find (λ r. r.id == node) (map f t.nodes) ≡ option_map f (node_at t node)
-    found node = find-map (λ r. r.id == node) f (λ r. ap (λ k. k == node) (like r).id) t.nodes
+    by_test : (b : Bool) → All P (filter p xs) → All P (cond b (x ∷ filter p xs) (filter p xs))
+    by_test true rest = All-cons P x (filter p xs) (All-head P x xs h) rest
+    by_test false rest = rest
 
-    still : (o : Option NodeRecord) → IsSome o → IsSome (option_map f o)
-    still None h = absurd cc
-    still (Some row) h = refl
+-- no node that a guest may write has the file
+pub record IsSpared (t : Table) (name : List ℕ) : Type 0 where
+  pub taken : (over under : NodeRecord) → HasFile t over under → under.filename ≡ Some name → ⊥
+  pub written : (node : ℕ) → IsEntered t node → WritesFile t node name → ⊥
+
+-- the disks that were left stay, or those in the file are gone
+abbrev pub Forgets : State → State → List ℕ → FileState → Type 0
+Forgets s now name state = ((now.left ≡ s.left) × (state ≡ Used)) ⊎ (now.left ≡ filter (λ l. not (bytes_eq l.file name)) s.left)
+
+module _ (s now : State) (name : List ℕ) (state : FileState) (content : Content) (rows : SameRows s.table now.table)
+    (edges : now.table.edges ≡ s.table.edges) (files : FilesBut name state s.table now.table) (h : Stands s) where
+  grow : Grows s.table now.table (IsThere s.table) NoRow NoEdge
+  grow = rows_grow s.table now.table rows edges h.table
+
+  used_still : (l : Left) → (l.file ≡ name → state ≡ Used) → IsUsedUp s l → IsUsedUp now l
+  used_still l same used =
+      left_still s now (IsThere s.table) NoRow NoEdge grow l (by_name (cases_name l.file name)) (λ r never. absurd never) (λ e r never. absurd never)
+      used
+    where
+      by_name : ((l.file ≡ name) ⊎ (l.file ≢ name)) → file_state now.table l.file ≡ Some Used
+      by_name (inl is) = subst (λ n. file_state now.table n ≡ Some Used) (sym is) (files.here ∙ ap Some (same is))
+      by_name (inr differ) = files.others l.file differ ∙ used.used
+
+  left_filtered : (ls : List Left) → All (IsUsedUp s) ls → All (IsUsedUp now) (filter (λ l. not (bytes_eq l.file name)) ls)
+  left_filtered [] all = All-nil (IsUsedUp now)
+  left_filtered (l ∷ ls) all =
+      by_test (bytes_eq l.file name) refl (left_filtered ls (All-tail (IsUsedUp s) l ls all)) (All-head (IsUsedUp s) l ls all)
+    where
+      by_test : (b : Bool) → bytes_eq l.file name ≡ b → All (IsUsedUp now) (filter (λ x. not (bytes_eq x.file name)) ls) → IsUsedUp s l
+          → All (IsUsedUp now) (cond (not b) (l ∷ filter (λ x. not (bytes_eq x.file name)) ls) (filter (λ x. not (bytes_eq x.file name)) ls))
+      by_test true e rest used = rest
+      by_test false e rest used =
+          All-cons (IsUsedUp now) l (filter (λ x. not (bytes_eq x.file name)) ls)
+          (used_still l (λ same. absurd (name_differs l.file name e same)) used) rest
+
+  pub files_writing : now.files ≡ with_content name content s.files → now.disks ≡ s.disks → now.table.devices ≡ s.table.devices
+      → ((n : List ℕ) → has_name n s.named ≡ true → has_name n now.named ≡ true) → Forgets s now name state
+      → ((content ≡ Unknown) ⊎ IsSpared s.table name) → WritingStands now
+  files_writing contents disks devices names forgets spared =
+      grown_writing s now (IsThere s.table) NoRow NoEdge grow
+      (record {
+        names = names;
+        names_new = λ n r never. absurd never;
+        known = λ n over under f is known. still_unknown n known
+            (λ same. elim spared [ inl unknown ↦ unknown | inr spare ↦ absurd (spare.taken over under f (is ∙ ap Some same)) ]);
+        known_new = λ n over under f never. absurd never;
+        bytes = λ node here some. subst (λ ds. IsSome (find (λ d. d.node == node) ds)) (sym disks) some;
+        bytes_new = λ r never. absurd never;
+        left = elim forgets [
+          | inl kept ↦ subst (All (IsUsedUp now)) (sym kept.0)
+              (All-weaker (IsUsedUp s) (IsUsedUp now) (λ l used. used_still l (λ same. kept.1) used) s.left h.writing.left)
+          | inr gone ↦ subst (All (IsUsedUp now)) (sym gone) (left_filtered s.left h.writing.left)
+        ];
+        written = λ node n here entered of known. still_unknown n known
+            (λ same. elim spared [ inl unknown ↦ unknown | inr spare ↦ absurd (spare.written node entered (subst (WritesFile s.table node) same of)) ]);
+        emptied = λ node n here entered of none. elim forgets [
+          | inl kept ↦ subst (All (λ l. l.file ≢ n)) (sym kept.0) none
+          | inr gone ↦ subst (All (λ l. l.file ≢ n)) (sym gone) (all-filter (λ l. l.file ≢ n) (λ l. not (bytes_eq l.file name)) s.left none)
+        ];
+        devices = same_devices s now devices (λ g. ap (child_of (Guest g) Drive) edges);
+        drives = λ g node is. drive_there s.table h.table.edges g node is;
+      })
+      h.table.apart h.writing
+    where
+      still_unknown : (n : List ℕ) → content_in s.files n ≡ Some Unknown → (n ≡ name → content ≡ Unknown) → content_in now.files n ≡ Some Unknown
+      still_unknown n known same = subst (λ fs. content_in fs n ≡ Some Unknown) (sym contents) (by_name (cases_name n name))
+        where
+          by_name : ((n ≡ name) ⊎ (n ≢ name)) → content_in (with_content name content s.files) n ≡ Some Unknown
+          by_name (inl is) =
+              subst (λ m. content_in (with_content name content s.files) m ≡ Some Unknown) (sym is)
+              (content_in-with name content s.files ∙ ap Some (same is))
+          by_name (inr differ) = content_in-with_other name n content s.files differ ∙ known
 
 -- ---- kinds that change what became of one file
 
@@ -120,23 +133,10 @@ module _ (s now : State) (name : List ℕ) (state : FileState) (content : Conten
       → now.files ≡ with_content name content s.files
       → ((other : List ℕ) (row later : NodeRecord) → StandsFor s.table other row → IsLike row later → Contains now.table.nodes later
       → later.is_settled ≡ false → ((other ≢ name) × (row.is_settled ≡ false)) ⊎ IsLostBy now.table other later)
-      → IsOfState (Some state) content → (state ≡ Formatted → (row : NodeRecord) × StandsFor s.table name row) → Stands s → Stands now
-  file_stands rows edges files contents loses is_of formatted h = record {
-    apart = rows.apart;
-    edges = λ e there. ends-longer s.table now.table e rows.there (h.edges e (subst (λ es. Contains es e) edges there));
-    drivers = λ other later over.
-        let before = rows.back later over.there in
-        before.1.1.kind ∙ h.drivers other before.0 (stood other later before.0 before.1.0 before.1.1 over);
-    names = λ later there driver.
-        let before = rows.back later there in
-        subst IsSome (sym before.1.1.filename) (h.names before.0 before.1.0 (sym before.1.1.kind ∙ driver));
-    alone = λ other a b over_a over_b.
-        let before_a = rows.back a over_a.there in
-        let before_b = rows.back b over_b.there in
-        before_a.1.1.id
-        ∙ h.alone other before_a.0 before_b.0 (stood other a before_a.0 before_a.1.0 before_a.1.1 over_a)
-        (stood other b before_b.0 before_b.1.0 before_b.1.1 over_b)
-        ∙ sym before_b.1.1.id;
+      → IsOfState (Some state) content → (state ≡ Formatted → (row : NodeRecord) × StandsFor s.table name row) → TableStands now.table
+      → WritingStands now → Stands s → Stands now
+  file_stands rows edges files contents loses is_of formatted table writing h = record {
+    table = table;
     files = λ other later over.
         let before = rows.back later over.there in
         known_there other (h.files other before.0 (stood other later before.0 before.1.0 before.1.1 over)) (cases_name other name);
@@ -149,6 +149,7 @@ module _ (s now : State) (name : List ℕ) (state : FileState) (content : Conten
         ];
     states = λ other what found is_open. by_name other what found is_open (cases_name other name);
     formatted = λ other is. formatted_as other is (cases_name other name);
+    writing = writing;
   }
     where
       stood : (other : List ℕ) (later row : NodeRecord) → Contains s.table.nodes row → IsLike row later → StandsFor now.table other later
@@ -211,104 +212,79 @@ module _ (s now : State) (name : List ℕ) (state : FileState) (content : Conten
           let after = stands_later other row.0 row.1 in
           (after.0, after.1.0)
 
--- rows of one id are one row
-pub same_row : (t : Table) → AreApart t → (row later : NodeRecord) → Contains t.nodes row → Contains t.nodes later → later.id ≡ row.id → later ≡ row
-same_row t apart row later there there_later same =
-    let a = apart row there in
-    let b = subst (λ n. node_at t n ≡ Some later) same (apart later there_later) in
-    cc
-
--- a row of changed ones is that of the row with its id
-pub changed_row : (t : Table) (f : NodeRecord → NodeRecord) → ((row : NodeRecord) → IsLike row (f row)) → AreApart t → (row later : NodeRecord)
-    → Contains t.nodes row → Contains (map f t.nodes) later → later.id ≡ row.id → later ≡ f row
-changed_row t f like apart row later there there_later same =
-    let from = Contains-map f t.nodes later there_later in
-    let ids : from.0.id ≡ row.id = sym (ap (λ r. r.id) from.2 ∙ (like from.0).id) ∙ same in
-    let is : from.0 ≡ row = same_row t apart row from.0 there from.1 ids in
-    from.2 ∙ ap f is
-
-pub like_lost : (name : List ℕ) (row : NodeRecord) → IsLike row (lost_with name row)
-like_lost name row = by_test (stands_over name row.filename)
-  where
-    by_test : (b : Bool) → IsLike row (cond b (unsettled row) row)
-    by_test true = record { id = refl; filename = refl; kind = refl }
-    by_test false = record { id = refl; filename = refl; kind = refl }
-
-pub like_unsettled : (id : ℕ) (row : NodeRecord) → IsLike row (node_changed id unsettled row)
-like_unsettled id row = by_test (row.id == id)
-  where
-    by_test : (b : Bool) → IsLike row (cond b (unsettled row) row)
-    by_test true = record { id = refl; filename = refl; kind = refl }
-    by_test false = record { id = refl; filename = refl; kind = refl }
-
--- another row keeps its disk
-pub kept_lost : (name other : List ℕ) (row : NodeRecord) → row.filename ≡ Some other → other ≢ name → lost_with name row ≡ row
-kept_lost name other row is differ =
-    let no_match : stands_over name row.filename ≡ false = ap (stands_over name) is ∙ bytes_eq-other other name differ in
-    rw no_match refl
-
-pub kept_unsettled : (id : ℕ) (row : NodeRecord) → row.id ≢ id → node_changed id unsettled row ≡ row
-kept_unsettled id row differ = let no_match : (row.id == id) ≡ false = ne_eqb row.id id differ in rw no_match refl
-
 pub use_stands : (s : State) (name : List ℕ) → Stands s → Stands (stepped s (change.UseFile name))
 unfolding changed
 use_stands s name h =
     let now : State = stepped s (change.UseFile name) in
     let files = files_but name Used s.table now.table refl in
-    file_stands s now name Used Unknown (rows-same s.table now.table refl h.apart) refl files refl
+    let rows = rows-same s.table now.table refl h.table.apart in
+    file_stands s now name Used Unknown rows refl files refl
     (λ other row later over like there gone. elim (cases_name other name) [
       | inl same ↦ inr (inl (subst (λ n. file_state now.table n ≡ Some Used) (sym same) files.here))
-      | inr differ ↦ inl (differ, subst (λ r. r.is_settled ≡ false) (same_row s.table h.apart row later over.there there like.id) gone)
+      | inr differ ↦ inl (differ, subst (λ r. r.is_settled ≡ false) (same_row s.table h.table.apart row later over.there there like.id) gone)
     ])
-    tt (λ never. absurd cc) h
+    tt (λ never. absurd cc) (rows_table s.table now.table rows refl refl refl h.table)
+    (files_writing s now name Used Unknown rows refl files h refl refl refl (λ n named. named) (inl (refl, refl)) (inl refl)) h
 
 pub spoil_stands : (s : State) (name : List ℕ) → Stands s → Stands (stepped s (change.SpoilFile name))
 unfolding changed
 spoil_stands s name h =
     let now : State = stepped s (change.SpoilFile name) in
     let files = files_but name Used s.table now.table refl in
-    file_stands s now name Used Unknown (rows-mapped s.table now.table (lost_with name) (like_lost name) refl h.apart) refl files refl
+    let rows = rows-mapped s.table now.table (lost_with name) (like_lost name) refl h.table.apart in
+    file_stands s now name Used Unknown rows refl files refl
     (λ other row later over like there gone. elim (cases_name other name) [
       | inl same ↦ inr (inl (subst (λ n. file_state now.table n ≡ Some Used) (sym same) files.here))
       | inr differ ↦
           let is : later ≡ lost_with name row =
-          changed_row s.table (lost_with name) (like_lost name) h.apart row later over.there there like.id in
+          changed_row s.table (lost_with name) (like_lost name) h.table.apart row later over.there there like.id in
           inl (differ, subst (λ r. r.is_settled ≡ false) (is ∙ kept_lost name other row over.filename differ) gone)
     ])
-    tt (λ never. absurd cc) h
+    tt (λ never. absurd cc) (rows_table s.table now.table rows refl refl refl h.table)
+    (files_writing s now name Used Unknown rows refl files h refl refl refl (λ n named. has_name-grows name n s.named named) (inr refl) (inl refl)) h
 
 pub make_stands : (s : State) (name : List ℕ) (size : ℕ) → IsClosed s.table name → Stands s → Stands (stepped s (change.MakeFile name size))
 unfolding changed
 make_stands s name size closed h =
     let now : State = stepped s (change.MakeFile name size) in
     let files = files_but name Made s.table now.table refl in
-    file_stands s now name Made (Bytes (replicate size 0)) (rows-same s.table now.table refl h.apart) refl files refl
+    let rows = rows-same s.table now.table refl h.table.apart in
+    file_stands s now name Made (Bytes (replicate size 0)) rows refl files refl
     (λ other row later over like there gone. elim (cases_name other name) [
       | inl same ↦ absurd (closed row (subst (λ n. StandsFor s.table n row) same over))
-      | inr differ ↦ inl (differ, subst (λ r. r.is_settled ≡ false) (same_row s.table h.apart row later over.there there like.id) gone)
+      | inr differ ↦ inl (differ, subst (λ r. r.is_settled ≡ false) (same_row s.table h.table.apart row later over.there there like.id) gone)
     ])
-    tt (λ never. absurd cc) h
+    tt (λ never. absurd cc) (rows_table s.table now.table rows refl refl refl h.table)
+    (files_writing s now name Made (Bytes (replicate size 0)) rows refl files h refl refl refl (λ n named. has_name-grows name n s.named named) (inr refl)
+    (inr spared)) h
+  where
+    spared : IsSpared s.table name
+    spared = record {
+      taken = λ over under f is. closed under (record { there = f.under_there; filename = is });
+      written = λ node entered of. closed of.row of.stands;
+    }
 
 pub format_stands : (s : State) (node : ℕ) (name : List ℕ) (size : ℕ) (backing_file : Option (List ℕ)) (backing_fmt : Option ImageFormat)
-    → SuitsFormatting s.table node name → Stands s → Stands (stepped s (change.FormatFile node name size backing_file backing_fmt))
+    → FormattingSuits s.table node name → Stands s → Stands (stepped s (change.FormatFile node name size backing_file backing_fmt))
 unfolding changed
 format_stands s node name size backing_file backing_fmt suits h =
     let now : State = stepped s (change.FormatFile node name size backing_file backing_fmt) in
     let files = files_but name Formatted s.table now.table refl in
-    file_stands s now name Formatted
-    (formatted (creation_of size backing_file (option_map format_name backing_fmt)) (content_in s.files name))
-    (rows-mapped s.table now.table (node_changed node unsettled) (like_unsettled node) refl h.apart) refl files refl
+    let rows = rows-mapped s.table now.table (node_changed node unsettled) (like_unsettled node) refl h.table.apart in
+    let content : Content = formatted (creation_of size backing_file (option_map format_name backing_fmt)) (content_in s.files name) in
+    file_stands s now name Formatted content rows refl files refl
     (λ other row later over like there gone. elim (cases_name other name) [
       | inl same ↦ inr (inr (inl (subst (λ n. file_state now.table n ≡ Some Formatted) (sym same) files.here)))
       | inr differ ↦
           let is : later ≡ node_changed node unsettled row =
-          changed_row s.table (node_changed node unsettled) (like_unsettled node) h.apart row later over.there there like.id in
-          let apart : row.id ≢ node = λ same. differ (one_file s.table h.apart suits row other over same) in
+          changed_row s.table (node_changed node unsettled) (like_unsettled node) h.table.apart row later over.there there like.id in
+          let apart : row.id ≢ node = λ same. differ (one_file s.table h.table.apart suits row other over same) in
           inl (differ, subst (λ r. r.is_settled ≡ false) (is ∙ kept_unsettled node row apart) gone)
     ])
-    tt (λ is. (suits.row, suits.stands)) h
+    tt (λ is. (suits.row, suits.stands)) (rows_table s.table now.table rows refl refl refl h.table)
+    (files_writing s now name Formatted content rows refl files h refl refl refl (λ n named. has_name-grows name n s.named named) (inr refl) (inr spared)) h
   where
-    one_file : (t : Table) → AreApart t → SuitsFormatting t node name → (row : NodeRecord) (other : List ℕ) → StandsFor t other row
+    one_file : (t : Table) → AreApart t → FormattingSuits t node name → (row : NodeRecord) (other : List ℕ) → StandsFor t other row
         → row.id ≡ node → other ≡ name
     one_file t apart suits row other over same =
         let is : row ≡ suits.row = same_row t apart suits.row row suits.stands.there over.there (same ∙ sym suits.is_node) in
@@ -316,3 +292,15 @@ format_stands s node name size backing_file backing_fmt suits h =
         let its = suits.stands.filename in
         let both : row.filename ≡ suits.row.filename = ap (λ r. r.filename) is in
         cc
+
+    at_node : (row : NodeRecord) → StandsFor s.table name row → row.id ≡ node
+    at_node row over = h.table.alone name row suits.row over suits.stands ∙ suits.is_node
+
+    spared : IsSpared s.table name
+    spared = record {
+      taken = λ over under f is. suits.alone f.edge f.there (f.child ∙ at_node under (record { there = f.under_there; filename = is }));
+      written = λ other entered of. elim of.from [
+        | inl own ↦ suits.alone entered.edge entered.there (entered.child ∙ sym own ∙ at_node of.row of.stands)
+        | inr child ↦ (let e = role_edge (Node other) File s.table.edges of.row.id child in suits.alone e.edge e.there (e.to ∙ at_node of.row of.stands))
+      ];
+    }

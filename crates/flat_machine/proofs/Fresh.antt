@@ -10,7 +10,7 @@ use Rattle.qmp_rules.specs.declared.rows.NodeRecord.{NodeRecord}
 
 -- ---- ids
 
-any-Contains : (k : ℕ) (taken : List ℕ) → list_any (nat_eq k) taken ≡ true → Contains taken k
+pub any-Contains : (k : ℕ) (taken : List ℕ) → list_any (nat_eq k) taken ≡ true → Contains taken k
 any-Contains k [] h = absurd cc
 any-Contains k (id ∷ taken) h = by_test (nat_eq k id) refl (any-Contains k taken) h
   where
@@ -20,7 +20,7 @@ any-Contains k (id ∷ taken) h = by_test (nat_eq k id) refl (any-Contains k tak
     by_test false e ih t = Contains-there id taken k (ih t)
 
 -- either the id isn't taken, or all from the first one on are
-lowest_from-cases : (more id : ℕ) (taken : List ℕ)
+pub lowest_from-cases : (more id : ℕ) (taken : List ℕ)
     → (list_any (nat_eq (lowest_from more id taken)) taken ≡ false)
     ⊎ ((k : ℕ) → id ≤ k → k < id + more → list_any (nat_eq k) taken ≡ true)
 lowest_from-cases zero id taken = inr (λ k low high. absurd (omega arith))

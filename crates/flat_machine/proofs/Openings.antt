@@ -7,7 +7,7 @@ use Rattle.blk_base.specs.declared.file.File.{File}
 use Rattle.blk_base.specs.Files.{file_at}
 use Rattle.blk_graph.proofs.Members.{Contains-nil}
 use Rattle.qmp_rules.specs.declared.rows.NodeRecord.{NodeRecord}
-use Rattle.qmp_rules.specs.Table.{node_at}
+use Rattle.qmp_rules.specs.Table.{node_at, opening_table}
 use Rattle.qmp_rules.specs.Chains.{is_settled}
 use Rattle.flat_machine.specs.declared.opening.Opening.{Opening}
 use Rattle.flat_machine.specs.State.{State, Content, Bytes, Blank, Unknown, bytes_at_node, disk_of, content_in}
@@ -15,7 +15,8 @@ use Rattle.flat_machine.specs.Contents.{found}
 use Rattle.flat_machine.specs.Opening.{start}
 use Rattle.flat_machine.specs.Final.{bytes_of}
 use Rattle.flat_machine.specs.Agreement.{Contents, HasDisk, IsAsKnown, IsLeftAs, Agrees}
-use Rattle.flat_machine.specs.Standing.{Stands, IsOfState}
+use Rattle.flat_machine.specs.Wiring.{TableStands, TableAtRest}
+use Rattle.flat_machine.specs.Standing.{Stands, StandsAtRest, IsUsedUp, IsOfState}
 use Rattle.flat_machine.proofs.Finds.{bytes_eq-same, bytes_eq-other, same-bytes_eq}
 use Rattle.flat_machine.proofs.Agreeing.{rows_same}
 use Rattle.flat_machine.proofs.Kept.{quiet_keeps, own_disk}
@@ -42,17 +43,39 @@ found_bytes (f ∷ files) name = by_test (bytes_eq f.name name) (bytes_eq name f
     by_test true false e ih = absurd cc
     by_test false true e ih = absurd cc
 
-pub start_stands : (o : Opening) → Stands (start o)
-start_stands o = record {
+-- a table without rows
+start_table : (guests : List (List ℕ)) → TableStands (opening_table guests)
+start_table guests = record {
   apart = λ row there. absurd (Contains-nil row there);
-  edges = λ e there. absurd (Contains-nil e there);
   drivers = λ name row over. absurd (Contains-nil row over.there);
   names = λ row there. absurd (Contains-nil row there);
   alone = λ name a b over_a over_b. absurd (Contains-nil a over_a.there);
+  edges = λ e there. absurd (Contains-nil e there);
+  roles = λ e row there. absurd (Contains-nil e there);
+  single = λ e there. absurd (Contains-nil e there);
+  taken = λ over under f. absurd (Contains-nil over f.over_there);
+  filtered = λ over under f. absurd (Contains-nil over f.over_there);
+  reads = λ node row found. absurd cc;
+  numbers = λ device there. absurd (Contains-nil device there);
+}
+
+pub start_table_rests : (guests : List (List ℕ)) → TableAtRest (opening_table guests)
+start_table_rests guests = record { stands = start_table guests; inline = λ row over there. absurd (Contains-nil row there) }
+
+pub start_stands : (o : Opening) → Stands (start o)
+start_stands o = record {
+  table = start_table o.guests;
   files = λ name row over. absurd (Contains-nil row over.there);
   lost = λ name row over gone. absurd (Contains-nil row over.there);
   states = λ name content is is_open. is_whole content (bytes_of o.files name) (sym (found_bytes o.files name) ∙ is);
   formatted = λ name is. absurd cc;
+  writing = record {
+    named = λ name row over. absurd (Contains-nil row over.there);
+    unknown = λ name over under f. absurd (Contains-nil over f.over_there);
+    disks = λ row there. absurd (Contains-nil row there);
+    left = All-nil (IsUsedUp (start o));
+    writers = λ g device found. absurd cc;
+  };
 }
   where
     is_whole : (content : Content) (bytes : Option (List ℕ)) → option_map Bytes bytes ≡ Some content → IsOfState None content
@@ -60,6 +83,9 @@ start_stands o = record {
     is_whole (Bytes b) (Some bytes) e = tt
     is_whole (Blank new len) (Some bytes) e = absurd cc
     is_whole Unknown (Some bytes) e = absurd cc
+
+pub start_rests : (o : Opening) → StandsAtRest (start o)
+start_rests o = record { stands = start_stands o; inline = (start_table_rests o.guests).inline }
 
 -- the files hold what the store tells
 pub start_agrees : (o : Opening) (c : Contents) → ((name : List ℕ) → c.held name ≡ bytes_of o.files name) → Agrees (bytes_of o.files) (start o) c

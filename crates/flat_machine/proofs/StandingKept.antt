@@ -1,15 +1,16 @@
--- Changes leave what holds of all tables.
+-- Changes leave what holds of all states.
 use Rattle.std.proofs.Common.{◌≡◌, ◌≢◌, ◌⊎◌, ℕ, Bool, true, false, List, [], ◌∷◌, ◌++◌, refl, sym, ap, subst, ◌∙◌, inl, inr, Option, Some, None, option_map}
-use Rattle.std.specs.Prelude.{◌==◌, ◌&&◌, ◌||◌, not, bytes_eq, IsSome, option_and_then}
+use Rattle.std.specs.Prelude.{◌==◌, ◌&&◌, ◌||◌, not, bytes_eq, All, IsSome, option_and_then}
 use Rattle.std.specs.List.{find, Contains}
 use Rattle.std.proofs.lemmas.Bool.{eqb-true, eqb-false, eq-eqb, ne_eqb, cases_eq}
+use Rattle.std.proofs.lemmas.List.Elements.{All-weaker}
 use Rattle.blk_graph.specs.declared.edge.Edge.{Edge}
 use Rattle.blk_graph.specs.declared.edge.Parent.TheVariants.{Node, Guest}
-use Rattle.blk_graph.specs.declared.edge.Role.TheVariants.{File, Backing}
+use Rattle.blk_graph.specs.declared.edge.Role.TheVariants.{Drive, File, Backing}
 use Rattle.blk_graph.specs.declared.kind.Kind.TheVariants.{Protocol}
 use Rattle.blk_graph.specs.declared.kind.NodeKind.{NodeKind}
 use Rattle.blk_graph.specs.Edges.{same_parent}
-use Rattle.blk_graph.specs.Edits.{takes_place, with_edge, without_parent}
+use Rattle.blk_graph.specs.Edits.{child_of, takes_place, with_edge, without_parent}
 use Rattle.blk_graph.specs.Refreshed.{refreshed}
 use Rattle.blk_graph.specs.Permissions.{node_edge}
 use Rattle.blk_graph.proofs.Members.{find-Some, Contains-filter}
@@ -21,26 +22,29 @@ use Rattle.qmp_rules.specs.declared.rows.FileState.{FileState}
 use Rattle.qmp_rules.specs.declared.rows.FileState.TheVariants.{Made, Formatted, Used}
 use Rattle.qmp_rules.specs.declared.change.Change.{Change}
 use Rattle.qmp_rules.specs.declared.change.Change.TheVariants as change
-use Rattle.qmp_rules.specs.Table.{Table, node_at, file_state, kinds_of}
+use Rattle.qmp_rules.specs.Table.{Table, node_at, file_state, has_name, kinds_of}
 use Rattle.qmp_rules.specs.Changes.{changed, node_changed, unsettled, with_unsettled, without_row, format_edges, backed, device_edge}
 use Rattle.flat_machine.specs.State.{State, Content, Unknown, content_in, filename_of}
 use Rattle.flat_machine.specs.Contents.{with_content, mapped_in}
 use Rattle.flat_machine.specs.Changed.{stepped, all_stepped, know_if, content_under, format_bytes, left_disk}
-use Rattle.flat_machine.specs.Standing.{HasEnds, EdgesHaveEnds, StandsFor, IsUnder, IsLostBy, IsOfState, IsOpen, FilesAreOfState, Stands}
-use Rattle.flat_machine.specs.Suiting.{IsThere, IsClosed, SuitsFile, SuitsOver, SuitsFormat, SuitsRemoval, Suits, AllSuit}
+use Rattle.flat_machine.specs.Wiring.{EdgesHaveEnds, StandsFor, IsUnder, TableStands}
+use Rattle.flat_machine.specs.Standing.{IsLostBy, IsOfState, IsOpen, FilesAreOfState, IsUsedUp, WritingStands, Stands}
+use Rattle.flat_machine.specs.Suiting.{IsThere, FileSuits, FormatSuits, SuitsFilter, RemovalSuits, DeviceSuits, Suits, AllSuit}
 use Rattle.flat_machine.proofs.Finds.{find-map, find-filter, content_in-with, content_in-with_other, cases_name}
 use Rattle.flat_machine.proofs.Accepted.{added_files}
 use Rattle.flat_machine.proofs.Kept.{with_format, left_alone}
 use Rattle.flat_machine.proofs.Fresh.{found-longer, found-new}
 use Rattle.flat_machine.proofs.Tables.{pushed-cases, pushed-old, filter-keeps, with_edge-keeps, apart-parents}
-use Rattle.flat_machine.proofs.FilesStand.{under-refreshed, ends-refreshed, ends-longer, IsLike, SameRows, rows-same, rows-mapped, same_row, changed_row, like_unsettled, kept_unsettled, use_stands, spoil_stands, make_stands, format_stands}
+use Rattle.flat_machine.proofs.Rows.{under-refreshed, IsLike, SameRows, rows-same, rows-mapped, same_row, changed_row, like_unsettled, kept_unsettled}
+use Rattle.flat_machine.proofs.TablesKept.{new_parent, rows_table, file_table, format_table, filter_table, removed_table, device_table, rows_grow}
+use Rattle.flat_machine.proofs.Wired.{Grows, NoRow, NoEdge}
+use Rattle.flat_machine.proofs.WritingKept.{Leaves, grown_writing, left_still}
+use Rattle.flat_machine.proofs.WritingAdded.{drive_there, same_devices, file_writing, format_writing, filter_writing, remove_writing, device_writing}
+use Rattle.flat_machine.proofs.FilesStand.{use_stands, spoil_stands, make_stands, format_stands}
 
 -- ---- one node more
 
-record IsNewRow (s now : State) (new : NodeRecord) : Type 0 where
-  driver : (name : List ℕ) → new.filename ≡ Some name → new.kind ≡ Protocol
-  named : new.kind ≡ Protocol → IsSome new.filename
-  closed : (name : List ℕ) → new.filename ≡ Some name → IsClosed s.table name
+record IsNewRow (now : State) (new : NodeRecord) : Type 0 where
   file_there : (name : List ℕ) → new.filename ≡ Some name → IsSome (content_in now.files name)
   settled : (name : List ℕ) → new.filename ≡ Some name → new.is_settled ≡ true
 
@@ -50,7 +54,6 @@ record HasEdges (s now : State) : Type 0 where
   before : List Edge
   derived : now.table.edges ≡ refreshed kinds before
   keeps : (e : Edge) → Contains s.table.edges e → e.role ≡ File → Contains before e
-  ends : (e : Edge) → Contains before e → HasEnds now.table e
 
 under-kept : (s now : State) → HasEdges s now → (file : ℕ) → IsUnder s.table.edges file → IsUnder now.table.edges file
 under-kept s now es file h =
@@ -59,24 +62,14 @@ under-kept s now es file h =
     (record { edge = h.edge; there = es.keeps h.edge h.there h.over; over = h.over; child = h.child }))
 
 module _ (s now : State) (between : Table) (new : NodeRecord) where
-  added_stands : SameRows s.table between → now.table.nodes ≡ between.nodes ++ new ∷ [] → node_at between new.id ≡ None → HasEdges s now
-      → now.table.files ≡ s.table.files → IsNewRow s now new
+  added_stands : SameRows s.table between → now.table.nodes ≡ between.nodes ++ new ∷ [] → HasEdges s now
+      → now.table.files ≡ s.table.files → IsNewRow now new
       → ((name : List ℕ) → IsSome (content_in s.files name) → IsSome (content_in now.files name))
       → ((other : List ℕ) (row later : NodeRecord) → StandsFor s.table other row → IsLike row later → Contains between.nodes later
       → later.is_settled ≡ false → (row.is_settled ≡ false) ⊎ IsLostBy now.table other later)
-      → FilesAreOfState now → Stands s → Stands now
-  added_stands rows nodes fresh es files is_new there loses states h = record {
-    apart = λ row in_now. apart_in row (pushed-cases between.nodes new row (subst (λ ns. Contains ns row) nodes in_now));
-    edges = ends-refreshed now.table es.kinds es.before es.derived es.ends;
-    drivers = λ name row over. elim (origin row over.there) [
-      | inl old ↦ old.1.1.kind ∙ h.drivers name old.0 (stood name row old over)
-      | inr same ↦ ap (λ r. r.kind) same ∙ is_new.driver name (sym (ap (λ r. r.filename) same) ∙ over.filename)
-    ];
-    names = λ row in_now driver. elim (origin row in_now) [
-      | inl old ↦ subst IsSome (sym old.1.1.filename) (h.names old.0 old.1.0 (sym old.1.1.kind ∙ driver))
-      | inr same ↦ subst IsSome (sym (ap (λ r. r.filename) same)) (is_new.named (sym (ap (λ r. r.kind) same) ∙ driver))
-    ];
-    alone = λ name a b over_a over_b. one_id name a b over_a over_b (origin a over_a.there) (origin b over_b.there);
+      → FilesAreOfState now → TableStands now.table → WritingStands now → Stands s → Stands now
+  added_stands rows nodes es files is_new there loses states table writing h = record {
+    table = table;
     files = λ name row over. elim (origin row over.there) [
       | inl old ↦ there name (h.files name old.0 (stood name row old over))
       | inr same ↦ is_new.file_there name (sym (ap (λ r. r.filename) same) ∙ over.filename)
@@ -103,6 +96,7 @@ module _ (s now : State) (between : Table) (new : NodeRecord) where
             filename = later.1.1.filename ∙ row.1.filename;
           },
         );
+    writing = writing;
   }
     where
       origin : (row : NodeRecord) → Contains now.table.nodes row → ((old : NodeRecord) × (Contains s.table.nodes old × IsLike old row)) ⊎ (row ≡ new)
@@ -115,17 +109,6 @@ module _ (s now : State) (between : Table) (new : NodeRecord) where
           → StandsFor s.table name old.0
       stood name row old over = record { there = old.1.0; filename = sym old.1.1.filename ∙ over.filename }
 
-      one_id : (name : List ℕ) (a b : NodeRecord) → StandsFor now.table name a → StandsFor now.table name b
-          → (((old : NodeRecord) × (Contains s.table.nodes old × IsLike old a)) ⊎ (a ≡ new))
-          → (((old : NodeRecord) × (Contains s.table.nodes old × IsLike old b)) ⊎ (b ≡ new)) → a.id ≡ b.id
-      one_id name a b over_a over_b (inl old_a) (inl old_b) =
-          old_a.1.1.id ∙ h.alone name old_a.0 old_b.0 (stood name a old_a over_a) (stood name b old_b over_b) ∙ sym old_b.1.1.id
-      one_id name a b over_a over_b (inl old_a) (inr is_b) =
-          absurd (is_new.closed name (sym (ap (λ r. r.filename) is_b) ∙ over_b.filename) old_a.0 (stood name a old_a over_a))
-      one_id name a b over_a over_b (inr is_a) (inl old_b) =
-          absurd (is_new.closed name (sym (ap (λ r. r.filename) is_a) ∙ over_a.filename) old_b.0 (stood name b old_b over_b))
-      one_id name a b over_a over_b (inr is_a) (inr is_b) = ap (λ r. r.id) (is_a ∙ sym is_b)
-
       state_same : (name : List ℕ) (state : FileState) → file_state s.table name ≡ Some state → file_state now.table name ≡ Some state
       state_same name state is =
           subst (λ fs. option_map (λ r. r.state) (find (λ r. bytes_eq r.name name) fs) ≡ Some state) (sym files) is
@@ -135,22 +118,6 @@ module _ (s now : State) (between : Table) (new : NodeRecord) where
       lost_as_before name row later like (inr (inl image)) = inr (inl (state_same name Formatted image))
       lost_as_before name row later like (inr (inr under)) =
           inr (inr (under-kept s now es later.id (subst (IsUnder s.table.edges) (sym like.id) under)))
-
-      apart_in : (row : NodeRecord) → (Contains between.nodes row ⊎ (row ≡ new)) → node_at now.table row.id ≡ Some row
-      apart_in row (inl old) = subst (λ ns. find (λ r. r.id == row.id) ns ≡ Some row) (sym nodes)
-          (found-longer (λ r. r.id == row.id) between.nodes new row (rows.apart row old))
-      apart_in row (inr same) = subst (λ ns. find (λ r. r.id == row.id) ns ≡ Some row) (sym nodes)
-          (subst (λ r. find (λ x. x.id == r.id) (between.nodes ++ new ∷ []) ≡ Some r) (sym same)
-          (found-new (λ x. x.id == new.id) between.nodes new fresh (eq-eqb new.id new.id refl)))
-
--- nodes that are there stay in a longer list
-there-longer : (t now : Table) (new : NodeRecord) → now.nodes ≡ t.nodes ++ new ∷ [] → (node : ℕ) → IsSome (node_at t node) → IsSome (node_at now node)
-there-longer t now new nodes node h =
-    subst (λ ns. IsSome (find (λ r. r.id == node) ns)) (sym nodes) (by_row (node_at t node) refl h)
-  where
-    by_row : (found : Option NodeRecord) → node_at t node ≡ found → IsSome found → IsSome (find (λ r. r.id == node) (t.nodes ++ new ∷ []))
-    by_row None e k = absurd cc
-    by_row (Some row) e k = subst IsSome (sym (found-longer (λ r. r.id == node) t.nodes new row e)) refl
 
 -- what is open was open before
 open-before : (s now : State) → HasEdges s now
@@ -174,18 +141,21 @@ stands-pushed t between now new rows nodes name row over =
       ),
     )
 
-file_node_stands : (s : State) (row : NodeRecord) → SuitsFile s row → Stands s → Stands (stepped s (change.AddFile row))
+file_node_stands : (s : State) (row : NodeRecord) → FileSuits s row → Stands s → Stands (stepped s (change.AddFile row))
 unfolding changed
 file_node_stands s row suits h =
-    added_stands s now s.table row (rows-same s.table s.table refl h.apart) refl suits.fresh es refl is_new
+    added_stands s now s.table row rows refl es refl is_new
     (λ name some. subst (λ fs. IsSome (content_in fs name)) (sym (added_files row s)) some)
-    (λ other old later over like there gone. inl (subst (λ r. r.is_settled ≡ false) (same_row s.table h.apart old later over.there there like.id) gone))
+    (λ other old later over like there gone. inl (subst (λ r. r.is_settled ≡ false) (same_row s.table h.table.apart old later over.there there like.id) gone))
     (λ name what found is_open. h.states name what (subst (λ fs. content_in fs name ≡ Some what) (added_files row s) found)
-    (open-before s now es (stands-pushed s.table s.table now.table row (rows-same s.table s.table refl h.apart) refl) name is_open))
-    h
+    (open-before s now es (stands-pushed s.table s.table now.table row rows refl) name is_open))
+    (file_table s.table now.table row suits.suits refl es.kinds refl h.table refl refl) (file_writing s row suits h) h
   where
     now : State
     now = stepped s (change.AddFile row)
+
+    rows : SameRows s.table s.table
+    rows = rows-same s.table s.table refl h.table.apart
 
     es : HasEdges s now
     es = record {
@@ -193,51 +163,40 @@ file_node_stands s row suits h =
       before = s.table.edges;
       derived = refl;
       keeps = λ e there over. there;
-      ends = λ e there. ends-longer s.table now.table e (there-longer s.table now.table row refl) (h.edges e there);
     }
 
-    same_name : (name : List ℕ) → row.filename ≡ Some name → suits.name ≡ name
-    same_name name is = let known = suits.filename in cc
+    same_name : (name : List ℕ) → row.filename ≡ Some name → suits.suits.name ≡ name
+    same_name name is = let known = suits.suits.filename in cc
 
-    is_new : IsNewRow s now row
+    is_new : IsNewRow now row
     is_new = record {
-      driver = λ name is. suits.driver;
-      named = λ driver. subst IsSome (sym suits.filename) refl;
-      closed = λ name is. subst (IsClosed s.table) (same_name name is) suits.closed;
       file_there = λ name is. subst (λ fs. IsSome (content_in fs name)) (sym (added_files row s))
           (subst (λ n. IsSome (content_in s.files n)) (same_name name is) suits.there);
       settled = λ name is. suits.settled;
     }
 
 -- a row that stands for no file
-no_file_row : (s now : State) (row : NodeRecord) → row.filename ≡ None → row.kind ≢ Protocol → IsNewRow s now row
-no_file_row s now row none driver = record {
-  driver = λ name is. absurd cc;
-  named = λ is. absurd (driver is);
-  closed = λ name is. absurd cc;
+no_file_row : (now : State) (row : NodeRecord) → row.filename ≡ None → IsNewRow now row
+no_file_row now row none = record {
   file_there = λ name is. absurd cc;
   settled = λ name is. absurd cc;
 }
 
--- edges of a new node are no old ones
-new_parent : (t : Table) (id : ℕ) → EdgesHaveEnds t → node_at t id ≡ None → (e : Edge) → Contains t.edges e → Node id ≢ e.parent
-new_parent t id ends fresh e there same = let found = (ends e there).parent id (sym same) in let none = subst IsSome fresh found in cc
-
-filter_stands : (s : State) (row : NodeRecord) (child : ℕ) → SuitsOver s row child → Stands s → Stands (stepped s (change.AddFilter row child))
+filter_stands : (s : State) (row : NodeRecord) (child : ℕ) → SuitsFilter s.table row child → Stands s → Stands (stepped s (change.AddFilter row child))
 unfolding changed
 filter_stands s row child suits h =
-    added_stands s now s.table row (rows-same s.table s.table refl h.apart) refl suits.fresh es refl
-    (no_file_row s now row suits.filename suits.driver) (λ name some. some)
-    (λ other old later over like there gone. inl (subst (λ r. r.is_settled ≡ false) (same_row s.table h.apart old later over.there there like.id) gone))
+    added_stands s now s.table row rows refl es refl
+    (no_file_row now row suits.filename) (λ name some. some)
+    (λ other old later over like there gone. inl (subst (λ r. r.is_settled ≡ false) (same_row s.table h.table.apart old later over.there there like.id) gone))
     (λ name what found is_open. h.states name what found
-    (open-before s now es (stands-pushed s.table s.table now.table row (rows-same s.table s.table refl h.apart) refl) name is_open))
-    h
+    (open-before s now es (stands-pushed s.table s.table now.table row rows refl) name is_open))
+    (filter_table s.table now.table row child suits refl es.kinds refl h.table refl refl) (filter_writing s row child suits h) h
   where
     now : State
     now = stepped s (change.AddFilter row child)
 
-    here : IsSome (node_at now.table row.id)
-    here = subst IsSome (sym (found-new (λ r. r.id == row.id) s.table.nodes row suits.fresh (eq-eqb row.id row.id refl))) refl
+    rows : SameRows s.table s.table
+    rows = rows-same s.table s.table refl h.table.apart
 
     es : HasEdges s now
     es = record {
@@ -245,15 +204,7 @@ filter_stands s row child suits h =
       before = with_edge (node_edge row.id File child) s.table.edges;
       derived = refl;
       keeps = λ e there over. with_edge-keeps (node_edge row.id File child) s.table.edges e
-          (apart-parents (node_edge row.id File child) e (new_parent s.table row.id h.edges suits.fresh e there)) there;
-      ends = λ e there. elim (Contains-with_edge (node_edge row.id File child) s.table.edges e there) [
-        | inl is ↦ record {
-          parent = λ node k. let same : row.id ≡ node = (let p = ap (λ x. x.parent) is in cc) in subst (λ n. IsSome (node_at now.table n)) same here;
-          child = subst (λ n. IsSome (node_at now.table n)) (sym (ap (λ x. x.child) is))
-              (there-longer s.table now.table row refl child suits.child_there);
-        }
-        | inr old ↦ ends-longer s.table now.table e (there-longer s.table now.table row refl) (h.edges e old)
-      ];
+          (apart-parents (node_edge row.id File child) e (new_parent s.table row.id h.table.edges suits.fresh e there)) there;
     }
 
 -- ---- a format node
@@ -291,24 +242,16 @@ backed-keeps id (Some node) edges e apart there = with_edge-keeps (node_edge id 
         by_parent false = refl
     by_cause (inr differ) = apart-parents (node_edge id Backing node) e differ
 
-backed-cases : (id : ℕ) (backing : Option ℕ) (edges : List Edge) (e : Edge) → Contains (backed id backing edges) e
-    → ((node : ℕ) × ((backing ≡ Some node) × (e ≡ node_edge id Backing node))) ⊎ Contains edges e
-backed-cases id None edges e h = inr h
-backed-cases id (Some node) edges e h = elim (Contains-with_edge (node_edge id Backing node) edges e h) [
-  | inl is ↦ inl (node, (refl, is))
-  | inr old ↦ inr old
-]
-
-format_node_stands : (s : State) (row : NodeRecord) (file : ℕ) (backing : Option ℕ) → SuitsFormat s row file backing → Stands s
+format_node_stands : (s : State) (row : NodeRecord) (file : ℕ) (backing : Option ℕ) → FormatSuits s row file backing → Stands s
     → Stands (stepped s (change.AddFormat row file backing))
 unfolding changed
 format_node_stands s row file backing suits h =
-    added_stands s now between row rows refl fresh_between es refl (no_file_row s now row suits.over.filename suits.over.driver)
+    added_stands s now between row rows refl es refl (no_file_row now row suits.suits.filename)
     (λ name some. subst (λ fs. IsSome (content_in fs name)) (sym contents) (known_if_there (filename_of s.table file) s name some))
     loses
     (λ name what found is_open. by_file name what is_open
     (known_if_before (filename_of s.table file) s name what (subst (λ fs. content_in fs name ≡ Some what) contents found)))
-    h
+    (format_table s.table now.table row file backing suits.suits refl es.kinds refl h.table refl refl) (format_writing s row file backing suits h) h
   where
     now : State
     now = stepped s (change.AddFormat row file backing)
@@ -317,12 +260,7 @@ format_node_stands s row file backing suits h =
     between = record s.table { nodes = with_unsettled file s.table.nodes }
 
     rows : SameRows s.table between
-    rows = rows-mapped s.table between (node_changed file unsettled) (like_unsettled file) refl h.apart
-
-    fresh_between : node_at between row.id ≡ None
-    fresh_between =
-        find-map (λ r. r.id == row.id) (node_changed file unsettled) (λ r. ap (λ k. k == row.id) (like_unsettled file r).id) s.table.nodes
-        ∙ ap (option_map (node_changed file unsettled)) suits.over.fresh
+    rows = rows-mapped s.table between (node_changed file unsettled) (like_unsettled file) refl h.table.apart
 
     contents : now.files ≡ (know_if (filename_of s.table file) Unknown s).files
     contents = (with_format (λ name. None) (filename_of s.table file) row.kind row.id (mapped_in (content_under s file))
@@ -331,33 +269,13 @@ format_node_stands s row file backing suits h =
     own : Edge
     own = node_edge row.id File file
 
-    longer : (node : ℕ) → IsSome (node_at s.table node) → IsSome (node_at now.table node)
-    longer node some = there-longer between now.table row refl node (rows.there node some)
-
-    here : IsSome (node_at now.table row.id)
-    here = subst IsSome (sym (found-new (λ r. r.id == row.id) between.nodes row fresh_between (eq-eqb row.id row.id refl))) refl
-
-    new_ends : (e : Edge) (child : ℕ) → e.parent ≡ Node row.id → e.child ≡ child → IsSome (node_at now.table child) → HasEnds now.table e
-    new_ends e child is_parent is_child there = record {
-      parent = λ node k. let same : row.id ≡ node = cc in subst (λ n. IsSome (node_at now.table n)) same here;
-      child = subst (λ n. IsSome (node_at now.table n)) (sym is_child) there;
-    }
-
     es : HasEdges s now
     es = record {
       kinds = kinds_of (with_unsettled file s.table.nodes ++ row ∷ []);
       before = format_edges row.id file backing s.table.edges;
       derived = refl;
       keeps = λ e there over. backed-keeps row.id backing (with_edge own s.table.edges) e (inl over)
-          (with_edge-keeps own s.table.edges e (apart-parents own e (new_parent s.table row.id h.edges suits.over.fresh e there)) there);
-      ends = λ e there. elim (backed-cases row.id backing (with_edge own s.table.edges) e there) [
-        | inl added ↦ new_ends e added.0 (ap (λ x. x.parent) added.1.1) (ap (λ x. x.child) added.1.1)
-            (longer added.0 (suits.backing_there added.0 added.1.0))
-        | inr kept ↦ elim (Contains-with_edge own s.table.edges e kept) [
-          | inl is ↦ new_ends e file (ap (λ x. x.parent) is) (ap (λ x. x.child) is) (longer file suits.over.child_there)
-          | inr old ↦ ends-longer s.table now.table e longer (h.edges e old)
-        ]
-      ];
+          (with_edge-keeps own s.table.edges e (apart-parents own e (new_parent s.table row.id h.table.edges suits.suits.fresh e there)) there);
     }
 
     -- the file node is under the new one
@@ -375,7 +293,7 @@ format_node_stands s row file backing suits h =
       | inl same ↦ inr (inr (inr (subst (IsUnder now.table.edges) (sym (like.id ∙ same)) under_new)))
       | inr differ ↦
           let is : later ≡ node_changed file unsettled old =
-          changed_row s.table (node_changed file unsettled) (like_unsettled file) h.apart old later over.there there like.id in
+          changed_row s.table (node_changed file unsettled) (like_unsettled file) h.table.apart old later over.there there like.id in
           inl (subst (λ r. r.is_settled ≡ false) (is ∙ kept_unsettled file old differ) gone)
     ]
 
@@ -395,17 +313,13 @@ format_node_stands s row file backing suits h =
     by_file name what is_open (inr found) = h.states name what found
         (open-before s now es (stands-pushed s.table between now.table row rows refl) name is_open)
 
--- ---- a device
+-- ---- changes of the table beside rows and files
 
-table_stands : (s now : State) → now.table.nodes ≡ s.table.nodes → EdgesHaveEnds now.table
+table_stands : (s now : State) → now.table.nodes ≡ s.table.nodes
     → ((file : ℕ) → IsUnder s.table.edges file → IsUnder now.table.edges file) → now.table.files ≡ s.table.files → now.files ≡ s.files
-    → Stands s → Stands now
-table_stands s now nodes ends unders files contents h = record {
-  apart = rows.apart;
-  edges = ends;
-  drivers = λ name row over. h.drivers name row (stood name row over);
-  names = λ row there. h.names row (subst (λ ns. Contains ns row) nodes there);
-  alone = λ name a b over_a over_b. h.alone name a b (stood name a over_a) (stood name b over_b);
+    → TableStands now.table → WritingStands now → Stands s → Stands now
+table_stands s now nodes unders files contents table writing h = record {
+  table = table;
   files = λ name row over. subst (λ fs. IsSome (content_in fs name)) (sym contents) (h.files name row (stood name row over));
   lost = λ name row over gone. as_before name row (h.lost name row (stood name row over) gone);
   states = λ name what found is_open. subst (λ st. IsOfState st what) (sym (state_same name))
@@ -413,11 +327,9 @@ table_stands s now nodes ends unders files contents h = record {
       (λ row over under. is_open row (stands name row over) (unders row.id under)));
   formatted = λ name is.
       let row = h.formatted name (sym (state_same name) ∙ is) in (row.0, stands name row.0 row.1);
+  writing = writing;
 }
   where
-    rows : SameRows s.table now.table
-    rows = rows-same s.table now.table nodes h.apart
-
     stood : (name : List ℕ) (row : NodeRecord) → StandsFor now.table name row → StandsFor s.table name row
     stood name row over = record { there = subst (λ ns. Contains ns row) nodes over.there; filename = over.filename }
 
@@ -432,70 +344,64 @@ table_stands s now nodes ends unders files contents h = record {
     as_before name row (inr (inl image)) = inr (inl (state_same name ∙ image))
     as_before name row (inr (inr under)) = inr (inr (unders row.id under))
 
-edges_stand : (s now : State) → now.table.nodes ≡ s.table.nodes → HasEdges s now → now.table.files ≡ s.table.files → now.files ≡ s.files
-    → Stands s → Stands now
-edges_stand s now nodes es files contents h =
-    table_stands s now nodes (ends-refreshed now.table es.kinds es.before es.derived es.ends) (under-kept s now es) files contents h
-
--- neither rows nor edges nor files change
-still_stands : (s now : State) → now.table.nodes ≡ s.table.nodes → now.table.edges ≡ s.table.edges → now.table.files ≡ s.table.files
-    → now.files ≡ s.files → Stands s → Stands now
-still_stands s now nodes edges files contents h = table_stands s now nodes
-    (λ e there. ends-longer s.table now.table e
-    (λ node some. subst (λ ns. IsSome (find (λ r. r.id == node) ns)) (sym nodes) some)
-    (h.edges e (subst (λ es. Contains es e) edges there)))
-    (λ file under. subst (λ es. IsUnder es file) (sym edges) under) files contents h
-
-device_stands : (s : State) (device : Device) (node : ℕ) → IsThere s.table node → Stands s → Stands (stepped s (change.AddDevice device node))
+device_stands : (s : State) (device : Device) (node : ℕ) → DeviceSuits s device node → Stands s → Stands (stepped s (change.AddDevice device node))
 unfolding changed
-device_stands s device node there h = edges_stand s now refl es refl refl h
+device_stands s device node suits h =
+    table_stands s now refl (λ file under. under-kept s now es file under) refl refl
+    (device_table s.table now.table device node suits.suits refl es.kinds refl h.table refl refl) (device_writing s device node suits h) h
   where
     now : State
     now = stepped s (change.AddDevice device node)
 
-    drive : Edge
-    drive = device_edge device node
-
-    other_role : (e : Edge) → e.role ≡ File → takes_place drive e ≡ false
-    other_role e file = rw file (by_parent (same_parent (Guest device.number) e.parent))
-      where
-        by_parent : (b : Bool) → (b && false && (not false || (node == e.child))) ≡ false
-        by_parent true = refl
-        by_parent false = refl
-
     es : HasEdges s now
     es = record {
       kinds = kinds_of s.table.nodes;
-      before = with_edge drive s.table.edges;
+      before = with_edge (device_edge device node) s.table.edges;
       derived = refl;
-      keeps = λ e there over. with_edge-keeps drive s.table.edges e (other_role e over) there;
-      ends = λ e in_list. elim (Contains-with_edge drive s.table.edges e in_list) [
-        | inl is ↦ record {
-          parent = λ other k. absurd (let p = ap (λ x. x.parent) is in cc);
-          child = subst (λ n. IsSome (node_at s.table n)) (sym (ap (λ x. x.child) is)) there;
-        }
-        | inr old ↦ ends-longer s.table now.table e (λ n some. some) (h.edges e old)
-      ];
+      keeps = λ e there over.
+          let of = h.table.single e there over in
+          with_edge-keeps (device_edge device node) s.table.edges e
+          (apart-parents (device_edge device node) e (λ same. (let from = same ∙ of.1.0 in cc))) there;
     }
+
+-- neither rows nor edges nor devices nor files change
+still_stands : (s now : State) → now.table.nodes ≡ s.table.nodes → now.table.edges ≡ s.table.edges → now.table.guests ≡ s.table.guests
+    → now.table.devices ≡ s.table.devices → now.table.files ≡ s.table.files → now.files ≡ s.files → now.disks ≡ s.disks
+    → now.left ≡ s.left → now.named ≡ s.named → Stands s → Stands now
+still_stands s now nodes edges guests devices states files disks left named h =
+    table_stands s now nodes (λ file under. subst (λ es. IsUnder es file) (sym edges) under) states files
+    (rows_table s.table now.table rows edges guests devices h.table)
+    (grown_writing s now (IsThere s.table) NoRow NoEdge grow
+    (record {
+      names = λ name is. subst (λ ns. has_name name ns ≡ true) (sym named) is;
+      names_new = λ name r never. absurd never;
+      known = λ name over under f is known. subst (λ fs. content_in fs name ≡ Some Unknown) (sym files) known;
+      known_new = λ name over under f never. absurd never;
+      bytes = λ node here some. subst (λ ds. IsSome (find (λ d. d.node == node) ds)) (sym disks) some;
+      bytes_new = λ r never. absurd never;
+      left = subst (All (IsUsedUp now)) (sym left)
+          (All-weaker (IsUsedUp s) (IsUsedUp now) (λ l used. left_still s now (IsThere s.table) NoRow NoEdge grow l
+          (ap (λ fs. option_map (λ r. r.state) (find (λ r. bytes_eq r.name l.file) fs)) states ∙ used.used)
+          (λ r never. absurd never) (λ e r never. absurd never) used) s.left h.writing.left);
+      written = λ node name here entered of known. subst (λ fs. content_in fs name ≡ Some Unknown) (sym files) known;
+      emptied = λ node name here entered of none. subst (All (λ l. l.file ≢ name)) (sym left) none;
+      devices = same_devices s now devices (λ g. ap (child_of (Guest g) Drive) edges);
+      drives = λ g node is. drive_there s.table h.table.edges g node is;
+    })
+    h.table.apart h.writing) h
+  where
+    rows : SameRows s.table now.table
+    rows = rows-same s.table now.table nodes h.table.apart
+
+    grow : Grows s.table now.table (IsThere s.table) NoRow NoEdge
+    grow = rows_grow s.table now.table rows edges h.table
 
 -- ---- a node that goes
 
-remove_stands : (s : State) (node : ℕ) → SuitsRemoval s.table node → Stands s → Stands (stepped s (change.RemoveNode node))
+remove_stands : (s : State) (node : ℕ) → RemovalSuits s.table node → Stands s → Stands (stepped s (change.RemoveNode node))
 unfolding changed
 remove_stands s node suits h = record {
-  apart = λ row there.
-      let old = kept row there in
-      find-filter (λ r. r.id == row.id) (λ r. not (r.id == node)) (others row old.1) s.table.nodes ∙ h.apart row old.0;
-  edges = ends-refreshed now.table kinds before refl (λ e there.
-      let old = Contains-filter (λ x. not (same_parent x.parent (Node node))) s.table.edges e there in
-      let ends = h.edges e old.0 in
-      record {
-        parent = λ other is. still other (λ same. gone_parent e old.1 (is ∙ ap Node same)) (ends.parent other is);
-        child = still e.child (suits.lone e old.0) ends.child;
-      });
-  drivers = λ name row over. h.drivers name row (stood name row over);
-  names = λ row there. h.names row (kept row there).0;
-  alone = λ name a b over_a over_b. h.alone name a b (stood name a over_a) (stood name b over_b);
+  table = removed_table s.table now.table node suits.alone refl kinds refl h.table refl refl;
   files = λ name row over. subst (λ fs. IsSome (content_in fs name)) (sym contents) (h.files name row (stood name row over));
   lost = λ name row over gone. as_before name row (stood name row over) (h.lost name row (stood name row over) gone);
   states = λ name what found is_open.
@@ -503,6 +409,7 @@ remove_stands s node suits h = record {
   formatted = λ name is.
       let row = h.formatted name is in
       (row.0, stays name row.0 row.1 (λ same. let used = suits.own name row.0 row.1 same in cc));
+  writing = remove_writing s node suits h;
 }
   where
     now : State
@@ -525,20 +432,6 @@ remove_stands s node suits h = record {
     kept row there =
         let old = Contains-filter (λ r. not (r.id == node)) s.table.nodes row there in
         (old.0, eqb-false row.id node (not_true (row.id == node) old.1))
-
-    others : (row : NodeRecord) → row.id ≢ node → (r : NodeRecord) → (r.id == row.id) ≡ true → not (r.id == node) ≡ true
-    others row differ r t = ap not (ne_eqb r.id node (λ same. differ (sym (eqb-true r.id row.id t) ∙ same)))
-
-    still : (other : ℕ) → other ≢ node → IsSome (node_at s.table other) → IsSome (node_at now.table other)
-    still other differ some = subst IsSome
-        (sym (find-filter (λ r. r.id == other) (λ r. not (r.id == node))
-        (λ r t. ap not (ne_eqb r.id node (λ same. differ (sym (eqb-true r.id other t) ∙ same)))) s.table.nodes)) some
-
-    gone_parent : (e : Edge) → not (same_parent e.parent (Node node)) ≡ true → e.parent ≡ Node node → ⊥
-    gone_parent e t is =
-        let same : same_parent e.parent (Node node) ≡ true = rw is (eq-eqb node node refl) in
-        let differ = not_true (same_parent e.parent (Node node)) t in
-        cc
 
     stood : (name : List ℕ) (row : NodeRecord) → StandsFor now.table name row → StandsFor s.table name row
     stood name row over = record { there = (kept row over.there).0; filename = over.filename }
@@ -591,9 +484,9 @@ remove_stands s node suits h = record {
 
 pub stands_keep : (s : State) (c : Change) → Suits s c → Stands s → Stands (stepped s c)
 unfolding changed
-stands_keep s change.Negotiate suits h = still_stands s (stepped s change.Negotiate) refl refl refl refl h
-stands_keep s (change.KeepId id) suits h = still_stands s (stepped s (change.KeepId id)) refl refl refl refl h
-stands_keep s (change.DropId id) suits h = still_stands s (stepped s (change.DropId id)) refl refl refl refl h
+stands_keep s change.Negotiate suits h = still_stands s (stepped s change.Negotiate) refl refl refl refl refl refl refl refl refl h
+stands_keep s (change.KeepId id) suits h = still_stands s (stepped s (change.KeepId id)) refl refl refl refl refl refl refl refl refl h
+stands_keep s (change.DropId id) suits h = still_stands s (stepped s (change.DropId id)) refl refl refl refl refl refl refl refl refl h
 stands_keep s (change.MakeFile name size) suits h = make_stands s name size suits h
 stands_keep s (change.FormatFile node name size backing_file backing_fmt) suits h =
     format_stands s node name size backing_file backing_fmt suits h

@@ -63,7 +63,7 @@ pub record HasLike (edges : List Edge) (e : Edge) : Type 0 where
   pub there : Contains edges edge
   pub same : IsSameEdge edge e
 
-same-edge : (e : Edge) → IsSameEdge e e
+pub same-edge : (e : Edge) → IsSameEdge e e
 same-edge e = record { parent = refl; role = refl; child = refl }
 
 turned-old : (kinds : List NodeKind) (edges : List Edge) (e : Edge) → Contains (turned kinds edges) e → HasLike edges e
@@ -87,7 +87,7 @@ turned-new kinds edges e h = record {
   same = ruled-same kinds (uses_into edges) e;
 }
 
-like-then : (a b : Edge) (c : Edge) → IsSameEdge a b → IsSameEdge b c → IsSameEdge a c
+pub like-then : (a b : Edge) (c : Edge) → IsSameEdge a b → IsSameEdge b c → IsSameEdge a c
 like-then a b c h k = record { parent = h.parent ∙ k.parent; role = h.role ∙ k.role; child = h.child ∙ k.child }
 
 turned_by-old : (turns : ℕ) (kinds : List NodeKind) (edges : List Edge) (e : Edge) → Contains (turned_by turns kinds edges) e → HasLike edges e

@@ -19,9 +19,9 @@ use Rattle.flat_machine.specs.State.{State, Content, Unknown, Left, Disk, bytes_
 use Rattle.flat_machine.specs.Machine.{disk_changed, with_disk, written, with_part, note, noted as noted_dirty, is_noted, read_through, copies_at, path}
 use Rattle.flat_machine.specs.Jobs.{unsure}
 use Rattle.flat_machine.specs.Final.{read_as}
-use Rattle.flat_machine.specs.Agreement.{Contents, HasDisk, IsAsKnown, IsLeftAs, Agrees}
-use Rattle.flat_machine.specs.Performing.{IsQuiet}
-use Rattle.flat_machine.specs.Writing.{IsWritable, ReadsWritten, Writes, PieceDone, CanWrite, written_file}
+use Rattle.flat_machine.specs.Agreement.{Contents, HasDisk, ReadAsDisks, IsAsKnown, IsLeftAs, Agrees}
+use Rattle.flat_machine.specs.Performing.{HeldSame, IsQuiet}
+use Rattle.flat_machine.specs.Writing.{IsWritable, ReadsWritten, Writes, Copies, PieceDone, CanWrite, written_file}
 use Rattle.flat_machine.proofs.Finds.{find-map, cases_name}
 use Rattle.flat_machine.proofs.Agreeing.{HadDisk, rows_same, rows_mapped}
 use Rattle.flat_machine.proofs.Kept.{own_disk, quiet_keeps}
@@ -85,27 +85,69 @@ not_over t node n row found disk =
 
 -- ---- a write
 
-module _ (opening : List ℕ → Option (List ℕ)) (s now : State) (node : ℕ) (op : Op) (part : Extent) (done : ℕ) (old new : Contents) where
-  write_keeps : now.table.nodes ≡ map (unsettled_over s.table node) s.table.nodes
-      → now.disks ≡ map (disk_changed node (done_in op part done)) s.disks → now.files ≡ s.files → now.left ≡ s.left → now.named ≡ s.named
-      → IsWritable s node → Writes s node op part done old new → Agrees opening s old → Agrees opening now new
-  write_keeps nodes disks files left named can did h = record {
-    disks = λ n row found disk.
-        let in_list = subst (λ rows. find (λ r. r.id == n) rows ≡ Some row) nodes found in
-        let over = not_over s.table node n row in_list disk in
-        subst (λ ds. new.reads n ≡ bytes_in ds n) (sym disks)
-        (by_node n over (rows_mapped s now (unsettled_over s.table node) (like_over s.table node)
-        (λ r has. (disk_over s.table node r has).1) nodes n row found disk) (cases_eq n node));
+module _ (opening : List ℕ → Option (List ℕ)) (s now : State) (node : ℕ) (old new : Contents) where
+  -- its file alone changes, of which nothing is known
+  file_written : ReadAsDisks now new → now.files ≡ s.files → now.left ≡ s.left → now.named ≡ s.named
+      → IsWritable s node → HeldSame (λ name. written_file s.table node ≡ Some name) old new → Agrees opening s old → Agrees opening now new
+  file_written disks files left named can did h = record {
+    disks = disks;
     known = λ name content found.
         by_file name content (subst (λ fs. content_in fs name ≡ Some content) files found);
     absent = λ name none.
         let was : content_in s.files name ≡ None = subst (λ fs. content_in fs name ≡ None) files none in
-        did.files name (λ is. let known = can.known name is in cc) ∙ h.absent name was;
+        did name (λ is. let known = can.known name is in cc) ∙ h.absent name was;
     left = subst (λ ls. All (IsLeftAs new) ls) (sym left) (λ k d within. kept_left k d within);
     unchanged = λ name not_named.
         let was : has_name name s.named ≡ false = subst (λ names. has_name name names ≡ false) named not_named in
-        did.files name (λ is. let was_named = can.named name is in cc) ∙ h.unchanged name was;
+        did name (λ is. let was_named = can.named name is in cc) ∙ h.unchanged name was;
   }
+    where
+      file_is : (name : List ℕ) → (written_file s.table node ≡ Some name) ⊎ (written_file s.table node ≡ Some name → ⊥)
+      file_is name = by_file (written_file s.table node) refl
+        where
+          by_file : (file : Option (List ℕ)) → written_file s.table node ≡ file
+              → (written_file s.table node ≡ Some name) ⊎ (written_file s.table node ≡ Some name → ⊥)
+          by_file None e = inr (λ is. cc)
+          by_file (Some other) e = elim (cases_name other name) [
+            | inl same ↦ inl (e ∙ ap Some same)
+            | inr differ ↦ inr (λ is. differ cc)
+          ]
+
+      by_file : (name : List ℕ) (content : Content) → content_in s.files name ≡ Some content → IsAsKnown content (new.held name)
+      by_file name content found = elim (file_is name) [
+        | inl is ↦ let unknown = can.known name is in let same : Unknown ≡ content = cc in subst (λ c. IsAsKnown c (new.held name)) same tt
+        | inr other ↦ subst (IsAsKnown content) (sym (did name other)) (h.known name content found)
+      ]
+
+      kept_left : All (IsLeftAs new) s.left
+      kept_left k d within =
+          let l : Left = slice_index_or s.left k d in
+          subst (λ bytes. With bytes (λ b. read_as l.kind l.offset (length l.bytes) b ≡ l.bytes))
+          (sym (did l.file (λ is. can.left l.file is k d within refl))) (h.left k d within)
+
+  -- a read that copies
+  copied_keeps : now.table.nodes ≡ s.table.nodes → ((n : ℕ) → bytes_in now.disks n ≡ bytes_in s.disks n)
+      → now.files ≡ s.files → now.left ≡ s.left → now.named ≡ s.named
+      → IsWritable s node → Copies s node old new → Agrees opening s old → Agrees opening now new
+  copied_keeps nodes disks files left named can did h =
+      file_written (λ n row found disk. elim (rows_same s now nodes n row found disk) [
+        | inl never ↦ absurd never
+        | inr had ↦
+            did.nodes n (λ is. can.under n had.row is had.found had.disk) ∙ h.disks n had.row had.found had.disk ∙ sym (disks n)
+      ]) files left named can did.files h
+
+module _ (opening : List ℕ → Option (List ℕ)) (s now : State) (node : ℕ) (op : Op) (part : Extent) (done : ℕ) (old new : Contents) where
+  write_keeps : now.table.nodes ≡ map (unsettled_over s.table node) s.table.nodes
+      → now.disks ≡ map (disk_changed node (done_in op part done)) s.disks → now.files ≡ s.files → now.left ≡ s.left → now.named ≡ s.named
+      → IsWritable s node → Writes s node op part done old new → Agrees opening s old → Agrees opening now new
+  write_keeps nodes disks files left named can did h =
+      file_written opening s now node old new (λ n row found disk.
+      let in_list = subst (λ rows. find (λ r. r.id == n) rows ≡ Some row) nodes found in
+      let over = not_over s.table node n row in_list disk in
+      subst (λ ds. new.reads n ≡ bytes_in ds n) (sym disks)
+      (by_node n over (rows_mapped s now (unsettled_over s.table node) (like_over s.table node)
+      (λ r has. (disk_over s.table node r has).1) nodes n row found disk) (cases_eq n node)))
+      files left named can did.files h
     where
       by_node : (n : ℕ) → is_over s.table node n ≡ false → (⊥ ⊎ HadDisk s n) → ((n ≡ node) ⊎ (n ≢ node))
           → new.reads n ≡ bytes_in (map (disk_changed node (done_in op part done)) s.disks) n
@@ -123,29 +165,6 @@ module _ (opening : List ℕ → Option (List ℕ)) (s now : State) (node : ℕ)
           apart m no_over was other (inl same) = other (sym (own_disk s.table m was.row was.found was.disk.own) ∙ same)
           apart m no_over was other (inr (inl file)) = can.under m was.row file was.found was.disk
           apart m no_over was other (inr (inr is_read)) = cc
-
-      file_is : (name : List ℕ) → (written_file s.table node ≡ Some name) ⊎ (written_file s.table node ≡ Some name → ⊥)
-      file_is name = by_file (written_file s.table node) refl
-        where
-          by_file : (file : Option (List ℕ)) → written_file s.table node ≡ file
-              → (written_file s.table node ≡ Some name) ⊎ (written_file s.table node ≡ Some name → ⊥)
-          by_file None e = inr (λ is. cc)
-          by_file (Some other) e = elim (cases_name other name) [
-            | inl same ↦ inl (e ∙ ap Some same)
-            | inr differ ↦ inr (λ is. differ cc)
-          ]
-
-      by_file : (name : List ℕ) (content : Content) → content_in s.files name ≡ Some content → IsAsKnown content (new.held name)
-      by_file name content found = elim (file_is name) [
-        | inl is ↦ let unknown = can.known name is in let same : Unknown ≡ content = cc in subst (λ c. IsAsKnown c (new.held name)) same tt
-        | inr other ↦ subst (IsAsKnown content) (sym (did.files name other)) (h.known name content found)
-      ]
-
-      kept_left : All (IsLeftAs new) s.left
-      kept_left k d within =
-          let l : Left = slice_index_or s.left k d in
-          subst (λ bytes. With bytes (λ b. read_as l.kind l.offset (length l.bytes) b ≡ l.bytes))
-          (sym (did.files l.file (λ is. can.left l.file is k d within refl))) (h.left k d within)
 
 -- ---- what stands beside the disks
 
@@ -215,11 +234,26 @@ module _ (opening : List ℕ → Option (List ℕ)) where
   pub piece_keeps : (s : State) (drive : ℕ) (op : Op) (outcome : Outcome) (part : Extent) (old new : Contents) → CanWrite s drive op
       → PieceDone s drive op outcome part old new → Agrees opening s old → Agrees opening (with_part drive op outcome part s) new
   unfolding written_under
-  piece_keeps s drive (Read span) outcome part old new can did h =
-      let node : ℕ = disk_node s.table drive in
-      let done : ℕ = done_by outcome part in
-      quiet_piece s (with_part drive (Read span) outcome part s) node (Read span) part done old new refl
-      (read_beside drive (with_disk node (done_in (Read span) part done) s)) did h
+  piece_keeps s drive (Read span) outcome part old new can did h = elim did [
+    | inl quiet ↦ quiet_piece s now node (Read span) part done old new refl beside quiet h
+    | inr copied ↦
+        copied_keeps opening s now node old new beside.nodes
+        (λ n. ap (λ ds. bytes_in ds n) beside.disks
+        ∙ unwritten node (done_in (Read span) part done) s.disks (writes_nothing (Read span) part done refl) n)
+        beside.files beside.left beside.named (can copied.0) copied.1 h
+  ]
+    where
+      node : ℕ
+      node = disk_node s.table drive
+
+      done : ℕ
+      done = done_by outcome part
+
+      now : State
+      now = with_part drive (Read span) outcome part s
+
+      beside : IsBeside (with_disk node (done_in (Read span) part done) s) now
+      beside = read_beside drive (with_disk node (done_in (Read span) part done) s)
   piece_keeps s drive Flush outcome part old new can did h =
       let node : ℕ = disk_node s.table drive in
       let done : ℕ = done_by outcome part in

@@ -19,6 +19,7 @@ pub mod Comes
 pub mod Unique
 pub mod Agreement
 pub mod Performing
+pub mod Writing
+pub mod Wiring
 pub mod Standing
 pub mod Suiting
-pub mod Writing

@@ -75,9 +75,12 @@ is_copying kind = false
 abbrev pub copies_at : Table → ℕ → Bool
 copies_at t node = elim (node_at t node) as (λ _. Bool) [ None ↦ false | Some row ↦ is_copying row.kind ]
 
+abbrev pub copies_through : Table → ℕ → Bool
+copies_through t node = list_any (copies_at t) (path t node)
+
 abbrev pub read_through : ℕ → State → State
 read_through drive s =
-    if list_any (copies_at s.table) (path s.table drive)
+    if copies_through s.table drive
     then record s { images = map (unsure (disk_node s.table drive ∷ [])) s.images }
     else s
 

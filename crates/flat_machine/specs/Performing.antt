@@ -1,7 +1,7 @@
 -- What a change of the table is in the world: when it can be made, and what it does to nodes and files.
 use Rattle.std.specs.Prelude.{◌≡◌, ℕ, max, List, [], ◌∷◌, length, replicate, Option, Some, None, IsSome, option_map, unwrap_or}
 use Rattle.q2_format.specs.Contents.{file_disk, raw_disk, image_disk}
-use Rattle.q2_format.specs.Created.{Creation, IsCreated, created_length, creation_of}
+use Rattle.q2_format.specs.Created.{Creation, CanBeCreated, IsCreated, created_length, creation_of}
 use Rattle.blk_graph.specs.declared.edge.Role.TheVariants.{Backing}
 use Rattle.blk_graph.specs.declared.kind.Kind.{Kind}
 use Rattle.blk_graph.specs.declared.kind.Kind.TheVariants.{Protocol, Raw, Qcow2}
@@ -106,6 +106,7 @@ abbrev pub held_bytes : Contents → List ℕ → List ℕ
 held_bytes c name = unwrap_or (c.held name) []
 
 pub record IsFormatted (new_image : Creation) (old bytes : List ℕ) : Type 0 where
+  pub can : CanBeCreated new_image.size new_image.name new_image.format
   pub created : IsCreated new_image bytes
   pub length_is : length bytes ≡ max (length old) (created_length new_image)
 

@@ -1,55 +1,25 @@
--- What holds of the tables of every state that a run comes to.
-use Rattle.std.specs.Prelude.{◌≡◌, ◌⊎◌, ℕ, false, List, Contains, Option, Some, None, IsSome}
-use Rattle.blk_graph.specs.declared.edge.Edge.{Edge}
-use Rattle.blk_graph.specs.declared.edge.Parent.TheVariants.{Node}
-use Rattle.blk_graph.specs.declared.edge.Role.TheVariants.{File}
-use Rattle.blk_graph.specs.declared.kind.Kind.TheVariants.{Protocol}
+-- What holds of every state that a run comes to.
+use Rattle.std.specs.Prelude.{◌≡◌, ◌⊎◌, ℕ, true, false, ◌==◌, List, Contains, All, find, Option, Some, None, IsSome}
 use Rattle.qmp_rules.specs.declared.rows.NodeRecord.{NodeRecord}
+use Rattle.qmp_rules.specs.declared.rows.Device.{Device}
 use Rattle.qmp_rules.specs.declared.rows.FileState.{FileState}
 use Rattle.qmp_rules.specs.declared.rows.FileState.TheVariants.{Made, Formatted, Used}
-use Rattle.qmp_rules.specs.Table.{Table, node_at, file_state}
-use Rattle.flat_machine.specs.State.{State, Content, Bytes, Blank, content_in}
-
--- ---- rows and edges
-
--- no two rows have one id
-abbrev pub AreApart : Table → Type 0
-AreApart t = (row : NodeRecord) → Contains t.nodes row → node_at t row.id ≡ Some row
-
--- a node's edge is that of a node that is there, and leads to one
-pub record HasEnds (t : Table) (edge : Edge) : Type 0 where
-  pub parent : (node : ℕ) → edge.parent ≡ Node node → IsSome (node_at t node)
-  pub child : IsSome (node_at t edge.child)
-
-abbrev pub EdgesHaveEnds : Table → Type 0
-EdgesHaveEnds t = (edge : Edge) → Contains t.edges edge → HasEnds t edge
+use Rattle.qmp_rules.specs.Table.{Table, node_at, device_at, file_state, has_name}
+use Rattle.qmp_rules.specs.Chains.{filter_role, disk_node}
+use Rattle.blk_history.specs.Fold.{With}
+use Rattle.flat_machine.specs.State.{State, Content, Bytes, Blank, Unknown, Left, content_in, drive_of}
+use Rattle.flat_machine.specs.Wiring.{StandsFor, IsUnder, HasFile, TableStands, InlineAreUnder, writes_through}
+use Rattle.flat_machine.specs.Writing.{IsWritable}
 
 -- ---- `file` nodes
 
--- a row of a node that stands for the file
-pub record StandsFor (t : Table) (name : List ℕ) (row : NodeRecord) : Type 0 where
-  pub there : Contains t.nodes row
-  pub filename : row.filename ≡ Some name
-
--- it is a `file` node, alone over its file, of which there is some word
-abbrev pub AreFileNodes : Table → Type 0
-AreFileNodes t = (name : List ℕ) (row : NodeRecord) → StandsFor t name row → row.kind ≡ Protocol
-
-abbrev pub StandAlone : Table → Type 0
-StandAlone t = (name : List ℕ) (a b : NodeRecord) → StandsFor t name a → StandsFor t name b → a.id ≡ b.id
-
+-- there is some word of a file over which one stands
 abbrev pub HaveFiles : State → Type 0
 HaveFiles s = (name : List ℕ) (row : NodeRecord) → StandsFor s.table name row → IsSome (content_in s.files name)
 
-abbrev pub HaveNames : Table → Type 0
-HaveNames t = (row : NodeRecord) → Contains t.nodes row → row.kind ≡ Protocol → IsSome row.filename
-
--- a format node is over the `file` node
-pub record IsUnder (edges : List Edge) (file : ℕ) : Type 0 where
-  pub edge : Edge
-  pub there : Contains edges edge
-  pub over : edge.role ≡ File
-  pub child : edge.child ≡ file
+-- one that may be written names its file for that
+abbrev pub AreNamed : State → Type 0
+AreNamed s = (name : List ℕ) (row : NodeRecord) → StandsFor s.table name row → row.read_only ≡ false → has_name name s.named ≡ true
 
 -- why a `file` node has no flat disk: its file was used or formatted, or a format node is over it
 abbrev pub IsLostBy : Table → List ℕ → NodeRecord → Type 0
@@ -84,19 +54,59 @@ abbrev pub FilesAreOfState : State → Type 0
 FilesAreOfState s = (name : List ℕ) (content : Content) → content_in s.files name ≡ Some content → IsOpen s.table name
     → IsOfState (file_state s.table name) content
 
+-- of one under a format node nothing is known
+abbrev pub TakenAreUnknown : State → Type 0
+TakenAreUnknown s = (name : List ℕ) (over under : NodeRecord) → HasFile s.table over under → under.filename ≡ Some name
+    → content_in s.files name ≡ Some Unknown
+
 -- a formatted file has a node over it
 abbrev pub FormattedAreOpen : Table → Type 0
 FormattedAreOpen t = (name : List ℕ) → file_state t name ≡ Some Formatted → (row : NodeRecord) × StandsFor t name row
 
+-- ---- disks
+
+-- a node that is no filter has its bytes
+abbrev pub HasBytes : State → ℕ → Type 0
+HasBytes s node = IsSome (find (λ d. d.node == node) s.disks)
+
+abbrev pub HaveBytes : State → Type 0
+HaveBytes s = (row : NodeRecord) → Contains s.table.nodes row → filter_role row.kind ≡ None → HasBytes s row.id
+
+-- a file in which a disk was left was used: a node that stands for it has no flat disk, and none is over that
+pub record IsUsedUp (s : State) (left : Left) : Type 0 where
+  pub used : file_state s.table left.file ≡ Some Used
+  pub gone : (row : NodeRecord) → StandsFor s.table left.file row → row.is_settled ≡ false
+  pub is_open : IsOpen s.table left.file
+
+-- ---- devices
+
+-- a device has a drive; where it may write its disk, or its reads do, that may be written
+abbrev pub MayWrite : State → Device → ℕ → Type 0
+MayWrite s device drive = writes_through s.table device.read_only drive ≡ true → IsWritable s (disk_node s.table drive)
+
+abbrev pub WritersStand : State → Type 0
+WritersStand s = (g : ℕ) (device : Device) → device_at s.table g ≡ Some device → With (drive_of s.table g) (MayWrite s device)
+
 -- ---- all of it
 
+-- what a guest's writing rests on
+pub record WritingStands (s : State) : Type 0 where
+  pub named : AreNamed s
+  pub unknown : TakenAreUnknown s
+  pub disks : HaveBytes s
+  pub left : All (IsUsedUp s) s.left
+  pub writers : WritersStand s
+
+-- what each change keeps
 pub record Stands (s : State) : Type 0 where
-  pub apart : AreApart s.table
-  pub edges : EdgesHaveEnds s.table
-  pub drivers : AreFileNodes s.table
-  pub names : HaveNames s.table
-  pub alone : StandAlone s.table
+  pub table : TableStands s.table
   pub files : HaveFiles s
   pub lost : LostHaveCause s.table
   pub states : FilesAreOfState s
   pub formatted : FormattedAreOpen s.table
+  pub writing : WritingStands s
+
+-- between events: what the changes of a command keep together
+pub record StandsAtRest (s : State) : Type 0 where
+  pub stands : Stands s
+  pub inline : InlineAreUnder s.table

@@ -1,17 +1,22 @@
--- When a change leaves what holds of all tables.
-use Rattle.std.specs.Prelude.{◌≡◌, ◌≢◌, ℕ, true, List, [], ◌∷◌, Contains, Option, Some, None, IsSome}
+-- When a change leaves what holds of all tables and states.
+use Rattle.std.specs.Prelude.{◌≡◌, ◌≢◌, ℕ, true, false, List, [], ◌∷◌, Contains, Option, Some, None, IsSome}
 use Rattle.blk_graph.specs.declared.edge.Edge.{Edge}
 use Rattle.blk_graph.specs.declared.edge.Parent.TheVariants.{Node}
-use Rattle.blk_graph.specs.declared.edge.Role.TheVariants.{File}
+use Rattle.blk_graph.specs.declared.edge.Role.TheVariants.{File, Backing}
 use Rattle.blk_graph.specs.declared.kind.Kind.TheVariants.{Protocol}
+use Rattle.blk_graph.specs.Permissions.{has_role}
 use Rattle.qmp_rules.specs.declared.change.Change.{Change}
 use Rattle.qmp_rules.specs.declared.change.Change.TheVariants as change
 use Rattle.qmp_rules.specs.declared.rows.NodeRecord.{NodeRecord}
+use Rattle.qmp_rules.specs.declared.rows.Device.{Device}
 use Rattle.qmp_rules.specs.declared.rows.FileState.TheVariants.{Used}
-use Rattle.qmp_rules.specs.Table.{Table, node_at, file_state}
+use Rattle.qmp_rules.specs.Table.{Table, node_at, device_at, file_state}
+use Rattle.qmp_rules.specs.Chains.{filter_role}
+use Rattle.qmp_rules.specs.Changes.{changed}
 use Rattle.flat_machine.specs.State.{State, content_in}
 use Rattle.flat_machine.specs.Changed.{stepped}
-use Rattle.flat_machine.specs.Standing.{Stands, StandsFor}
+use Rattle.flat_machine.specs.Wiring.{StandsFor, IsUnder, HasNumber, TableStands}
+use Rattle.flat_machine.specs.Standing.{MayWrite, Stands}
 
 abbrev pub IsThere : Table → ℕ → Type 0
 IsThere t node = IsSome (node_at t node)
@@ -20,54 +25,131 @@ IsThere t node = IsSome (node_at t node)
 abbrev pub IsClosed : Table → List ℕ → Type 0
 IsClosed t name = (row : NodeRecord) → StandsFor t name row → ⊥
 
--- a new `file` node over a file that is there and for which no other node stands
-pub record SuitsFile (s : State) (row : NodeRecord) : Type 0 where
-  pub fresh : node_at s.table row.id ≡ None
+-- no edge leads to the node
+abbrev pub IsAlone : Table → ℕ → Type 0
+IsAlone t node = (edge : Edge) → Contains t.edges edge → edge.child ≡ node → ⊥
+
+-- it is no `file` node that a format node is over
+abbrev pub IsFree : Table → ℕ → Type 0
+IsFree t node = (row : NodeRecord) → node_at t node ≡ Some row → IsSome row.filename → IsUnder t.edges node → ⊥
+
+-- ---- tables
+
+-- a new `file` node over a file for which no other node stands
+pub record SuitsFile (t : Table) (row : NodeRecord) : Type 0 where
+  pub fresh : node_at t row.id ≡ None
   pub driver : row.kind ≡ Protocol
-  pub settled : row.is_settled ≡ true
   pub name : List ℕ
   pub filename : row.filename ≡ Some name
-  pub closed : IsClosed s.table name
-  pub there : IsSome (content_in s.files name)
+  pub closed : IsClosed t name
 
--- a new node over others
-pub record SuitsOver (s : State) (row : NodeRecord) (child : ℕ) : Type 0 where
-  pub fresh : node_at s.table row.id ≡ None
-  pub driver : row.kind ≢ Protocol
+-- the backing node of a new one
+pub record SuitsBacking (t : Table) (row : NodeRecord) (file backing : ℕ) : Type 0 where
+  pub role : has_role row.kind Backing ≡ true
+  pub there : IsThere t backing
+  pub other : backing ≢ file
+  pub free : IsFree t backing
+
+-- a new format node over a `file` node that has no parent
+pub record SuitsFormat (t : Table) (row : NodeRecord) (file : ℕ) (backing : Option ℕ) : Type 0 where
+  pub fresh : node_at t row.id ≡ None
+  pub format : filter_role row.kind ≡ None
+  pub role : has_role row.kind File ≡ true
   pub filename : row.filename ≡ None
-  pub child_there : IsThere s.table child
+  pub under : NodeRecord
+  pub found : node_at t file ≡ Some under
+  pub name : List ℕ
+  pub of_file : under.filename ≡ Some name
+  pub alone : IsAlone t file
+  pub writable : row.read_only ≡ false → under.read_only ≡ false
+  pub backed : (node : ℕ) → backing ≡ Some node → SuitsBacking t row file node
 
-pub record SuitsFormat (s : State) (row : NodeRecord) (file : ℕ) (backing : Option ℕ) : Type 0 where
-  pub over : SuitsOver s row file
-  pub backing_there : (node : ℕ) → backing ≡ Some node → IsThere s.table node
+-- a new filter that copies what is read, over a format node that may be written
+pub record SuitsFilter (t : Table) (row : NodeRecord) (child : ℕ) : Type 0 where
+  pub fresh : node_at t row.id ≡ None
+  pub filter : filter_role row.kind ≡ Some File
+  pub filename : row.filename ≡ None
+  pub under : NodeRecord
+  pub found : node_at t child ≡ Some under
+  pub own : filter_role under.kind ≡ None
+  pub no_file : under.filename ≡ None
+  pub writable : under.read_only ≡ false
+
+pub record SuitsDevice (t : Table) (device : Device) (node : ℕ) : Type 0 where
+  pub there : IsThere t node
+  pub free : IsFree t node
+  pub number : HasNumber t.guests device
+
+-- Of the kinds that jobs and snapshots bring it is asked that they leave it.
+abbrev pub TableSuits : Table → Change → Type 0
+TableSuits t change.Negotiate = Unit {0}
+TableSuits t (change.KeepId id) = Unit {0}
+TableSuits t (change.DropId id) = Unit {0}
+TableSuits t (change.MakeFile name size) = Unit {0}
+TableSuits t (change.FormatFile node name size backing_file backing_fmt) = Unit {0}
+TableSuits t (change.SpoilFile name) = Unit {0}
+TableSuits t (change.UseFile name) = Unit {0}
+TableSuits t (change.AddFile row) = SuitsFile t row
+TableSuits t (change.AddFormat row file backing) = SuitsFormat t row file backing
+TableSuits t (change.AddFilter row child) = SuitsFilter t row child
+TableSuits t (change.RemoveNode node) = IsAlone t node
+TableSuits t (change.AddDevice device node) = SuitsDevice t device node
+TableSuits t c = TableStands (changed t c)
+
+abbrev pub AllTableSuit : Table → List Change → Type 0
+AllTableSuit t [] = Unit {0}
+AllTableSuit t (c ∷ changes) = TableSuits t c × AllTableSuit (changed t c) changes
+
+-- ---- states
+
+-- no node that stands for the file has been used
+abbrev pub IsUnused : Table → List ℕ → Type 0
+IsUnused t name = file_state t name ≢ Some Used
+
+-- there is word of the file of a new `file` node, and it was not used
+pub record FileSuits (s : State) (row : NodeRecord) : Type 0 where
+  pub suits : SuitsFile s.table row
+  pub settled : row.is_settled ≡ true
+  pub there : IsSome (content_in s.files suits.name)
+  pub unused : IsUnused s.table suits.name
+
+pub record FormatSuits (s : State) (row : NodeRecord) (file : ℕ) (backing : Option ℕ) : Type 0 where
+  pub suits : SuitsFormat s.table row file backing
+  pub unused : IsUnused s.table suits.name
 
 -- a node without parents, whose file was used
-pub record SuitsRemoval (t : Table) (node : ℕ) : Type 0 where
-  pub lone : (edge : Edge) → Contains t.edges edge → edge.child ≡ node → ⊥
+pub record RemovalSuits (t : Table) (node : ℕ) : Type 0 where
+  pub alone : IsAlone t node
   pub own : (name : List ℕ) (row : NodeRecord) → StandsFor t name row → row.id ≡ node → file_state t name ≡ Some Used
   pub under : (name : List ℕ) (row : NodeRecord) (edge : Edge) → StandsFor t name row → Contains t.edges edge → edge.parent ≡ Node node
       → edge.role ≡ File → edge.child ≡ row.id → file_state t name ≡ Some Used
 
--- the node stands for the file
-pub record SuitsFormatting (t : Table) (node : ℕ) (name : List ℕ) : Type 0 where
+-- the node stands for the file, and has no parent
+pub record FormattingSuits (t : Table) (node : ℕ) (name : List ℕ) : Type 0 where
   pub row : NodeRecord
   pub stands : StandsFor t name row
   pub is_node : row.id ≡ node
+  pub alone : IsAlone t node
 
--- Of the kinds that jobs and snapshots bring it is asked that they leave it.
+-- a device with a number of its own, on a node that it may use so
+pub record DeviceSuits (s : State) (device : Device) (node : ℕ) : Type 0 where
+  pub suits : SuitsDevice s.table device node
+  pub fresh : device_at s.table device.number ≡ None
+  pub writes : MayWrite s device node
+
 abbrev pub Suits : State → Change → Type 0
 Suits s change.Negotiate = Unit {0}
 Suits s (change.KeepId id) = Unit {0}
 Suits s (change.DropId id) = Unit {0}
 Suits s (change.MakeFile name size) = IsClosed s.table name
-Suits s (change.FormatFile node name size backing_file backing_fmt) = SuitsFormatting s.table node name
+Suits s (change.FormatFile node name size backing_file backing_fmt) = FormattingSuits s.table node name
 Suits s (change.SpoilFile name) = Unit {0}
 Suits s (change.UseFile name) = Unit {0}
-Suits s (change.AddFile row) = SuitsFile s row
-Suits s (change.AddFormat row file backing) = SuitsFormat s row file backing
-Suits s (change.AddFilter row child) = SuitsOver s row child
-Suits s (change.RemoveNode node) = SuitsRemoval s.table node
-Suits s (change.AddDevice device node) = IsThere s.table node
+Suits s (change.AddFile row) = FileSuits s row
+Suits s (change.AddFormat row file backing) = FormatSuits s row file backing
+Suits s (change.AddFilter row child) = SuitsFilter s.table row child
+Suits s (change.RemoveNode node) = RemovalSuits s.table node
+Suits s (change.AddDevice device node) = DeviceSuits s device node
 Suits s c = Stands (stepped s c)
 
 abbrev pub AllSuit : State → List Change → Type 0

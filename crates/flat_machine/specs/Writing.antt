@@ -3,7 +3,7 @@ use Rattle.std.specs.Prelude.{◌≡◌, ◌≢◌, ◌⊎◌, ℕ, true, ◌==�
 use Rattle.blk_base.specs.Pieces.{Extent}
 use Rattle.blk_graph.specs.declared.edge.Role.TheVariants.{File}
 use Rattle.trace_codec.specs.declared.op.Op.{Op}
-use Rattle.trace_codec.specs.declared.op.Op.TheVariants.{Write, Zero}
+use Rattle.trace_codec.specs.declared.op.Op.TheVariants.{Read, Write, Zero}
 use Rattle.blk_base.specs.declared.fault.Outcome.{Outcome}
 use Rattle.qmp_rules.specs.declared.rows.NodeRecord.{NodeRecord}
 use Rattle.qmp_rules.specs.Table.{Table, node_at, child, has_name}
@@ -12,6 +12,7 @@ use Rattle.blk_history.specs.Disk.{done_in}
 use Rattle.blk_history.specs.Machine.{done_by}
 use Rattle.flat_machine.specs.State.{State, Unknown, content_in}
 use Rattle.flat_machine.specs.Changed.{file_of}
+use Rattle.flat_machine.specs.Machine.{copies_through}
 use Rattle.flat_machine.specs.Agreement.{Contents, HasDisk}
 use Rattle.flat_machine.specs.Performing.{ReadSame, HeldSame, IsQuiet}
 
@@ -42,14 +43,25 @@ pub record Writes (s : State) (node : ℕ) (op : Op) (part : Extent) (done : ℕ
   pub nodes : ReadSame (ReadsWritten s.table node) old new
   pub files : HeldSame (λ name. written_file s.table node ≡ Some name) old new
 
--- A piece of a write or zero write, on a guest's drive; every other piece changes nothing.
+-- A read through a filter that copies may write clusters of the image below, of which no disk is another one afterwards.
+pub record Copies (s : State) (node : ℕ) (old new : Contents) : Type 0 where
+  pub nodes : ReadSame (λ other. child s.table node File ≡ Some other) old new
+  pub files : HeldSame (λ name. written_file s.table node ≡ Some name) old new
+
+abbrev pub ReadDone : State → ℕ → Contents → Contents → Type 0
+ReadDone s drive old new =
+    IsQuiet old new ⊎ ((copies_through s.table drive ≡ true) × Copies s (disk_node s.table drive) old new)
+
+-- a piece on a guest's drive; one of a flush or a discard changes nothing
 abbrev pub PieceDone : State → ℕ → Op → Outcome → Extent → Contents → Contents → Type 0
+PieceDone s drive (Read span) outcome part old new = ReadDone s drive old new
 PieceDone s drive (Write span payload) outcome part old new =
     Writes s (disk_node s.table drive) (Write span payload) part (done_by outcome part) old new
 PieceDone s drive (Zero span) outcome part old new = Writes s (disk_node s.table drive) (Zero span) part (done_by outcome part) old new
 PieceDone s drive op outcome part old new = IsQuiet old new
 
 abbrev pub CanWrite : State → ℕ → Op → Type 0
+CanWrite s drive (Read span) = copies_through s.table drive ≡ true → IsWritable s (disk_node s.table drive)
 CanWrite s drive (Write span payload) = IsWritable s (disk_node s.table drive)
 CanWrite s drive (Zero span) = IsWritable s (disk_node s.table drive)
 CanWrite s drive op = Unit {0}

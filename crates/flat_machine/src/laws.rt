@@ -1,28 +1,38 @@
 //! What follows from the definitions, each law the contract of a function that does nothing.
 
-ghost use Rattle.std.specs.Prelude.{◌≡◌, ℕ, List, [], Option, Some, None, Ok, true, false};
+ghost use Rattle.std.specs.Prelude.{◌≡◌, ℕ, List, [], Option, Some, None, Ok, Err, true, false};
 ghost use Rattle.serde_json.specs.Data.{Data};
 ghost use Rattle.serde_json.specs.Read.{read};
-ghost use Rattle.qmp_codec.specs.Lines.{command_at};
+ghost use Rattle.qmp_codec.specs.Lines.{Stop, command_at};
 ghost use Rattle.qmp_codec.specs.Replies.{returned_data, refused_data};
 ghost use Rattle.qmp_codec.specs.declared.reply.Class.{Class};
-ghost use Rattle.flat_machine.specs.Replies.{replied, edits_by, failed_edits, is_failed_call};
+ghost use Rattle.flat_machine.specs.Replies.{replied, edits_by, failed_edits, is_failed_call, IsAnswer};
 ghost use Rattle.blk_base.specs.Pieces.{Extent};
 ghost use Rattle.blk_base.specs.declared.fault.Outcome.{Outcome};
 ghost use Rattle.trace_codec.specs.declared.op.Op.{Op};
 ghost use Rattle.qmp_codec.specs.Commands.{Cmd};
+ghost use Rattle.qmp_codec.specs.declared.nodes.Created.{Created};
 ghost use Rattle.qmp_rules.specs.declared.told.Told.{Told};
+ghost use Rattle.qmp_rules.specs.declared.rows.Device.{Device};
+ghost use Rattle.qmp_rules.specs.Table.{Table, device_at};
+ghost use Rattle.qmp_rules.specs.Chains.{written_under};
+ghost use Rattle.qmp_rules.specs.Changes.{all_changed};
+ghost use Rattle.qmp_rules.specs.Edits.{spoiled};
 ghost use Rattle.qmp_rules.specs.Answers.{refusal_of, command_edits};
 ghost use Rattle.qmp_rules.specs.declared.change.Change.{Change};
-ghost use Rattle.flat_machine.specs.State.{State};
+ghost use Rattle.blk_history.specs.Disk.{is_write};
+ghost use Rattle.flat_machine.specs.State.{State, drive_of};
 ghost use Rattle.flat_machine.specs.Opening.{start};
 ghost use Rattle.flat_machine.specs.Suiting.{AllSuit};
 ghost use Rattle.flat_machine.specs.declared.opening.Opening.{Opening};
 ghost use Rattle.flat_machine.specs.Changed.{stepped, all_stepped};
 ghost use Rattle.flat_machine.specs.Sights.{IsTold, expected};
-ghost use Rattle.flat_machine.specs.Machine.{with_part};
+ghost use Rattle.flat_machine.specs.Machine.{with_part, replay};
+ghost use Rattle.flat_machine.specs.Legal.{Legal};
+ghost use Rattle.blk_history.specs.declared.event.Event.{Event};
 ghost use Rattle.flat_machine.specs.Writing.{CanWrite, PieceDone};
-ghost use Rattle.flat_machine.specs.Standing.{Stands};
+ghost use Rattle.flat_machine.specs.Wiring.{TableAtRest};
+ghost use Rattle.flat_machine.specs.Standing.{Stands, StandsAtRest};
 ghost use Rattle.flat_machine.specs.Agreement.{Contents, Agrees};
 ghost use Rattle.flat_machine.specs.Performing.{Can, Performed, AllCan, AllPerformed};
 
@@ -43,11 +53,55 @@ pub fn accepted_changes_can_be_made()
         → refusal_of s.table told c ≡ None → AllCan s (command_edits s.table (expected s c) c) }
 {}
 
-/// What holds of the tables of every state holds at the beginning, and changes that suit it leave it.
+/// What holds of states between events holds at the beginning, and changes that suit a state leave what each is to leave. What
+/// holds of the table alone an accepted command leaves whatever was told of files, and so do a creation of which a call failed
+/// and a guest's write.
 pub fn tables_stand()
-    ensures beginning { (o : Opening) → Stands (start o) }
+    ensures beginning { (o : Opening) → StandsAtRest (start o) }
     ensures changes { (changes : List Change) (s : State)
         → AllSuit s changes → Stands s → Stands (all_stepped s changes) }
+    ensures commands { (t : Table) (told : Told) (c : Cmd) → TableAtRest t
+        → refusal_of t told c ≡ None → TableAtRest (all_changed t (command_edits t told c)) }
+    ensures failures { (t : Table) (options : Created (List ℕ)) → TableAtRest t
+        → TableAtRest (all_changed t (spoiled t options)) }
+    ensures writes { (t : Table) (node : ℕ) → TableAtRest t → TableAtRest (written_under node t) }
+{}
+
+/// What holds of states between events holds behind a reply: to an accepted command, whose changes suit the state, and to a
+/// refused one, whether or not a call of it failed. A reply to a line that is no command changes nothing.
+pub fn replies_keep_standing()
+    ensures suits { (s : State) (told : Told) (c : Cmd) → StandsAtRest s → IsTold s c told
+        → refusal_of s.table told c ≡ None → AllSuit s (command_edits s.table told c) }
+    ensures accepted { (s : State) (told : Told) (c : Cmd) (given text : List ℕ) (id : Option Data)
+        (d : Data) → command_at given ≡ Ok c → StandsAtRest s → IsTold s c told
+        → refusal_of s.table told c ≡ None → read text ≡ Some (returned_data id d)
+        → StandsAtRest (replied s given text) }
+    ensures refused { (s : State) (c : Cmd) (given text : List ℕ) (id : Option Data) (class : Class)
+        (desc : List ℕ) → command_at given ≡ Ok c → StandsAtRest s
+        → read text ≡ Some (refused_data id class desc) → StandsAtRest (replied s given text) }
+    ensures others { (s : State) (given text : List ℕ) (why : Stop) → command_at given ≡ Err why
+        → replied s given text ≡ s }
+    ensures answers { (s : State) (given : List ℕ) (command : Option Cmd) (text : List ℕ)
+        → StandsAtRest s → IsAnswer s given command text → StandsAtRest (replied s given text) }
+{}
+
+/// What holds of states between events holds behind a piece of any request, whatever its outcome.
+pub fn pieces_keep_standing()
+    ensures { (s : State) (drive : ℕ) (op : Op) (outcome : Outcome) (part : Extent)
+        → StandsAtRest s → StandsAtRest (with_part drive op outcome part s) }
+{}
+
+/// What holds of states between events holds after each legal history of an opening.
+pub fn histories_keep_standing()
+    ensures { (o : Opening) (h : List Event) → Legal (start o) h
+        → StandsAtRest (replay (start o) h) }
+{}
+
+/// A guest whose device may write is on a drive whose disk it can write.
+pub fn guests_can_write()
+    ensures { (s : State) (g : ℕ) (device : Device) (drive : ℕ) (op : Op) → StandsAtRest s
+        → device_at s.table g ≡ Some device → drive_of s.table g ≡ Some drive
+        → (is_write op ≡ true → device.read_only ≡ false) → CanWrite s drive op }
 {}
 
 /// Where nodes and files are what the flat machine says, they are so after a piece of a guest's request on a drive: a write

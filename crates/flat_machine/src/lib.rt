@@ -5,7 +5,8 @@ mod laws;
 mod opening;
 
 pub use laws::{
-    accepted_changes_can_be_made, changes_keep_disks, pieces_keep_disks, replies_keep_disks,
+    accepted_changes_can_be_made, changes_keep_disks, guests_can_write, histories_keep_standing,
+    pieces_keep_disks, pieces_keep_standing, replies_keep_disks, replies_keep_standing,
     tables_stand,
 };
 pub use opening::Opening;

@@ -152,9 +152,6 @@ answer_by t told c (Some cause) = refused_so (left_by t c cause) cause
 unfoldable pub answer : Table → Told → Cmd → Answer
 answer t told c = answer_by t told c (refusal_of t told c)
 
-abbrev pub after_answer : Table → Answer → Table
-after_answer t a = all_changed t a.changes
-
 -- ---- lines
 
 -- what is wrong with the members of a line whose command is known

@@ -1,0 +1,308 @@
+-- Legal histories from an opening leave states that stand. Commands that begin jobs aren't carried out yet, so no job is there.
+use Rattle.std.proofs.Common.{◌≡◌, ℕ, zero, suc, ◌<◌, Bool, true, false, List, [], ◌∷◌, ◌++◌, refl, sym, ap, subst, ◌∙◌, inl, inr, arith, Option, Some, None, Result, Ok, Err}
+use Rattle.std.specs.Prelude.{◌==◌, if◌then◌else◌, map, IsSome}
+use Rattle.std.specs.List.{find}
+use Rattle.blk_base.specs.Pieces.{Extent}
+use Rattle.blk_base.specs.declared.fault.Outcome.{Outcome}
+use Rattle.trace_codec.specs.declared.op.Op.{Op}
+use Rattle.trace_codec.specs.declared.op.Op.TheVariants.{Read, Write, Zero, Flush, Discard}
+use Rattle.serde_json.specs.Written.{compact_text}
+use Rattle.qmp_codec.specs.Commands.{Cmd}
+use Rattle.qmp_codec.specs.Lines.{Stop, command_at, id_at}
+use Rattle.qmp_codec.specs.declared.command.Command.TheVariants as command
+use Rattle.qmp_codec.specs.declared.nodes.FileRef.{FileRef}
+use Rattle.qmp_codec.specs.declared.nodes.FileRef.TheVariants as file_ref
+use Rattle.qmp_codec.specs.declared.nodes.AddRaw.{AddRaw}
+use Rattle.qmp_codec.specs.declared.nodes.Added.{Added}
+use Rattle.qmp_codec.specs.declared.nodes.Added.TheVariants as added
+use Rattle.qmp_codec.specs.declared.nodes.Created.{Created}
+use Rattle.qmp_codec.specs.declared.nodes.Created.TheVariants as created
+use Rattle.qmp_codec.specs.declared.nodes.DeviceAdd.{DeviceAdd}
+use Rattle.qmp_rules.specs.declared.change.Change.{Change}
+use Rattle.qmp_rules.specs.declared.change.Change.TheVariants as change
+use Rattle.qmp_rules.specs.declared.refusal.Refusal.{Refusal}
+use Rattle.qmp_rules.specs.declared.rows.NodeRecord.{NodeRecord}
+use Rattle.qmp_rules.specs.declared.rows.JobRecord.{JobRecord}
+use Rattle.qmp_rules.specs.declared.told.Told.{Told}
+use Rattle.qmp_rules.specs.Table.{Table, node_named, job_at}
+use Rattle.qmp_rules.specs.Chains.{disk_node, written_under}
+use Rattle.qmp_rules.specs.Changes.{changed, all_changed}
+use Rattle.qmp_rules.specs.Refusals.{refusal_text, refusal_class}
+use Rattle.qmp_rules.specs.NodeAsks.{is_read_only, backing_name}
+use Rattle.qmp_rules.specs.Edits.{edits_of, uses, file_under, with_inline, goes_with_node, row_gone, of_row, created_change, spoiled, raw_edits, qcow2_edits, added_edits, del_edits, new_device, device_uses, device_add_edits}
+use Rattle.qmp_rules.specs.Asks.{is_file}
+use Rattle.qmp_rules.specs.Answers.{unbuilt, refusal_of, command_edits, answer, answer_by, answer_for, line_answer, line_text, reply_data}
+use Rattle.blk_history.specs.Fold.{Each, run, With}
+use Rattle.blk_history.specs.Disk.{piece, done_in}
+use Rattle.blk_history.specs.Machine.{Flight, done_by}
+use Rattle.blk_history.specs.declared.event.Event.{Event}
+use Rattle.blk_history.specs.declared.event.Event.TheVariants.{Admit, Refuse, Piece, Retire, Reply, Reached, Start, Ready, End, Done}
+use Rattle.flat_machine.specs.State.{State, drive_of}
+use Rattle.flat_machine.specs.Changed.{all_stepped}
+use Rattle.flat_machine.specs.Machine.{after, replay, with_part, with_piece, with_disk, written, flight_of, path, note, noted, is_noted, read_through, copies_through}
+use Rattle.flat_machine.specs.Sights.{expected}
+use Rattle.flat_machine.specs.Replies.{replied, edits_by, failed_edits, is_accepted, is_failure, command_in, IsAnswer}
+use Rattle.flat_machine.specs.Jobs.{unsure, can_be_ready}
+use Rattle.flat_machine.specs.Legal.{CanEnd, Fits, Legal}
+use Rattle.flat_machine.specs.Opening.{start}
+use Rattle.flat_machine.specs.Standing.{StandsAtRest}
+use Rattle.flat_machine.specs.declared.opening.Opening.{Opening}
+use Rattle.flat_machine.proofs.Asked.{none-both}
+use Rattle.flat_machine.proofs.Openings.{start_rests}
+use Rattle.flat_machine.proofs.ReadBack.{not_accepted}
+use Rattle.flat_machine.proofs.Resting.{stepped_table, answer_rests, beside_rests, piece_rests}
+
+-- ---- changes that begin no job
+
+pub record NoJobs (t : Table) : Type 0 where
+  pub jobs : t.jobs ≡ []
+  pub started : t.started ≡ 0
+
+abbrev IsPlain : Change → Type 0
+IsPlain (change.StartJob row) = ⊥
+IsPlain (change.AskJob number asked) = ⊥
+IsPlain c = Unit {0}
+
+abbrev ArePlain : List Change → Type 0
+ArePlain [] = Unit {0}
+ArePlain (c ∷ changes) = IsPlain c × ArePlain changes
+
+plain_append : (xs ys : List Change) → ArePlain xs → ArePlain ys → ArePlain (xs ++ ys)
+plain_append [] ys h k = k
+plain_append (c ∷ xs) ys h k = (h.0, plain_append xs ys h.1 k)
+
+plain_keeps : (t : Table) (c : Change) → IsPlain c → NoJobs t → NoJobs (changed t c)
+unfolding changed
+plain_keeps t (change.StartJob row) plain h = absurd plain
+plain_keeps t (change.AskJob number asked) plain h = absurd plain
+plain_keeps t change.Negotiate plain h = record { jobs = h.jobs; started = h.started }
+plain_keeps t (change.KeepId id) plain h = record { jobs = h.jobs; started = h.started }
+plain_keeps t (change.DropId id) plain h = record { jobs = h.jobs; started = h.started }
+plain_keeps t (change.MakeFile name size) plain h = record { jobs = h.jobs; started = h.started }
+plain_keeps t (change.FormatFile node name size backing_file backing_fmt) plain h = record { jobs = h.jobs; started = h.started }
+plain_keeps t (change.SpoilFile name) plain h = record { jobs = h.jobs; started = h.started }
+plain_keeps t (change.UseFile name) plain h = record { jobs = h.jobs; started = h.started }
+plain_keeps t (change.AddFile row) plain h = record { jobs = h.jobs; started = h.started }
+plain_keeps t (change.AddFormat row file backing) plain h = record { jobs = h.jobs; started = h.started }
+plain_keeps t (change.AddFilter row child) plain h = record { jobs = h.jobs; started = h.started }
+plain_keeps t (change.RemoveNode node) plain h = record { jobs = h.jobs; started = h.started }
+plain_keeps t (change.Unsettle id) plain h = record { jobs = h.jobs; started = h.started }
+plain_keeps t (change.MakeWritable id) plain h = record { jobs = h.jobs; started = h.started }
+plain_keeps t (change.PutFilter row node) plain h = record { jobs = h.jobs; started = h.started }
+plain_keeps t (change.UseNode slot what node) plain h = record { jobs = h.jobs; started = h.started }
+plain_keeps t (change.AddDevice device node) plain h = record { jobs = h.jobs; started = h.started }
+plain_keeps t (change.RemoveDevice number) plain h = record { jobs = h.jobs; started = h.started }
+plain_keeps t (change.Attach overlay node) plain h = record { jobs = h.jobs; started = h.started }
+plain_keeps t (change.Move from to but) plain h = record { jobs = h.jobs; started = h.started }
+plain_keeps t (change.AddBitmap row) plain h = record { jobs = h.jobs; started = h.started }
+plain_keeps t (change.RemoveBitmap node name) plain h = record { jobs = h.jobs; started = h.started }
+plain_keeps t (change.TurnBitmap node name on) plain h = record { jobs = h.jobs; started = h.started }
+plain_keeps t (change.ClearBitmap node name) plain h = h
+plain_keeps t (change.MergeBitmap node name source_node source) plain h = h
+
+all_plain : (changes : List Change) (t : Table) → ArePlain changes → NoJobs t → NoJobs (all_changed t changes)
+all_plain [] t plain h = h
+all_plain (c ∷ changes) t plain h = all_plain changes (changed t c) plain.1 (plain_keeps t c plain.0 h)
+
+-- ---- those of commands that are carried out
+
+plain_uses : (name : Option (List ℕ)) → ArePlain (uses name)
+plain_uses None = tt
+plain_uses (Some name) = (tt, tt)
+
+plain_created : (t : Table) (options : Created (List ℕ)) → ArePlain (created_change t options)
+plain_created t (created.File c) = (tt, tt)
+plain_created t (created.Qcow2 c) = (tt, tt)
+plain_created t created.Unknown = tt
+
+plain_spoiled : (t : Table) (options : Created (List ℕ)) → ArePlain (spoiled t options)
+plain_spoiled t (created.File c) = (tt, tt)
+plain_spoiled t (created.Qcow2 c) = (tt, tt)
+plain_spoiled t created.Unknown = tt
+
+plain_inline : (t : Table) (id : ℕ) → ArePlain (with_inline t id)
+plain_inline t id = by_row (find (goes_with_node id) t.nodes)
+  where
+    by_row : (found : Option NodeRecord) → ArePlain (elim found as (λ _. List Change) [ None ↦ [] | Some row ↦ change.RemoveNode row.id ∷ [] ])
+    by_row None = tt
+    by_row (Some row) = (tt, tt)
+
+plain_del : (t : Table) (found : Option NodeRecord) → ArePlain (of_row (row_gone t) found)
+plain_del t None = tt
+plain_del t (Some row) =
+    plain_append (uses (file_under t row)) (change.RemoveNode row.id ∷ with_inline t row.id) (plain_uses (file_under t row))
+    (tt, plain_inline t row.id)
+
+plain_device_uses : (row : NodeRecord) (b : Bool) → ArePlain (if b then uses row.filename else [])
+plain_device_uses row true = plain_uses row.filename
+plain_device_uses row false = tt
+
+plain_device : (t : Table) (c : DeviceAdd (List ℕ)) (found : Option NodeRecord)
+    → ArePlain (of_row (λ row. device_uses row ++ change.AddDevice (new_device t c row) row.id ∷ []) found)
+plain_device t c None = tt
+plain_device t c (Some row) = plain_append (device_uses row) (change.AddDevice (new_device t c row) row.id ∷ [])
+    (plain_device_uses row (is_file row)) (tt, tt)
+
+plain_raw : (t : Table) (exp : Told) (name : List ℕ) (read_only : Bool) (raw : AddRaw (List ℕ)) (file : FileRef (List ℕ))
+    → ArePlain (raw_edits t exp name read_only raw file)
+plain_raw t exp name read_only raw (file_ref.Name file) = (tt, tt)
+plain_raw t exp name read_only raw (file_ref.Inline file) = (tt, (tt, tt))
+
+plain_qcow2 : (t : Table) (exp : Told) (name : List ℕ) (read_only : Bool) (back : Option (List ℕ)) (file : FileRef (List ℕ))
+    → ArePlain (qcow2_edits t exp name read_only back file)
+plain_qcow2 t exp name read_only back (file_ref.Name file) = (tt, tt)
+plain_qcow2 t exp name read_only back (file_ref.Inline file) = (tt, (tt, tt))
+
+plain_added : (t : Table) (exp : Told) (name : List ℕ) (read_only : Bool) (driver : Added (List ℕ))
+    → ArePlain (added_edits t exp name read_only driver)
+plain_added t exp name read_only (added.File filename) = (tt, tt)
+plain_added t exp name read_only (added.Raw raw) = plain_raw t exp name read_only raw raw.file
+plain_added t exp name read_only (added.Qcow2 image) = plain_qcow2 t exp name read_only (backing_name image.backing) image.file
+plain_added t exp name read_only (added.CopyOnRead file) = (tt, tt)
+plain_added t exp name read_only added.Unknown = tt
+
+plain_command : (t : Table) (exp : Told) (c : Cmd) → unbuilt c ≡ None → ArePlain (command_edits t exp c)
+unfolding edits_of
+plain_command t exp (command.Capabilities enable) is = (tt, tt)
+plain_command t exp (command.BlockdevCreate c) is = (tt, plain_created t c.options)
+plain_command t exp (command.JobDismiss id) is = (tt, tt)
+plain_command t exp (command.BlockdevAdd c) is = plain_added t exp c.node_name (is_read_only c.options) c.driver
+plain_command t exp (command.BlockdevDel name) is = plain_del t (node_named t name)
+plain_command t exp (command.DeviceAdd c) is = plain_device t c (node_named t c.drive)
+plain_command t exp command.QueryBlockJobs is = tt
+plain_command t exp (command.QueryNamedBlockNodes flat) is = tt
+plain_command t exp _ is = absurd cc
+
+plain_failed : (t : Table) (c : Cmd) → ArePlain (failed_edits t c)
+plain_failed t (command.BlockdevCreate c) = plain_spoiled t c.options
+plain_failed t c = tt
+
+-- ---- replies
+
+plain_answer : (s : State) (given : List ℕ) (command : Option Cmd) (text : List ℕ) → IsAnswer s given command text
+    → ArePlain (edits_by s text (command_at given))
+unfolding line_text line_answer answer refusal_of
+plain_answer s given command text a = by_line (command_at given) a.answered
+  where
+    by_flags : (c : Cmd) (b : Bool) → (b ≡ true → unbuilt c ≡ None) → (failed : Bool)
+        → ArePlain (if b then command_edits s.table (expected s c) c else if failed then failed_edits s.table c else [])
+    by_flags c true built failed = plain_command s.table (expected s c) c (built refl)
+    by_flags c false built true = plain_failed s.table c
+    by_flags c false built false = tt
+
+    built : (c : Cmd) (cause : Option Refusal) → refusal_of s.table a.told c ≡ cause
+        → text ≡ compact_text (reply_data (id_at given) (answer_by s.table a.told c cause).reply) → is_accepted text ≡ true → unbuilt c ≡ None
+    built c None quiet is accepted = (none-both (unbuilt c) _ quiet).0
+    built c (Some cause) quiet is accepted =
+        let no = not_accepted given (refusal_class cause) (refusal_text cause) in
+        let yes = subst (λ t. is_accepted t ≡ true) is accepted in
+        absurd cc
+
+    by_line : (c : Result Cmd Stop) → text ≡ compact_text (reply_data (id_at given) (answer_for s.table a.told given c).reply)
+        → ArePlain (edits_by s text c)
+    by_line (Err why) is = tt
+    by_line (Ok c) is = by_flags c (is_accepted text) (built c (refusal_of s.table a.told c) refl is) (is_failure text)
+
+-- ---- pieces
+
+plain_written : (t : Table) (node : ℕ) → NoJobs t → NoJobs (written_under node t)
+unfolding written_under
+plain_written t node h = record { jobs = h.jobs; started = h.started }
+
+plain_note : (s : State) (outcome : Outcome) (part : Extent) (drive : ℕ) → NoJobs s.table → NoJobs (note outcome part drive s).table
+plain_note s outcome part drive h = by_flag (is_noted outcome)
+  where
+    by_flag : (b : Bool) → NoJobs (if b then record s { dirty = noted s.table part s.dirty (path s.table drive) } else s).table
+    by_flag true = h
+    by_flag false = h
+
+plain_read : (s : State) (drive : ℕ) → NoJobs s.table → NoJobs (read_through drive s).table
+plain_read s drive h = by_flag (copies_through s.table drive)
+  where
+    by_flag : (b : Bool) → NoJobs (if b then record s { images = map (unsure (disk_node s.table drive ∷ [])) s.images } else s).table
+    by_flag true = h
+    by_flag false = h
+
+plain_piece : (s : State) (drive : ℕ) (op : Op) (outcome : Outcome) (part : Extent) → NoJobs s.table
+    → NoJobs (with_part drive op outcome part s).table
+plain_piece s drive (Read span) outcome part h =
+    plain_read (with_disk (disk_node s.table drive) (done_in (Read span) part (done_by outcome part)) s) drive h
+plain_piece s drive (Write span payload) outcome part h =
+    plain_note (written (disk_node s.table drive) (with_disk (disk_node s.table drive) (done_in (Write span payload) part (done_by outcome part)) s))
+    outcome part drive (plain_written s.table (disk_node s.table drive) h)
+plain_piece s drive (Zero span) outcome part h =
+    plain_note (written (disk_node s.table drive) (with_disk (disk_node s.table drive) (done_in (Zero span) part (done_by outcome part)) s))
+    outcome part drive (plain_written s.table (disk_node s.table drive) h)
+plain_piece s drive Flush outcome part h = h
+plain_piece s drive (Discard span) outcome part h = h
+
+-- ---- each entry
+
+pub record Runs (s : State) : Type 0 where
+  pub rests : StandsAtRest s
+  pub none : NoJobs s.table
+
+beside_runs : (s now : State) → now.table ≡ s.table → now.disks ≡ s.disks → now.files ≡ s.files → now.left ≡ s.left → now.named ≡ s.named
+    → Runs s → Runs now
+beside_runs s now table disks files left named h = record {
+  rests = beside_rests s now table files left named (λ n some. subst (λ ds. IsSome (find (λ d. d.node == n) ds)) (sym disks) some) h.rests;
+  none = subst NoJobs (sym table) h.none;
+}
+
+no_job_at : (t : Table) → NoJobs t → (job : ℕ) → job_at t job ≡ None
+no_job_at t h job = ap (find (λ row. row.number == job)) h.jobs
+
+piece_runs : (s : State) (drive : Option ℕ) (flight : Option Flight) (k : ℕ) (outcome : Outcome) → Runs s → Runs (with_piece drive flight k outcome s)
+piece_runs s (Some drive) (Some f) k outcome h = record {
+  rests = piece_rests s drive f.op outcome (piece f.op k) h.rests;
+  none = plain_piece s drive f.op outcome (piece f.op k) h.none;
+}
+piece_runs s (Some drive) None k outcome h = h
+piece_runs s None flight k outcome h = h
+
+pub entry_runs : (s : State) (e : Event) → Fits s e → Runs s → Runs (after s e)
+entry_runs s (Admit g r op) fits h = beside_runs s (after s (Admit g r op)) refl refl refl refl refl h
+entry_runs s (Refuse g r op why) fits h = beside_runs s (after s (Refuse g r op why)) refl refl refl refl refl h
+entry_runs s (Piece g r k outcome got) fits h =
+    beside_runs (with_piece (drive_of s.table g) (flight_of s g) k outcome s) (after s (Piece g r k outcome got)) refl refl refl refl refl
+    (piece_runs s (drive_of s.table g) (flight_of s g) k outcome h)
+entry_runs s (Retire g r) fits h = beside_runs s (after s (Retire g r)) refl refl refl refl refl h
+entry_runs s (Reply line given command text) fits h = record {
+  rests = answer_rests s given command text h.rests fits.1.1;
+  none = subst NoJobs (sym (stepped_table (edits_by s text (command_at given)) s))
+      (all_plain (edits_by s text (command_at given)) s.table (plain_answer s given command text fits.1.1) h.none);
+}
+entry_runs s (Reached line what) fits h = h
+entry_runs s (Start job) fits h = absurd (let few = fits.0.1 in let none = h.none.started in omega arith)
+entry_runs s (Ready job) fits h = absurd (subst (λ row. With row (λ r. (can_be_ready r r.kind ≡ true) × (r.is_ready ≡ false))) (no_job_at s.table h.none job) fits.1)
+entry_runs s (End job outcome offset) fits h = absurd (subst (λ row. With row (CanEnd s outcome offset)) (no_job_at s.table h.none job) fits.1)
+entry_runs s (Done actor) fits h = beside_runs s (after s (Done actor)) refl refl refl refl refl h
+
+-- an entry that is no job's
+abbrev pub IsOfNoJob : Event → Type 0
+IsOfNoJob (Start job) = ⊥
+IsOfNoJob (Ready job) = ⊥
+IsOfNoJob (End job outcome offset) = ⊥
+IsOfNoJob e = Unit {0}
+
+pub of_no_job : (s : State) (e : Event) → Fits s e → Runs s → IsOfNoJob e
+of_no_job s (Start job) fits h = let few = fits.0.1 in let none = h.none.started in omega arith
+of_no_job s (Ready job) fits h = subst (λ row. With row (λ r. (can_be_ready r r.kind ≡ true) × (r.is_ready ≡ false))) (no_job_at s.table h.none job) fits.1
+of_no_job s (End job outcome offset) fits h = subst (λ row. With row (CanEnd s outcome offset)) (no_job_at s.table h.none job) fits.1
+of_no_job s (Admit g r op) fits h = tt
+of_no_job s (Refuse g r op why) fits h = tt
+of_no_job s (Piece g r k outcome got) fits h = tt
+of_no_job s (Retire g r) fits h = tt
+of_no_job s (Reply line given command text) fits h = tt
+of_no_job s (Reached line what) fits h = tt
+of_no_job s (Done actor) fits h = tt
+
+all_run : (h : List Event) (s : State) → Legal s h → Runs s → Runs (replay s h)
+all_run [] s legal runs = runs
+all_run (e ∷ es) s legal runs = all_run es (after s e) legal.1 (entry_runs s e legal.0 runs)
+
+pub start_runs : (o : Opening) → Runs (start o)
+start_runs o = record { rests = start_rests o; none = record { jobs = refl; started = refl } }
+
+pub history_rests : (o : Opening) (h : List Event) → Legal (start o) h → StandsAtRest (replay (start o) h)
+history_rests o h legal = (all_run h (start o) legal (start_runs o)).rests

@@ -1,0 +1,518 @@
+-- The changes of an accepted command leave what holds of tables, whatever is told of files.
+use Rattle.std.proofs.Common.{◌≡◌, ◌≢◌, ◌⊎◌, ℕ, zero, suc, ◌+◌, ◌≤◌, Bool, true, false, cond, List, [], ◌∷◌, ◌++◌, length, refl, sym, ap, subst, ◌∙◌, inl, inr, arith, Option, Some, None}
+use Rattle.std.specs.Prelude.{◌==◌, ◌||◌, ◌&&◌, not, if◌then◌else◌, option_and_then, unwrap_or, IsSome, is_some, bytes_eq, codes}
+use Rattle.std.specs.List.{find, list_any, Contains}
+use Rattle.std.proofs.lemmas.Bool.{eqb-true, eq-eqb, not-false}
+use Rattle.blk_graph.specs.declared.edge.Edge.{Edge}
+use Rattle.blk_graph.specs.declared.edge.Parent.TheVariants.{Node}
+use Rattle.blk_graph.specs.declared.edge.Role.TheVariants.{File, Backing}
+use Rattle.blk_graph.specs.declared.kind.Kind.{Kind}
+use Rattle.blk_graph.specs.declared.kind.Kind.TheVariants.{Protocol, Raw, Qcow2, CopyOnRead, BeforeWrite, Mirror, Commit}
+use Rattle.blk_graph.specs.Permissions.{has_role}
+use Rattle.blk_graph.proofs.Members.{find-Some}
+use Rattle.qmp_codec.specs.Commands.{Cmd}
+use Rattle.qmp_codec.specs.declared.command.Command.TheVariants as command
+use Rattle.qmp_codec.specs.declared.nodes.FileRef.{FileRef}
+use Rattle.qmp_codec.specs.declared.nodes.FileRef.TheVariants as file_ref
+use Rattle.qmp_codec.specs.declared.nodes.InlineFile.{InlineFile}
+use Rattle.qmp_codec.specs.declared.nodes.AddRaw.{AddRaw}
+use Rattle.qmp_codec.specs.declared.nodes.Added.{Added}
+use Rattle.qmp_codec.specs.declared.nodes.Added.TheVariants as added
+use Rattle.qmp_codec.specs.declared.nodes.BlockdevAdd.{BlockdevAdd}
+use Rattle.qmp_codec.specs.declared.nodes.Created.{Created}
+use Rattle.qmp_codec.specs.declared.nodes.Created.TheVariants as created
+use Rattle.qmp_codec.specs.declared.nodes.DeviceAdd.{DeviceAdd}
+use Rattle.qmp_rules.specs.declared.ask.Ask.TheVariants as ask
+use Rattle.qmp_rules.specs.declared.ask.Drivers.TheVariants as drivers
+use Rattle.qmp_rules.specs.declared.change.Change.{Change}
+use Rattle.qmp_rules.specs.declared.change.Change.TheVariants as change
+use Rattle.qmp_rules.specs.declared.rows.NodeRecord.{NodeRecord}
+use Rattle.qmp_rules.specs.declared.rows.Device.{Device}
+use Rattle.qmp_rules.specs.declared.told.Told.{Told}
+use Rattle.qmp_rules.specs.Table.{Table, node_at, node_named, id_named, child, kinds_of}
+use Rattle.qmp_rules.specs.Chains.{filter_role, is_settled}
+use Rattle.qmp_rules.specs.Changes.{changed, all_changed}
+use Rattle.qmp_rules.specs.Edits.{free_id, next_free_id, place_from, unused_from, device_number, inline_row, file_row, raw_row, image_row, format_row, raw_edits, qcow2_edits, added_edits, add_edits, length_told, size_of, edits_of, uses, file_under, goes_with_node, with_inline, row_gone, of_row, created_change, spoiled, del_edits, new_device, device_uses, device_add_edits}
+use Rattle.qmp_rules.specs.NodeAsks.{create_values, create_names, create_rest, del_asks, device_add_asks, add_asks, option_values, added_values, added_names, is_read_only, added_rest, raw_rest, qcow2_rest, copy_on_read_rest, is_added, backing_name}
+use Rattle.qmp_rules.specs.Asks.{id_or, Asking, holds, first, takes, is_file}
+use Rattle.qmp_rules.specs.CommandAsks.{asks_of, negotiates}
+use Rattle.qmp_rules.specs.Answers.{unbuilt, out_of_turn, refusal_of, command_edits}
+use Rattle.flat_machine.specs.Wiring.{StandsFor, IsUnder, HasFile, IsInline, InlineAreUnder, IsNumberBy, HasNumber, TableStands, TableAtRest}
+use Rattle.flat_machine.specs.Suiting.{IsThere, IsAlone, IsFree, SuitsFile, SuitsBacking, SuitsFormat, SuitsFilter, SuitsDevice, TableSuits, AllTableSuit}
+use Rattle.flat_machine.proofs.Finds.{bytes_eq-same, same-bytes_eq}
+use Rattle.flat_machine.proofs.Fresh.{found-longer, found-new}
+use Rattle.flat_machine.proofs.Tables.{refreshed-old}
+use Rattle.flat_machine.proofs.Kept.{own_disk}
+use Rattle.flat_machine.proofs.Rows.{under-before}
+use Rattle.flat_machine.proofs.Asked.{none-both, not-refused, NoneHolds, none-holds, none-behind, good-value, found-named, takes-driver, room-left, none-stands, lone-node, settled-node}
+use Rattle.flat_machine.proofs.Accepted.{free_fresh, next_fresh, none-over, is_protocol, no_edge, no_filter}
+use Rattle.flat_machine.proofs.TablesKept.{not-there}
+
+-- ---- rows by name
+
+module _ (t : Table) (told : Told) (h : TableStands t) where
+  pub named-row : (name : List ℕ) (row : NodeRecord) → node_named t name ≡ Some row → Contains t.nodes row × (bytes_eq row.name name ≡ true)
+  named-row name row found = find-Some (λ r. bytes_eq r.name name) t.nodes row found
+
+  pub named-at : (name : List ℕ) (row : NodeRecord) → node_named t name ≡ Some row → node_at t row.id ≡ Some row
+  named-at name row found = h.apart row (named-row name row found).0
+
+  pub named-there : (name : List ℕ) (row : NodeRecord) → node_named t name ≡ Some row → IsThere t row.id
+  named-there name row found = subst IsSome (sym (named-at name row found)) refl
+
+  -- a `file` node with a flat disk is under no format node
+  pub settled-free : (row : NodeRecord) → Contains t.nodes row → row.is_settled ≡ true → IsFree t row.id
+  settled-free row there settled other found some under =
+      let of = h.single under.edge under.there under.over in
+      let parent_there = (h.edges under.edge under.there).parent of.0 of.1.0 in
+      by_parent (node_at t of.0) refl parent_there
+    where
+      by_parent : (over : Option NodeRecord) → node_at t (h.single under.edge under.there under.over).0 ≡ over → IsSome over → ⊥
+      by_parent None e s = cc
+      by_parent (Some over) e s =
+          let of = h.single under.edge under.there under.over in
+          let here = find-Some (λ r. r.id == of.0) t.nodes over e in
+          let at_row = h.apart row there in
+          let same : other ≡ row = cc in
+          let some_row = subst (λ r. IsSome r.filename) same some in
+          let taken = h.taken over row
+          (record {
+            over_there = here.0;
+            under_there = there;
+            edge = under.edge;
+            there = under.there;
+            parent = of.1.0 ∙ ap Node (sym (eqb-true over.id of.0 here.1));
+            role = under.over;
+            child = under.child;
+          }) some_row in
+          let gone = taken.gone in
+          cc
+
+  -- what the table says of a node that has a flat disk of its own
+  pub own-settled : (row : NodeRecord) → node_at t row.id ≡ Some row → filter_role row.kind ≡ None → is_settled t row.id ≡ true
+      → row.is_settled ≡ true
+  own-settled row found own settled =
+      let here = own_disk t row.id row found own in rw (here, found) at settled
+
+  pub file-own : (row : NodeRecord) → Contains t.nodes row → IsSome row.filename → filter_role row.kind ≡ None
+  file-own row there = by_name row.filename refl
+    where
+      by_name : (name : Option (List ℕ)) → row.filename ≡ name → IsSome name → filter_role row.kind ≡ None
+      by_name None e some = absurd cc
+      by_name (Some name) e some = ap filter_role (h.drivers name row (record { there = there; filename = e }))
+
+  -- a settled node is no `file` node under another one
+  pub free-node : (row : NodeRecord) → Contains t.nodes row → is_settled t row.id ≡ true → IsFree t row.id
+  free-node row there settled other found some under =
+      let at_row = h.apart row there in
+      let same : other ≡ row = cc in
+      let own = file-own row there (subst (λ r. IsSome r.filename) same some) in
+      settled-free row there (own-settled row at_row own settled) other found some under
+
+  -- ---- asks
+
+  pub writable-under : (name : List ℕ) (read_only : Bool) (row : NodeRecord) → node_named t name ≡ Some row
+      → holds t told (ask.WritableUnder name read_only) ≡ None → read_only ≡ false → row.read_only ≡ false
+  unfolding holds
+  writable-under name read_only row found quiet writes =
+      let none : (row.read_only && not read_only) ≡ false = not-refused _ _ (rw found at quiet) in
+      by_flags row.read_only read_only none writes
+    where
+      by_flags : (a b : Bool) → (a && not b) ≡ false → b ≡ false → a ≡ false
+      by_flags false b e k = refl
+      by_flags true false e k = absurd cc
+      by_flags true true e k = absurd cc
+
+  pub writable-node : (name : List ℕ) (row : NodeRecord) → node_named t name ≡ Some row → holds t told (ask.Writable name) ≡ None
+      → row.read_only ≡ false
+  unfolding holds
+  writable-node name row found quiet = not-refused _ _ (rw found at quiet)
+
+  pub writable-with : (name : List ℕ) (own : Option (List ℕ)) (ok : Bool) → holds t told (ask.WritableWith name own ok) ≡ None → ok ≡ true
+  unfolding holds
+  writable-with name own ok quiet = not-false ok (not-refused _ _ quiet)
+
+  pub beside-other : (name file : List ℕ) → holds t told (ask.Beside (Some name) file) ≡ None → bytes_eq name file ≡ false
+  unfolding holds
+  beside-other name file quiet = not-refused _ _ quiet
+
+  -- ---- a format node over a node that is there
+
+  -- the `file` node that it names
+  pub record NamedFile (file : List ℕ) : Type 0 where
+    pub row : NodeRecord
+    pub found : node_named t file ≡ Some row
+    pub there : Contains t.nodes row
+    pub id_is : id_or 0 t (Some file) ≡ row.id
+    pub name : List ℕ
+    pub filename : row.filename ≡ Some name
+    pub alone : IsAlone t row.id
+
+  pub named-file : (file : List ℕ) → holds t told (ask.Found (Some file)) ≡ None → holds t told (ask.Drives (Some file) drivers.File) ≡ None
+      → holds t told (ask.Lone file) ≡ None → NamedFile file
+  named-file file found drives lone = by_row (found-named t told file found)
+    where
+      by_row : ((row : NodeRecord) × (node_named t file ≡ Some row)) → NamedFile file
+      by_row named =
+          let row : NodeRecord = named.0 in
+          let here = named-row file row named.1 in
+          let driver = is_protocol row.kind (takes-driver t told file drivers.File row named.1 drives) in
+          by_name row named.1 here.0 row.filename refl (h.names row here.0 driver)
+        where
+          by_name : (row : NodeRecord) → node_named t file ≡ Some row → Contains t.nodes row → (name : Option (List ℕ)) → row.filename ≡ name
+              → IsSome name → NamedFile file
+          by_name row e there None is some = absurd cc
+          by_name row e there (Some name) is some = record {
+            row = row;
+            found = e;
+            there = there;
+            id_is = rw e refl;
+            name = name;
+            filename = is;
+            alone = no_edge row.id t.edges (lone-node t told file row e lone);
+          }
+
+  -- the backing node, where one is named
+  pub backing-suits : (back : Option (List ℕ)) → holds t told (ask.Found back) ≡ None
+      → holds t told (ask.Settled back) ≡ None → (node : ℕ) → option_and_then (id_named t) back ≡ Some node
+      → (row : NodeRecord) × ((Contains t.nodes row × (row.id ≡ node)) × (IsFree t node × ((name : List ℕ) × ((back ≡ Some name) × (bytes_eq row.name name ≡ true)))))
+  backing-suits None found settled node is = absurd cc
+  backing-suits (Some name) found settled node is = by_row (found-named t told name found)
+    where
+      by_row : ((row : NodeRecord) × (node_named t name ≡ Some row))
+          → (row : NodeRecord) × ((Contains t.nodes row × (row.id ≡ node)) × (IsFree t node × ((other : List ℕ) × ((Some name ≡ Some other) × (bytes_eq row.name other ≡ true)))))
+      by_row named =
+          let row : NodeRecord = named.0 in
+          let here = named-row name row named.1 in
+          let same : row.id ≡ node = id_is row named.1 in (
+            row,
+            (
+              (here.0, same),
+              (subst (IsFree t) same (free-node row here.0 (settled-node t told name row named.1 settled)), (name, (refl, here.1))),
+            ),
+          )
+        where
+          id_is : (row : NodeRecord) → node_named t name ≡ Some row → row.id ≡ node
+          id_is row e = let of_name = rw e at is in cc
+
+  -- ---- each driver
+
+  pub file-table : (name : List ℕ) (read_only : Bool) (filename : List ℕ) (exp : Told)
+      → NoneHolds t told (added_rest name read_only (added.File filename))
+      → AllTableSuit t (added_edits t exp name read_only (added.File filename))
+  file-table name read_only filename exp asks = (
+    record {
+      fresh = free_fresh t (room-left t told 1 asks.1.0);
+      driver = refl;
+      name = filename;
+      filename = refl;
+      closed = none-over t filename (none-stands t told filename asks.1.1.0);
+    },
+    tt,
+  )
+
+  pub raw-named-table : (name : List ℕ) (read_only : Bool) (raw : AddRaw (List ℕ)) (file : List ℕ) (exp : Told)
+      → NoneHolds t told (raw_rest name read_only raw (file_ref.Name file))
+      → AllTableSuit t (raw_edits t exp name read_only raw (file_ref.Name file))
+  raw-named-table name read_only raw file exp asks =
+      let of = named-file file asks.0 asks.1.1.1.0 asks.1.1.1.1.1.1.1.0 in (
+        record {
+          fresh = free_fresh t (room-left t told 1 asks.1.1.0);
+          format = refl;
+          role = refl;
+          filename = refl;
+          under = of.row;
+          found = subst (λ n. node_at t n ≡ Some of.row) (sym of.id_is) (h.apart of.row of.there);
+          name = of.name;
+          of_file = of.filename;
+          alone = subst (IsAlone t) (sym of.id_is) of.alone;
+          writable = writable-under file read_only of.row of.found asks.1.1.1.1.1.1.0;
+          backed = λ node is. absurd cc;
+        },
+        tt,
+      )
+
+  pub qcow2-named-table : (name : List ℕ) (read_only : Bool) (back : Option (List ℕ)) (file : List ℕ) (exp : Told)
+      → NoneHolds t told (qcow2_rest name read_only back (file_ref.Name file))
+      → AllTableSuit t (qcow2_edits t exp name read_only back (file_ref.Name file))
+  qcow2-named-table name read_only back file exp asks =
+      let of = named-file file asks.0 asks.1.1.1.1.0 asks.1.1.1.1.1.1.1.1.1.1.1.1.1.0 in (
+        record {
+          fresh = free_fresh t (room-left t told 1 asks.1.1.1.0);
+          format = refl;
+          role = refl;
+          filename = refl;
+          under = of.row;
+          found = subst (λ n. node_at t n ≡ Some of.row) (sym of.id_is) (h.apart of.row of.there);
+          name = of.name;
+          of_file = of.filename;
+          alone = subst (IsAlone t) (sym of.id_is) of.alone;
+          writable = writable-under file read_only of.row of.found asks.1.1.1.1.1.1.1.1.1.1.1.0;
+          backed = λ node is. backed of node is (backing-suits back asks.1.0 asks.1.1.1.1.1.1.1.1.1.0 node is);
+        },
+        tt,
+      )
+    where
+      backed : (of : NamedFile file) (node : ℕ) → option_and_then (id_named t) back ≡ Some node
+          → ((row : NodeRecord) × ((Contains t.nodes row × (row.id ≡ node)) × (IsFree t node × ((other : List ℕ) × ((back ≡ Some other) × (bytes_eq row.name other ≡ true))))))
+          → SuitsBacking t (image_row (free_id t) exp name read_only) (id_or 0 t (Some file)) node
+      backed of node is b = record {
+        role = refl;
+        there = subst (λ n. IsSome (node_at t n)) b.1.0.1 (subst IsSome (sym (h.apart b.0 b.1.0.0)) refl);
+        other = λ same. differs (b.1.0.1 ∙ same ∙ of.id_is);
+        free = b.1.1.0;
+      }
+        where
+          differs : b.0.id ≡ of.row.id → ⊥
+          differs same =
+              let at_back = subst (λ n. node_at t n ≡ Some b.0) same (h.apart b.0 b.1.0.0) in
+              let at_file = h.apart of.row of.there in
+              let rows : b.0 ≡ of.row = cc in
+              let name_of = same-bytes_eq b.0.name b.1.1.1.0 b.1.1.1.1.1 in
+              let file_of = same-bytes_eq of.row.name file (named-row file of.row of.found).1 in
+              let names : b.1.1.1.0 ≡ file = sym name_of ∙ ap (λ r. r.name) rows ∙ file_of in
+              let quiet : holds t told (ask.Beside (Some b.1.1.1.0) file) ≡ None =
+              subst (λ o. holds t told (ask.Beside o file) ≡ None) b.1.1.1.1.0 asks.1.1.1.1.1.1.1.1.1.1.0 in
+              let no = beside-other b.1.1.1.0 file quiet in
+              let yes : bytes_eq b.1.1.1.0 file ≡ true = subst (λ n. bytes_eq n file ≡ true) (sym names) (bytes_eq-same file) in
+              cc
+
+  pub copy-table : (name : List ℕ) (read_only : Bool) (file : List ℕ) (exp : Told) → NoneHolds t told (copy_on_read_rest name file)
+      → AllTableSuit t (added_edits t exp name read_only (added.CopyOnRead file))
+  copy-table name read_only file exp asks = by_row (found-named t told file asks.0)
+    where
+      plain : (kind : Kind) → takes drivers.RawOrQcow2 kind ≡ true → (filter_role kind ≡ None) × (kind ≢ Protocol)
+      plain Protocol e = absurd cc
+      plain Raw e = (refl, λ is. cc)
+      plain Qcow2 e = (refl, λ is. cc)
+      plain CopyOnRead e = absurd cc
+      plain BeforeWrite e = absurd cc
+      plain Mirror e = absurd cc
+      plain Commit e = absurd cc
+
+      no_name : (row : NodeRecord) → Contains t.nodes row → row.kind ≢ Protocol → (name : Option (List ℕ)) → row.filename ≡ name → row.filename ≡ None
+      no_name row there other None e = e
+      no_name row there other (Some name) e = absurd (other (h.drivers name row (record { there = there; filename = e })))
+
+      by_row : ((row : NodeRecord) × (node_named t file ≡ Some row)) → AllTableSuit t (added_edits t exp name read_only (added.CopyOnRead file))
+      by_row named =
+          let row : NodeRecord = named.0 in
+          let found : node_named t file ≡ Some row = named.1 in
+          let here = named-row file row found in
+          let kind = plain row.kind (takes-driver t told file drivers.RawOrQcow2 row found asks.1.1.1.0) in
+          let id_is : id_or 0 t (Some file) ≡ row.id = rw found refl in (
+            record {
+              fresh = free_fresh t (room-left t told 1 asks.1.1.0);
+              filter = refl;
+              filename = refl;
+              under = row;
+              found = subst (λ n. node_at t n ≡ Some row) (sym id_is) (h.apart row here.0);
+              own = kind.0;
+              no_file = no_name row here.0 kind.1 row.filename refl;
+              writable = writable-node file row found asks.1.1.1.1.0;
+            },
+            tt,
+          )
+
+  -- ---- a format node with a `file` node of its own
+
+  inline-suits : (name : List ℕ) (file : InlineFile (List ℕ)) (exp : Told) → length t.nodes + 2 ≤ 64
+      → holds t told (ask.Closed file.filename) ≡ None → SuitsFile t (inline_row t exp name file)
+  inline-suits name file exp room closed = record {
+    fresh = free_fresh t (omega arith);
+    driver = refl;
+    name = file.filename;
+    filename = refl;
+    closed = none-over t file.filename (none-stands t told file.filename closed);
+  }
+
+  -- beside a node that was added
+  module _ (row : NodeRecord) (id_is : row.id ≡ free_id t) (room : length t.nodes + 1 ≤ 64) where
+    abbrev pub with_node : Table
+    with_node = changed t (change.AddFile row)
+
+    pub inline-found : node_at with_node (free_id t) ≡ Some row
+    unfolding changed
+    inline-found = found-new (λ r. r.id == free_id t) t.nodes row (free_fresh t room) (eq-eqb row.id (free_id t) id_is)
+
+    inline-alone : IsAlone with_node (free_id t)
+    unfolding changed
+    inline-alone e there is =
+        let old = refreshed-old (kinds_of (t.nodes ++ row ∷ [])) t.edges e there in
+        not-there t (free_id t) (free_fresh t room) (subst (IsThere t) (old.same.child ∙ is) (h.edges old.edge old.there).child)
+
+    there-with : (r : NodeRecord) → Contains t.nodes r → node_at with_node r.id ≡ Some r
+    unfolding changed
+    there-with r there = found-longer (λ x. x.id == r.id) t.nodes row r (h.apart r there)
+
+    free-with : (r : NodeRecord) → Contains t.nodes r → IsFree t r.id → IsFree with_node r.id
+    unfolding changed
+    free-with r there free other found some under =
+        let at_row = there-with r there in
+        let same : r ≡ other = cc in
+        free other (subst (λ x. node_at t r.id ≡ Some x) same (h.apart r there)) some
+        (under-before (kinds_of (t.nodes ++ row ∷ [])) t.edges r.id under)
+
+    backing-with : (new : NodeRecord) → has_role new.kind Backing ≡ true → (r : NodeRecord) (node : ℕ) → Contains t.nodes r → r.id ≡ node
+        → IsFree t node → SuitsBacking with_node new (free_id t) node
+    backing-with new role r node there is free = record {
+      role = role;
+      there = subst (IsThere with_node) is (subst IsSome (sym (there-with r there)) refl);
+      other = λ same. not-there t (free_id t) (free_fresh t room) (subst (IsThere t) (is ∙ same) (subst IsSome (sym (h.apart r there)) refl));
+      free = subst (IsFree with_node) is (free-with r there (subst (IsFree t) (sym is) free));
+    }
+
+  writes-with : (ro_file read_only : Bool) → (not ro_file || read_only) ≡ true → read_only ≡ false → ro_file ≡ false
+  writes-with false read_only e k = refl
+  writes-with true false e k = absurd cc
+  writes-with true true e k = absurd cc
+
+  pub raw-inline-table : (name : List ℕ) (read_only : Bool) (raw : AddRaw (List ℕ)) (file : InlineFile (List ℕ)) (exp : Told)
+      → NoneHolds t told (raw_rest name read_only raw (file_ref.Inline file))
+      → AllTableSuit t (raw_edits t exp name read_only raw (file_ref.Inline file))
+  unfolding changed
+  raw-inline-table name read_only raw file exp asks =
+      let room = room-left t told 2 asks.1.1.1.0 in
+      let row : NodeRecord = inline_row t exp name file in (
+        inline-suits name file exp room asks.1.1.1.1.0,
+        (
+          record {
+            fresh = next_fresh t row refl room;
+            format = refl;
+            role = refl;
+            filename = refl;
+            under = row;
+            found = inline-found row refl (omega arith);
+            name = file.filename;
+            of_file = refl;
+            alone = inline-alone row refl (omega arith);
+            writable = writes-with (is_read_only file.options) read_only
+                (writable-with name file.node_name (not (is_read_only file.options) || read_only) asks.1.1.1.1.1.1.1.0);
+            backed = λ node is. absurd cc;
+          },
+          tt,
+        ),
+      )
+
+  pub qcow2-inline-table : (name : List ℕ) (read_only : Bool) (back : Option (List ℕ)) (file : InlineFile (List ℕ)) (exp : Told)
+      → NoneHolds t told (qcow2_rest name read_only back (file_ref.Inline file))
+      → AllTableSuit t (qcow2_edits t exp name read_only back (file_ref.Inline file))
+  unfolding changed
+  qcow2-inline-table name read_only back file exp asks =
+      let room = room-left t told 2 asks.1.1.1.1.0 in
+      let row : NodeRecord = inline_row t exp name file in (
+        inline-suits name file exp room asks.1.1.1.1.1.1.0,
+        (
+          record {
+            fresh = next_fresh t row refl room;
+            format = refl;
+            role = refl;
+            filename = refl;
+            under = row;
+            found = inline-found row refl (omega arith);
+            name = file.filename;
+            of_file = refl;
+            alone = inline-alone row refl (omega arith);
+            writable = writes-with (is_read_only file.options) read_only
+                (writable-with name file.node_name (not (is_read_only file.options) || read_only) asks.1.1.1.1.1.1.1.1.1.1.1.1.0);
+            backed = λ node is.
+                let b = backing-suits back asks.0 asks.1.1.1.1.1.1.1.1.1.1.1.0 node is in
+                backing-with row refl (omega arith) (image_row (next_free_id t) exp name read_only) refl b.0 node b.1.0.0 b.1.0.1 b.1.1.0;
+          },
+          tt,
+        ),
+      )
+
+  pub add-table : (c : BlockdevAdd (List ℕ)) (exp : Told) → NoneHolds t told (add_asks c) → AllTableSuit t (add_edits t exp c)
+  add-table c exp asks =
+      by_driver c.driver (good-value t told (codes "driver") (is_added c.driver) asks.0)
+      (none-behind t told front (added_rest c.node_name (is_read_only c.options) c.driver) asks)
+    where
+      front : List Asking
+      front =
+          ask.Good (codes "driver") (is_added c.driver) ∷ option_values c.options
+          ++ added_values c.driver
+          ++ ask.Named (codes "node-name") (Some c.node_name) ∷ added_names c.driver
+
+      name : List ℕ
+      name = c.node_name
+
+      read_only : Bool
+      read_only = is_read_only c.options
+
+      of_raw : (raw : AddRaw (List ℕ)) (file : FileRef (List ℕ)) → NoneHolds t told (raw_rest name read_only raw file)
+          → AllTableSuit t (raw_edits t exp name read_only raw file)
+      of_raw raw (file_ref.Name file) asks = raw-named-table name read_only raw file exp asks
+      of_raw raw (file_ref.Inline file) asks = raw-inline-table name read_only raw file exp asks
+
+      of_qcow2 : (back : Option (List ℕ)) (file : FileRef (List ℕ)) → NoneHolds t told (qcow2_rest name read_only back file)
+          → AllTableSuit t (qcow2_edits t exp name read_only back file)
+      of_qcow2 back (file_ref.Name file) asks = qcow2-named-table name read_only back file exp asks
+      of_qcow2 back (file_ref.Inline file) asks = qcow2-inline-table name read_only back file exp asks
+
+      by_driver : (driver : Added (List ℕ)) → is_added driver ≡ true → NoneHolds t told (added_rest name read_only driver)
+          → AllTableSuit t (added_edits t exp name read_only driver)
+      by_driver (added.File filename) known asks = file-table name read_only filename exp asks
+      by_driver (added.Raw raw) known asks = of_raw raw raw.file asks
+      by_driver (added.Qcow2 image) known asks = of_qcow2 (backing_name image.backing) image.file asks
+      by_driver (added.CopyOnRead file) known asks = copy-table name read_only file exp asks
+      by_driver added.Unknown known asks = absurd cc
+
+  -- ---- devices
+
+  unused-above : (more k : ℕ) (devices : List Device) → k ≤ unused_from more k devices
+  unused-above zero k devices = omega arith
+  unused-above (suc more) k devices = by_test (list_any (λ device. device.number == k) devices) (unused-above more (k + 1) devices)
+    where
+      by_test : (b : Bool) → k + 1 ≤ unused_from more (k + 1) devices → k ≤ cond b (unused_from more (k + 1) devices) k
+      by_test true rest = omega arith
+      by_test false rest = omega arith
+
+  device-numbered : (id : List ℕ) (place : Option ℕ) → IsNumberBy (length t.guests) (unwrap_or place (unused_from 64 (length t.guests) t.devices)) place
+  device-numbered id None = unused-above 64 (length t.guests) t.devices
+  device-numbered id (Some guest) = refl
+
+  -- the drive, by its name
+  pub record NamedDrive (drive : List ℕ) : Type 0 where
+    pub row : NodeRecord
+    pub found : node_named t drive ≡ Some row
+    pub there : Contains t.nodes row
+    pub settled : is_settled t row.id ≡ true
+
+  pub named-drive : (drive : List ℕ) → holds t told (ask.Found (Some drive)) ≡ None → holds t told (ask.Settled (Some drive)) ≡ None → NamedDrive drive
+  named-drive drive found settled = by_row (found-named t told drive found)
+    where
+      by_row : ((row : NodeRecord) × (node_named t drive ≡ Some row)) → NamedDrive drive
+      by_row named = record {
+        row = named.0;
+        found = named.1;
+        there = (named-row drive named.0 named.1).0;
+        settled = settled-node t told drive named.0 named.1 settled;
+      }
+
+  pub device-suits : (c : DeviceAdd (List ℕ)) (of : NamedDrive c.drive) → SuitsDevice t (new_device t c of.row) of.row.id
+  device-suits c of = record {
+    there = subst IsSome (sym (h.apart of.row of.there)) refl;
+    free = free-node of.row of.there of.settled;
+    number = device-numbered c.id (place_from 0 c.id t.guests);
+  }
+
+  pub device-table : (c : DeviceAdd (List ℕ)) → NoneHolds t told (device_add_asks c) → AllTableSuit t (device_add_edits t c)
+  unfolding changed
+  device-table c asks =
+      let of = named-drive c.drive asks.1.1.1.1.0 asks.1.1.1.1.1.1.1.0 in
+      rw of.found (by_use of (is_file of.row))
+    where
+      by_name : (of : NamedDrive c.drive) (name : Option (List ℕ))
+          → AllTableSuit t (uses name ++ change.AddDevice (new_device t c of.row) of.row.id ∷ [])
+      by_name of None = (device-suits c of, tt)
+      by_name of (Some name) = (tt, (moved (device-suits c of), tt))
+        where
+          moved : SuitsDevice t (new_device t c of.row) of.row.id
+              → SuitsDevice (changed t (change.UseFile name)) (new_device t c of.row) of.row.id
+          moved suits = record { there = suits.there; free = suits.free; number = suits.number }
+
+      by_use : (of : NamedDrive c.drive) (b : Bool)
+          → AllTableSuit t ((if b then uses of.row.filename else []) ++ change.AddDevice (new_device t c of.row) of.row.id ∷ [])
+      by_use of true = by_name of of.row.filename
+      by_use of false = by_name of None

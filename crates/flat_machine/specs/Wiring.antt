@@ -1,0 +1,151 @@
+-- What holds of the table of every state that a run comes to: how its rows and edges hang together.
+use Rattle.std.specs.Prelude.{◌≡◌, ◌≤◌, ℕ, true, false, Bool, not, ◌||◌, List, length, Contains, Option, Some, None, IsSome}
+use Rattle.blk_graph.specs.declared.edge.Edge.{Edge}
+use Rattle.blk_graph.specs.declared.edge.Parent.TheVariants.{Node}
+use Rattle.blk_graph.specs.declared.edge.Role.TheVariants.{File}
+use Rattle.blk_graph.specs.declared.kind.Kind.TheVariants.{Protocol}
+use Rattle.blk_graph.specs.Permissions.{has_role}
+use Rattle.qmp_rules.specs.declared.rows.NodeRecord.{NodeRecord}
+use Rattle.qmp_rules.specs.declared.rows.Device.{Device}
+use Rattle.qmp_rules.specs.Table.{Table, node_at, child}
+use Rattle.qmp_rules.specs.Chains.{filter_role, disk_node}
+use Rattle.qmp_rules.specs.Edits.{place_from}
+use Rattle.blk_history.specs.Fold.{With}
+use Rattle.flat_machine.specs.Machine.{copies_through}
+
+-- ---- rows
+
+-- no two rows have one id
+abbrev pub AreApart : Table → Type 0
+AreApart t = (row : NodeRecord) → Contains t.nodes row → node_at t row.id ≡ Some row
+
+-- a row of a node that stands for the file
+pub record StandsFor (t : Table) (name : List ℕ) (row : NodeRecord) : Type 0 where
+  pub there : Contains t.nodes row
+  pub filename : row.filename ≡ Some name
+
+-- it is a `file` node, alone over its file
+abbrev pub AreFileNodes : Table → Type 0
+AreFileNodes t = (name : List ℕ) (row : NodeRecord) → StandsFor t name row → row.kind ≡ Protocol
+
+abbrev pub StandAlone : Table → Type 0
+StandAlone t = (name : List ℕ) (a b : NodeRecord) → StandsFor t name a → StandsFor t name b → a.id ≡ b.id
+
+abbrev pub HaveNames : Table → Type 0
+HaveNames t = (row : NodeRecord) → Contains t.nodes row → row.kind ≡ Protocol → IsSome row.filename
+
+-- ---- edges
+
+-- a node's edge is that of a node that is there, and leads to one
+pub record HasEnds (t : Table) (edge : Edge) : Type 0 where
+  pub parent : (node : ℕ) → edge.parent ≡ Node node → IsSome (node_at t node)
+  pub child : IsSome (node_at t edge.child)
+
+abbrev pub EdgesHaveEnds : Table → Type 0
+EdgesHaveEnds t = (edge : Edge) → Contains t.edges edge → HasEnds t edge
+
+-- it has a role of the node's kind
+abbrev pub HaveRoles : Table → Type 0
+HaveRoles t = (edge : Edge) (row : NodeRecord) → Contains t.edges edge → Contains t.nodes row → edge.parent ≡ Node row.id
+    → has_role row.kind edge.role ≡ true
+
+-- an edge to a file is that of a node, which has no other
+abbrev pub IsFileOf : Table → Edge → ℕ → Type 0
+IsFileOf t edge node = (edge.parent ≡ Node node) × (child t node File ≡ Some edge.child)
+
+abbrev pub HaveOneFile : Table → Type 0
+HaveOneFile t = (edge : Edge) → Contains t.edges edge → edge.role ≡ File → (node : ℕ) × IsFileOf t edge node
+
+-- a format node is over the `file` node
+pub record IsUnder (edges : List Edge) (file : ℕ) : Type 0 where
+  pub edge : Edge
+  pub there : Contains edges edge
+  pub over : edge.role ≡ File
+  pub child : edge.child ≡ file
+
+-- an edge to a file leads from one row to another
+pub record HasFile (t : Table) (over under : NodeRecord) : Type 0 where
+  pub over_there : Contains t.nodes over
+  pub under_there : Contains t.nodes under
+  pub edge : Edge
+  pub there : Contains t.edges edge
+  pub parent : edge.parent ≡ Node over.id
+  pub role : edge.role ≡ File
+  pub child : edge.child ≡ under.id
+
+-- A `file` node that is under another one: that is no filter and the only one over it. It has no flat disk, and may be written
+-- where the node over it may.
+pub record IsTaken (t : Table) (over under : NodeRecord) : Type 0 where
+  pub format : filter_role over.kind ≡ None
+  pub gone : under.is_settled ≡ false
+  pub sole : (edge : Edge) → Contains t.edges edge → edge.child ≡ under.id → (edge.parent ≡ Node over.id) × (edge.role ≡ File)
+  pub writable : over.read_only ≡ false → under.read_only ≡ false
+
+abbrev pub FilesAreTaken : Table → Type 0
+FilesAreTaken t = (over under : NodeRecord) → HasFile t over under → IsSome under.filename → IsTaken t over under
+
+-- what is over a node of another kind so is a filter
+abbrev pub OthersAreFiltered : Table → Type 0
+OthersAreFiltered t = (over under : NodeRecord) → HasFile t over under → under.filename ≡ None → IsSome (filter_role over.kind)
+
+-- ---- disks
+
+-- a guest on the node may write its disk, or a read does
+abbrev pub writes_through : Table → Bool → ℕ → Bool
+writes_through t read_only node = not read_only || copies_through t node
+
+-- The node that a node reads as is there and no filter, and a `file` node only where it is that node itself. It may be
+-- written where that one may, or where a read writes it.
+pub record IsDiskOf (t : Table) (row disk : NodeRecord) : Type 0 where
+  pub own : filter_role disk.kind ≡ None
+  pub itself : IsSome disk.filename → disk.id ≡ row.id
+  pub writable : writes_through t row.read_only row.id ≡ true → disk.read_only ≡ false
+
+abbrev pub ReadAsNodes : Table → Type 0
+ReadAsNodes t = (node : ℕ) (row : NodeRecord) → node_at t node ≡ Some row → With (node_at t (disk_node t node)) (IsDiskOf t row)
+
+-- ---- devices
+
+-- a device has the number of the guest of its name, or one that no guest has
+abbrev pub IsNumberBy : ℕ → ℕ → Option ℕ → Type 0
+IsNumberBy count number None = count ≤ number
+IsNumberBy count number (Some guest) = number ≡ guest
+
+abbrev pub HasNumber : List (List ℕ) → Device → Type 0
+HasNumber guests device = IsNumberBy (length guests) device.number (place_from 0 device.id guests)
+
+abbrev pub AreNumbered : Table → Type 0
+AreNumbered t = (device : Device) → Contains t.devices device → HasNumber t.guests device
+
+-- ---- all of it
+
+-- what each change keeps
+pub record TableStands (t : Table) : Type 0 where
+  pub apart : AreApart t
+  pub drivers : AreFileNodes t
+  pub names : HaveNames t
+  pub alone : StandAlone t
+  pub edges : EdgesHaveEnds t
+  pub roles : HaveRoles t
+  pub single : HaveOneFile t
+  pub taken : FilesAreTaken t
+  pub filtered : OthersAreFiltered t
+  pub reads : ReadAsNodes t
+  pub numbers : AreNumbered t
+
+-- a `file` node that was made with another one is under that
+pub record IsInline (t : Table) (row : NodeRecord) (over : ℕ) : Type 0 where
+  pub file : IsSome row.filename
+  pub edge : Edge
+  pub there : Contains t.edges edge
+  pub parent : edge.parent ≡ Node over
+  pub role : edge.role ≡ File
+  pub child : edge.child ≡ row.id
+
+abbrev pub InlineAreUnder : Table → Type 0
+InlineAreUnder t = (row : NodeRecord) (over : ℕ) → Contains t.nodes row → row.made_with ≡ Some over → IsInline t row over
+
+-- between events: what the changes of a command keep together
+pub record TableAtRest (t : Table) : Type 0 where
+  pub stands : TableStands t
+  pub inline : InlineAreUnder t
