@@ -1,0 +1,72 @@
+-- Traces that are read one after another.
+use Rattle.std.proofs.Common.{ℕ, List, [], ◌∷◌, ◌++◌, sym, subst, append_assoc, append-nil, inl, inr, Option, Some, None}
+use Rattle.blk_base.specs.Answers.{HasFile}
+use Rattle.blk_base.specs.Files.{IfTold}
+use Rattle.blk_base.specs.declared.file.File.{File}
+use Rattle.trace_codec.specs.Amounts.{Amounts, nothing}
+use Rattle.trace_codec.specs.declared.wish.Wish.{Wish}
+use Rattle.qblk_inputs.specs.declared.stop.InputFlaw.{InputFlaw}
+use Rattle.trace_codec.specs.Script.{Order}
+use Rattle.qblk_inputs.specs.Words.{Player, Cast, guests_of}
+use Rattle.qblk_inputs.specs.Inputs.{IsScript, IsTrace, HasTraces, HasWork, IsRefusedScript, IsRefusedTrace, IsFirstRefused, IsRefusedInput}
+use Rattle.qblk_inputs.specs.Reading.{OfFile}
+
+-- what the traces of the guests that are left say of all, behind those that were read
+pub record IsAhead (told : Option (List File)) (players : List Player) (asked : Amounts) (rest : List Player) (done : List (List Wish)) : Type 0 where
+  pub good : (more : List (List Wish)) → IfTold told (HasTraces asked rest more) → IfTold told (HasTraces nothing players (done ++ more))
+  pub bad : (name : List ℕ) (why : InputFlaw) (line : ℕ) → IfTold told (IsFirstRefused asked rest name line why) → IfTold told (IsFirstRefused nothing players name line why)
+
+pub ahead-first : (told : Option (List File)) (players : List Player) → IsAhead told players nothing players []
+ahead-first told players = record { good = λ more h. h; bad = λ name why line h. h }
+
+more-traces : (told : Option (List File)) (before asked : Amounts) (p : Player) (rest : List Player) (wishes : List Wish) (more : List (List Wish))
+    → IfTold told (HasFile p.trace (λ f. IsTrace before wishes asked f.bytes)) → IfTold told (HasTraces asked rest more) → IfTold told (HasTraces before (p ∷ rest) (wishes ∷ more))
+more-traces None before asked p rest wishes more here h = tt
+more-traces (Some files) before asked p rest wishes more here h = (asked, here, h)
+
+more-refused : (told : Option (List File)) (before asked : Amounts) (p : Player) (rest : List Player) (wishes : List Wish) (name : List ℕ) (why : InputFlaw) (line : ℕ)
+    → IfTold told (HasFile p.trace (λ f. IsTrace before wishes asked f.bytes)) → IfTold told (IsFirstRefused asked rest name line why) → IfTold told (IsFirstRefused before (p ∷ rest) name line why)
+more-refused None before asked p rest wishes name why line here h = tt
+more-refused (Some files) before asked p rest wishes name why line here h = inr (wishes, asked, here, h)
+
+pub ahead-next : (told : Option (List File)) (players : List Player) (before asked : Amounts) (p : Player) (rest : List Player) (done : List (List Wish)) (wishes : List Wish)
+    → IfTold told (HasFile p.trace (λ f. IsTrace before wishes asked f.bytes)) → IsAhead told players before (p ∷ rest) done → IsAhead told players asked rest (done ++ wishes ∷ [])
+ahead-next told players before asked p rest done wishes here a = record {
+  good = λ more h. subst (λ ts. IfTold told (HasTraces nothing players ts)) (sym (append_assoc done (wishes ∷ []) more)) (a.good (wishes ∷ more) (more-traces told before asked p rest wishes more here h));
+  bad = λ name why line h. a.bad name why line (more-refused told before asked p rest wishes name why line here h);
+}
+
+none-left : (told : Option (List File)) (asked : Amounts) → IfTold told (HasTraces asked [] [])
+none-left None asked = tt
+none-left (Some files) asked = tt
+
+pub ahead-end : (told : Option (List File)) (players : List Player) (asked : Amounts) (done : List (List Wish)) → IsAhead told players asked [] done → IfTold told (HasTraces nothing players done)
+ahead-end told players asked done a = subst (λ ts. IfTold told (HasTraces nothing players ts)) (append-nil done) (a.good [] (none-left told asked))
+
+first-refused : (told : Option (List File)) (asked : Amounts) (p : Player) (rest : List Player) (name : List ℕ) (why : InputFlaw) (line : ℕ)
+    → OfFile told p.trace (IsRefusedTrace asked) name why line → IfTold told (IsFirstRefused asked (p ∷ rest) name line why)
+first-refused None asked p rest name why line h = tt
+first-refused (Some files) asked p rest name why line h = inl (h.0, h.1)
+
+pub ahead-stops : (told : Option (List File)) (players : List Player) (asked : Amounts) (p : Player) (rest : List Player) (done : List (List Wish)) (name : List ℕ) (why : InputFlaw) (line : ℕ)
+    → IsAhead told players asked (p ∷ rest) done → OfFile told p.trace (IsRefusedTrace asked) name why line → IfTold told (IsFirstRefused nothing players name line why)
+ahead-stops told players asked p rest done name why line a h = a.bad name why line (first-refused told asked p rest name why line h)
+
+-- ---- the script before the traces
+
+pub has_work : (told : Option (List File)) (cast : Cast) (orders : List Order) (traces : List (List Wish))
+    → IfTold told (HasFile cast.script (λ f. IsScript (guests_of cast) orders f.bytes)) → IfTold told (HasTraces nothing cast.players traces)
+    → IfTold told (HasWork cast (record { script = orders; traces = traces }))
+has_work None cast orders traces s t = tt
+has_work (Some files) cast orders traces s t = record { script = s; traces = t }
+
+pub script_refused : (told : Option (List File)) (cast : Cast) (name : List ℕ) (why : InputFlaw) (line : ℕ)
+    → OfFile told cast.script IsRefusedScript name why line → IfTold told (IsRefusedInput cast name line why)
+script_refused None cast name why line h = tt
+script_refused (Some files) cast name why line h = inl (h.0, h.1)
+
+pub trace_refused : (told : Option (List File)) (cast : Cast) (orders : List Order) (name : List ℕ) (why : InputFlaw) (line : ℕ)
+    → IfTold told (HasFile cast.script (λ f. IsScript (guests_of cast) orders f.bytes)) → IfTold told (IsFirstRefused nothing cast.players name line why)
+    → IfTold told (IsRefusedInput cast name line why)
+trace_refused None cast orders name why line s t = tt
+trace_refused (Some files) cast orders name why line s t = inr (orders, s, t)

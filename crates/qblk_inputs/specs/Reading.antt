@@ -1,0 +1,41 @@
+-- How inputs are read.
+use Rattle.std.specs.Prelude.{◌≡◌, ℕ, ◌<◌, ◌≤◌, true, List, length, Option}
+use Rattle.blk_base.specs.Answers.{HasFile, LacksFile}
+use Rattle.blk_base.specs.Counts.{Rose}
+use Rattle.blk_base.specs.Files.{IfTold, is_out}
+use Rattle.blk_base.specs.declared.file.File.{File}
+use Rattle.blk_base.specs.declared.file.Opened.{Opened}
+use Rattle.qblk_inputs.specs.declared.stop.InputFlaw.{InputFlaw}
+use Rattle.qblk_inputs.specs.declared.stop.InputFlaw.TheVariants.{Absent, TooLong}
+use Rattle.qblk_inputs.specs.declared.stop.InputStop.{InputStop}
+use Rattle.qblk_inputs.specs.declared.stop.InputStop.TheVariants.{Refused, Failed, NoMemory}
+
+-- no device is out
+abbrev pub NoneOut : List Opened → Type 0
+NoneOut opened = (name : List ℕ) → is_out name opened ≡ true → ⊥
+
+-- the bytes of a file that is not too long
+abbrev pub IsReadOf : List ℕ → List ℕ → List File → Type 0
+IsReadOf name bytes files = HasFile name (λ f. (bytes ≡ f.bytes) × (length bytes ≤ 67108864)) files
+
+-- the stop is the refusal of that file, or tells of want of memory
+abbrev pub IsRefusal : List ℕ → ℕ → InputFlaw → InputStop → Type 0
+IsRefusal name line why (Refused n l w) = (n.bytes ≡ name) × (l ≡ line) × (w ≡ why)
+IsRefusal name line why (Failed count) = ⊥
+IsRefusal name line why NoMemory = Unit {0}
+
+-- an input is refused, for this cause; or a call of the store failed; or memory wasn't had
+abbrev pub StopsFor : (List ℕ → InputFlaw → ℕ → Type 0) → ℕ → ℕ → InputStop → Type 0
+StopsFor P before now (Refused name line why) = P name.bytes why line × (now ≡ before)
+StopsFor P before now (Failed count) = Rose before count × (count ≡ now)
+StopsFor P before now NoMemory = now ≡ before
+
+-- a file isn't read as a whole
+abbrev pub IsUnread : InputFlaw → ℕ → List ℕ → List File → Type 0
+IsUnread Absent line name files = (line ≡ 0) × LacksFile name files
+IsUnread TooLong line name files = (line ≡ 0) × HasFile name (λ f. 67108864 < length f.bytes) files
+IsUnread why line name files = ⊥
+
+-- a refusal of this file for a cause
+abbrev pub OfFile : Option (List File) → List ℕ → (InputFlaw → ℕ → List ℕ → List File → Type 0) → List ℕ → InputFlaw → ℕ → Type 0
+OfFile told name P given why line = (given ≡ name) × IfTold told (P why line name)

@@ -1,0 +1,62 @@
+-- The words of `run`.
+use Rattle.std.specs.Prelude.{◌≡◌, ℕ, Bool, true, not, ◌&&◌, ◌==◌, nat_lt, nat_le, List, [], ◌∷◌, length, map, codes, bytes_eq, slice_index}
+use Rattle.std.specs.List.{list_any, list_all, before_first, after_first}
+use Rattle.trace_codec.specs.Awaits.{is_name}
+use Rattle.blk_base.specs.Written.{Written}
+
+abbrev pub texts_of : List Written → List (List ℕ)
+texts_of words = map (λ w. w.bytes) words
+
+-- a file name has 1 to 1,023 bytes, none of them zero; no word begins with `-`
+abbrev pub is_file_name : List ℕ → Bool
+is_file_name word = nat_lt 0 (length word) && nat_lt (length word) 1024 && not (slice_index word 0 == 45) && not (list_any (λ b. b == 0) word)
+
+-- a guest, and the file of its trace
+pub record Player : Type 0 where
+  pub name : List ℕ
+  pub trace : List ℕ
+
+-- `GUEST=TRACE`, cut at its first `=`
+abbrev pub player_of : List ℕ → Player
+player_of word = record { name = before_first (λ b. b == 61) word; trace = after_first (λ b. b == 61) word }
+
+-- a file name that stands within a word, and so may begin with any byte: 1 to 1,023 bytes, none of them zero
+abbrev pub is_inner_name : List ℕ → Bool
+is_inner_name name = nat_lt 0 (length name) && nat_lt (length name) 1024 && not (list_any (λ b. b == 0) name)
+
+-- there is an `=`: what stands before it is not the whole word
+abbrev pub is_player : List ℕ → Bool
+is_player word =
+    nat_lt (length (player_of word).name) (length word)
+    && (is_name (player_of word).name && is_inner_name (player_of word).trace)
+
+abbrev pub all_differ : List (List ℕ) → Bool
+all_differ [] = true
+all_differ (name ∷ names) = not (list_any (λ other. bytes_eq name other) names) && all_differ names
+
+-- what the words name
+pub record Cast : Type 0 where
+  pub script : List ℕ
+  pub players : List Player
+
+-- the guests, by number
+abbrev pub names_of : List Player → List (List ℕ)
+names_of players = map (λ p. p.name) players
+
+abbrev pub guests_of : Cast → List (List ℕ)
+guests_of cast = names_of cast.players
+
+abbrev pub cast_of : List ℕ → List (List ℕ) → Cast
+cast_of script words = record { script = script; players = map player_of words }
+
+-- at most 16 guests with their traces, of different names
+abbrev pub are_players : List (List ℕ) → Bool
+are_players words = nat_le (length words) 16 && (list_all is_player words && all_differ (names_of (map player_of words)))
+
+-- `run 1 SCRIPT GUEST=TRACE ..`
+pub record IsRunOf (words : List (List ℕ)) (cast : Cast) : Type 0 where
+  pub rest : List (List ℕ)
+  pub form : words ≡ codes "run" ∷ codes "1" ∷ cast.script ∷ rest
+  pub script_name : is_file_name cast.script ≡ true
+  pub players : are_players rest ≡ true
+  pub cut : cast.players ≡ map player_of rest

@@ -1,0 +1,10 @@
+//! The words of a run, and its inputs: a script, and a trace for each guest.
+#![tactic(auto)]
+
+mod inputs;
+mod stop;
+mod words;
+
+pub use inputs::{Inputs, read_inputs};
+pub use stop::{InputFlaw, InputStop};
+pub use words::{RunWords, names_file, run_words};
