@@ -51,6 +51,12 @@ impl<D: Device> Model for Held<D> {
 }
 
 impl<D: Device> Held<D> {
+    fn number(&self) -> DevNo
+        ensures { result ≡ self.now.number }
+    {
+        self.number
+    }
+
     fn is_of(&self, node: NodeId) -> bool
         ensures { result ≡ is_of node self.now }
     {
@@ -210,6 +216,20 @@ impl<D: Device> Devices<D> {
         ensures within { IfSome result (λ at. at < length self.now) }
     {
         self.list.iter().position(|held| held.is_of(file))
+    }
+
+    /// The number of a node's device.
+    pub(crate) fn number_of(&self, file: NodeId) -> DevNo
+        requires { IsSome (device_in self.now file) }
+        ensures { IfSome (device_in self.now file) (λ held. result ≡ held.number) }
+    {
+        match self.place_of(file) {
+            Some(at) => {
+                let held = &self.list[at];
+                held.number()
+            }
+            None => unreachable!(),
+        }
     }
 
     /// Reads from the file of a `file` node.

@@ -23,6 +23,7 @@ mod dropping;
 mod ending;
 mod flushing;
 mod formatting;
+mod imaging;
 mod looks;
 mod writing;
 
