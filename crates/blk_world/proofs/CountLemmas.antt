@@ -341,6 +341,7 @@ out-same t nodes now opened same was = record {
       };
   once = numbers-once nodes.devices now.devices same was.once;
   all = λ n o at out. still (device_numbered nodes.devices n) (device_numbered now.devices n) (numbered-same nodes.devices now.devices n same) (was.all n o at out);
+  names = was.names;
 }
   where
     still : (a b : Option DeviceState) → AreBoth a b → IsSome a → IsSome b
