@@ -195,7 +195,7 @@ same-only file old new before after once only held left is = same-found old new 
 abbrev pub DifferInNumber : DeviceState → DeviceState → Type 0
 DifferInNumber a b = a.number ≢ b.number
 
-same-number : (a b : DevNo) → a.0 ≡ b.0 → a ≡ b
+pub same-number : (a b : DevNo) → a.0 ≡ b.0 → a ≡ b
 same-number a b is = ap (λ n. record { 0 = n }) is
 
 -- a device stands at its number
