@@ -10,15 +10,16 @@ use Rattle.blk_base.specs.declared.fault.FaultAt.{FaultAt}
 use Rattle.blk_base.specs.declared.file.File.{File}
 use Rattle.blk_base.specs.declared.file.Opened.{Opened}
 use Rattle.blk_graph.proofs.CycleLemmas.{and-left, and-right}
-use Rattle.blk_graph.proofs.Members.{Contains-here, Contains-there}
+use Rattle.blk_graph.proofs.Members.{Contains-nil, Contains-cases, Contains-here, Contains-there}
 use Rattle.blk_graph.proofs.RoleLemmas.{tail_pairs, head_pairs}
+use Rattle.blk_history.specs.Fold.{With}
 use Rattle.blk_nodes.specs.Nodes.{DeviceState, AreTold}
 use Rattle.qmp_rules.specs.Table.{Table}
 use Rattle.flat_machine.specs.State.{filename_of}
 use Rattle.flat_machine.proofs.Finds.{bytes_eq-same}
-use Rattle.blk_world.specs.Closing.{IsBack, AreBack, IsOutFor, flushed_by, is_file_of, held_left}
+use Rattle.blk_world.specs.Closing.{IsBack, AreBack, IsClosed, AreFlushed, IsFlushedIn, IsOutFor, first_of, flushed_by, is_file_of, held_left}
 use Rattle.blk_world.specs.Coherent.{AreHeld, IsOut}
-use Rattle.blk_world.specs.Face.{told_bytes}
+use Rattle.blk_world.specs.Face.{Face, told_bytes}
 use Rattle.blk_world.specs.Steps.{StoreSeen}
 use Rattle.blk_world.proofs.CountLemmas.{DifferInNumber, same-number}
 
@@ -298,3 +299,66 @@ back-files t (device ∷ devices) old new fault back held told files is =
     let then = files-then t device devices old back.1 back.0 one held files is of in
     let more = back-files t devices back.0 new back.2 back.4 (held-back t device devices old back.0 back.1 one held) (all-told devices device told) _ then in
     (more.0, λ name. more.1 name ∙ held-then t device devices old back.1 back.0 one held files is of name)
+
+-- ---- what is flushed
+
+-- a file of none of the devices stays
+back-others : (t : Table) (devices : List DeviceState) (old new : StoreSeen) (fault : Option FaultAt) → AreBack t devices old new fault → AreHeld t devices old.opened
+    → AreTold devices → (files : List File) → old.files ≡ Some files → (name : List ℕ) → AreOther t name devices
+    → (now : List File) × (new.files ≡ Some now) × (file_at name now ≡ file_at name files)
+back-others t [] old new fault back held told files is name other = (files, ap (λ (s : StoreSeen). s.files) back.0 ∙ is, refl)
+back-others t (device ∷ devices) old new fault back held told files is name other =
+    let one = back.3 in
+    let of = told-of device back.1 (told device (Contains-here device devices)) one.tells in
+    let then = files-then t device devices old back.1 back.0 one held files is of in
+    let more = back-others t devices back.0 new back.2 back.4 (held-back t device devices old back.0 back.1 one held) (all-told devices device told) _ then name other.1 in
+    (more.0, more.1, more.2 ∙ put-other _ files name (apart one.name one.named))
+  where
+    apart : (its : List ℕ) → filename_of t device.node ≡ Some its → bytes_eq name its ≡ false
+    apart its named = by_test (bytes_eq name its) refl
+      where
+        by_test : (b : Bool) → bytes_eq name its ≡ b → b ≡ false
+        by_test true same =
+            let equal : name ≡ its = (bytes_eq-Decides name its).0 same in
+            let here : is_file_of t name device ≡ true = rw named (subst (λ n. bytes_eq n name ≡ true) equal (bytes_eq-same name)) in
+            absurd (false≢true (sym other.0 ∙ here))
+        by_test false same = refl
+
+no-fault : (first later : Option FaultAt) → first_of first later ≡ None → (first ≡ None) × (later ≡ None)
+no-fault None later is = (refl, is)
+no-fault (Some fault) later is = absurd (let bad : ⊥ = cc is in bad)
+
+made-true : (x : Option Bool) (b : Bool) → option_map (λ (f : Bool). true) x ≡ Some b → b ≡ true
+made-true None b is = absurd (let bad : ⊥ = cc is in bad)
+made-true (Some f) b is = sym (same_Some true b is)
+
+-- where no flush failed, the file of each device is flushed
+pub back-flushed : (t : Table) (devices : List DeviceState) (old new : StoreSeen) (fault : Option FaultAt) → AreBack t devices old new fault → AreHeld t devices old.opened
+    → AreTold devices → (files : List File) → old.files ≡ Some files → fault ≡ None → (device : DeviceState) → Contains devices device → (name : List ℕ)
+    → filename_of t device.node ≡ Some name → (now : List File) × (new.files ≡ Some now) × IsFlushedIn now name
+back-flushed t [] old new fault back held told files is none device within name named = absurd (Contains-nil device within)
+back-flushed t (d ∷ devices) old new fault back held told files is none device within name named =
+    let one = back.3 in
+    let of = told-of d back.1 (told d (Contains-here d devices)) one.tells in
+    let then = files-then t d devices old back.1 back.0 one held files is of in
+    let step = held-back t d devices old back.0 back.1 one held in
+    let quiet = no-fault back.1 back.2 (sym back.5 ∙ none) in
+    elim (Contains-cases d devices device within) [
+      | inl here ↦
+          let same : one.name ≡ name = same_Some one.name name (sym one.named ∙ subst (λ (x : DeviceState). filename_of t x.node ≡ Some name) here named) in
+          let rest = back-others t devices back.0 new back.2 back.4 step (all-told devices d told) _ then one.name (others t d devices old back.1 back.0 one held files is of) in
+          let there = rest.2 ∙ put-there (file t d devices old back.1 back.0 one held files is of) files in
+          let yes : of.flushed ≡ true = made-true d.is_flushed of.flushed (subst (λ (f : Option FaultAt). flushed_by f d.is_flushed ≡ Some of.flushed) quiet.0 of.is) in
+          (rest.0, rest.1, subst (λ n. IsFlushedIn rest.0 n) same (subst (λ (f : Option File). With f (λ x. x.is_flushed ≡ true)) (sym there) yes))
+      | inr later ↦ back-flushed t devices back.0 new back.2 back.4 step (all-told devices d told) _ then quiet.1 device later name named
+    ]
+
+pub flushed-then : (w : Face) (store : StoreSeen) (fault : Option FaultAt) → IsClosed w store fault → AreHeld w.table w.nodes.devices w.opened → is_some w.files ≡ true
+    → AreTold w.nodes.devices → fault ≡ None → AreFlushed w store.files
+flushed-then w store fault closed out told devices none device name within named = by_files w.files refl told
+  where
+    by_files : (files : Option (List File)) → w.files ≡ files → is_some files ≡ true → With store.files (λ now. IsFlushedIn now name)
+    by_files None is some = absurd (false≢true some)
+    by_files (Some files) is some =
+        let all = back-flushed w.table w.nodes.devices _ store fault closed out devices files is none device within name named in
+        subst (λ (f : Option (List File)). With f (λ now. IsFlushedIn now name)) (sym all.1) all.2

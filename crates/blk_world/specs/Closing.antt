@@ -1,5 +1,5 @@
 -- The end of a world: each device is flushed and given back.
-use Rattle.std.specs.Prelude.{◌≡◌, ℕ, Bool, true, false, if◌then◌else◌, List, [], ◌∷◌, bytes_eq, Option, Some, None, MatchOption, is_some, option_map, unwrap_or}
+use Rattle.std.specs.Prelude.{◌≡◌, ℕ, Bool, true, false, if◌then◌else◌, List, [], ◌∷◌, Contains, bytes_eq, Option, Some, None, MatchOption, is_some, option_map, unwrap_or}
 use Rattle.blk_base.specs.Counts.{Rose}
 use Rattle.blk_base.specs.Files.{given_back, file_at, is_out}
 use Rattle.blk_base.specs.Stored.{files_with_returned}
@@ -64,6 +64,11 @@ IsClosed w store fault = AreBack w.table w.nodes.devices (store_in w) store faul
 -- the file of that name is flushed
 abbrev pub IsFlushedIn : List File → List ℕ → Type 0
 IsFlushedIn files name = With (file_at name files) (λ file. file.is_flushed ≡ true)
+
+-- the file of each device is
+abbrev pub AreFlushed : Face → Option (List File) → Type 0
+AreFlushed w files = (device : DeviceState) (name : List ℕ) → Contains w.nodes.devices device
+    → filename_of w.table device.node ≡ Some name → With files (λ told. IsFlushedIn told name)
 
 -- what a file holds while these devices are still to be given back: what the device of that file does, or what the store does
 abbrev pub is_file_of : Table → List ℕ → DeviceState → Bool

@@ -1,7 +1,7 @@
 //! The end of a world.
-ghost use Rattle.std.specs.Prelude.{◌≡◌, ℕ, List, false, true, is_some};
+ghost use Rattle.std.specs.Prelude.{◌≡◌, ℕ, List, None, false, true, is_some};
 ghost use Rattle.blk_base.specs.Files.{is_out};
-ghost use Rattle.blk_world.specs.Closing.{IsClosed};
+ghost use Rattle.blk_world.specs.Closing.{AreFlushed, IsClosed};
 ghost use Rattle.blk_world.specs.Comes.{Comes};
 ghost use Rattle.blk_world.specs.Face.{held, told_bytes};
 ghost use Rattle.blk_world.specs.Steps.{seen_store};
@@ -21,6 +21,8 @@ impl<S: Store> World<S> {
         ensures closed { IsClosed self
             (seen_store (S.files result.0) (S.opened result.0) (S.room result.0) (S.faults result.0)) result.2 }
         ensures none_out { (name : List ℕ) → is_out name (S.opened result.0) ≡ false }
+        ensures flushed { is_some self.files ≡ true → AreTold self.nodes.devices → result.2 ≡ None
+            → AreFlushed self (S.files result.0) }
         ensures held { (o : Opening) → Comes o self → is_some self.files ≡ true → AreTold self.nodes.devices
             → (name : List ℕ) → told_bytes (S.files result.0) name ≡ held self name }
     {
