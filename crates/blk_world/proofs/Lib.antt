@@ -9,4 +9,4 @@ pub mod Judging
 pub mod CountLemmas
 pub mod CloseLemmas
 pub mod CloseHeld
-pub mod CloseComes
+pub mod CloseFiles

@@ -2,11 +2,9 @@
 ghost use Rattle.std.specs.Prelude.{◌≡◌, ℕ, List, None, false, true, is_some};
 ghost use Rattle.blk_base.specs.Files.{is_out};
 ghost use Rattle.blk_world.specs.Closing.{AreFlushed, IsClosed};
-ghost use Rattle.blk_world.specs.Comes.{Comes};
 ghost use Rattle.blk_world.specs.Face.{held, told_bytes};
 ghost use Rattle.blk_world.specs.Steps.{seen_store};
 ghost use Rattle.blk_nodes.specs.Nodes.{AreTold};
-ghost use Rattle.flat_machine.specs.declared.opening.Opening.{Opening};
 
 use crate::closing::give_all_back;
 use crate::world::World;
@@ -23,7 +21,7 @@ impl<S: Store> World<S> {
         ensures none_out { (name : List ℕ) → is_out name (S.opened result.0) ≡ false }
         ensures flushed { is_some self.files ≡ true → AreTold self.nodes.devices → result.2 ≡ None
             → AreFlushed self (S.files result.0) }
-        ensures held { (o : Opening) → Comes o self → is_some self.files ≡ true → AreTold self.nodes.devices
+        ensures held { is_some self.files ≡ true → AreTold self.nodes.devices
             → (name : List ℕ) → told_bytes (S.files result.0) name ≡ held self name }
     {
         let World {

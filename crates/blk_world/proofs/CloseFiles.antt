@@ -1,5 +1,5 @@
--- Where a world comes of an opening, the files hold in the end what they held before.
-use Rattle.std.proofs.Common.{◌≡◌, ℕ, true, List, refl, sym, ◌∙◌, ap, subst, Option, Some, None}
+-- At the end of a world the files hold what they held before.
+use Rattle.std.proofs.Common.{◌≡◌, ℕ, true, List, refl, sym, ◌∙◌, subst, Option, Some, None}
 use Rattle.std.specs.Prelude.{IsSome, is_some, Contains}
 use Rattle.std.proofs.lemmas.Bool.{false≢true}
 use Rattle.blk_base.specs.declared.fault.FaultAt.{FaultAt}
@@ -12,14 +12,8 @@ use Rattle.blk_nodes.specs.declared.row.Driver.TheVariants as drivers
 use Rattle.blk_nodes.specs.declared.row.Row.{Row}
 use Rattle.qmp_rules.specs.declared.rows.NodeRecord.{NodeRecord}
 use Rattle.qmp_rules.specs.Table.{Table, node_at}
-use Rattle.flat_machine.specs.Machine.{replay}
-use Rattle.flat_machine.specs.Opening.{start}
-use Rattle.flat_machine.specs.State.{State}
-use Rattle.flat_machine.specs.Standing.{Stands}
-use Rattle.flat_machine.specs.declared.opening.Opening.{Opening}
 use Rattle.blk_world.specs.Closing.{IsClosed}
-use Rattle.blk_world.specs.Coherent.{AreNodesOf, AreAlike}
-use Rattle.blk_world.specs.Comes.{Comes, Shows}
+use Rattle.blk_world.specs.Coherent.{IsCoherent, AreNodesOf, AreAlike}
 use Rattle.blk_world.specs.Face.{Face, held, told_bytes}
 use Rattle.blk_world.specs.Steps.{StoreSeen}
 use Rattle.blk_world.proofs.CloseLemmas.{back-files}
@@ -46,24 +40,16 @@ told-files : (files : Option (List File)) → is_some files ≡ true → (told :
 told-files None is = absurd (false≢true is)
 told-files (Some told) is = (told, refl)
 
-pub held-comes : (o : Opening) (w : Face) (store : StoreSeen) (fault : Option FaultAt) → IsClosed w store fault → IsJoined w.nodes → Comes o w → is_some w.files ≡ true
-    → AreTold w.nodes.devices → (name : List ℕ) → told_bytes store.files name ≡ held w name
-held-comes o w store fault closed joined comes told devices name =
+pub held-then : (w : Face) (store : StoreSeen) (fault : Option FaultAt) → IsClosed w store fault → IsJoined w.nodes → IsCoherent w.table w.nodes w.opened w.progress
+    → is_some w.files ≡ true → AreTold w.nodes.devices → (name : List ℕ) → told_bytes store.files name ≡ held w name
+held-then w store fault closed joined coherent told devices name =
     let files = told-files w.files told in
-    let shows = comes.shows told in
-    let stands : Stands (replay (start o) w.progress.log.events) = shows.stands in
-    let same = shows.table.table_is in
-    let apart : (row : NodeRecord) → Contains w.table.nodes row → node_at w.table row.id ≡ Some row =
-    subst (λ (t : Table). (row : NodeRecord) → Contains t.nodes row → node_at t row.id ≡ Some row) same stands.apart in
-    let drives : (n : List ℕ) (row : NodeRecord) → Contains w.table.nodes row → row.filename ≡ Some n → row.kind ≡ Protocol =
-    subst (λ (t : Table). (n : List ℕ) (row : NodeRecord) → Contains t.nodes row → row.filename ≡ Some n → row.kind ≡ Protocol) same
-    (λ n row there is. stands.drivers n row (record { there = there; filename = is })) in
+    let stands = coherent.table.stands in
     let have : (row : NodeRecord) → Contains w.table.nodes row → IsSome row.filename → IsSome (device_in w.nodes.devices row.id) =
-    λ row there some. has-device w.table w.nodes comes.coherent.alike joined row (apart row there) (by_name row there row.filename refl some drives) in
-    (back-files w.table w.nodes.devices _ store fault closed comes.coherent.out devices files.0 files.1).1 name
-    ∙ held-is w comes.coherent.out apart have name
+    λ row there some. has-device w.table w.nodes coherent.alike joined row (stands.apart row there) (by_name row there row.filename refl some) in
+    (back-files w.table w.nodes.devices _ store fault closed coherent.out devices files.0 files.1).1 name
+    ∙ held-is w coherent.out stands.apart have name
   where
-    by_name : (row : NodeRecord) → Contains w.table.nodes row → (filename : Option (List ℕ)) → row.filename ≡ filename → IsSome filename
-        → ((n : List ℕ) (r : NodeRecord) → Contains w.table.nodes r → r.filename ≡ Some n → r.kind ≡ Protocol) → row.kind ≡ Protocol
-    by_name row there None is some drives = absurd (false≢true some)
-    by_name row there (Some n) is some drives = drives n row there is
+    by_name : (row : NodeRecord) → Contains w.table.nodes row → (filename : Option (List ℕ)) → row.filename ≡ filename → IsSome filename → row.kind ≡ Protocol
+    by_name row there None is some = absurd (false≢true some)
+    by_name row there (Some n) is some = coherent.table.stands.drivers n row (record { there = there; filename = is })
