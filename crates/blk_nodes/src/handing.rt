@@ -57,4 +57,11 @@ impl<D: Device> DevicesLeft<D> {
             }
         }
     }
+
+    /// Ends it, once all are handed out.
+    pub fn end(self)
+        requires { self ≡ [] }
+    {
+        self.left.destroy_empty();
+    }
 }

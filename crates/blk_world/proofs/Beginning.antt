@@ -8,7 +8,7 @@ use Rattle.qmp_rules.specs.Table.{opening_table}
 use Rattle.flat_machine.specs.Opening.{start, new_guest}
 use Rattle.flat_machine.specs.Licence.{Counts, AreLicensed, IsBetween}
 use Rattle.flat_machine.specs.declared.opening.Opening.{Opening}
-use Rattle.flat_machine.proofs.Openings.{start_agrees}
+use Rattle.flat_machine.proofs.Openings.{start_rests, start_agrees}
 use Rattle.blk_world.specs.Face.{contents_of}
 use Rattle.blk_world.specs.Comes.{Comes, Shows}
 use Rattle.blk_world.proofs.Coherence.{coherent-new}
@@ -28,6 +28,8 @@ module _ (store : StoreSeen) (guests : List (List ℕ)) (room : Room) (none_out 
   shows-start told =
       let files = is.files_are told in
       record {
+        stands = start_rests o;
+        clean = refl;
         table = record { room_is = sym (is.room_is told); table_is = ap opening_table (sym is.guests_are); rest = record { started = refl; ended = refl } };
         guests = record { guests_are = guests-start o.guests ∙ ap (λ names. replicate (length names) new_guest) (sym is.guests_are); ended_are = refl };
         contents = start_agrees o (contents_of (new_world store guests room)) (λ name. rw files refl);
@@ -40,6 +42,7 @@ module _ (store : StoreSeen) (guests : List (List ℕ)) (room : Room) (none_out 
       licensed = licensed-none _ _;
       history = λ told. record { legal = tt; rest = record { started = refl; ended = refl }; marks = tt };
     };
+    counted = omega arith;
     requests = sym (guests-start guests) ∙ ap (map (λ name. new_guest)) is.guests_are;
     coherent = coherent-new guests room store.opened none_out;
     shows = λ told. shows-start told;

@@ -13,13 +13,15 @@ use Rattle.blk_history.specs.Fold.{change, With}
 use Rattle.blk_history.specs.Machine.{Flight}
 use Rattle.blk_nodes.specs.Nodes.{Nodes, no_nodes}
 use Rattle.blk_nodes.specs.declared.row.Row.{Row}
-use Rattle.qmp_rules.specs.Table.{Table, opening_table}
+use Rattle.qmp_rules.specs.Table.{Table, device_at, opening_table}
 use Rattle.flat_machine.specs.State.{Guest, disk_of_guest, size_of}
+use Rattle.flat_machine.specs.Legal.{IsForbidden}
 use Rattle.flat_machine.specs.Machine.{admitted, finished}
 use Rattle.flat_machine.specs.Opening.{new_guest}
 use Rattle.flat_machine.proofs.Finds.{bytes_eq-same}
+use Rattle.flat_machine.proofs.Openings.{start_table_rests}
 use Rattle.blk_world.specs.Progress.{Progress, flight_at, no_progress, with_admission}
-use Rattle.blk_world.specs.Coherent.{IsCoherent, AreWithin}
+use Rattle.blk_world.specs.Coherent.{IsCoherent, AreWithin, AreAllowed}
 
 -- ---- guests
 
@@ -45,23 +47,32 @@ within-put : (t : Table) (guests : List Guest) (g : ℕ) (h : Guest → Guest) �
     → AreWithin t (change g h guests)
 within-put t guests g h all one = flights-change (λ k f. With (disk_of_guest t k) (λ node. end_of (span_of f.op) ≤ size_of t node)) guests g h all one
 
+-- what is so of a request in flight by its guest's device
+abbrev IsAllowed : Table → ℕ → Flight → Type 0
+IsAllowed t g f = With (device_at t g) (λ device. IsForbidden f.op device.read_only → ⊥)
+
 module _ (t : Table) (nodes : Nodes) (opened : List Opened) (p : Progress) (was : IsCoherent t nodes opened p) where
   -- guests' rows alone change
-  coherent-with : (q : Progress) → AreWithin t q.guests → length q.guests ≡ length p.guests → IsCoherent t nodes opened q
-  coherent-with q within count = record {
+  coherent-with : (q : Progress) → AreWithin t q.guests → AreAllowed t q.guests → length q.guests ≡ length p.guests → IsCoherent t nodes opened q
+  coherent-with q within allowed count = record {
+    table = was.table;
     drives = was.drives;
     disks = was.disks;
     alike = was.alike;
+    asks = was.asks;
     within = within;
+    allowed = allowed;
     count = count ∙ was.count;
     jobs = was.jobs;
     out = was.out;
   }
 
-  pub coherent-admission : (g : ℕ) (op : Op) → With (disk_of_guest t g) (λ node. end_of (span_of op) ≤ size_of t node) → IsCoherent t nodes opened (with_admission g op p)
-  coherent-admission g op fits =
+  pub coherent-admission : (g : ℕ) (op : Op) → With (disk_of_guest t g) (λ node. end_of (span_of op) ≤ size_of t node)
+      → With (device_at t g) (λ device. IsForbidden op device.read_only → ⊥) → IsCoherent t nodes opened (with_admission g op p)
+  coherent-admission g op fits allows =
       coherent-with (with_admission g op p)
       (within-put t p.guests g (admitted op) was.within (λ row f there is. let same : op ≡ f.op = ap op_or is in subst (λ o. With (disk_of_guest t g) (λ node. end_of (span_of o) ≤ size_of t node)) same fits))
+      (flights-change (IsAllowed t) p.guests g (admitted op) was.allowed (λ row f there is. let same : op ≡ f.op = ap op_or is in subst (λ o. With (device_at t g) (λ device. IsForbidden o device.read_only → ⊥)) same allows))
       (length-change g (admitted op) p.guests)
     where
       op_or : Option Flight → Op
@@ -72,10 +83,11 @@ module _ (t : Table) (nodes : Nodes) (opened : List Opened) (p : Progress) (was 
   coherent-end q g is =
       coherent-with q
       (rw is (within-put t p.guests g finished was.within (λ row f there none. absurd (let bad : ⊥ = cc none in bad))))
+      (rw is (flights-change (IsAllowed t) p.guests g finished was.allowed (λ row f there none. absurd (let bad : ⊥ = cc none in bad))))
       (ap length is ∙ length-change g finished p.guests)
 
   pub coherent-same : (q : Progress) → q.guests ≡ p.guests → IsCoherent t nodes opened q
-  coherent-same q is = coherent-with q (rw is was.within) (ap length is)
+  coherent-same q is = coherent-with q (rw is was.within) (rw is was.allowed) (ap length is)
 
 -- ---- a new world
 
@@ -109,13 +121,17 @@ pub coherent-new : (guests : List (List ℕ)) (room : Room) (opened : List Opene
 coherent-new guests room opened none = record {
   drives = λ g there. absurd (false≢true there);
   disks = λ g node on. absurd (let bad : ⊥ = cc on in bad);
-  alike = record { edges = refl; rows = λ id. rw (no-row 64 id) tt };
+  alike = record { listed = refl; edges = refl; rows = λ id. rw (no-row 64 id) tt };
+  table = start_table_rests guests;
+  asks = λ g device edge there writes on. absurd (let bad : ⊥ = cc there in bad);
   within = λ g f flies. absurd (nobody-flies (length guests) g f flies);
+  allowed = λ g f flies. absurd (nobody-flies (length guests) g f flies);
   count = length-replicate (length guests) new_guest;
   jobs = refl;
   out = record {
     each = λ device held. absurd (omega (arith, held.1));
     once = λ i j d less within. absurd (omega arith);
     all = λ n o there out. absurd (none-out opened none n o there out);
+    names = λ a b o p there there' out out' same. absurd (none-out opened none a o there out);
   };
 }

@@ -195,7 +195,7 @@ same-only file old new before after once only held left is = same-found old new 
 abbrev pub DifferInNumber : DeviceState → DeviceState → Type 0
 DifferInNumber a b = a.number ≢ b.number
 
-same-number : (a b : DevNo) → a.0 ≡ b.0 → a ≡ b
+pub same-number : (a b : DevNo) → a.0 ≡ b.0 → a ≡ b
 same-number a b is = ap (λ n. record { 0 = n }) is
 
 -- a device stands at its number
@@ -341,6 +341,7 @@ out-same t nodes now opened same was = record {
       };
   once = numbers-once nodes.devices now.devices same was.once;
   all = λ n o at out. still (device_numbered nodes.devices n) (device_numbered now.devices n) (numbered-same nodes.devices now.devices n same) (was.all n o at out);
+  names = was.names;
 }
   where
     still : (a b : Option DeviceState) → AreBoth a b → IsSome a → IsSome b

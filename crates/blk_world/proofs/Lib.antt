@@ -7,3 +7,6 @@ pub mod Beginning
 pub mod Coherence
 pub mod Judging
 pub mod CountLemmas
+pub mod CloseLemmas
+pub mod CloseHeld
+pub mod CloseFiles

@@ -1,5 +1,5 @@
 -- One more entry leaves a world that comes of the same opening.
-use Rattle.std.proofs.Common.{◌≡◌, true, List, [], ◌∷◌, ◌++◌, map, refl, sym, ◌∙◌, subst, None}
+use Rattle.std.proofs.Common.{◌≡◌, ◌≤◌, true, List, [], ◌∷◌, ◌++◌, map, refl, sym, ◌∙◌, subst, None}
 use Rattle.std.specs.Prelude.{is_some, All}
 use Rattle.std.proofs.lemmas.List.{append-nil}
 use Rattle.std.proofs.lemmas.List.Elements.{filter_map-append}
@@ -24,6 +24,7 @@ pub record Pushes (o : Opening) (w v : Face) (e : Event) : Type 0 where
   pub names : v.table.guests ≡ w.table.guests
   pub told : is_some v.files ≡ is_some w.files
   pub guests : v.progress.guests ≡ guest_step w.progress.guests e
+  pub counted : w.first_faults ≤ w.faults → v.first_faults ≤ v.faults
   pub coherent : IsCoherent w.table w.nodes w.opened w.progress → IsCoherent v.table v.nodes v.opened v.progress
   pub licensed : AreLicensed (first_counts w) (counts_now w) w.progress.log.events
       → AreLicensed (first_counts v) (counts_now v) (w.progress.log.events ++ e ∷ [])
@@ -36,6 +37,7 @@ comes-push o w v e comes pushes = record {
     licensed = rw pushes.events (pushes.licensed comes.history.licensed);
     history = λ told. history (sym pushes.told ∙ told);
   };
+  counted = pushes.counted comes.counted;
   requests = pushes.guests ∙ rw (comes.requests, pushes.events, run-push guest_step (map (λ name. new_guest) o.guests) w.progress.log.events e) refl;
   coherent = pushes.coherent comes.coherent;
   shows = λ told. shows (sym pushes.told ∙ told);

@@ -17,6 +17,8 @@ use Rattle.flat_machine.specs.Legal.{Fits, IsNext, IsJudged, IsMet, IsNotDone, C
 use Rattle.flat_machine.specs.Marks.{IsCalm, marks_of}
 use Rattle.flat_machine.specs.Licence.{named_in}
 use Rattle.flat_machine.specs.Comes.{guest_step}
+use Rattle.flat_machine.specs.Standing.{StandsAtRest}
+use Rattle.flat_machine.proofs.Resting.{beside_rests}
 use Rattle.flat_machine.specs.declared.opening.Opening.{Opening}
 use Rattle.blk_world.specs.declared.admission.Admission.{Admission}
 use Rattle.blk_world.specs.declared.admission.Admission.TheVariants.{Admitted, Refused as NotAdmitted, Away}
@@ -26,15 +28,20 @@ use Rattle.blk_world.specs.Comes.{Comes, Shows}
 use Rattle.blk_world.specs.Steps.{onward, after_admission, IsAnswered, after_wait, after_end, IsIdle}
 use Rattle.blk_world.proofs.InStep.{ended-push}
 use Rattle.blk_world.proofs.Coherence.{coherent-admission, coherent-end, coherent-same}
-use Rattle.blk_world.proofs.Judging.{judged-inside}
+use Rattle.blk_world.proofs.Judging.{judged-inside, judged-allowed}
 use Rattle.blk_world.specs.Coherent.{IsCoherent}
 use Rattle.blk_world.proofs.Pushing.{comes-push, licensed-quiet}
 
 -- ---- the state with other guests shows the world with another history
 
-shows-onward : (o : Opening) (s : State) (w : Face) (p : Progress) (guests : List Guest) (ended : List ℕ) → Shows o s w → guests ≡ p.guests → ended ≡ ended_in p.log.events
+stands-onward : (s : State) (guests : List Guest) (ended : List ℕ) → StandsAtRest s → StandsAtRest (record s { guests = guests; ended = ended })
+stands-onward s guests ended is = beside_rests s (record s { guests = guests; ended = ended }) refl refl refl refl (λ node has. has) is
+
+pub shows-onward : (o : Opening) (s : State) (w : Face) (p : Progress) (guests : List Guest) (ended : List ℕ) → Shows o s w → guests ≡ p.guests → ended ≡ ended_in p.log.events
     → Shows o (record s { guests = guests; ended = ended }) (record w { progress = p })
 shows-onward o s w p guests ended shows are ends = record {
+  stands = stands-onward s guests ended shows.stands;
+  clean = shows.clean;
   table = record { room_is = shows.table.room_is; table_is = shows.table.table_is; rest = record { started = shows.table.rest.started; ended = shows.table.rest.ended } };
   guests = record { guests_are = are; ended_are = ends };
   contents = record {
@@ -47,7 +54,7 @@ shows-onward o s w p guests ended shows are ends = record {
 }
 
 -- an entry that names no fault and marks no disk
-quiet : (o : Opening) (w : Face) (p : Progress) (e : Event) → Comes o w → p.log.events ≡ w.progress.log.events ++ e ∷ [] → p.guests ≡ guest_step w.progress.guests e
+pub quiet : (o : Opening) (w : Face) (p : Progress) (e : Event) → Comes o w → p.log.events ≡ w.progress.log.events ++ e ∷ [] → p.guests ≡ guest_step w.progress.guests e
     → (IsCoherent w.table w.nodes w.opened w.progress → IsCoherent w.table w.nodes w.opened p)
     → named_in e ≡ None → ((s : State) → marks_of s e ≡ []) → ((s : State) → Shows o s w → Fits s e × Shows o (after s e) (record w { progress = p })) → Comes o (record w { progress = p })
 quiet o w p e comes events guests coherent names marks fits = comes-push o w (record w { progress = p }) e comes (record {
@@ -55,6 +62,7 @@ quiet o w p e comes events guests coherent names marks fits = comes-push o w (re
   names = refl;
   told = refl;
   guests = guests;
+  counted = λ was. was;
   coherent = coherent;
   licensed = licensed-quiet _ _ w.progress.log.events e names;
   fits = λ told s shows.
@@ -71,7 +79,7 @@ judged o s w g r P shows is = rw (shows.guests.ended_are, shows.guests.guests_ar
 admission-kept : (o : Opening) (w : Face) (g : ℕ) (op : Op) → IsJudged (seen_state w) g (done_at w.progress.guests g) (CanAdmit op) → Comes o w → Comes o (onward w (with_admission g op))
 admission-kept o w g op is comes =
     quiet o w (with_admission g op w.progress) (Admit g (done_at w.progress.guests g) op) comes refl refl
-    (λ was. coherent-admission _ _ _ _ was g op (judged-inside w g (done_at w.progress.guests g) op is)) refl (λ s. refl)
+    (λ was. coherent-admission _ _ _ _ was g op (judged-inside w g (done_at w.progress.guests g) op is) (judged-allowed w g (done_at w.progress.guests g) op is)) refl (λ s. refl)
     (λ s shows. (
       (shows.table.rest, judged o s w g (done_at w.progress.guests g) (CanAdmit op) shows is),
       shows-onward o s w (with_admission g op w.progress) (change g (admitted op) s.guests) s.ended shows (ap (change g (admitted op)) shows.guests.guests_are)
@@ -136,7 +144,7 @@ met o s w (await.Guest g requests) shows is = rw shows.guests.guests_are is
 met o s w (await.Ready id) shows is = rw shows.table.table_is is
 met o s w (await.Ended id) shows is = rw shows.table.table_is is
 
-undone : (o : Opening) (s : State) (w : Face) (actor : ℕ) → Shows o s w → IsNotDone (seen_state w) actor → IsNotDone s actor
+pub undone : (o : Opening) (s : State) (w : Face) (actor : ℕ) → Shows o s w → IsNotDone (seen_state w) actor → IsNotDone s actor
 undone o s w actor shows is = rw shows.guests.ended_are is
 
 pub wait-comes : (w : Face) (line : ℕ) (what : Await (List ℕ)) (is_over : Bool) → IsNotDone (seen_state w) 0 → (is_over ≡ true → IsMet (seen_state w) what)

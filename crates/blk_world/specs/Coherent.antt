@@ -1,16 +1,22 @@
 -- How the parts of the world belong together between events, whatever the store tells.
-use Rattle.std.specs.Prelude.{◌≡◌, ◌≢◌, ℕ, ◌≤◌, List, [], length, slice_get, AllPairs, Contains, Option, Some, None, IsSome}
+use Rattle.std.specs.Prelude.{◌≡◌, ◌≢◌, ℕ, ◌≤◌, true, false, List, [], length, slice_get, AllPairs, map, Contains, Option, Some, None, IsSome}
 use Rattle.blk_base.specs.Pieces.{end_of}
 use Rattle.blk_base.specs.declared.file.Opened.{Opened}
 use Rattle.blk_history.specs.Disk.{span_of}
 use Rattle.blk_history.specs.Fold.{With}
 use Rattle.blk_history.specs.Machine.{Flight}
+use Rattle.blk_graph.specs.Graph.{NodeRow}
+use Rattle.blk_graph.specs.declared.edge.Edge.{Edge}
+use Rattle.blk_graph.specs.declared.edge.Parent.TheVariants.{Guest as GuestOf}
 use Rattle.blk_nodes.specs.Nodes.{Nodes, DeviceState, row_at, kind_of}
 use Rattle.blk_nodes.specs.declared.row.Row.{Row}
+use Rattle.qmp_rules.specs.declared.rows.Device.{Device}
 use Rattle.qmp_rules.specs.declared.rows.NodeRecord.{NodeRecord}
 use Rattle.qmp_rules.specs.Table.{Table, node_at, device_at}
 use Rattle.qmp_rules.specs.Chains.{disk_node}
 use Rattle.flat_machine.specs.Agreement.{HasDisk}
+use Rattle.flat_machine.specs.Legal.{IsForbidden}
+use Rattle.flat_machine.specs.Wiring.{TableAtRest}
 use Rattle.flat_machine.specs.State.{Guest, drive_of, disk_of_guest, size_of, filename_of}
 use Rattle.blk_world.specs.Progress.{Progress, flight_at}
 use Rattle.blk_world.specs.Face.{device_numbered}
@@ -38,7 +44,12 @@ AreAlike None None = Unit {0}
 AreAlike (Some a) (Some b) = IsRowOf a b
 AreAlike _ _ = ⊥
 
+-- a row's id and name
+abbrev pub node_row : NodeRecord → NodeRow
+node_row row = record { id = row.id; name = row.name }
+
 pub record AreNodesOf (t : Table) (nodes : Nodes) : Type 0 where
+  pub listed : nodes.graph.nodes ≡ map node_row t.nodes
   pub edges : nodes.graph.edges ≡ t.edges
   pub rows : (id : ℕ) → AreAlike (node_at t id) (row_at nodes id)
 
@@ -48,6 +59,16 @@ pub record AreNodesOf (t : Table) (nodes : Nodes) : Type 0 where
 abbrev pub AreWithin : Table → List Guest → Type 0
 AreWithin t guests = (g : ℕ) (f : Flight) → flight_at guests g ≡ Some f
     → With (disk_of_guest t g) (λ node. end_of (span_of f.op) ≤ size_of t node)
+
+-- and its guest has a device, which allows it
+abbrev pub AreAllowed : Table → List Guest → Type 0
+AreAllowed t guests = (g : ℕ) (f : Flight) → flight_at guests g ≡ Some f
+    → With (device_at t g) (λ device. IsForbidden f.op device.read_only → ⊥)
+
+-- the edge of a device that may write asks to write
+abbrev pub AskToWrite : Table → Type 0
+AskToWrite t = (g : ℕ) (device : Device) (edge : Edge) → device_at t g ≡ Some device → device.read_only ≡ false
+    → Contains t.edges edge → edge.parent ≡ GuestOf g → edge.perm.write ≡ true
 
 -- ---- openings
 
@@ -59,20 +80,33 @@ pub record IsOut (t : Table) (opened : List Opened) (device : DeviceState) : Typ
   pub named : filename_of t device.node ≡ Some opening.name
   pub faults : opening.faults ≤ device.faults
 
-pub record AreOut (t : Table) (nodes : Nodes) (opened : List Opened) : Type 0 where
-  pub each : (device : DeviceState) → Contains nodes.devices device → IsOut t opened device
-  pub once : AllPairs (λ a b. a.number ≢ b.number) nodes.devices
+-- no file is out twice
+abbrev pub NamesAreOutOnce : List Opened → Type 0
+NamesAreOutOnce opened = (a b : ℕ) (o p : Opened) → slice_get opened a ≡ Some o → slice_get opened b ≡ Some p
+    → o.returned ≡ None → p.returned ≡ None → o.name ≡ p.name → a ≡ b
+
+-- these devices are the openings that are not back yet
+pub record AreHeld (t : Table) (devices : List DeviceState) (opened : List Opened) : Type 0 where
+  pub each : (device : DeviceState) → Contains devices device → IsOut t opened device
+  pub once : AllPairs (λ a b. a.number ≢ b.number) devices
   pub all : (n : ℕ) (o : Opened) → slice_get opened n ≡ Some o → o.returned ≡ None
-      → IsSome (device_numbered nodes.devices n)
+      → IsSome (device_numbered devices n)
+  pub names : NamesAreOutOnce opened
+
+abbrev pub AreOut : Table → Nodes → List Opened → Type 0
+AreOut t nodes opened = AreHeld t nodes.devices opened
 
 -- ---- all of it; no command that starts a job is carried out yet
 
 pub record IsCoherent (t : Table) (nodes : Nodes) (opened : List Opened)
     (p : Progress) : Type 0 where
+  pub table : TableAtRest t
   pub drives : HaveDrives t
   pub disks : AreOnDisks t
   pub alike : AreNodesOf t nodes
+  pub asks : AskToWrite t
   pub within : AreWithin t p.guests
+  pub allowed : AreAllowed t p.guests
   pub count : length p.guests ≡ length t.guests
   pub jobs : t.jobs ≡ []
   pub out : AreOut t nodes opened

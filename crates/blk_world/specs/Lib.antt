@@ -4,3 +4,4 @@ pub mod Comes
 pub mod Coherent
 pub mod Steps
 pub mod Counting
+pub mod Closing

@@ -3,6 +3,7 @@
 #![tactic(auto)]
 
 mod admission;
+mod closing;
 mod entries;
 mod progress;
 mod row;

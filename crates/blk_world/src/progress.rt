@@ -141,6 +141,20 @@ impl Progress {
         })
     }
 
+    /// The history.
+    pub(crate) fn into_history(self) -> History
+        ensures { result ≡ self.log }
+    {
+        let Progress {
+            rows: _,
+            script_is_done: _,
+            lines: _,
+            spare: _,
+            history,
+        } = self;
+        history
+    }
+
     /// How many guests there are.
     pub(crate) fn len(&self) -> usize
         ensures { result ≡ length self.now.guests }

@@ -4,6 +4,8 @@ ghost use Rattle.blk_nodes.specs.Nodes.{no_nodes};
 ghost use Rattle.qmp_rules.specs.Table.{opening_table};
 ghost use Rattle.blk_world.specs.Progress.{no_progress};
 
+mod closing;
+
 use crate::admission::{Admission, refusal_of, seat_of};
 use crate::progress::Progress;
 use crate::turned::Turned;

@@ -1,0 +1,41 @@
+//! The end of a world.
+ghost use Rattle.std.specs.Prelude.{◌≡◌, ℕ, List, None, false, true, is_some};
+ghost use Rattle.blk_base.specs.Files.{is_out};
+ghost use Rattle.blk_world.specs.Closing.{AreFlushed, IsClosed};
+ghost use Rattle.blk_world.specs.Face.{held, told_bytes};
+ghost use Rattle.blk_world.specs.Steps.{seen_store};
+ghost use Rattle.blk_nodes.specs.Nodes.{AreTold};
+
+use crate::closing::give_all_back;
+use crate::world::World;
+use blk_base::{FaultAt, Store};
+use blk_history::History;
+
+impl<S: Store> World<S> {
+    /// Ends a world. Each device is flushed and given back under the name of its file, the first first; told are the history and
+    /// the first fault of these flushes, where there was one. Takes no memory.
+    pub fn close_world(self) -> (S, History, Option<FaultAt>)
+        ensures history { result.1 ≡ self.progress.log }
+        ensures closed { IsClosed self
+            (seen_store (S.files result.0) (S.opened result.0) (S.room result.0) (S.faults result.0)) result.2 }
+        ensures none_out { (name : List ℕ) → is_out name (S.opened result.0) ≡ false }
+        ensures flushed { is_some self.files ≡ true → AreTold self.nodes.devices → result.2 ≡ None
+            → AreFlushed self (S.files result.0) }
+        ensures held { is_some self.files ≡ true → AreTold self.nodes.devices
+            → (name : List ℕ) → told_bytes (S.files result.0) name ≡ held self name }
+    {
+        let World {
+            mut store,
+            first_faults: _,
+            nodes,
+            names,
+            progress,
+        } = self;
+        let _ = nodes.edges();
+        let mut left = nodes.into_devices();
+        let count = left.len();
+        let fault = give_all_back(&mut store, &names, &mut left, count);
+        left.end();
+        (store, progress.into_history(), fault)
+    }
+}
