@@ -1,5 +1,5 @@
 -- Changes of files leave what holds of all states.
-use Rattle.std.proofs.Common.{◌≡◌, ◌≢◌, ◌⊎◌, ℕ, Bool, true, false, cond, List, [], ◌∷◌, map, replicate, refl, sym, ap, subst, ◌∙◌, inl, inr, Option, Some, None, option_map}
+use Rattle.std.proofs.Common.{◌≡◌, ◌≢◌, ◌⊎◌, ℕ, Bool, true, false, cond, List, [], ◌∷◌, replicate, refl, sym, ap, subst, ◌∙◌, inl, inr, Option, Some, option_map}
 use Rattle.std.specs.Prelude.{◌==◌, not, bytes_eq, All, IsSome}
 use Rattle.std.specs.List.{find, filter, Contains}
 use Rattle.std.proofs.lemmas.List.Elements.{All-weaker, All-nil, All-cons, All-head, All-tail}
@@ -25,7 +25,7 @@ use Rattle.flat_machine.proofs.Tables.{file_state-with, file_state-other}
 use Rattle.flat_machine.proofs.Rows.{IsLike, SameRows, rows-same, rows-mapped, same_row, changed_row, like_lost, like_unsettled, kept_lost, kept_unsettled}
 use Rattle.flat_machine.proofs.Wired.{Grows, NoRow, NoEdge}
 use Rattle.flat_machine.proofs.TablesKept.{rows_grow, rows_table}
-use Rattle.flat_machine.proofs.WritingKept.{role_edge, IsEntered, WritesFile, Leaves, grown_writing, left_still}
+use Rattle.flat_machine.proofs.WritingKept.{role_edge, IsEntered, WritesFile, grown_writing, left_still}
 use Rattle.flat_machine.proofs.WritingAdded.{has_name-grows, drive_there, same_devices}
 
 -- ---- a file whose state changes, over rows that stand as they did

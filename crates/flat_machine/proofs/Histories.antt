@@ -1,5 +1,5 @@
 -- Legal histories from an opening leave states that stand. Commands that begin jobs aren't carried out yet, so no job is there.
-use Rattle.std.proofs.Common.{◌≡◌, ℕ, zero, suc, ◌<◌, Bool, true, false, List, [], ◌∷◌, ◌++◌, refl, sym, ap, subst, ◌∙◌, inl, inr, arith, Option, Some, None, Result, Ok, Err}
+use Rattle.std.proofs.Common.{◌≡◌, ℕ, Bool, true, false, List, [], ◌∷◌, ◌++◌, refl, sym, ap, subst, arith, Option, Some, None, Result, Ok, Err}
 use Rattle.std.specs.Prelude.{◌==◌, if◌then◌else◌, map, IsSome}
 use Rattle.std.specs.List.{find}
 use Rattle.blk_base.specs.Pieces.{Extent}
@@ -22,26 +22,24 @@ use Rattle.qmp_rules.specs.declared.change.Change.{Change}
 use Rattle.qmp_rules.specs.declared.change.Change.TheVariants as change
 use Rattle.qmp_rules.specs.declared.refusal.Refusal.{Refusal}
 use Rattle.qmp_rules.specs.declared.rows.NodeRecord.{NodeRecord}
-use Rattle.qmp_rules.specs.declared.rows.JobRecord.{JobRecord}
 use Rattle.qmp_rules.specs.declared.told.Told.{Told}
 use Rattle.qmp_rules.specs.Table.{Table, node_named, job_at}
 use Rattle.qmp_rules.specs.Chains.{disk_node, written_under}
 use Rattle.qmp_rules.specs.Changes.{changed, all_changed}
 use Rattle.qmp_rules.specs.Refusals.{refusal_text, refusal_class}
 use Rattle.qmp_rules.specs.NodeAsks.{is_read_only, backing_name}
-use Rattle.qmp_rules.specs.Edits.{edits_of, uses, file_under, with_inline, goes_with_node, row_gone, of_row, created_change, spoiled, raw_edits, qcow2_edits, added_edits, del_edits, new_device, device_uses, device_add_edits}
+use Rattle.qmp_rules.specs.Edits.{edits_of, uses, file_under, with_inline, goes_with_node, row_gone, of_row, created_change, spoiled, raw_edits, qcow2_edits, added_edits, new_device, device_uses}
 use Rattle.qmp_rules.specs.Asks.{is_file}
 use Rattle.qmp_rules.specs.Answers.{unbuilt, refusal_of, command_edits, answer, answer_by, answer_for, line_answer, line_text, reply_data}
-use Rattle.blk_history.specs.Fold.{Each, run, With}
+use Rattle.blk_history.specs.Fold.{With}
 use Rattle.blk_history.specs.Disk.{piece, done_in}
 use Rattle.blk_history.specs.Machine.{Flight, done_by}
 use Rattle.blk_history.specs.declared.event.Event.{Event}
 use Rattle.blk_history.specs.declared.event.Event.TheVariants.{Admit, Refuse, Piece, Retire, Reply, Reached, Start, Ready, End, Done}
 use Rattle.flat_machine.specs.State.{State, drive_of}
-use Rattle.flat_machine.specs.Changed.{all_stepped}
 use Rattle.flat_machine.specs.Machine.{after, replay, with_part, with_piece, with_disk, written, flight_of, path, note, noted, is_noted, read_through, copies_through}
 use Rattle.flat_machine.specs.Sights.{expected}
-use Rattle.flat_machine.specs.Replies.{replied, edits_by, failed_edits, is_accepted, is_failure, command_in, IsAnswer}
+use Rattle.flat_machine.specs.Replies.{edits_by, failed_edits, is_accepted, is_failure, IsAnswer}
 use Rattle.flat_machine.specs.Jobs.{unsure, can_be_ready}
 use Rattle.flat_machine.specs.Legal.{CanEnd, Fits, Legal}
 use Rattle.flat_machine.specs.Opening.{start}

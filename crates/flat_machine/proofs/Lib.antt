@@ -21,3 +21,5 @@ pub mod Answered
 mod ReadBack
 pub mod Resting
 pub mod Histories
+mod Lines
+mod OneHistory

@@ -1,12 +1,10 @@
 -- Texts of refusals are not read as results.
-use Rattle.std.proofs.Common.{◌≡◌, ℕ, ℤ, pos, negsuc, zero, suc, ◌+◌, ◌^◌, ◌<◌, ◌≤◌, Bool, true, false, cond, List, [], ◌∷◌, Option, Some, None, option_map, option_and_then, Ordering, Less, Equal, Greater, refl, sym, ap, subst, ◌∙◌, arith, append-nil}
-use Rattle.std.specs.Prelude.{◌||◌, ◌&&◌, ◌==◌, max, nat_lt, nat_le, drop, slice_index, is_some, codes}
+use Rattle.std.proofs.Common.{◌≡◌, ℕ, negsuc, zero, suc, ◌^◌, ◌≤◌, Bool, true, false, cond, List, [], Option, Some, None, option_map, option_and_then, Ordering, Less, Equal, Greater, refl, sym, ap, subst, ◌∙◌, arith, append-nil}
+use Rattle.std.specs.Prelude.{◌&&◌, ◌==◌, max, nat_lt, nat_le, drop, slice_index, is_some, codes}
 use Rattle.std.specs.Ordering.{nat_cmp, match_ordering}
 use Rattle.std.specs.Cmp.Lexicographic.{slice_cmp}
 use Rattle.std.proofs.lemmas.Bool.{or_parts, ltb-true, leb-true}
 use Rattle.std.specs.Float.{binary64, float_is_finite}
-use lib.Signed.{mag}
-use Rattle.json.specs.Token.{Token}
 use Rattle.json.specs.Lex.{tokens}
 use Rattle.json.specs.Print.{IsNumber}
 use Rattle.json.specs.Json as json

@@ -1,5 +1,5 @@
 -- Replies, and pieces of guests' requests, leave what holds of states between events.
-use Rattle.std.proofs.Common.{◌≡◌, ◌≢◌, ◌⊎◌, ℕ, suc, Bool, true, false, cond, List, [], ◌∷◌, map, refl, sym, ap, subst, ◌∙◌, inl, inr, Option, Some, None, Result, Ok, Err, option_map}
+use Rattle.std.proofs.Common.{◌≡◌, ◌≢◌, ℕ, suc, Bool, true, false, cond, List, [], ◌∷◌, map, refl, sym, ap, subst, ◌∙◌, inl, inr, Option, Some, None, Result, Ok, Err, option_map}
 use Rattle.std.specs.Prelude.{◌==◌, ◌||◌, if◌then◌else◌, not, bytes_eq, drop, All, IsSome}
 use Rattle.std.specs.List.{find, Contains}
 use Rattle.std.proofs.lemmas.List.Elements.{All-weaker}
@@ -26,9 +26,8 @@ use Rattle.qmp_rules.specs.declared.change.Change.{Change}
 use Rattle.qmp_rules.specs.declared.change.Change.TheVariants as change
 use Rattle.qmp_rules.specs.declared.rows.NodeRecord.{NodeRecord}
 use Rattle.qmp_rules.specs.declared.rows.Device.{Device}
-use Rattle.qmp_rules.specs.declared.rows.FileState.TheVariants.{Formatted}
 use Rattle.qmp_rules.specs.declared.told.Told.{Told}
-use Rattle.qmp_rules.specs.Table.{Table, node_at, device_at, file_state, child, has_name}
+use Rattle.qmp_rules.specs.Table.{Table, device_at, file_state, child, has_name}
 use Rattle.qmp_rules.specs.Chains.{filter_role, disk_node, chain, chain_from, backing, has_id, below, is_over, unsettled_over, written_under}
 use Rattle.qmp_rules.specs.Changes.{all_changed}
 use Rattle.qmp_rules.specs.Edits.{spoiled, file_of_node}

@@ -1,6 +1,6 @@
 -- Rows that stay, but for their disks, and edges that were derived anew.
-use Rattle.std.proofs.Common.{◌≡◌, ◌≢◌, ◌⊎◌, ℕ, zero, suc, Bool, true, false, cond, List, map, refl, sym, ap, subst, ◌∙◌, inl, inr, Option, Some, None, option_map}
-use Rattle.std.specs.Prelude.{◌==◌, ◌||◌, not, IsSome, option_and_then}
+use Rattle.std.proofs.Common.{◌≡◌, ◌≢◌, ℕ, zero, suc, Bool, true, false, cond, List, map, refl, sym, ap, subst, ◌∙◌, Option, Some, None, option_map}
+use Rattle.std.specs.Prelude.{◌==◌, ◌||◌, IsSome}
 use Rattle.std.specs.List.{find, list_any, Contains}
 use Rattle.std.proofs.lemmas.Bool.{ne_eqb, eqb-true}
 use Rattle.blk_graph.specs.declared.edge.Edge.{Edge}
@@ -10,7 +10,7 @@ use Rattle.blk_graph.proofs.Members.{Contains-map, map-Contains, find-Some}
 use Rattle.qmp_rules.specs.declared.rows.NodeRecord.{NodeRecord}
 use Rattle.qmp_rules.specs.Table.{Table, node_at}
 use Rattle.qmp_rules.specs.Changes.{node_changed, unsettled, lost_with, stands_over}
-use Rattle.qmp_rules.specs.Chains.{filtered, filter_role, disk_from, disk_node, is_over, unsettled_over}
+use Rattle.qmp_rules.specs.Chains.{filtered, disk_from, disk_node, is_over, unsettled_over}
 use Rattle.flat_machine.specs.Machine.{path_from, path, copies_at, is_copying, copies_through}
 use Rattle.flat_machine.specs.Wiring.{AreApart, HasEnds, EdgesHaveEnds, IsUnder}
 use Rattle.flat_machine.proofs.Finds.{find-map, bytes_eq-other}

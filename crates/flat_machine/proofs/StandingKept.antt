@@ -2,12 +2,11 @@
 use Rattle.std.proofs.Common.{◌≡◌, ◌≢◌, ◌⊎◌, ℕ, Bool, true, false, List, [], ◌∷◌, ◌++◌, refl, sym, ap, subst, ◌∙◌, inl, inr, Option, Some, None, option_map}
 use Rattle.std.specs.Prelude.{◌==◌, ◌&&◌, ◌||◌, not, bytes_eq, All, IsSome, option_and_then}
 use Rattle.std.specs.List.{find, Contains}
-use Rattle.std.proofs.lemmas.Bool.{eqb-true, eqb-false, eq-eqb, ne_eqb, cases_eq}
+use Rattle.std.proofs.lemmas.Bool.{eqb-true, eqb-false, ne_eqb, cases_eq}
 use Rattle.std.proofs.lemmas.List.Elements.{All-weaker}
 use Rattle.blk_graph.specs.declared.edge.Edge.{Edge}
 use Rattle.blk_graph.specs.declared.edge.Parent.TheVariants.{Node, Guest}
 use Rattle.blk_graph.specs.declared.edge.Role.TheVariants.{Drive, File, Backing}
-use Rattle.blk_graph.specs.declared.kind.Kind.TheVariants.{Protocol}
 use Rattle.blk_graph.specs.declared.kind.NodeKind.{NodeKind}
 use Rattle.blk_graph.specs.Edges.{same_parent}
 use Rattle.blk_graph.specs.Edits.{child_of, takes_place, with_edge, without_parent}
@@ -15,7 +14,7 @@ use Rattle.blk_graph.specs.Refreshed.{refreshed}
 use Rattle.blk_graph.specs.Permissions.{node_edge}
 use Rattle.blk_graph.proofs.Members.{find-Some, Contains-filter}
 use Rattle.blk_graph.proofs.CycleLemmas.{same_parent-true}
-use Rattle.blk_graph.proofs.EditLemmas.{Contains-with_edge, Contains-with_edge_new}
+use Rattle.blk_graph.proofs.EditLemmas.{Contains-with_edge_new}
 use Rattle.qmp_rules.specs.declared.rows.NodeRecord.{NodeRecord}
 use Rattle.qmp_rules.specs.declared.rows.Device.{Device}
 use Rattle.qmp_rules.specs.declared.rows.FileState.{FileState}
@@ -27,18 +26,17 @@ use Rattle.qmp_rules.specs.Changes.{changed, node_changed, unsettled, with_unset
 use Rattle.flat_machine.specs.State.{State, Content, Unknown, content_in, filename_of}
 use Rattle.flat_machine.specs.Contents.{with_content, mapped_in}
 use Rattle.flat_machine.specs.Changed.{stepped, all_stepped, know_if, content_under, format_bytes, left_disk}
-use Rattle.flat_machine.specs.Wiring.{EdgesHaveEnds, StandsFor, IsUnder, TableStands}
+use Rattle.flat_machine.specs.Wiring.{StandsFor, IsUnder, TableStands}
 use Rattle.flat_machine.specs.Standing.{IsLostBy, IsOfState, IsOpen, FilesAreOfState, IsUsedUp, WritingStands, Stands}
 use Rattle.flat_machine.specs.Suiting.{IsThere, FileSuits, FormatSuits, SuitsFilter, RemovalSuits, DeviceSuits, Suits, AllSuit}
-use Rattle.flat_machine.proofs.Finds.{find-map, find-filter, content_in-with, content_in-with_other, cases_name}
+use Rattle.flat_machine.proofs.Finds.{content_in-with, content_in-with_other, cases_name}
 use Rattle.flat_machine.proofs.Accepted.{added_files}
 use Rattle.flat_machine.proofs.Kept.{with_format, left_alone}
-use Rattle.flat_machine.proofs.Fresh.{found-longer, found-new}
 use Rattle.flat_machine.proofs.Tables.{pushed-cases, pushed-old, filter-keeps, with_edge-keeps, apart-parents}
 use Rattle.flat_machine.proofs.Rows.{under-refreshed, IsLike, SameRows, rows-same, rows-mapped, same_row, changed_row, like_unsettled, kept_unsettled}
 use Rattle.flat_machine.proofs.TablesKept.{new_parent, rows_table, file_table, format_table, filter_table, removed_table, device_table, rows_grow}
 use Rattle.flat_machine.proofs.Wired.{Grows, NoRow, NoEdge}
-use Rattle.flat_machine.proofs.WritingKept.{Leaves, grown_writing, left_still}
+use Rattle.flat_machine.proofs.WritingKept.{grown_writing, left_still}
 use Rattle.flat_machine.proofs.WritingAdded.{drive_there, same_devices, file_writing, format_writing, filter_writing, remove_writing, device_writing}
 use Rattle.flat_machine.proofs.FilesStand.{use_stands, spoil_stands, make_stands, format_stands}
 

@@ -1,6 +1,6 @@
 -- The changes of an accepted command leave what holds of all states.
 use Rattle.std.proofs.Common.{◌≡◌, ◌≢◌, ◌⊎◌, ℕ, zero, suc, ◌+◌, ◌-◌, ◌<◌, ◌≤◌, Bool, true, false, cond, List, [], ◌∷◌, ◌++◌, map, length, refl, sym, ap, subst, ◌∙◌, inl, inr, arith, Option, Some, None}
-use Rattle.std.specs.Prelude.{◌==◌, ◌||◌, if◌then◌else◌, not, nat_eq, nat_le, All, option_and_then, unwrap_or, IsSome, is_some, bytes_eq, codes}
+use Rattle.std.specs.Prelude.{◌==◌, ◌||◌, if◌then◌else◌, not, nat_eq, nat_le, option_and_then, unwrap_or, IsSome, is_some, bytes_eq, codes}
 use Rattle.std.specs.List.{find, list_any, Contains}
 use Rattle.std.proofs.lemmas.Bool.{and_right, eqb-true, eq-eqb, ne_eqb, leb-false}
 use Rattle.std.proofs.lemmas.List.{length-map}
@@ -36,9 +36,9 @@ use Rattle.qmp_rules.specs.declared.rows.FileState.{FileState}
 use Rattle.qmp_rules.specs.declared.rows.FileState.TheVariants.{Used}
 use Rattle.qmp_rules.specs.declared.told.Told.{Told}
 use Rattle.qmp_rules.specs.Table.{Table, node_at, node_named, device_at, device_named, file_state, child, has_name, kinds_of}
-use Rattle.qmp_rules.specs.Chains.{filter_role, disk_node, is_settled}
+use Rattle.qmp_rules.specs.Chains.{filter_role, disk_node}
 use Rattle.qmp_rules.specs.Changes.{changed, without_row}
-use Rattle.qmp_rules.specs.Edits.{free_id, place_from, unused_from, device_number, inline_row, raw_edits, qcow2_edits, added_edits, add_edits, length_told, edits_of, uses, file_under, name_of_file_at, goes_with_node, with_inline, created_change, file_of_node, del_edits, new_device, device_add_edits}
+use Rattle.qmp_rules.specs.Edits.{place_from, unused_from, device_number, inline_row, raw_edits, qcow2_edits, added_edits, add_edits, length_told, edits_of, uses, file_under, name_of_file_at, goes_with_node, with_inline, created_change, file_of_node, del_edits, new_device, device_add_edits}
 use Rattle.qmp_rules.specs.NodeAsks.{create_values, create_names, create_rest, del_asks, device_add_asks, add_asks, option_values, added_values, added_names, is_read_only, added_rest, raw_rest, qcow2_rest, is_added, backing_name}
 use Rattle.qmp_rules.specs.Looks.{is_unopened}
 use Rattle.qmp_rules.specs.Asks.{id_or, Asking, holds, first, takes, is_file, is_lost, name_of_file}
@@ -53,10 +53,9 @@ use Rattle.flat_machine.specs.Performing.{IsWholly}
 use Rattle.flat_machine.specs.Writing.{IsWritable}
 use Rattle.flat_machine.specs.Wiring.{StandsFor, HasFile, IsNumberBy, IsInline, InlineAreUnder, TableStands, writes_through, IsDiskOf}
 use Rattle.flat_machine.specs.Standing.{IsUsedUp, MayWrite, Stands, StandsAtRest}
-use Rattle.flat_machine.specs.Suiting.{IsAlone, SuitsDevice, AllTableSuit, RemovalSuits, FormattingSuits, AllSuit}
+use Rattle.flat_machine.specs.Suiting.{IsAlone, AllTableSuit, RemovalSuits, FormattingSuits, AllSuit}
 use Rattle.flat_machine.proofs.Finds.{bytes_eq-same, same-bytes_eq, content_in-with}
 use Rattle.flat_machine.proofs.Fresh.{any-Contains, lowest_from-cases}
-use Rattle.flat_machine.proofs.Kept.{own_disk}
 use Rattle.flat_machine.proofs.Asked.{none-both, not-refused, NoneHolds, none-holds, none-behind, good-value, found-named, takes-driver, room-left, none-stands, known-file, known-under, lone-node}
 use Rattle.flat_machine.proofs.Accepted.{none-over, row_at, is_protocol, file_can, inline_can, raw_told_absent, qcow2_told_absent, no_edge}
 use Rattle.flat_machine.proofs.Tables.{file_state-with}

@@ -1,6 +1,6 @@
 -- Between events tables stay what they are: each change keeps what it is to keep, and a command's changes the rest together.
 use Rattle.std.proofs.Common.{◌≡◌, ◌≢◌, ◌⊎◌, ℕ, Bool, true, false, cond, List, [], ◌∷◌, ◌++◌, refl, sym, ap, subst, ◌∙◌, inl, inr, Option, Some, None, option_map}
-use Rattle.std.specs.Prelude.{◌==◌, ◌&&◌, ◌||◌, not, if◌then◌else◌, option_and_then, IsSome, unwrap_or, codes}
+use Rattle.std.specs.Prelude.{◌==◌, ◌&&◌, ◌||◌, not, if◌then◌else◌, option_and_then, IsSome, unwrap_or}
 use Rattle.std.specs.List.{find, Contains}
 use Rattle.std.proofs.lemmas.Bool.{eqb-true, eq-eqb, cases_eq}
 use Rattle.blk_graph.specs.declared.edge.Edge.{Edge}
@@ -17,7 +17,6 @@ use Rattle.qmp_codec.specs.Commands.{Cmd}
 use Rattle.qmp_codec.specs.declared.command.Command.TheVariants as command
 use Rattle.qmp_codec.specs.declared.nodes.FileRef.{FileRef}
 use Rattle.qmp_codec.specs.declared.nodes.FileRef.TheVariants as file_ref
-use Rattle.qmp_codec.specs.declared.nodes.InlineFile.{InlineFile}
 use Rattle.qmp_codec.specs.declared.nodes.AddRaw.{AddRaw}
 use Rattle.qmp_codec.specs.declared.nodes.Added.{Added}
 use Rattle.qmp_codec.specs.declared.nodes.Added.TheVariants as added
@@ -31,18 +30,18 @@ use Rattle.qmp_rules.specs.declared.rows.NodeRecord.{NodeRecord}
 use Rattle.qmp_rules.specs.declared.told.Told.{Told}
 use Rattle.qmp_rules.specs.Table.{Table, node_at, node_named, id_named, child, kinds_of}
 use Rattle.qmp_rules.specs.Changes.{changed, all_changed, node_changed, unsettled, lost_with, with_unsettled, without_row, format_edges}
-use Rattle.qmp_rules.specs.Edits.{file_of_node, next_free_id, raw_row, image_row, length_told, goes_with, goes_with_node, with_inline, uses, file_under, del_edits, row_gone, added_edits, raw_edits, qcow2_edits, add_edits, inline_row, edits_of, created_change, spoiled, device_add_edits, new_device, device_uses, of_row}
+use Rattle.qmp_rules.specs.Edits.{file_of_node, next_free_id, raw_row, image_row, length_told, goes_with, goes_with_node, with_inline, uses, file_under, del_edits, added_edits, raw_edits, qcow2_edits, add_edits, inline_row, edits_of, created_change, spoiled, device_add_edits, new_device, device_uses, of_row}
 use Rattle.qmp_rules.specs.NodeAsks.{add_asks, del_asks, device_add_asks, is_read_only, backing_name}
-use Rattle.qmp_rules.specs.Asks.{holds, first, is_file}
+use Rattle.qmp_rules.specs.Asks.{first, is_file}
 use Rattle.qmp_rules.specs.CommandAsks.{asks_of, negotiates}
 use Rattle.qmp_rules.specs.Answers.{unbuilt, out_of_turn, refusal_of, command_edits}
 use Rattle.qmp_rules.specs.Chains.{written_under, unsettled_over}
 use Rattle.flat_machine.specs.Wiring.{HasFile, IsInline, InlineAreUnder, TableStands, TableAtRest}
-use Rattle.flat_machine.specs.Suiting.{IsThere, IsAlone, SuitsFormat, TableSuits, AllTableSuit}
+use Rattle.flat_machine.specs.Suiting.{IsThere, IsAlone, TableSuits, AllTableSuit}
 use Rattle.flat_machine.proofs.Tables.{HasLike, pushed-new, refreshed-new, with_edge-keeps}
 use Rattle.flat_machine.proofs.Rows.{SameRows, rows-same, rows-mapped, like_lost, like_unsettled, like_over}
-use Rattle.flat_machine.proofs.Wired.{OldRow, OldEdge, Grows, NoRow, NoEdge}
-use Rattle.flat_machine.proofs.TablesKept.{IsOther, rows_grow, rows_table, file_grow, file_table, IsNewEdge, own_edge, format_grow, format_table, is_under, IsFilterEdge, filter_grow, filter_table, kept_row, removed_grow, removed_table, IsDriveEdge, device_grow, device_table}
+use Rattle.flat_machine.proofs.Wired.{OldRow, Grows, NoRow, NoEdge}
+use Rattle.flat_machine.proofs.TablesKept.{IsOther, rows_grow, rows_table, file_grow, file_table, IsNewEdge, format_grow, format_table, is_under, IsFilterEdge, filter_grow, filter_table, removed_grow, removed_table, IsDriveEdge, device_grow, device_table}
 use Rattle.flat_machine.proofs.Asked.{none-both, NoneHolds, none-holds, found-named, lone-node}
 use Rattle.flat_machine.proofs.Accepted.{no_edge}
 use Rattle.flat_machine.proofs.TableSuited.{named-row, add-table, device-table}

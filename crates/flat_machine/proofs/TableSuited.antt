@@ -1,17 +1,14 @@
 -- The changes of an accepted command leave what holds of tables, whatever is told of files.
-use Rattle.std.proofs.Common.{◌≡◌, ◌≢◌, ◌⊎◌, ℕ, zero, suc, ◌+◌, ◌≤◌, Bool, true, false, cond, List, [], ◌∷◌, ◌++◌, length, refl, sym, ap, subst, ◌∙◌, inl, inr, arith, Option, Some, None}
-use Rattle.std.specs.Prelude.{◌==◌, ◌||◌, ◌&&◌, not, if◌then◌else◌, option_and_then, unwrap_or, IsSome, is_some, bytes_eq, codes}
-use Rattle.std.specs.List.{find, list_any, Contains}
+use Rattle.std.proofs.Common.{◌≡◌, ◌≢◌, ℕ, zero, suc, ◌+◌, ◌≤◌, Bool, true, false, cond, List, [], ◌∷◌, ◌++◌, length, refl, sym, ap, subst, ◌∙◌, arith, Option, Some, None}
+use Rattle.std.specs.Prelude.{◌==◌, ◌||◌, ◌&&◌, not, if◌then◌else◌, option_and_then, unwrap_or, IsSome, bytes_eq, codes}
+use Rattle.std.specs.List.{list_any, Contains}
 use Rattle.std.proofs.lemmas.Bool.{eqb-true, eq-eqb, not-false}
-use Rattle.blk_graph.specs.declared.edge.Edge.{Edge}
 use Rattle.blk_graph.specs.declared.edge.Parent.TheVariants.{Node}
-use Rattle.blk_graph.specs.declared.edge.Role.TheVariants.{File, Backing}
+use Rattle.blk_graph.specs.declared.edge.Role.TheVariants.{Backing}
 use Rattle.blk_graph.specs.declared.kind.Kind.{Kind}
 use Rattle.blk_graph.specs.declared.kind.Kind.TheVariants.{Protocol, Raw, Qcow2, CopyOnRead, BeforeWrite, Mirror, Commit}
 use Rattle.blk_graph.specs.Permissions.{has_role}
 use Rattle.blk_graph.proofs.Members.{find-Some}
-use Rattle.qmp_codec.specs.Commands.{Cmd}
-use Rattle.qmp_codec.specs.declared.command.Command.TheVariants as command
 use Rattle.qmp_codec.specs.declared.nodes.FileRef.{FileRef}
 use Rattle.qmp_codec.specs.declared.nodes.FileRef.TheVariants as file_ref
 use Rattle.qmp_codec.specs.declared.nodes.InlineFile.{InlineFile}
@@ -19,33 +16,28 @@ use Rattle.qmp_codec.specs.declared.nodes.AddRaw.{AddRaw}
 use Rattle.qmp_codec.specs.declared.nodes.Added.{Added}
 use Rattle.qmp_codec.specs.declared.nodes.Added.TheVariants as added
 use Rattle.qmp_codec.specs.declared.nodes.BlockdevAdd.{BlockdevAdd}
-use Rattle.qmp_codec.specs.declared.nodes.Created.{Created}
-use Rattle.qmp_codec.specs.declared.nodes.Created.TheVariants as created
 use Rattle.qmp_codec.specs.declared.nodes.DeviceAdd.{DeviceAdd}
 use Rattle.qmp_rules.specs.declared.ask.Ask.TheVariants as ask
 use Rattle.qmp_rules.specs.declared.ask.Drivers.TheVariants as drivers
-use Rattle.qmp_rules.specs.declared.change.Change.{Change}
 use Rattle.qmp_rules.specs.declared.change.Change.TheVariants as change
 use Rattle.qmp_rules.specs.declared.rows.NodeRecord.{NodeRecord}
 use Rattle.qmp_rules.specs.declared.rows.Device.{Device}
 use Rattle.qmp_rules.specs.declared.told.Told.{Told}
-use Rattle.qmp_rules.specs.Table.{Table, node_at, node_named, id_named, child, kinds_of}
+use Rattle.qmp_rules.specs.Table.{Table, node_at, node_named, id_named, kinds_of}
 use Rattle.qmp_rules.specs.Chains.{filter_role, is_settled}
-use Rattle.qmp_rules.specs.Changes.{changed, all_changed}
-use Rattle.qmp_rules.specs.Edits.{free_id, next_free_id, place_from, unused_from, device_number, inline_row, file_row, raw_row, image_row, format_row, raw_edits, qcow2_edits, added_edits, add_edits, length_told, size_of, edits_of, uses, file_under, goes_with_node, with_inline, row_gone, of_row, created_change, spoiled, del_edits, new_device, device_uses, device_add_edits}
-use Rattle.qmp_rules.specs.NodeAsks.{create_values, create_names, create_rest, del_asks, device_add_asks, add_asks, option_values, added_values, added_names, is_read_only, added_rest, raw_rest, qcow2_rest, copy_on_read_rest, is_added, backing_name}
-use Rattle.qmp_rules.specs.Asks.{id_or, Asking, holds, first, takes, is_file}
-use Rattle.qmp_rules.specs.CommandAsks.{asks_of, negotiates}
-use Rattle.qmp_rules.specs.Answers.{unbuilt, out_of_turn, refusal_of, command_edits}
-use Rattle.flat_machine.specs.Wiring.{StandsFor, IsUnder, HasFile, IsInline, InlineAreUnder, IsNumberBy, HasNumber, TableStands, TableAtRest}
-use Rattle.flat_machine.specs.Suiting.{IsThere, IsAlone, IsFree, SuitsFile, SuitsBacking, SuitsFormat, SuitsFilter, SuitsDevice, TableSuits, AllTableSuit}
+use Rattle.qmp_rules.specs.Changes.{changed}
+use Rattle.qmp_rules.specs.Edits.{free_id, next_free_id, place_from, unused_from, inline_row, image_row, raw_edits, qcow2_edits, added_edits, add_edits, uses, new_device, device_add_edits}
+use Rattle.qmp_rules.specs.NodeAsks.{device_add_asks, add_asks, option_values, added_values, added_names, is_read_only, added_rest, raw_rest, qcow2_rest, copy_on_read_rest, is_added, backing_name}
+use Rattle.qmp_rules.specs.Asks.{id_or, Asking, holds, takes, is_file}
+use Rattle.flat_machine.specs.Wiring.{IsNumberBy, TableStands}
+use Rattle.flat_machine.specs.Suiting.{IsThere, IsAlone, IsFree, SuitsFile, SuitsBacking, SuitsDevice, AllTableSuit}
 use Rattle.flat_machine.proofs.Finds.{bytes_eq-same, same-bytes_eq}
 use Rattle.flat_machine.proofs.Fresh.{found-longer, found-new}
 use Rattle.flat_machine.proofs.Tables.{refreshed-old}
 use Rattle.flat_machine.proofs.Kept.{own_disk}
 use Rattle.flat_machine.proofs.Rows.{under-before}
-use Rattle.flat_machine.proofs.Asked.{none-both, not-refused, NoneHolds, none-holds, none-behind, good-value, found-named, takes-driver, room-left, none-stands, lone-node, settled-node}
-use Rattle.flat_machine.proofs.Accepted.{free_fresh, next_fresh, none-over, is_protocol, no_edge, no_filter}
+use Rattle.flat_machine.proofs.Asked.{not-refused, NoneHolds, none-behind, good-value, found-named, takes-driver, room-left, none-stands, lone-node, settled-node}
+use Rattle.flat_machine.proofs.Accepted.{free_fresh, next_fresh, none-over, is_protocol, no_edge}
 use Rattle.flat_machine.proofs.TablesKept.{not-there}
 
 -- ---- rows by name

@@ -1,13 +1,13 @@
 -- Each kind of change keeps what holds of tables.
 use Rattle.std.proofs.Common.{◌≡◌, ◌≢◌, ◌⊎◌, ℕ, suc, Bool, true, false, cond, List, [], ◌∷◌, ◌++◌, refl, sym, ap, subst, ◌∙◌, inl, inr, Option, Some, None, option_map}
-use Rattle.std.specs.Prelude.{◌==◌, ◌&&◌, ◌||◌, not, IsSome, option_and_then}
+use Rattle.std.specs.Prelude.{◌==◌, ◌||◌, not, IsSome}
 use Rattle.std.specs.List.{find, list_any, Contains}
 use Rattle.std.proofs.lemmas.Bool.{eqb-true, eqb-false, eq-eqb, ne_eqb, and_right}
 use Rattle.blk_graph.specs.declared.edge.Edge.{Edge}
 use Rattle.blk_graph.specs.declared.edge.Parent.{Parent}
-use Rattle.blk_graph.specs.declared.edge.Parent.TheVariants.{Node, Guest}
+use Rattle.blk_graph.specs.declared.edge.Parent.TheVariants.{Node}
 use Rattle.blk_graph.specs.declared.edge.Role.{Role}
-use Rattle.blk_graph.specs.declared.edge.Role.TheVariants.{Drive, File, Backing}
+use Rattle.blk_graph.specs.declared.edge.Role.TheVariants.{File, Backing}
 use Rattle.blk_graph.specs.declared.kind.Kind.{Kind}
 use Rattle.blk_graph.specs.declared.kind.Kind.TheVariants.{Protocol, Raw, Qcow2, CopyOnRead, BeforeWrite, Mirror, Commit}
 use Rattle.blk_graph.specs.declared.kind.NodeKind.{NodeKind}
@@ -27,14 +27,14 @@ use Rattle.qmp_rules.specs.Chains.{filter_role, filtered, disk_from, disk_node}
 use Rattle.qmp_rules.specs.Changes.{node_changed, unsettled, with_unsettled, without_row, backed, format_edges, device_edge}
 use Rattle.blk_history.specs.Fold.{With}
 use Rattle.flat_machine.specs.Machine.{copies_at, copies_through, is_copying, path, path_from}
-use Rattle.flat_machine.specs.Wiring.{AreApart, HasEnds, EdgesHaveEnds, StandsFor, IsUnder, IsFileOf, HasFile, IsTaken, IsDiskOf, AreNumbered, HasNumber, TableStands, writes_through}
-use Rattle.flat_machine.specs.Suiting.{IsThere, IsAlone, IsFree, SuitsFile, SuitsFormat, SuitsFilter, SuitsDevice}
+use Rattle.flat_machine.specs.Wiring.{AreApart, EdgesHaveEnds, StandsFor, IsFileOf, HasFile, IsTaken, IsDiskOf, AreNumbered, HasNumber, TableStands, writes_through}
+use Rattle.flat_machine.specs.Suiting.{IsThere, IsAlone, SuitsFile, SuitsFormat, SuitsFilter, SuitsDevice}
 use Rattle.flat_machine.proofs.Finds.{find-filter}
 use Rattle.flat_machine.proofs.Fresh.{found-longer, found-new}
 use Rattle.flat_machine.proofs.Kept.{own_disk}
-use Rattle.flat_machine.proofs.Tables.{HasLike, same-edge, like-then, pushed-cases, pushed-new, filter-keeps, refreshed-old, refreshed-new, with_edge-keeps, apart-parents}
-use Rattle.flat_machine.proofs.Rows.{IsLike, like-itself, SameRows, rows-same, rows-mapped, BothAt, stays-at, copies-at, like_unsettled}
-use Rattle.flat_machine.proofs.Wired.{OldRow, OldEdge, Grows, NewRows, NewEdges, NoRow, NoEdge, no_rows, no_edges, with_at, grown_stands, same_disk}
+use Rattle.flat_machine.proofs.Tables.{same-edge, like-then, pushed-cases, filter-keeps, refreshed-old, refreshed-new, with_edge-keeps, apart-parents}
+use Rattle.flat_machine.proofs.Rows.{like-itself, SameRows, rows-same, rows-mapped, BothAt, stays-at, copies-at, like_unsettled}
+use Rattle.flat_machine.proofs.Wired.{OldEdge, Grows, NewRows, NewEdges, NoRow, NoEdge, no_rows, no_edges, with_at, grown_stands}
 
 -- ---- edges and rows
 

@@ -1,14 +1,12 @@
 -- Nodes that come and go, and devices that come, leave what a guest's writing rests on.
 use Rattle.std.proofs.Common.{◌≡◌, ◌≢◌, ◌⊎◌, ℕ, Bool, true, false, cond, List, [], ◌∷◌, ◌++◌, refl, sym, ap, subst, ◌∙◌, inl, inr, Option, Some, None, option_map}
 use Rattle.std.specs.Prelude.{◌==◌, ◌&&◌, ◌||◌, not, bytes_eq, All, IsSome, is_none, option_and_then, unwrap_or}
-use Rattle.std.specs.List.{find, filter, list_any, Contains}
+use Rattle.std.specs.List.{find, filter, Contains}
 use Rattle.std.proofs.lemmas.Bool.{eqb-true, eq-eqb, ne_eqb}
 use Rattle.std.proofs.lemmas.List.Elements.{All-weaker, All-push}
 use Rattle.std.proofs.lemmas.List.Folds.{list_any-append}
 use Rattle.blk_graph.specs.declared.edge.Edge.{Edge}
-use Rattle.blk_graph.specs.declared.edge.Parent.{Parent}
 use Rattle.blk_graph.specs.declared.edge.Parent.TheVariants.{Node, Guest}
-use Rattle.blk_graph.specs.declared.edge.Role.{Role}
 use Rattle.blk_graph.specs.declared.edge.Role.TheVariants.{Drive, File, Backing, Between}
 use Rattle.blk_graph.specs.declared.kind.NodeKind.{NodeKind}
 use Rattle.blk_graph.specs.Edges.{same_parent, same_role}
@@ -26,22 +24,20 @@ use Rattle.qmp_rules.specs.declared.rows.NodeRecord.{NodeRecord}
 use Rattle.qmp_rules.specs.declared.rows.Device.{Device}
 use Rattle.qmp_rules.specs.declared.rows.FileState.TheVariants.{Used}
 use Rattle.qmp_rules.specs.Table.{Table, node_at, child, device_at, file_state, has_name, kinds_of}
-use Rattle.qmp_rules.specs.Chains.{filter_role, disk_node}
+use Rattle.qmp_rules.specs.Chains.{filter_role}
 use Rattle.qmp_rules.specs.Changes.{changed, unsettled, with_unsettled, without_row, device_edge, backed, format_edges}
 use Rattle.blk_history.specs.Fold.{With}
-use Rattle.flat_machine.specs.State.{State, Disk, Left, Mapped, Unknown, content_in, filename_of, drive_of}
+use Rattle.flat_machine.specs.State.{State, Disk, Left, Unknown, content_in, filename_of, drive_of}
 use Rattle.flat_machine.specs.Contents.{with_content, mapped_in, file_bytes}
 use Rattle.flat_machine.specs.Changed.{stepped, put, name_file, add_file, filename_or, with_bytes_of, know_if, content_under, format_bytes, left_disk, left_in, leave, file_of}
-use Rattle.flat_machine.specs.Writing.{IsWritable, written_file}
-use Rattle.flat_machine.specs.Wiring.{StandsFor, IsUnder, HasFile, EdgesHaveEnds, TableStands}
+use Rattle.flat_machine.specs.Wiring.{StandsFor, IsUnder, HasFile, EdgesHaveEnds}
 use Rattle.flat_machine.specs.Standing.{HasBytes, IsUsedUp, MayWrite, WritingStands, Stands}
-use Rattle.flat_machine.specs.Suiting.{IsThere, IsUnused, FileSuits, FormatSuits, SuitsFilter, RemovalSuits, DeviceSuits}
+use Rattle.flat_machine.specs.Suiting.{IsThere, FileSuits, FormatSuits, SuitsFilter, RemovalSuits, DeviceSuits}
 use Rattle.flat_machine.proofs.Finds.{find-filter, find-push, bytes_eq-same, cases_name, content_in-with, content_in-with_other}
 use Rattle.flat_machine.proofs.Kept.{with_format, left_alone}
-use Rattle.flat_machine.proofs.Rows.{SameRows, rows-same}
 use Rattle.flat_machine.proofs.Wired.{OldEdge, Grows, NoRow, NoEdge}
 use Rattle.flat_machine.proofs.TablesKept.{IsOther, file_grow, IsNewEdge, format_grow, is_under, of_file, IsFilterEdge, filter_grow, is_child, kept_row, removed_grow, IsDriveEdge, device_grow}
-use Rattle.flat_machine.proofs.WritingKept.{RoleEdge, role_edge, IsEntered, WritesFile, writes_file, LeavesFile, may_still, Leaves, grown_writing, left_still}
+use Rattle.flat_machine.proofs.WritingKept.{role_edge, IsEntered, WritesFile, writes_file, may_still, grown_writing, left_still}
 
 -- ---- names, bytes and drives
 

@@ -23,13 +23,11 @@ use Rattle.qmp_rules.specs.Chains.{filter_role, filtered, disk_node}
 use Rattle.blk_history.specs.Fold.{With}
 use Rattle.flat_machine.specs.State.{State, Unknown, Left, content_in, filename_of, drive_of}
 use Rattle.flat_machine.specs.Changed.{file_of}
-use Rattle.flat_machine.specs.Agreement.{HasDisk}
-use Rattle.flat_machine.specs.Machine.{copies_through}
 use Rattle.flat_machine.specs.Writing.{IsWritable, written_file}
-use Rattle.flat_machine.specs.Wiring.{AreApart, StandsFor, IsUnder, HasFile, writes_through}
-use Rattle.flat_machine.specs.Standing.{IsOpen, HasBytes, IsUsedUp, MayWrite, WritersStand, WritingStands}
-use Rattle.flat_machine.proofs.Rows.{IsLike, BothAt, disk_node-there}
-use Rattle.flat_machine.proofs.Wired.{OldRow, OldEdge, Grows, WasFile, was_file, stood_for, same_disk, disk_there, same_copies, with_at}
+use Rattle.flat_machine.specs.Wiring.{AreApart, StandsFor, HasFile, writes_through}
+use Rattle.flat_machine.specs.Standing.{HasBytes, IsUsedUp, MayWrite, WritingStands}
+use Rattle.flat_machine.proofs.Rows.{BothAt, disk_node-there}
+use Rattle.flat_machine.proofs.Wired.{OldRow, Grows, was_file, stood_for, same_disk, disk_there, same_copies}
 
 -- ---- nodes that guests reach
 

@@ -4,7 +4,7 @@ use Rattle.qmp_rules.specs.declared.rows.NodeRecord.{NodeRecord}
 use Rattle.qmp_rules.specs.declared.rows.Device.{Device}
 use Rattle.qmp_rules.specs.declared.rows.FileState.{FileState}
 use Rattle.qmp_rules.specs.declared.rows.FileState.TheVariants.{Made, Formatted, Used}
-use Rattle.qmp_rules.specs.Table.{Table, node_at, device_at, file_state, has_name}
+use Rattle.qmp_rules.specs.Table.{Table, device_at, file_state, has_name}
 use Rattle.qmp_rules.specs.Chains.{filter_role, disk_node}
 use Rattle.blk_history.specs.Fold.{With}
 use Rattle.flat_machine.specs.State.{State, Content, Bytes, Blank, Unknown, Left, content_in, drive_of}

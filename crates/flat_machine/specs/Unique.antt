@@ -46,7 +46,7 @@ pub record IsPrinted (o : Opening) (script : List Order) (traces : List (List Wi
   pub small : All IsSmall h
   pub printed : transcript_of o h ≡ text
 
--- with the script and the traces given, each transcript is that of at most one history; no call carries this yet
+-- with the script and the traces given, each transcript is that of at most one history
 abbrev pub HaveOneHistory : Opening → List Order → List (List Wish) → Type 0
 HaveOneHistory o script traces = AreGuests o.guests → (text : List ℕ) (h k : List Event)
     → IsPrinted o script traces text h → IsPrinted o script traces text k → h ≡ k

@@ -10,6 +10,8 @@ ghost use Rattle.flat_machine.specs.Replies.{replied, edits_by, failed_edits, is
 ghost use Rattle.blk_base.specs.Pieces.{Extent};
 ghost use Rattle.blk_base.specs.declared.fault.Outcome.{Outcome};
 ghost use Rattle.trace_codec.specs.declared.op.Op.{Op};
+ghost use Rattle.trace_codec.specs.declared.wish.Wish.{Wish};
+ghost use Rattle.trace_codec.specs.Script.{Order};
 ghost use Rattle.qmp_codec.specs.Commands.{Cmd};
 ghost use Rattle.qmp_codec.specs.declared.nodes.Created.{Created};
 ghost use Rattle.qmp_rules.specs.declared.told.Told.{Told};
@@ -29,6 +31,7 @@ ghost use Rattle.flat_machine.specs.Changed.{stepped, all_stepped};
 ghost use Rattle.flat_machine.specs.Sights.{IsTold, expected};
 ghost use Rattle.flat_machine.specs.Machine.{with_part, replay};
 ghost use Rattle.flat_machine.specs.Legal.{Legal};
+ghost use Rattle.flat_machine.specs.Unique.{HaveOneHistory};
 ghost use Rattle.blk_history.specs.declared.event.Event.{Event};
 ghost use Rattle.flat_machine.specs.Writing.{CanWrite, PieceDone};
 ghost use Rattle.flat_machine.specs.Wiring.{TableAtRest};
@@ -95,6 +98,12 @@ pub fn pieces_keep_standing()
 pub fn histories_keep_standing()
     ensures { (o : Opening) (h : List Event) → Legal (start o) h
         → StandsAtRest (replay (start o) h) }
+{}
+
+/// With its script and its traces, a transcript is that of at most one history.
+pub fn transcripts_have_one_history()
+    ensures { (o : Opening) (script : List Order) (traces : List (List Wish))
+        → HaveOneHistory o script traces }
 {}
 
 /// A guest whose device may write is on a drive whose disk it can write.
