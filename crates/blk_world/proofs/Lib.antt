@@ -10,3 +10,14 @@ pub mod CountLemmas
 pub mod CloseLemmas
 pub mod CloseHeld
 pub mod CloseFiles
+pub mod CarryTexts
+pub mod CarryWords
+pub mod CarryNames
+pub mod CarryState
+pub mod CarrySaid
+pub mod CarryComes
+pub mod CarryPlain
+pub mod CarryLines
+pub mod CarryBack
+pub mod CarryGiven
+pub mod CarryInTable

@@ -1,0 +1,198 @@
+-- What a command leaves of the world, before its reply stands in the history.
+use Rattle.std.specs.Prelude.{◌≡◌, ◌⊎◌, ℕ, ◌<◌, ◌^◌, Bool, true, false, [], Result, Ok, Err, Option, Some, None, is_some, map, option_map, List}
+use Rattle.blk_base.specs.declared.fault.DevNo.{DevNo}
+use Rattle.blk_base.specs.declared.fault.FaultFrom.{FaultFrom}
+use Rattle.blk_base.specs.declared.fault.FaultFrom.TheVariants.{Dev}
+use Rattle.q2_format.specs.Created.{Creation, created_length, creation_of}
+use Rattle.blk_history.specs.Fold.{With}
+use Rattle.blk_history.specs.declared.event.Event.{Event}
+use Rattle.blk_history.specs.declared.event.Event.TheVariants.{Reply}
+use Rattle.qmp_codec.specs.Commands.{Cmd}
+use Rattle.qmp_codec.specs.Lines.{Stop, command_at}
+use Rattle.qmp_codec.specs.declared.command.Command.TheVariants.{BlockdevAdd, BlockdevCreate, BlockdevDel, DeviceAdd}
+use Rattle.qmp_codec.specs.declared.nodes.CreateQcow2.{CreateQcow2}
+use Rattle.qmp_codec.specs.declared.nodes.Created.{Created}
+use Rattle.qmp_codec.specs.declared.nodes.Created.TheVariants.{Qcow2}
+use Rattle.qmp_rules.specs.declared.refusal.Refusal.{Refusal}
+use Rattle.qmp_rules.specs.declared.refusal.Refusal.TheVariants.{BadValue, File, Image, BackingNeeded, SizeDiffers, Io, NoSpace}
+use Rattle.qmp_rules.specs.declared.told.Stopped.{Stopped}
+use Rattle.qmp_rules.specs.declared.told.Told.{Told}
+use Rattle.qmp_rules.specs.Values.{amount_or}
+use Rattle.qmp_rules.specs.Changes.{all_changed}
+use Rattle.qmp_rules.specs.Answers.{answer, refusal_of, line_answer, line_text}
+use Rattle.flat_machine.specs.State.{State, Known, Content, Bytes, Blank}
+use Rattle.flat_machine.specs.Sights.{IsTold, Fails, told_by}
+use Rattle.flat_machine.specs.Changed.{format_name}
+use Rattle.flat_machine.specs.Licence.{fault_at}
+use Rattle.flat_machine.specs.EventLicence.{IsCalledBy, IsLicensedBy}
+use Rattle.flat_machine.specs.Replies.{command_in}
+use Rattle.flat_machine.specs.Performing.{AllPerformed, IsQuiet}
+use Rattle.flat_machine.specs.declared.opening.Opening.{Opening}
+use Rattle.blk_world.specs.Coherent.{IsCoherent}
+use Rattle.blk_world.specs.Comes.{Shows}
+use Rattle.blk_world.specs.Counting.{RunsOn, IsReached, sources_of, counts_within}
+use Rattle.blk_world.specs.Face.{Face, held, contents_of, counts_now, seen_state, device_numbered}
+use Rattle.blk_world.specs.Progress.{with_entry}
+use Rattle.blk_world.specs.Saying.{Given, IsSaid}
+
+-- ---- what files may refuse, be it told or not what they hold
+
+abbrev pub IsOfFiles : Refusal → Type 0
+IsOfFiles (BadValue member) = Unit {0}
+IsOfFiles (File name fault) = Unit {0}
+IsOfFiles (Image stop) = Unit {0}
+IsOfFiles (BackingNeeded node) = Unit {0}
+IsOfFiles (SizeDiffers first second) = Unit {0}
+IsOfFiles (Io from count) = Unit {0}
+IsOfFiles (NoSpace dev) = Unit {0}
+IsOfFiles cause = ⊥
+
+abbrev pub StopsByFiles : Option Stopped → Type 0
+StopsByFiles None = Unit {0}
+StopsByFiles (Some stopped) = IsOfFiles stopped.refusal
+
+-- ---- where the store tells its files
+
+-- the state with each created image as its bytes are held
+abbrev pub known_as : Content → Option (List ℕ) → Content
+known_as (Blank new len) (Some bytes) = Bytes bytes
+known_as content held = content
+
+abbrev pub held_known : Face → Known → Known
+held_known w known = record known { content = known_as known.content (held w known.name) }
+
+abbrev pub as_held : Face → State → State
+as_held w s = record s { files = map (held_known w) s.files }
+
+-- What stops a command is what the bytes of the files say, or a call that failed.
+abbrev pub StopsExactly : State → Cmd → Option Stopped → Type 0
+StopsExactly s c stopped =
+    (stopped ≡ (told_by s c).stopped) ⊎ With stopped (Fails s.table c (told_by s c).stopped)
+
+-- The files told what a command may be told of them, by which the answer is the one that was given, and its changes were
+-- performed.
+pub record IsCarriedIn (s : State) (w v : Face) (c : Cmd) (told : Told) : Type 0 where
+  pub seen : Told
+  pub is_told : IsTold s c seen
+  pub exact : StopsExactly (as_held w s) c seen.stopped
+  pub same : answer w.table seen c ≡ answer w.table told c
+  pub performed : AllPerformed s (answer w.table told c).changes (contents_of w) (contents_of v)
+
+-- ---- a refusal of which a call failed
+
+-- the image that a command creates would end above the capacity of the device
+abbrev pub creation_in : CreateQcow2 (List ℕ) → Creation
+creation_in c =
+    creation_of (amount_or 0 (Some c.size)) c.backing_file (option_map format_name c.backing_fmt)
+
+abbrev pub creation_passes : Face → Created (List ℕ) → ℕ → Type 0
+creation_passes w (Qcow2 c) dev =
+    With (device_numbered w.nodes.devices dev)
+    (λ device. device.capacity < created_length (creation_in c))
+creation_passes w options dev = ⊥
+
+abbrev pub would_pass : Face → Option Cmd → ℕ → Type 0
+would_pass w (Some (BlockdevCreate c)) dev = creation_passes w c.options dev
+would_pass w c dev = ⊥
+
+-- numbers of devices have 32 bits
+abbrev pub IsNumbered : FaultFrom → Type 0
+IsNumbered (Dev dev) = dev.0 < 2 ^ 32
+IsNumbered from = Unit {0}
+
+-- the store, or a device that the command calls, failed in it and has this count
+pub record HasFailed (w v : Face) (c : Cmd) (from : FaultFrom) (count : ℕ) : Type 0 where
+  pub called : IsCalledBy w.table (sources_of w) (counts_now w) from (Some c)
+  pub numbered : IsNumbered from
+  pub reached : IsReached w v (fault_at from count)
+
+-- a write of the command would have passed the capacity of a device that it calls
+pub record HasNoSpace (w : Face) (c : Cmd) (dev : DevNo) : Type 0 where
+  pub called : IsCalledBy w.table (sources_of w) (counts_now w) (Dev dev) (Some c)
+  pub numbered : IsNumbered (Dev dev)
+  pub passes : would_pass w (Some c) dev.0
+
+abbrev pub IsCaused : Face → Face → Cmd → Refusal → Type 0
+IsCaused w v c (Io from count) = HasFailed w v c from count
+IsCaused w v c (NoSpace dev) = HasNoSpace w c dev
+IsCaused w v c cause = Unit {0}
+
+abbrev pub HasCause : Face → Face → Cmd → Option Refusal → Type 0
+HasCause w v c None = Unit {0}
+HasCause w v c (Some cause) = IsCaused w v c cause
+
+-- ---- the whole
+
+-- a command is accepted, or refused for this
+pub record IsCarried (w v : Face) (c : Cmd) (refusal : Option Refusal) : Type 0 where
+  pub told : Told
+  pub clean : told.dirty ≡ []
+  pub by_files : StopsByFiles told.stopped
+  pub answered : refusal_of w.table told c ≡ refusal
+  pub table : v.table ≡ all_changed w.table (answer w.table told c).changes
+  pub progress : v.progress ≡ w.progress
+  pub runs : RunsOn w v
+  pub cause : HasCause w v c refusal
+  pub coherent : IsCoherent w.table w.nodes w.opened w.progress
+      → IsCoherent v.table v.nodes v.opened v.progress
+  pub shows : is_some w.files ≡ true → (o : Opening) (s : State) → Shows o s w
+      → IsCarriedIn s w v c told
+
+-- and this text is its answer
+pub record IsCarriedAs (w v : Face) (given : List ℕ) (c : Cmd) (text : List ℕ) : Type 0 where
+  pub refusal : Option Refusal
+  pub carried : IsCarried w v c refusal
+  pub said : IsSaid given (answer w.table carried.told c).reply text
+
+-- want of memory leaves all as it was, but for openings and counts
+pub record IsPutBack (w v : Face) : Type 0 where
+  pub table : v.table ≡ w.table
+  pub progress : v.progress ≡ w.progress
+  pub runs : RunsOn w v
+  pub coherent : IsCoherent w.table w.nodes w.opened w.progress
+      → IsCoherent v.table v.nodes v.opened v.progress
+  pub contents : is_some w.files ≡ true → (o : Opening) (s : State) → Shows o s w
+      → IsQuiet (contents_of w) (contents_of v)
+
+-- ---- refusals of which a call failed
+
+abbrev pub is_failed : Refusal → Bool
+is_failed (Io from count) = true
+is_failed (NoSpace dev) = true
+is_failed cause = false
+
+-- ---- commands that need the table alone
+
+abbrev pub needs_table_alone : Cmd → Bool
+needs_table_alone (BlockdevAdd c) = false
+needs_table_alone (BlockdevCreate c) = false
+needs_table_alone (BlockdevDel node) = false
+needs_table_alone (DeviceAdd c) = false
+needs_table_alone c = true
+
+-- ---- lines
+
+abbrev pub reply_entry : Face → Told → Given → Event
+reply_entry w told line =
+    Reply line.number line.text (command_in (command_at line.text))
+    (line_text w.table told line.text)
+
+-- What the store's files are then, where it tells them: a command changes what its changes say, and no other line any.
+abbrev pub IsSeenIn : State → Face → Face → Told → Result Cmd Stop → Type 0
+IsSeenIn s w v told (Ok c) = IsCarriedIn s w v c told
+IsSeenIn s w v told (Err why) = IsQuiet (contents_of w) (contents_of v)
+
+-- A line is answered: its reply is the last entry, and the table has the changes of the answer. No fault is named but one
+-- that was reached in this event by what the line calls.
+pub record IsReplied (w v : Face) (line : Given) : Type 0 where
+  pub told : Told
+  pub clean : told.dirty ≡ []
+  pub by_files : StopsByFiles told.stopped
+  pub table : v.table ≡ all_changed w.table (line_answer w.table told line.text).changes
+  pub progress : v.progress ≡ with_entry (reply_entry w told line) w.progress
+  pub runs : RunsOn w v
+  pub licensed : IsLicensedBy (seen_state w) (sources_of w)
+      (counts_now w) (counts_within w v) (counts_now v)
+      (would_pass w (command_in (command_at line.text))) (reply_entry w told line)
+  pub shows : is_some w.files ≡ true → (o : Opening) (s : State) → Shows o s w
+      → IsSeenIn s w v told (command_at line.text)
