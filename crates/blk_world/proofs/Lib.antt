@@ -10,3 +10,15 @@ pub mod CountLemmas
 pub mod CloseLemmas
 pub mod CloseHeld
 pub mod CloseFiles
+pub mod TableKinds
+pub mod KeptDrives
+pub mod EasedTables
+pub mod DeletedLists
+pub mod DeletedParts
+pub mod DeletedContents
+pub mod DeletedSteps
+pub mod DeletedWhole
+pub mod CreatedContents
+pub mod CreatedAsked
+pub mod CreatedReady
+pub mod CreatedKept

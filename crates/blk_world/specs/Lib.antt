@@ -5,3 +5,5 @@ pub mod Coherent
 pub mod Steps
 pub mod Counting
 pub mod Closing
+pub mod Deleting
+pub mod Creating
