@@ -21,3 +21,15 @@ pub mod CarryLines
 pub mod CarryBack
 pub mod CarryGiven
 pub mod CarryInTable
+pub mod TableKinds
+pub mod KeptDrives
+pub mod EasedTables
+pub mod DeletedLists
+pub mod DeletedParts
+pub mod DeletedContents
+pub mod DeletedSteps
+pub mod DeletedWhole
+pub mod CreatedContents
+pub mod CreatedAsked
+pub mod CreatedReady
+pub mod CreatedKept

@@ -7,3 +7,5 @@ pub mod Counting
 pub mod Closing
 pub mod Saying
 pub mod Carrying
+pub mod Deleting
+pub mod Creating

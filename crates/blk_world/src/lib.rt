@@ -4,6 +4,8 @@
 
 mod admission;
 mod closing;
+mod creating;
+mod deleting;
 mod entries;
 mod progress;
 mod row;

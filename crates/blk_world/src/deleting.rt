@@ -1,0 +1,121 @@
+//! Nodes that go, with their devices.
+ghost use Rattle.std.specs.Prelude.{◌≡◌, ℕ};
+ghost use Rattle.blk_graph.specs.Graph.{HasNode};
+ghost use Rattle.blk_nodes.specs.Contents.{disk_of};
+ghost use Rattle.blk_nodes.specs.Dropping.{without};
+ghost use Rattle.blk_nodes.specs.Nodes.{device_in};
+ghost use Rattle.qmp_rules.specs.Edits.{goes_with_node};
+ghost use Rattle.blk_world.specs.Steps.{seen_store};
+ghost use Rattle.blk_world.specs.Deleting.{ground, name_under, made_with, going, with_back, TellsFlush, CanLeave, HasLeft, HaveLeft, all_left, Belong, IsFree, Deletes, IsDeleted};
+
+use blk_base::Store;
+use blk_graph::NodeId;
+use blk_nodes::Nodes;
+use qmp_rules::{Names, NodeRecord};
+
+/// The name of the file that a `file` node stands for; of another node, none.
+fn name_under(names: &Names, node: NodeId) -> &str
+    ensures { result.now ≡ name_under names.now.table node }
+{
+    match names.node_at(node) {
+        Some(row) => match &row.filename {
+            Some(name) => name.as_str(),
+            None => "",
+        },
+        None => "",
+    }
+}
+
+fn goes_with(row: &NodeRecord, node: NodeId) -> bool
+    ensures { result ≡ goes_with_node node row.now }
+{
+    match row.made_with {
+        Some(other) => other == node,
+        None => false,
+    }
+}
+
+/// The file node that goes with a node, where it was made with it.
+fn made_with(names: &Names, node: NodeId) -> Option<NodeId>
+    ensures { result ≡ made_with names.now.table node }
+{
+    match names.nodes().iter().find(|row| goes_with(row, node)) {
+        Some(row) => Some(row.id),
+        None => None,
+    }
+}
+
+/// Drops a node that no edge leads to, and gives its device, where it has one, back to its file.
+fn take_node<S: Store>(store: &mut S, nodes: &mut Nodes<S::Dev>, names: &Names, node: NodeId)
+    requires { CanLeave names.now.table
+        (ground (S.files store.old) (S.opened store.old) (S.room store.old) (S.faults store.old) nodes.old) node }
+    ensures nodes { nodes.new ≡ without node nodes.old }
+    ensures store { seen_store (S.files store.new) (S.opened store.new) (S.room store.new) (S.faults store.new)
+        ≡ with_back (name_under names.now.table node) (device_in nodes.old.devices node)
+        (seen_store (S.files store.old) (S.opened store.old) (S.room store.old) (S.faults store.old)) }
+    ensures flush { TellsFlush (device_in nodes.old.devices node) }
+    ensures disks { (other : ℕ) → HasNode nodes.new.graph other
+        → disk_of nodes.new other ≡ disk_of nodes.old other }
+{
+    match nodes.drop_node(node) {
+        Ok(Some(device)) => store.give_back(name_under(names, node), device),
+        Ok(None) => {}
+        Err(_) => unreachable!(),
+    }
+}
+
+/// The same, and what is true of the nodes that are left.
+fn drop_node<S: Store>(store: &mut S, nodes: &mut Nodes<S::Dev>, names: &Names, node: NodeId)
+    requires { CanLeave names.now.table
+        (ground (S.files store.old) (S.opened store.old) (S.room store.old) (S.faults store.old) nodes.old) node }
+    ensures nodes { nodes.new ≡ without node nodes.old }
+    ensures store { seen_store (S.files store.new) (S.opened store.new) (S.room store.new) (S.faults store.new)
+        ≡ with_back (name_under names.now.table node) (device_in nodes.old.devices node)
+        (seen_store (S.files store.old) (S.opened store.old) (S.room store.old) (S.faults store.old)) }
+    ensures left { HasLeft
+        (ground (S.files store.old) (S.opened store.old) (S.room store.old) (S.faults store.old) nodes.old) node }
+{
+    take_node(store, nodes, names, node);
+    let _ = nodes.edges();
+}
+
+/// Drops a node that no edge leads to, then the file node that was made with it, and gives their devices back.
+fn drop_nodes<S: Store>(store: &mut S, nodes: &mut Nodes<S::Dev>, names: &Names, node: NodeId)
+    requires belong { Belong names.now.table
+        (ground (S.files store.old) (S.opened store.old) (S.room store.old) (S.faults store.old) nodes.old) }
+    requires free { IsFree names.now.table node }
+    ensures nodes { nodes.new ≡ (all_left names.now.table (going names.now.table node)
+        (ground (S.files store.old) (S.opened store.old) (S.room store.old) (S.faults store.old) nodes.old)).nodes }
+    ensures store { seen_store (S.files store.new) (S.opened store.new) (S.room store.new) (S.faults store.new)
+        ≡ (all_left names.now.table (going names.now.table node)
+        (ground (S.files store.old) (S.opened store.old) (S.room store.old) (S.faults store.old) nodes.old)).store }
+    ensures each { HaveLeft names.now.table
+        (ground (S.files store.old) (S.opened store.old) (S.room store.old) (S.faults store.old) nodes.old)
+        (going names.now.table node) }
+{
+    let _ = nodes.edges();
+    drop_node(store, nodes, names, node);
+    if let Some(file) = made_with(names, node) {
+        drop_node(store, nodes, names, file);
+    }
+}
+
+/// Drops the node of a name, as `drop_nodes` does.
+pub(crate) fn drop_named<S: Store>(
+    store: &mut S,
+    nodes: &mut Nodes<S::Dev>,
+    names: &Names,
+    name: &str,
+)
+    requires belong { Belong names.now.table
+        (ground (S.files store.old) (S.opened store.old) (S.room store.old) (S.faults store.old) nodes.old) }
+    requires deletes { Deletes names.now.table name.now }
+    ensures { IsDeleted names.now.table name.now
+        (ground (S.files store.old) (S.opened store.old) (S.room store.old) (S.faults store.old) nodes.old)
+        (ground (S.files store.new) (S.opened store.new) (S.room store.new) (S.faults store.new) nodes.new) }
+{
+    match names.id_named(name) {
+        Some(node) => drop_nodes(store, nodes, names, node),
+        None => unreachable!(),
+    }
+}
