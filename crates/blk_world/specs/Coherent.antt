@@ -9,6 +9,8 @@ use Rattle.blk_graph.specs.Graph.{NodeRow}
 use Rattle.blk_graph.specs.declared.edge.Edge.{Edge}
 use Rattle.blk_graph.specs.declared.edge.Parent.TheVariants.{Guest as GuestOf}
 use Rattle.blk_nodes.specs.Nodes.{Nodes, DeviceState, row_at, kind_of}
+use Rattle.blk_nodes.specs.declared.row.Driver.{Driver}
+use Rattle.blk_nodes.specs.declared.row.Driver.TheVariants.{Raw}
 use Rattle.blk_nodes.specs.declared.row.Row.{Row}
 use Rattle.qmp_rules.specs.declared.rows.Device.{Device}
 use Rattle.qmp_rules.specs.declared.rows.NodeRecord.{NodeRecord}
@@ -33,11 +35,17 @@ AreOnDisks t = (g node : ℕ) → drive_of t g ≡ Some node → With (node_at t
 
 -- ---- table and nodes
 
+-- where a part begins
+abbrev pub offset_of : Driver → ℕ
+offset_of (Raw part) = part.offset
+offset_of other = 0
+
 -- a node's row says what the node is
 pub record IsRowOf (record' : NodeRecord) (row : Row) : Type 0 where
   pub kind : record'.kind ≡ kind_of row.driver
   pub size : record'.size ≡ row.size
   pub access : record'.read_only ≡ row.is_read_only
+  pub place : record'.offset ≡ offset_of row.driver
 
 abbrev pub AreAlike : Option NodeRecord → Option Row → Type 0
 AreAlike None None = Unit {0}

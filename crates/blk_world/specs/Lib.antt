@@ -1,7 +1,9 @@
 pub mod Progress
+pub mod Stores
 pub mod Face
 pub mod Comes
 pub mod Coherent
 pub mod Steps
 pub mod Counting
 pub mod Closing
+pub mod Adding

@@ -2,11 +2,13 @@
 //! of all that happened. Each call is one event.
 #![tactic(auto)]
 
+mod adding;
 mod admission;
 mod closing;
 mod entries;
 mod progress;
 mod row;
+mod run_store;
 mod turned;
 mod world;
 
