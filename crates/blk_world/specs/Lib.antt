@@ -1,4 +1,5 @@
 pub mod Progress
+pub mod Stores
 pub mod Face
 pub mod Comes
 pub mod Coherent
@@ -9,3 +10,4 @@ pub mod Saying
 pub mod Carrying
 pub mod Deleting
 pub mod Creating
+pub mod Adding

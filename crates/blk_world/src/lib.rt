@@ -2,6 +2,7 @@
 //! of all that happened. Each call is one event.
 #![tactic(auto)]
 
+mod adding;
 mod admission;
 mod closing;
 mod creating;
@@ -9,6 +10,7 @@ mod deleting;
 mod entries;
 mod progress;
 mod row;
+mod run_store;
 mod turned;
 mod world;
 
