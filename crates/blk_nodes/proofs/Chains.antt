@@ -21,6 +21,7 @@ use Rattle.q2_image.proofs.Mapped.{entry_of_file, below_words}
 use Rattle.blk_nodes.specs.Contents.{bytes_of, file_node_disk, below, disk_by, disk_in, disk_of}
 use Rattle.blk_nodes.specs.Nodes.{Nodes, AreTold, row_at, size_by, size_of, file_of, backing_of}
 use Rattle.blk_nodes.specs.Joined.{IsPart, IsOverlay, IsCopying, IsJoined}
+use Rattle.blk_nodes.specs.Found.{found_bytes}
 use Rattle.blk_nodes.specs.Sources.{in_below, step_by_entry, step_by, step_of, source_in, source_of, byte_at}
 use Rattle.blk_nodes.specs.declared.row.Driver.{Driver}
 use Rattle.blk_nodes.specs.declared.row.Driver.TheVariants.{File, Raw, Qcow2, CopyOnRead}
@@ -46,7 +47,7 @@ unfolding guest_byte
 guest_reserved file backing place bits entry = let e = rw bits at entry in rw (bits, e) refl
 
 -- a place of an open image has an entry
-has_entry : (image : Known) (cluster : ℕ) → IsOpen image → cluster * 65536 < image.header.size → cluster < length image.tables.words
+pub has_entry : (image : Known) (cluster : ℕ) → IsOpen image → cluster * 65536 < image.header.size → cluster < length image.tables.words
 has_entry image cluster opened inside =
     let bits = opened.cluster_bits in
     below_words image cluster opened (rw bits (omega (arith, inside)))
@@ -164,6 +165,13 @@ module _ (nodes : Nodes) (joined : IsJoined nodes) (all : AreTold nodes.devices)
   pub reads_image : (at file : ℕ) → source_of nodes node start ≡ sources.Image at file → buffer ≡ guest_bytes (bytes_of nodes file) [] start n → buffer ≡ content.bytes_at (disk_of nodes node) start n
   reads_image at file is read = by_place (ap length read ∙ length-guest_bytes (bytes_of nodes file) [] start n)
       (λ i below. rw is (ap (λ (b : List ℕ). get_or b i 0) read ∙ get_or-guest_bytes (bytes_of nodes file) [] start n i below))
+
+  -- of what was found
+  pub reads_found : (source : Source) → source_of nodes node start ≡ source → buffer ≡ found_bytes nodes.devices source start n
+      → buffer ≡ content.bytes_at (disk_of nodes node) start n
+  reads_found sources.Zeros is read = reads_zeros is read
+  reads_found (sources.File file from) is read = reads_file file from is read
+  reads_found (sources.Image at file) is read = reads_image at file is read
 
 -- a read that was good
 pub when_good : (outcome : Outcome) (disk : List ℕ) (span : Extent) (buffer : List ℕ) → (outcome ≡ Good → buffer ≡ content.bytes_at disk span.start span.len) → ReadsDisk outcome disk span buffer

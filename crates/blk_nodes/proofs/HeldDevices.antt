@@ -1,23 +1,26 @@
 -- The devices of the nodes in their list, and one that was used.
-use Rattle.std.proofs.Common.{◌≡◌, ◌≢◌, ℕ, zero, suc, ◌<◌, ◌≤◌, ◌==◌, nat_lt, Bool, true, false, cond, List, [], ◌∷◌, length, map, get_or, set, refl, sym, ◌∙◌, ap, subst, arith, Option, Some, None, Result, Ok, Err}
-use Rattle.std.specs.Prelude.{IsSome, is_some, Contains, IfOk, IfErr}
+use Rattle.std.proofs.Common.{◌≡◌, ◌≢◌, ℕ, zero, suc, ◌<◌, ◌≤◌, ◌==◌, nat_lt, Bool, true, false, cond, List, [], ◌∷◌, length, map, get_or, set, refl, sym, ◌∙◌, ap, subst, arith, Option, Some, None, Result, Ok, Err, ◌⊎◌, inl, inr}
+use Rattle.std.specs.Prelude.{IsSome, is_some, Contains, IfOk, IfErr, option_map, ◌&&◌}
+use Rattle.blk_base.specs.Content.{Write}
+use Rattle.blk_base.specs.Writes.{are_none}
 use Rattle.std.specs.List.{position, position_or_len}
-use Rattle.std.proofs.lemmas.List.{get_or_default}
+use Rattle.std.proofs.lemmas.List.{get_or_default, set-get_or}
 use Rattle.std.proofs.lemmas.List.Quantifiers.{position-Some}
 use Rattle.std.proofs.lemmas.List.Sums.{fails_before_first}
 use Rattle.std.proofs.lemmas.Bool.{eqb-true, ne_eqb}
 use Rattle.std.proofs.lemmas.Bool.Decides.{nat_tests}
 use Rattle.blk_graph.proofs.Members.{find-Some}
+use Rattle.blk_base.specs.declared.fault.DevNo.{DevNo}
 use Rattle.blk_base.specs.declared.fault.Outcome.{Outcome}
 use Rattle.blk_base.specs.declared.fault.Outcome.TheVariants.{Good, Torn, Io, NoSpace}
 use Rattle.blk_nodes.specs.Contents.{told, bytes_by}
 use Rattle.blk_nodes.specs.Nodes.{DeviceState, AreTold, is_of, device_in}
-use Rattle.blk_nodes.specs.Writing.{OnlyAt, IsWriteOf, IsWriteAt}
+use Rattle.blk_nodes.specs.Writing.{IsDeviceAfter, IsWriteOf, IsWriteAt, IsImageCall, IsImageCallAt, HasImageCause, HasRoomBy, HasRoomAt}
 use Rattle.blk_nodes.specs.Flushing.{IsFlushOf, IsFlushAt}
 use Rattle.q2_image.specs.Image.{Known}
 use Rattle.q2_image.specs.declared.stop.ImageStop.{ImageStop}
 use Rattle.blk_nodes.specs.Overlays.{IsOpenedOn, IsOpened, IsUnopenedOn, IsUnopened}
-use Rattle.blk_nodes.specs.Reading.{HasRisen, HaveRisen, IsReadOf, IsReadAt}
+use Rattle.blk_nodes.specs.Reading.{OnlyAt, HasRisen, HaveRisen, IsReadOf, IsReadAt}
 
 -- that is the first place at which the test passes
 pub record IsFirst {A : Type 0} (test : A → Bool) (xs : List A) (at : ℕ) (x : A) : Type 0 where
@@ -78,19 +81,7 @@ HaveRisen-set [] at d y within risen = absurd (omega (arith, within))
 HaveRisen-set (device ∷ devices) zero d y within risen = (risen, HaveRisen-refl devices)
 HaveRisen-set (device ∷ devices) (suc at) d y within risen = (HasRisen-refl device, HaveRisen-set devices at d y (omega arith) risen)
 
-over : (old new : List DeviceState) (file : ℕ) (x y : DeviceState) (outcome : Outcome) → device_in old file ≡ Some x → device_in new file ≡ Some y → IsReadOf x y outcome → IsReadAt file old new outcome
-over old new file x y Good held left is = tt
-over old new file x y (Torn done dev count) held left is = is
-over old new file x y (Io dev count) held left is = record { before = x; after = y; held = held; left = left; stopped = is }
-over old new file x y (NoSpace dev) held left is = is
-
--- a read of one of the devices
-pub read_over : (file : ℕ) (devices : List DeviceState) (at : ℕ) (d y : DeviceState) (outcome : Outcome) → position (is_of file) devices ≡ Some at
-    → HasRisen (get_or devices at d) y → IsReadOf (get_or devices at d) y outcome → IsReadAt file devices (set devices at y) outcome
-read_over file devices at d y outcome place risen is =
-    over devices (set devices at y) file (get_or devices at d) y outcome (at_place file devices at d place) (used file devices at d y (first (is_of file) devices at d place) risen) is
-
-told_is : (content : Option (List ℕ)) → is_some content ≡ true → content ≡ Some (told content)
+pub told_is : (content : Option (List ℕ)) → is_some content ≡ true → content ≡ Some (told content)
 told_is None is = absurd (cc is)
 told_is (Some bytes) is = refl
 
@@ -199,6 +190,23 @@ only_at file devices at d y place same =
       others = λ other apart. others_by file devices at d y other is same apart;
     }
 
+-- a read of one of the devices
+pub read_over : (file : ℕ) (devices : List DeviceState) (at : ℕ) (d y : DeviceState) (outcome : Outcome) → position (is_of file) devices ≡ Some at
+    → HasRisen (get_or devices at d) y → IsReadOf (get_or devices at d) y outcome → IsReadAt file devices (set devices at y) outcome
+read_over file devices at d y Good place risen is = ap (set devices at) is ∙ set-get_or devices at d
+read_over file devices at d y (Torn done dev count) place risen is = is
+read_over file devices at d y (Io dev count) place risen is =
+    let same : y.node ≡ (get_or devices at d).node = ap (λ (x : DeviceState). x.node) risen.same in
+    record {
+      before = get_or devices at d;
+      after = y;
+      held = at_place file devices at d place;
+      left = put_held file devices at d y place same;
+      stopped = is;
+      only = only_at file devices at d y place same;
+    }
+read_over file devices at d y (NoSpace dev) place risen is = is
+
 -- a write of one of the devices
 pub written_over : (file : ℕ) (devices : List DeviceState) (at : ℕ) (d y : DeviceState) (start : ℕ) (bytes : List ℕ) (outcome : Outcome) → position (is_of file) devices ≡ Some at
     → IsWriteOf (get_or devices at d) y start bytes outcome → IsWriteAt file devices (set devices at y) start bytes outcome
@@ -241,3 +249,54 @@ unopened_over file devices at d y (Err stop) place risen is = record {
   left = put_held file devices at d y place (ap (λ (x : DeviceState). x.node) risen.same);
   on = is;
 }
+
+-- a call of the image on one of the devices
+pub called_over : (file : ℕ) (devices : List DeviceState) (at : ℕ) (d y : DeviceState) (fits : ℕ → Type 0) (own : Option ℕ) (image now : Known) (place : ℕ)
+    (bytes : List ℕ) (outcome : Outcome) → position (is_of file) devices ≡ Some at
+    → IsImageCall (fits (get_or devices at d).capacity) own (get_or devices at d) y image now place bytes outcome
+    → IsImageCallAt file fits own devices (set devices at y) image now place bytes outcome
+called_over file devices at d y fits own image now place bytes outcome is call = record {
+  before = get_or devices at d;
+  after = y;
+  held = at_place file devices at d is;
+  left = put_held file devices at d y is call.wrote.device.node;
+  call = call;
+  only = only_at file devices at d y is call.wrote.device.node;
+  full = λ dev none. ap (set devices at) (nothing outcome dev none call.cause) ∙ set-get_or devices at d;
+}
+  where
+    nothing : (o : Outcome) (dev : DevNo) → o ≡ NoSpace dev
+        → HasImageCause (fits (get_or devices at d).capacity) own (length bytes) (get_or devices at d) y image now o → y ≡ get_or devices at d
+    nothing Good dev none cause = absurd (cc none)
+    nothing (Torn done other count) dev none cause = absurd (cc none)
+    nothing (Io other count) dev none cause = absurd (cc none)
+    nothing (NoSpace other) dev none cause = cause.2
+
+-- whether there is room on one of the devices
+pub room_over : (file : ℕ) (devices : List DeviceState) (at : ℕ) (d : DeviceState) (fits : ℕ → Type 0) (outcome : Outcome) → position (is_of file) devices ≡ Some at
+    → HasRoomBy (fits (get_or devices at d).capacity) (get_or devices at d) outcome → HasRoomAt file devices fits outcome
+room_over file devices at d fits outcome is room device held =
+    let same : get_or devices at d ≡ device = cc (sym (at_place file devices at d is) ∙ held) in
+    subst (λ (x : DeviceState). HasRoomBy (fits x.capacity) x outcome) same room
+
+-- a device of which only the count has risen
+pub device_risen : (old new : DeviceState) → HasRisen old new → IsDeviceAfter old new
+device_risen old new is = record {
+  node = ap (λ (d : DeviceState). d.node) is.same;
+  number = ap (λ (d : DeviceState). d.number) is.same;
+  told = ap (λ (d : DeviceState). is_some d.content) is.same;
+  flushed = inl (ap (λ (d : DeviceState). d.is_flushed) is.same);
+  capacity = ap (λ (d : DeviceState). d.capacity) is.same;
+  faults = is.faults;
+}
+
+-- a device that made these writes
+pub flushed_after : (made : List Write) (old new : Option Bool) → new ≡ option_map (λ f. are_none made && f) old
+    → (new ≡ old) ⊎ (new ≡ option_map (λ _. false) old)
+flushed_after [] None new is = inl is
+flushed_after [] (Some f) new is = inl is
+flushed_after (w ∷ made) old new is = inr is
+
+pub some_device : (found : Option DeviceState) → IsSome found → (device : DeviceState) × (found ≡ Some device)
+some_device None is = absurd (cc is)
+some_device (Some device) is = (device, refl)

@@ -1,5 +1,7 @@
 -- Where the edges lead down a chain.
-use Rattle.std.proofs.Common.{◌≡◌, ℕ, List, Option, Some, None, refl, sym, subst, inl, inr}
+use Rattle.std.proofs.Common.{◌≡◌, ℕ, List, Option, Some, None, refl, sym, ap, subst, inl, inr}
+use Rattle.blk_base.specs.declared.fault.Outcome.{Outcome}
+use Rattle.blk_base.specs.declared.fault.Outcome.TheVariants.{Good, Torn, Io, NoSpace}
 use Rattle.q2_format.specs.declared.entries.L2Entry.{L2Entry}
 use Rattle.q2_format.specs.declared.entries.L2Entry.TheVariants as entries
 use Rattle.q2_image.specs.Image.{entry_in}
@@ -11,7 +13,9 @@ use Rattle.blk_graph.specs.declared.edge.Role.{Role}
 use Rattle.blk_graph.specs.declared.edge.Role.TheVariants.{File as FileRole, Backing}
 use Rattle.blk_graph.proofs.ChildLemmas.{child-edge}
 use Rattle.blk_graph.proofs.PathLemmas.{Reaches-edge, Reaches-joined}
-use Rattle.blk_nodes.specs.Reading.{LeadsTo}
+use Rattle.blk_nodes.specs.Found.{IsReadFrom}
+use Rattle.blk_nodes.specs.Nodes.{Nodes, DeviceState}
+use Rattle.blk_nodes.specs.Reading.{LeadsTo, IsReadAt, IsReadBelow}
 use Rattle.blk_nodes.specs.Sources.{in_file, in_image, in_below, step_by_entry, step_by}
 use Rattle.blk_nodes.specs.Walk.{LeadsToSource, LeadsOn}
 use Rattle.blk_nodes.specs.declared.row.Driver.{Driver}
@@ -58,3 +62,19 @@ step_leads edges node place File = inl refl
 step_leads edges node place (Raw part) = file_leads edges node _ FileRole (child_of (Node node) FileRole edges) refl
 step_leads edges node place (Qcow2 image) = entry_leads edges node (entry_in image _)
 step_leads edges node place CopyOnRead = below_leads edges node FileRole (child_of (Node node) FileRole edges) refl
+
+-- a read of what a node leads to
+module _ (old : Nodes) (devices : List DeviceState) (node file : ℕ) (leads : LeadsTo old.graph.edges node file) where
+  pub read_at_below : (outcome : Outcome) → IsReadAt file old.devices devices outcome → IsReadBelow old (record old { devices = devices }) node outcome
+  read_at_below Good is = ap (λ (ds : List DeviceState). let now : Nodes = record old { devices = ds } in now) is
+  read_at_below (Torn done dev count) is = is
+  read_at_below (Io dev count) is = record { file = file; leads = leads; stopped = is }
+  read_at_below (NoSpace dev) is = is
+
+pub read_below : (old : Nodes) (devices : List DeviceState) (node : ℕ) (source : Source) (outcome : Outcome) → LeadsToSource old.graph.edges node source
+    → IsReadFrom source old.devices devices outcome → IsReadBelow old (record old { devices = devices }) node outcome
+read_below old devices node sources.Zeros outcome leads is =
+    let same : record old { devices = devices } ≡ old = ap (λ (ds : List DeviceState). let now : Nodes = record old { devices = ds } in now) is.1 in
+    subst (IsReadBelow old (record old { devices = devices }) node) (sym is.0) same
+read_below old devices node (sources.File file start) outcome leads is = read_at_below old devices node file leads outcome is
+read_below old devices node (sources.Image at file) outcome leads is = read_at_below old devices node file leads outcome is

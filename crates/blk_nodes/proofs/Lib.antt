@@ -1,4 +1,5 @@
 mod HeldDevices
+mod Rows
 mod Joints
 mod Chains
 mod Leading
@@ -10,5 +11,12 @@ mod Drawn
 mod OverlayAdded
 pub mod Dropped
 mod Written
+mod ImageCalls
+mod ImageDisks
+mod Alike
+mod PartsWritten
+mod PartFits
+mod Imaged
+mod Pieces
 mod Covered
 mod Formatted

@@ -1,9 +1,10 @@
 -- What a write to the file of one node leaves of the nodes.
-use Rattle.std.proofs.Common.{◌≡◌, ◌≢◌, ℕ, zero, suc, ◌+◌, ◌<◌, ◌≤◌, List, [], ◌∷◌, length, take, Option, Some, None, refl, sym, ◌∙◌, ap, subst, arith, inl, inr}
+use Rattle.std.proofs.Common.{◌≡◌, ◌≢◌, ℕ, zero, suc, ◌+◌, ◌<◌, ◌≤◌, List, [], ◌∷◌, length, replicate, take, Option, Some, None, refl, sym, ◌∙◌, ap, subst, arith, inl, inr}
 use Rattle.std.specs.Prelude.{IsSome, option_map}
 use Rattle.std.proofs.lemmas.Bool.{cases_eq}
 use Rattle.std.proofs.lemmas.List.{length-take}
 use Rattle.blk_base.specs.Content.{bytes_at, with_bytes}
+use Rattle.blk_base.specs.Pieces.{Extent}
 use Rattle.blk_base.specs.declared.fault.Outcome.{Outcome}
 use Rattle.blk_base.specs.declared.fault.Outcome.TheVariants.{Good, Torn, Io, NoSpace}
 use Rattle.blk_base.proofs.Contents.{bytes_at-by_place}
@@ -16,9 +17,10 @@ use Rattle.blk_graph.specs.declared.edge.Role.TheVariants.{File as FileRole, Bac
 use Rattle.blk_nodes.specs.Contents.{told, below, disk_by, disk_in, disk_of, bytes_by, bytes_of, file_node_disk}
 use Rattle.blk_nodes.specs.Joined.{IsFile, HasSize, IsPart, IsOverlay, HasBelow, IsJoined}
 use Rattle.blk_nodes.specs.Nodes.{Nodes, DeviceState, AreTold, row_at, device_in, size_by, size_of, file_of, backing_of}
-use Rattle.blk_nodes.specs.Reading.{LeadsTo}
+use Rattle.blk_nodes.specs.Parts.{OfImage, OfImageBy, IsImage}
+use Rattle.blk_nodes.specs.Reading.{OnlyAt, LeadsTo}
 use Rattle.blk_nodes.specs.Sources.{in_file, step_by, step_of, source_of}
-use Rattle.blk_nodes.specs.Writing.{taken_by, OnlyAt, IsWriteOf, IsWriteAt, WritesPiece, OwnsFile, IsFileOrRaw, MayWrite, IsApart}
+use Rattle.blk_nodes.specs.Writing.{taken_by, IsWriteOf, IsWriteAt, WritesFile, WritesBy, WritesPiece, ZerosBy, ZerosPiece, LeavesNodes, OwnsFile, CanBeWritten, MayWrite, IsApart}
 use Rattle.blk_nodes.specs.Writing as writing
 use Rattle.blk_nodes.specs.declared.row.Driver.{Driver}
 use Rattle.blk_nodes.specs.declared.row.Driver.TheVariants.{File, Raw, Qcow2, CopyOnRead}
@@ -34,6 +36,7 @@ use Rattle.blk_nodes.proofs.KeptDisks.{disk_of_file, disk_of_raw}
 use Rattle.blk_nodes.proofs.Leading.{leads_on, child_leads}
 use Rattle.blk_nodes.proofs.Disks.{disk_same}
 use Rattle.blk_nodes.proofs.Additions.{some_row}
+use Rattle.blk_nodes.proofs.Alike.{row_refl}
 use Rattle.blk_nodes.proofs.Unfolding.{StartsAt, no_path}
 use Rattle.blk_graph.specs.Graph.{HasNode}
 use Rattle.blk_graph.specs.declared.edge.Parent.TheVariants.{Node}
@@ -185,8 +188,29 @@ part_written b offset size start xs within =
     same_bytes : (f : List ℕ) (at n : ℕ) → raw_disk at n f ≡ bytes_at f at n
     same_bytes f at n = bytes_at-by_place f (raw_disk at n f) at n (length-format_bytes f at n) (λ k below. get_or-format_bytes f at n k below)
 
--- a node that may be written
-module _ (nodes : Nodes) (joined : IsJoined nodes) (node place : ℕ) (may : MayWrite nodes node) where
+-- a node over a device, or a part of one
+abbrev pub IsPlain : Driver → Type 0
+IsPlain File = Unit {0}
+IsPlain (Raw part) = Unit {0}
+IsPlain (Qcow2 image) = ⊥
+IsPlain CopyOnRead = ⊥
+
+pub plain_if : (nodes : Nodes) (node : ℕ) (may : MayWrite nodes node) → (IsImage nodes node → ⊥) → IsPlain may.row.driver
+plain_if nodes node may none = by may.row.driver refl may.can
+  where
+    image_there : (image : Known) → may.row.driver ≡ Qcow2 image → IsImage nodes node
+    image_there image is =
+        let P : Known → Type 0 = λ _. Unit {0} in
+        subst (λ (found : Option Row). OfImage found P) (sym may.there) (subst (λ (d : Driver). OfImageBy d P) (sym is) tt)
+
+    by : (driver : Driver) → may.row.driver ≡ driver → CanBeWritten nodes node driver → IsPlain driver
+    by File is can = tt
+    by (Raw part) is can = tt
+    by (Qcow2 image) is can = absurd (none (image_there image is))
+    by CopyOnRead is can = absurd can
+
+-- such a node that may be written
+module _ (nodes : Nodes) (joined : IsJoined nodes) (node place : ℕ) (may : MayWrite nodes node) (plain : IsPlain may.row.driver) where
   step_there : {driver : Driver} → may.row.driver ≡ driver → step_of nodes node place ≡ step_by node (file_of nodes node) (backing_of nodes node) place driver
   step_there is =
       ap (λ (found : Option Row). elim found as (λ _. Step) [
@@ -195,7 +219,7 @@ module _ (nodes : Nodes) (joined : IsJoined nodes) (node place : ℕ) (may : May
       ]) may.there ∙ ap (step_by node (file_of nodes node) (backing_of nodes node) place) is
 
   -- where its bytes stand
-  stands_by : (driver : Driver) → may.row.driver ≡ driver → IsFileOrRaw driver → (file : ℕ) × (start : ℕ) × (source_of nodes node place ≡ sources.File file start)
+  stands_by : (driver : Driver) → may.row.driver ≡ driver → IsPlain driver → (file : ℕ) × (start : ℕ) × (source_of nodes node place ≡ sources.File file start)
       × (writing.own_file nodes node driver ≡ Some file)
   unfolding source_of
   stands_by File is plain =
@@ -212,13 +236,13 @@ module _ (nodes : Nodes) (joined : IsJoined nodes) (node place : ℕ) (may : May
   pub owned : (file start : ℕ) → source_of nodes node place ≡ sources.File file start
       → (writing.own_file nodes node may.row.driver ≡ Some file) × OwnsFile nodes node file
   owned file start stands =
-      let at = stands_by may.row.driver refl may.plain in
+      let at = stands_by may.row.driver refl plain in
       let same : at.0 ≡ file = cc (sym at.2 ∙ stands) in
       let own : writing.own_file nodes node may.row.driver ≡ Some file = at.3 ∙ ap (λ (n : ℕ). Some n) same in
       (own, may.owns file own)
 
   pub stands : (file : ℕ) × (start : ℕ) × (source_of nodes node place ≡ sources.File file start)
-  stands = let at = stands_by may.row.driver refl may.plain in (at.0, at.1, at.2)
+  stands = let at = stands_by may.row.driver refl plain in (at.0, at.1, at.2)
 
   module _ (devices : List DeviceState) (file start : ℕ) (stands : source_of nodes node place ≡ sources.File file start) (bytes : List ℕ) (outcome : Outcome)
       (at : IsWriteAt file nodes.devices devices start bytes outcome) where
@@ -228,9 +252,9 @@ module _ (nodes : Nodes) (joined : IsJoined nodes) (node place : ℕ) (may : May
     -- no image is in the file
     no_image : (other : ℕ) (row : Row) (image : Known) → row_at nodes other ≡ Some row → row.driver ≡ Qcow2 image → file_of nodes other ≡ Some file → ⊥
     no_image other row image there driver edge =
-        let same : other ≡ node = (owned file start stands).1 other edge in
+        let same : other ≡ node = (owned file start stands).1 other (record { row = row; image = image; there = there; driver = driver; edge = edge }) in
         let rows : row ≡ may.row = cc (sym there ∙ ap (row_at nodes) same ∙ may.there) in
-        subst IsFileOrRaw (ap (λ (r : Row). r.driver) (sym rows) ∙ driver) may.plain
+        subst IsPlain (ap (λ (r : Row). r.driver) (sym rows) ∙ driver) plain
 
     pub joined_wrote : IsJoined wrote
     joined_wrote =
@@ -243,7 +267,7 @@ module _ (nodes : Nodes) (joined : IsJoined nodes) (node place : ℕ) (may : May
     abbrev xs : List ℕ
     xs = taken_by outcome bytes
 
-    disk_by_driver : AreTold nodes.devices → place + length xs ≤ may.row.size → (driver : Driver) → may.row.driver ≡ driver → IsFileOrRaw driver
+    disk_by_driver : AreTold nodes.devices → place + length xs ≤ may.row.size → (driver : Driver) → may.row.driver ≡ driver → IsPlain driver
         → disk_of wrote node ≡ with_bytes (disk_of nodes node) place xs
     unfolding source_of
     disk_by_driver all inside File is plain =
@@ -286,7 +310,7 @@ module _ (nodes : Nodes) (joined : IsJoined nodes) (node place : ℕ) (may : May
         → disk_of wrote node ≡ with_bytes (disk_of nodes node) place xs
     disk_wrote all n whole inside =
         let size : size_of nodes node ≡ may.row.size = ap size_by may.there in
-        disk_by_driver all (omega (arith, whole, inside, size, length-written outcome bytes)) may.row.driver refl may.plain
+        disk_by_driver all (omega (arith, whole, inside, size, length-written outcome bytes)) may.row.driver refl plain
 
 -- After a flush each device has the bytes that it had.
 module _ (nodes : Nodes) (devices : List DeviceState) (file : ℕ) (outcome : Outcome) (at : IsFlushAt file nodes.devices devices outcome) (joined : IsJoined nodes) where
@@ -352,3 +376,28 @@ module _ (nodes : Nodes) (joined : IsJoined nodes) where
       let there = joined.there base (there_in 64 node has) in
       let found = some_row (row_at nodes base) there in
       device_by base found.0 found.0.driver (ends 64 64 node (no_path nodes joined 64 (omega arith) node) (omega arith)) (joined.below base found.0 found.1)
+
+-- A piece of such a node, by what the node is.
+pub piece_plain : (old new : Nodes) (node : ℕ) (span : Extent) (bytes : List ℕ) (outcome : Outcome) (may : MayWrite old node) → IsPlain may.row.driver
+    → WritesFile old new node span.start bytes outcome → WritesPiece old new node span bytes outcome
+piece_plain old new node span bytes outcome may plain wrote = record { row = may.row; there = may.there; wrote = by may.row.driver plain }
+  where
+    by : (driver : Driver) → IsPlain driver → WritesBy driver old new node span bytes outcome
+    by File is = wrote
+    by (Raw part) is = wrote
+    by (Qcow2 image) is = absurd is
+    by CopyOnRead is = absurd is
+
+pub zeros_plain : (old new : Nodes) (node : ℕ) (span : Extent) (outcome : Outcome) (may : MayWrite old node) → IsPlain may.row.driver
+    → WritesFile old new node span.start (replicate span.len 0) outcome → ZerosPiece old new node span outcome
+zeros_plain old new node span outcome may plain wrote = record { row = may.row; there = may.there; wrote = by may.row.driver plain }
+  where
+    by : (driver : Driver) → IsPlain driver → ZerosBy driver old new node span outcome
+    by File is = wrote
+    by (Raw part) is = wrote
+    by (Qcow2 image) is = absurd is
+    by CopyOnRead is = absurd is
+
+-- only devices have changed
+pub leaves_devices : (old : Nodes) (devices : List DeviceState) (node : ℕ) → LeavesNodes old (record old { devices = devices }) node
+leaves_devices old devices node = record { graph = refl; others = λ other apart. refl; own = row_refl (row_at old node) }

@@ -4,8 +4,7 @@ use Rattle.blk_base.specs.Outcomes.{is_good}
 use Rattle.blk_base.specs.declared.fault.Outcome.{Outcome}
 use Rattle.blk_base.specs.declared.fault.Outcome.TheVariants.{Good, Torn, Io, NoSpace}
 use Rattle.blk_nodes.specs.Nodes.{Nodes, DeviceState, device_in, file_of}
-use Rattle.blk_nodes.specs.Reading.{StoppedBy}
-use Rattle.blk_nodes.specs.Writing.{OnlyAt}
+use Rattle.blk_nodes.specs.Reading.{OnlyAt, StoppedBy}
 
 -- the node that stands at the end of a node's `file` edges, of which so many are followed
 abbrev pub base_in : ℕ → Nodes → ℕ → ℕ

@@ -8,8 +8,7 @@ use Rattle.q2_image.specs.Creating.{ChangesWithin}
 use Rattle.q2_image.specs.declared.create.CreateStop.{CreateStop}
 use Rattle.q2_image.specs.declared.create.CreateStop.TheVariants as image
 use Rattle.blk_nodes.specs.Nodes.{DeviceState, device_in}
-use Rattle.blk_nodes.specs.Reading.{StoppedBy}
-use Rattle.blk_nodes.specs.Writing.{OnlyAt}
+use Rattle.blk_nodes.specs.Reading.{OnlyAt, StoppedBy}
 use Rattle.blk_nodes.specs.declared.stop.FormatStop.{FormatStop}
 use Rattle.blk_nodes.specs.declared.stop.FormatStop.TheVariants.{Io, NoSpace, NoMemory}
 

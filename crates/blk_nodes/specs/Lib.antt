@@ -4,10 +4,12 @@ pub mod Sources
 pub mod Walk
 pub mod Joined
 pub mod Reading
+pub mod Found
 pub mod Adding
 pub mod Overlays
 pub mod Dropping
 pub mod Writing
+pub mod Parts
 pub mod Flushing
 pub mod Covering
 pub mod Handing

@@ -1,5 +1,5 @@
 -- What a read of a piece leaves and answers.
-use Rattle.std.specs.Prelude.{◌≡◌, ◌⊎◌, ℕ, ◌≤◌, List, [], ◌∷◌, Some}
+use Rattle.std.specs.Prelude.{◌≡◌, ◌≢◌, ◌⊎◌, ℕ, ◌≤◌, List, [], ◌∷◌, map, Some}
 use Rattle.blk_base.specs.Content.{bytes_at}
 use Rattle.blk_base.specs.Counts.{Rose}
 use Rattle.blk_base.specs.Pieces.{Extent}
@@ -28,22 +28,28 @@ pub record StoppedBy (old new : DeviceState) (dev : DevNo) (count : ℕ) : Type 
 
 -- how a read of one device went
 abbrev pub IsReadOf : DeviceState → DeviceState → Outcome → Type 0
-IsReadOf old new Good = Unit {0}
+IsReadOf old new Good = new ≡ old
 IsReadOf old new (Torn done dev count) = ⊥
 IsReadOf old new (Io dev count) = StoppedBy old new dev count
 IsReadOf old new (NoSpace dev) = ⊥
 
--- the device of a `file` node stopped the call
+-- all devices but that of a `file` node are as before
+pub record OnlyAt (file : ℕ) (old new : List DeviceState) : Type 0 where
+  pub nodes : map (λ device. device.node) new ≡ map (λ device. device.node) old
+  pub others : (other : ℕ) → other ≢ file → device_in new other ≡ device_in old other
+
+-- the device of a `file` node, and no other, stopped the call
 pub record StoppedAt (file : ℕ) (old new : List DeviceState) (dev : DevNo) (count : ℕ) : Type 0 where
   pub before : DeviceState
   pub after : DeviceState
   pub held : device_in old file ≡ Some before
   pub left : device_in new file ≡ Some after
   pub stopped : StoppedBy before after dev count
+  pub only : OnlyAt file old new
 
 -- how a read of the device of a `file` node went
 abbrev pub IsReadAt : ℕ → List DeviceState → List DeviceState → Outcome → Type 0
-IsReadAt file old new Good = Unit {0}
+IsReadAt file old new Good = new ≡ old
 IsReadAt file old new (Torn done dev count) = ⊥
 IsReadAt file old new (Io dev count) = StoppedAt file old new dev count
 IsReadAt file old new (NoSpace dev) = ⊥
@@ -60,7 +66,7 @@ pub record StoppedBelow (old new : Nodes) (node : ℕ) (dev : DevNo) (count : �
 
 -- how a read of a node went
 abbrev pub IsReadBelow : Nodes → Nodes → ℕ → Outcome → Type 0
-IsReadBelow old new node Good = Unit {0}
+IsReadBelow old new node Good = new ≡ old
 IsReadBelow old new node (Torn done dev count) = ⊥
 IsReadBelow old new node (Io dev count) = StoppedBelow old new node dev count
 IsReadBelow old new node (NoSpace dev) = ⊥

@@ -1,8 +1,8 @@
 -- What a walk down a chain keeps and ends with.
-use Rattle.std.specs.Prelude.{◌≡◌, ℕ, ◌/◌, ◌<◌, List, Some, IsSome}
+use Rattle.std.specs.Prelude.{◌≡◌, ℕ, ◌/◌, ◌<◌, List, Option, Some, None, IsSome, slice_index_or}
 use Rattle.q2_image.specs.Image.{Known, IsImageOf, entry_in}
 use Rattle.q2_image.specs.Reading.{IsHost}
-use Rattle.blk_nodes.specs.Nodes.{Nodes, DeviceState, row_at, device_in, size_of}
+use Rattle.blk_nodes.specs.Nodes.{Nodes, DeviceState, device_in, size_of}
 use Rattle.blk_graph.specs.declared.edge.Edge.{Edge}
 use Rattle.blk_nodes.specs.Reading.{LeadsTo}
 use Rattle.blk_nodes.specs.declared.row.Driver.TheVariants.{Qcow2}
@@ -12,26 +12,33 @@ use Rattle.blk_nodes.specs.declared.source.Source.TheVariants.{Zeros, File, Imag
 use Rattle.blk_nodes.specs.declared.source.Step.{Step}
 use Rattle.blk_nodes.specs.declared.source.Step.TheVariants.{Found, Below}
 
+-- what is known of an image is so of the file of a `file` node, where that is told
+abbrev pub IsKnownAt : ℕ → List DeviceState → Known → Type 0
+IsKnownAt file devices image =
+    (device : DeviceState) (bytes : List ℕ) → device_in devices file ≡ Some device
+    → device.content ≡ Some bytes → IsImageOf bytes image
+
 -- a place of an image's disk in a cluster of its own, and the device of its file
-pub record IsMapped (nodes : Nodes) (node file place : ℕ) : Type 0 where
+pub record IsMapped (rows : List (Option Row)) (devices : List DeviceState)
+    (node file place : ℕ) : Type 0 where
   pub row : Row
   pub image : Known
-  pub there : row_at nodes node ≡ Some row
+  pub there : slice_index_or rows node None ≡ Some row
   pub driver : row.driver ≡ Qcow2 image
   pub inside : place < image.header.size
   pub host : IsHost (entry_in image (place / 65536))
-  pub held : IsSome (device_in nodes.devices file)
-  pub known : (device : DeviceState) (bytes : List ℕ) → device_in nodes.devices file ≡ Some device → device.content ≡ Some bytes → IsImageOf bytes image
+  pub held : IsSome (device_in devices file)
+  pub known : IsKnownAt file devices image
 
 -- what is found can be read
-abbrev pub CanBeRead : Nodes → ℕ → Source → Type 0
-CanBeRead nodes place Zeros = Unit {0}
-CanBeRead nodes place (File file start) = IsSome (device_in nodes.devices file)
-CanBeRead nodes place (Image node file) = IsMapped nodes node file place
+abbrev pub CanBeRead : List (Option Row) → List DeviceState → ℕ → Source → Type 0
+CanBeRead rows devices place Zeros = Unit {0}
+CanBeRead rows devices place (File file start) = IsSome (device_in devices file)
+CanBeRead rows devices place (Image node file) = IsMapped rows devices node file place
 
 -- and the node below has the place too
 abbrev pub GoesOn : Nodes → ℕ → Step → Type 0
-GoesOn nodes place (Found source) = CanBeRead nodes place source
+GoesOn nodes place (Found source) = CanBeRead nodes.rows nodes.devices place source
 GoesOn nodes place (Below next) = place < size_of nodes next
 
 -- the edges lead from the node to what is found, or to the node below

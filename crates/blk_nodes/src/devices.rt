@@ -18,6 +18,8 @@ ghost use Rattle.blk_nodes.specs.Formatting.{format_stop, IsFormatOf, IsFormatAt
 ghost use Rattle.blk_nodes.specs.Writing.{IsWriteOf, IsWriteAt, write_outcome};
 ghost use Rattle.blk_nodes.specs.Reading.{HasRisen, HaveRisen, IsReadOf, IsReadAt};
 
+mod images;
+
 use crate::stop::FormatStop;
 use blk_base::{DevNo, DevStop, Device, NoMemory, Outcome, Span, Stop, WriteStop};
 use blk_graph::{MOST_NODES, NodeId};

@@ -3,10 +3,14 @@
 
 mod adding;
 mod backing;
+mod cluster;
 mod devices;
+mod found;
 mod handing;
 mod nodes;
 mod opening;
+mod part;
+mod parts;
 mod row;
 mod source;
 mod stop;

@@ -1,5 +1,5 @@
 //! The nodes.
-ghost use Rattle.std.specs.Prelude.{◌≡◌, ◌≢◌, ◌↔◌, ℕ, ◌<◌, ◌≤◌, [], length, replicate, IfOk, IfErr, IsOk, OnOk, OnErr, IsErrAnd, IsTrue, IfSome, Err, Some, None};
+ghost use Rattle.std.specs.Prelude.{◌≡◌, ◌≢◌, ◌↔◌, ℕ, ◌<◌, ◌≤◌, length, IfOk, IfErr, IsOk, OnOk, OnErr, IsErrAnd, IsTrue, IfSome, Err, Some, None};
 ghost use Rattle.blk_base.specs.Pieces.{end_of};
 ghost use Rattle.blk_graph.specs.Edits.{with_edge};
 ghost use Rattle.blk_graph.specs.Graph.{HasName, HasNode, ids};
@@ -10,13 +10,12 @@ ghost use Rattle.blk_graph.specs.Rule.{KeepsPermissions, first_conflict};
 ghost use Rattle.blk_graph.specs.declared.edge.Conflict.{Conflict as Pair};
 ghost use Rattle.q2_image.specs.Reading.{IsWithinCluster};
 ghost use Rattle.blk_nodes.specs.Nodes.{no_nodes, row_at, size_of, AreTold};
-ghost use Rattle.q2_image.specs.Guest.{guest_bytes};
 ghost use Rattle.blk_nodes.specs.Contents.{told, below, disk_of, bytes_of, Unfolds};
 ghost use Rattle.blk_nodes.specs.Overlays.{copying_row, with_children, backing_node, backing_size, IsQcow2Added, IsQcow2Stop};
 ghost use Rattle.q2_format.specs.Contents.{file_disk, raw_disk, image_disk};
-ghost use Rattle.blk_nodes.specs.Walk.{IsMapped, CanBeRead, GoesOn, LeadsToSource, LeadsOn};
+ghost use Rattle.blk_nodes.specs.Walk.{CanBeRead, GoesOn, LeadsToSource, LeadsOn};
 ghost use Rattle.blk_nodes.specs.Sources.{step_of, source_in, source_of};
-ghost use Rattle.blk_nodes.specs.Reading.{HaveRisen, IsReadAt, IsReadBelow, ReadsDisk};
+ghost use Rattle.blk_nodes.specs.Reading.{HaveRisen, IsReadBelow, ReadsDisk};
 
 mod covering;
 mod dropping;
@@ -29,7 +28,9 @@ mod writing;
 
 use crate::adding::{conflict_of, draw_edges, take_back, take_drawn};
 use crate::backing::Backing;
+use crate::cluster::Cluster;
 use crate::devices::{Devices, Held};
+use crate::found::read_found;
 use crate::opening::open_over;
 use crate::row::{Driver, Row, node_kind, step};
 use crate::source::{Source, Step};
@@ -51,6 +52,8 @@ pub struct Nodes<D: Device> {
     // By the numbers of their nodes.
     rows: Vec<Option<Row>>,
     zeros: Zeros,
+    // Where clusters of images are put together.
+    cluster: Cluster,
     devices: Devices<D>,
 }
 
@@ -76,12 +79,6 @@ fn no_rows(alloc: Global) -> Result<Vec<Option<Row>>, NoMemory>
     Ok(rows)
 }
 
-fn fill_zeros(buffer: &mut [u8])
-    ensures { buffer.new ≡ replicate (length buffer.old) 0 }
-{
-    buffer.fill(0);
-}
-
 impl<D: Device> Nodes<D> {
     /// No node. Room for 64 is taken here.
     pub fn new(alloc: Global) -> Result<Self, NoMemory>
@@ -93,6 +90,7 @@ impl<D: Device> Nodes<D> {
             draft: EdgeList::new(alloc)?,
             rows: no_rows(alloc)?,
             zeros: Zeros::new(alloc)?,
+            cluster: Cluster::new(alloc)?,
             devices: Devices::new(alloc)?,
         })
     }
@@ -399,7 +397,7 @@ impl<D: Device> Nodes<D> {
     fn source_in(&self, turns: u32, node: NodeId, place: u64) -> Source
         requires { place < size_of self.now node }
         ensures source { result ≡ source_in turns self.now node place }
-        ensures read { CanBeRead self.now place result }
+        ensures read { CanBeRead self.now.rows self.now.devices place result }
         ensures leads { LeadsToSource self.now.graph.edges node result }
     {
         if turns == 0 {
@@ -416,30 +414,10 @@ impl<D: Device> Nodes<D> {
     fn source(&self, node: NodeId, place: u64) -> Source
         requires { place < size_of self.now node }
         ensures source { result ≡ source_of self.now node place }
-        ensures read { CanBeRead self.now place result }
+        ensures read { CanBeRead self.now.rows self.now.devices place result }
         ensures leads { LeadsToSource self.now.graph.edges node result }
     {
         self.source_in(64, node, place)
-    }
-
-    /// Reads from a cluster of an image's own.
-    fn read_mapped(&mut self, node: NodeId, file: NodeId, span: Span, buffer: &mut [u8]) -> Outcome
-        requires some { 0 < span.len }
-        requires block { IsWithinCluster 65536 span }
-        requires mapped { IsMapped self.old node file span.start }
-        requires whole { length buffer.old ≡ span.len }
-        ensures read { AreTold self.old.devices → result ≡ Outcome.Good → buffer.new ≡ guest_bytes (bytes_of self.old file) [] span.start span.len }
-        ensures outcome { IsReadAt file self.old.devices self.new.devices result }
-        ensures kept { self.new ≡ record self.old { devices = self.new.devices } }
-        ensures devices { HaveRisen self.old.devices self.new.devices }
-    {
-        let Some(row) = &self.rows[node.index()] else {
-            unreachable!()
-        };
-        let Driver::Qcow2(image) = &row.driver else {
-            unreachable!()
-        };
-        self.devices.read_image(file, image, span, buffer)
     }
 
     /// Reads a piece of a node's disk, which lies in one block of 65,536 bytes. It is Good, or Io of a device that the node
@@ -457,13 +435,7 @@ impl<D: Device> Nodes<D> {
         if span.len == 0 {
             return Outcome::Good;
         }
-        match self.source(node, span.start) {
-            Source::Zeros => {
-                fill_zeros(buffer);
-                Outcome::Good
-            }
-            Source::File { file, start } => self.devices.read_file(file, start, buffer),
-            Source::Image { node, file } => self.read_mapped(node, file, span, buffer),
-        }
+        let source = self.source(node, span.start);
+        read_found(&self.rows, &mut self.devices, source, span, buffer)
     }
 }

@@ -18,8 +18,7 @@ use Rattle.blk_history.specs.Fold.{With}
 use Rattle.blk_history.specs.declared.event.Event.{Event}
 use Rattle.blk_nodes.specs.Joined.{DifferInNode}
 use Rattle.blk_nodes.specs.Nodes.{Nodes, DeviceState, is_of, device_in}
-use Rattle.blk_nodes.specs.Reading.{HaveRisen, StoppedBy}
-use Rattle.blk_nodes.specs.Writing.{OnlyAt}
+use Rattle.blk_nodes.specs.Reading.{HaveRisen, OnlyAt, StoppedBy}
 use Rattle.qmp_rules.specs.Table.{Table}
 use Rattle.flat_machine.specs.Licence.{Counts, AreLicensed, IsBetween, Differ, count_of, named_in, faults_of, fault_at}
 use Rattle.flat_machine.specs.State.{filename_of}

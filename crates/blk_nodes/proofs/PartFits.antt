@@ -1,0 +1,242 @@
+-- The room of a piece of an image, by the entry of its cluster.
+use Rattle.std.proofs.Common.{◌≡◌, ◌≢◌, ℕ, ◌+◌, ◌-◌, ◌*◌, ◌/◌, ◌%◌, ◌<◌, ◌≤◌, ◌==◌, ◌⊎◌, min, Bool, true, false, List, length, get_or, replicate, Option, Some, None, refl, sym, ◌∙◌, ap, subst, arith, inl, inr}
+use Rattle.std.specs.Prelude.{◌&&◌, ◌||◌, ⊤}
+use Rattle.std.proofs.lemmas.Bool.{cases_eq, eq-eqb, ne_eqb}
+use Rattle.blk_base.specs.Pieces.{Extent, end_of}
+use Rattle.blk_base.specs.declared.fault.Outcome.{Outcome}
+use Rattle.blk_base.specs.declared.fault.Outcome.TheVariants.{Good}
+use Rattle.q2_tables.specs.Entries.{entry_of}
+use Rattle.q2_tables.specs.declared.mapping.Mapping.{Mapping}
+use Rattle.q2_tables.specs.declared.mapping.Mapping.TheVariants as mappings
+use Rattle.q2_format.specs.declared.entries.L2Entry.{L2Entry}
+use Rattle.q2_format.specs.declared.entries.L2Entry.TheVariants as entries
+use Rattle.q2_image.specs.Image.{Known, entry_in, cluster_size_in}
+use Rattle.q2_image.specs.Reading.{IsHost}
+use Rattle.q2_image.specs.Room.{WriteFits, ZerosFit, PartZerosFit, WriteFitsBy, ZerosFitBy, cluster_of, entry_for, is_whole}
+use Rattle.q2_image.specs.Writing.{PutFits, ZeroFits, own_end, own_place}
+use Rattle.blk_nodes.specs.Nodes.{DeviceState, device_in}
+use Rattle.blk_nodes.specs.Parts.{OfImage, HasPiece, IsPieceOf, WritesPart, row_in}
+use Rattle.blk_nodes.specs.Writing.{own_place_by, zeros_place}
+use Rattle.blk_nodes.specs.declared.part.Part.{Part}
+use Rattle.blk_nodes.specs.declared.row.Row.{Row}
+use Rattle.blk_nodes.proofs.PartsWritten.{cluster_is, entry_is, size_bits, len_is, left_wrote, wrote_as}
+use Rattle.blk_nodes.proofs.HeldDevices.{some_device}
+use Rattle.blk_nodes.proofs.Rows.{has_image, image_found, row_below, row_found}
+
+-- a cluster that isn't mapped
+put_to : (image : Known) (span : Extent) (capacity : ℕ) (e : L2Entry) → (IsHost e → ⊥) → PutFits image (cluster_of image span) capacity → WriteFitsBy e image span capacity
+put_to image span capacity entries.Unallocated none fits = fits
+put_to image span capacity (entries.Zero host) none fits = fits
+put_to image span capacity (entries.Host host) none fits = absurd (none tt)
+put_to image span capacity entries.Compressed none fits = fits
+put_to image span capacity entries.Reserved none fits = fits
+
+put_back : (image : Known) (span : Extent) (capacity : ℕ) (e : L2Entry) → (IsHost e → ⊥) → WriteFitsBy e image span capacity → PutFits image (cluster_of image span) capacity
+put_back image span capacity entries.Unallocated none fits = fits
+put_back image span capacity (entries.Zero host) none fits = fits
+put_back image span capacity (entries.Host host) none fits = absurd (none tt)
+put_back image span capacity entries.Compressed none fits = fits
+put_back image span capacity entries.Reserved none fits = fits
+
+no_place : (image : Known) (span : Extent) (e : L2Entry) → (IsHost e → ⊥) → own_place_by e image span ≡ None
+no_place image span entries.Unallocated none = refl
+no_place image span (entries.Zero host) none = refl
+no_place image span (entries.Host host) none = absurd (none tt)
+no_place image span entries.Compressed none = refl
+no_place image span entries.Reserved none = refl
+
+-- a piece is a whole cluster, up to the disk's end, exactly where it is as long
+module _ (span : Extent) (size : ℕ) (some : 0 < span.len) (block : span.start % 65536 + span.len ≤ 65536) (inside : end_of span ≤ size) where
+  abbrev whole_test : Bool
+  whole_test = span.start % 65536 == 0 && (span.len == 65536 || end_of span == size)
+
+  whole_true : span.len ≡ min 65536 (size - (span.start - span.start % 65536)) → whole_test ≡ true
+  whole_true all =
+      let first = eq-eqb (span.start % 65536) 0 (omega arith) in
+      elim (cases_eq span.len 65536) [
+        | inl full ↦ let test = eq-eqb span.len 65536 full in rw (first, test) refl
+        | inr less ↦
+            let test = ne_eqb span.len 65536 less in
+            let end = eq-eqb (end_of span) size (omega arith) in
+            rw (first, test, end) refl
+      ]
+
+  whole_false : span.len ≢ min 65536 (size - (span.start - span.start % 65536)) → whole_test ≡ false
+  whole_false less = elim (cases_eq (span.start % 65536) 0) [
+    | inl at ↦
+        let first = eq-eqb (span.start % 65536) 0 at in
+        let full = ne_eqb span.len 65536 (λ is. less (omega arith)) in
+        let end = ne_eqb (end_of span) size (λ is. less (omega arith)) in
+        rw (first, full, end) refl
+    | inr in_it ↦ let first = ne_eqb (span.start % 65536) 0 in_it in rw first refl
+  ]
+
+module _ (rows left : List (Option Row)) (old new : List DeviceState) (part : Part) (bytes : List ℕ) (outcome : Outcome) (has : HasPiece rows old part) where
+  abbrev cluster : ℕ
+  cluster = part.span.start / 65536
+
+  -- of one of these writes
+  module _ (fits : Known → ℕ → Type 0) (own : Known → Option ℕ) (w : WritesPart fits own rows left old new part bytes outcome) where
+    piece : IsPieceOf rows old part w.image
+    piece = image_found (row_in rows part.node) w.row w.image (IsPieceOf rows old part) w.there w.driver has
+
+    entry_of_image : (e : L2Entry) → OfImage (row_in rows part.node) (λ image. e ≡ entry_in image cluster) → entry_for w.image part.span ≡ e
+    entry_of_image e is =
+        entry_is rows old part w.image piece ∙ sym (image_found (row_in rows part.node) w.row w.image (λ image. e ≡ entry_in image cluster) w.there w.driver is)
+
+    clusters : cluster_of w.image part.span ≡ cluster
+    clusters = cluster_is rows old part w.image piece
+
+    is_whole_by : (b : Bool) → ((part.span.start % 65536 == 0 && (part.span.len == 65536 || end_of part.span == w.image.header.size)) ≡ b) → is_whole w.image part.span ≡ b
+    is_whole_by b test = let bits = size_bits rows old part w.image piece in rw bits test
+
+    whole_is : part.span.len ≡ part.whole.len → is_whole w.image part.span ≡ true
+    whole_is all =
+        let len = len_is rows old part w.image piece in
+        is_whole_by true (whole_true part.span w.image.header.size piece.some piece.block piece.inside (all ∙ len))
+
+    part_is : part.span.len ≢ part.whole.len → is_whole w.image part.span ≡ false
+    part_is less =
+        let len = len_is rows old part w.image piece in
+        is_whole_by false (whole_false part.span w.image.header.size piece.some piece.block piece.inside (λ is. less (is ∙ sym len)))
+
+  abbrev OwnFits : Known → ℕ → Type 0
+  OwnFits image capacity = own_end image part.span ≤ capacity
+
+  abbrev at_own : Known → Option ℕ
+  at_own image = Some (own_place image part.span)
+
+  abbrev ClusterFits : Known → ℕ → Type 0
+  ClusterFits image = PutFits image cluster
+
+  abbrev nowhere : Known → Option ℕ
+  nowhere image = None
+
+  pub write_own_as : (host : ℕ) → OfImage (row_in rows part.node) (λ image. entries.Host host ≡ entry_in image cluster)
+      → WritesPart OwnFits at_own rows left old new part bytes outcome
+      → WritesPart (λ image. WriteFits image part.span) (λ image. own_place_by (entry_for image part.span) image part.span) rows left old new part bytes outcome
+  write_own_as host is w =
+      let entry = entry_of_image OwnFits at_own w (entries.Host host) is in
+      wrote_as rows left old new part bytes outcome OwnFits (λ image. WriteFits image part.span) at_own (λ image. own_place_by (entry_for image part.span) image part.span) w
+      (λ capacity fit. subst (λ (e : L2Entry). WriteFitsBy e w.image part.span capacity) (sym entry) fit)
+      (λ capacity fit. subst (λ (e : L2Entry). WriteFitsBy e w.image part.span capacity) entry fit)
+      (sym (ap (λ (e : L2Entry). own_place_by e w.image part.span) entry))
+
+  pub write_put_as : (e : L2Entry) → (IsHost e → ⊥) → OfImage (row_in rows part.node) (λ image. e ≡ entry_in image cluster)
+      → WritesPart ClusterFits nowhere rows left old new part bytes outcome
+      → WritesPart (λ image. WriteFits image part.span) (λ image. own_place_by (entry_for image part.span) image part.span) rows left old new part bytes outcome
+  write_put_as e none is w =
+      let entry = entry_of_image ClusterFits nowhere w e is in
+      let at = clusters ClusterFits nowhere w in
+      wrote_as rows left old new part bytes outcome ClusterFits (λ image. WriteFits image part.span) nowhere (λ image. own_place_by (entry_for image part.span) image part.span) w
+      (λ capacity fit.
+      subst (λ (e : L2Entry). WriteFitsBy e w.image part.span capacity) (sym entry)
+      (put_to w.image part.span capacity e none (subst (λ (k : ℕ). PutFits w.image k capacity) (sym at) fit)))
+      (λ capacity fit.
+      subst (λ (k : ℕ). PutFits w.image k capacity) at
+      (put_back w.image part.span capacity e none (subst (λ (e : L2Entry). WriteFitsBy e w.image part.span capacity) entry fit)))
+      (sym (ap (λ (e : L2Entry). own_place_by e w.image part.span) entry ∙ no_place w.image part.span e none))
+
+  abbrev to_zeros : Known → ℕ → Type 0
+  to_zeros image = ZerosFit image part.span
+
+  abbrev zeros_at : Known → Option ℕ
+  zeros_at image = zeros_place (is_whole image part.span) image part.span
+
+  pub zero_clear_as : part.span.len ≡ part.whole.len → WritesPart (λ image. ZeroFits image cluster) nowhere rows left old new part bytes outcome
+      → WritesPart to_zeros zeros_at rows left old new part bytes outcome
+  zero_clear_as all w =
+      let EntryFits : Known → ℕ → Type 0 = λ image. ZeroFits image cluster in
+      let whole = whole_is EntryFits nowhere w all in
+      let at = clusters EntryFits nowhere w in
+      wrote_as rows left old new part bytes outcome EntryFits to_zeros nowhere zeros_at w
+      (λ capacity fit.
+      subst (λ (b : Bool). ZerosFitBy b w.image part.span capacity) (sym whole) (subst (λ (k : ℕ). ZeroFits w.image k capacity) (sym at) fit))
+      (λ capacity fit.
+      subst (λ (k : ℕ). ZeroFits w.image k capacity) at (subst (λ (b : Bool). ZerosFitBy b w.image part.span capacity) whole fit))
+      (sym (ap (λ (b : Bool). zeros_place b w.image part.span) whole))
+
+  -- zeros of a part that are written as other bytes are
+  module _ (less : part.span.len ≢ part.whole.len) (e : L2Entry) (plain : (image : Known) (capacity : ℕ) → WriteFitsBy e image part.span capacity → PartZerosFit e image part.span capacity)
+      (back : (image : Known) (capacity : ℕ) → PartZerosFit e image part.span capacity → WriteFitsBy e image part.span capacity)
+      (is : OfImage (row_in rows part.node) (λ image. e ≡ entry_in image cluster))
+      (w : WritesPart (λ image. WriteFits image part.span) (λ image. own_place_by (entry_for image part.span) image part.span) rows left old new part bytes outcome) where
+    abbrev ByWrite : Known → ℕ → Type 0
+    ByWrite image = WriteFits image part.span
+
+    abbrev by_entry : Known → Option ℕ
+    by_entry image = own_place_by (entry_for image part.span) image part.span
+
+    pub zero_part_as : WritesPart to_zeros zeros_at rows left old new part bytes outcome
+    zero_part_as =
+        let test = part_is ByWrite by_entry w less in
+        let entry = entry_of_image ByWrite by_entry w e is in
+        wrote_as rows left old new part bytes outcome ByWrite to_zeros by_entry zeros_at w
+        (λ capacity fit.
+        subst (λ (b : Bool). ZerosFitBy b w.image part.span capacity) (sym test)
+        (subst (λ (e : L2Entry). PartZerosFit e w.image part.span capacity) (sym entry)
+        (plain w.image capacity (subst (λ (e : L2Entry). WriteFitsBy e w.image part.span capacity) entry fit))))
+        (λ capacity fit.
+        let of_part : PartZerosFit (entry_for w.image part.span) w.image part.span capacity
+        = subst (λ (b : Bool). ZerosFitBy b w.image part.span capacity) test fit in
+        subst (λ (e : L2Entry). WriteFitsBy e w.image part.span capacity) (sym entry)
+        (back w.image capacity (subst (λ (e : L2Entry). PartZerosFit e w.image part.span capacity) entry of_part)))
+        (sym (ap (λ (b : Bool). zeros_place b w.image part.span) test))
+
+  -- and of one that reads as zeros already
+  pub zero_left_fits : (row : Row) (image : Known) (host capacity : ℕ) → IsPieceOf rows old part image → part.span.len ≢ part.whole.len
+      → entries.Zero host ≡ entry_in image cluster → ZerosFit image part.span capacity
+  zero_left_fits row image host capacity piece less is =
+      let bits = size_bits rows old part image piece in
+      let len = len_is rows old part image piece in
+      let test : is_whole image part.span ≡ false
+      = rw bits (whole_false part.span image.header.size piece.some piece.block piece.inside (λ same. less (same ∙ sym len))) in
+      let entry : entry_for image part.span ≡ entries.Zero host = entry_is rows old part image piece ∙ sym is in
+      subst (λ (b : Bool). ZerosFitBy b image part.span capacity) (sym test) (subst (λ (e : L2Entry). PartZerosFit e image part.span capacity) (sym entry) tt)
+
+-- What a cluster is mapped to.
+pub not_host : (m : Mapping) → ((host : ℕ) → m ≡ mappings.Host host → ⊥) → IsHost (entry_of m) → ⊥
+not_host mappings.Unallocated none is = absurd is
+not_host (mappings.Zero host) none is = absurd is
+not_host (mappings.Host host) none is = none host refl
+
+-- as it was looked up at a place
+pub seen_at : (rows : List (Option Row)) (part : Part) (index : ℕ) (found : Option Row) → index ≡ part.node → index < length rows → found ≡ get_or rows index found
+    → (m : Mapping) → OfImage found (λ image. entry_of m ≡ entry_in image (part.span.start / 65536))
+    → OfImage (row_in rows part.node) (λ image. entry_of m ≡ entry_in image (part.span.start / 65536))
+seen_at rows part index found same below is m seen =
+    let there : row_in rows part.node ≡ found = row_found rows index part.node found same below is in
+    subst (λ (f : Option Row). OfImage f (λ image. entry_of m ≡ entry_in image (part.span.start / 65536))) (sym there) seen
+
+to_part : (image : Known) (span : Extent) (capacity : ℕ) (m : Mapping) → ((host : ℕ) → m ≡ mappings.Zero host → ⊥) → WriteFitsBy (entry_of m) image span capacity
+    → PartZerosFit (entry_of m) image span capacity
+to_part image span capacity mappings.Unallocated none fits = fits
+to_part image span capacity (mappings.Zero host) none fits = absurd (none host refl)
+to_part image span capacity (mappings.Host host) none fits = fits
+
+of_part : (image : Known) (span : Extent) (capacity : ℕ) (m : Mapping) → ((host : ℕ) → m ≡ mappings.Zero host → ⊥) → PartZerosFit (entry_of m) image span capacity
+    → WriteFitsBy (entry_of m) image span capacity
+of_part image span capacity mappings.Unallocated none fits = fits
+of_part image span capacity (mappings.Zero host) none fits = absurd (none host refl)
+of_part image span capacity (mappings.Host host) none fits = fits
+
+pub zero_rest_as : (rows left : List (Option Row)) (old new : List DeviceState) (part : Part) (bytes : List ℕ) (outcome : Outcome) (has : HasPiece rows old part)
+    → part.span.len ≢ part.whole.len → (m : Mapping) → ((host : ℕ) → m ≡ mappings.Zero host → ⊥)
+    → OfImage (row_in rows part.node) (λ image. entry_of m ≡ entry_in image (part.span.start / 65536))
+    → WritesPart (λ image. WriteFits image part.span) (λ image. own_place_by (entry_for image part.span) image part.span) rows left old new part bytes outcome
+    → WritesPart (λ image. ZerosFit image part.span) (λ image. zeros_place (is_whole image part.span) image part.span) rows left old new part bytes outcome
+zero_rest_as rows left old new part bytes outcome has less m none seen w =
+    zero_part_as rows left old new part bytes outcome has less (entry_of m) (λ image capacity fits. to_part image part.span capacity m none fits)
+    (λ image capacity fits. of_part image part.span capacity m none fits) seen w
+
+pub zero_left_as : (rows : List (Option Row)) (old : List DeviceState) (part : Part) (has : HasPiece rows old part) → part.span.len ≢ part.whole.len → (host : ℕ)
+    → OfImage (row_in rows part.node) (λ image. entries.Zero host ≡ entry_in image (part.span.start / 65536))
+    → WritesPart (λ image. ZerosFit image part.span) (λ image. zeros_place (is_whole image part.span) image part.span) rows rows old old part (replicate part.span.len 0) Good
+zero_left_as rows old part has less host seen =
+    let image = has_image (row_in rows part.node) (IsPieceOf rows old part) has in
+    let entry : entries.Zero host ≡ entry_in image.1 (part.span.start / 65536)
+    = image_found (row_in rows part.node) image.0 image.1 (λ image. entries.Zero host ≡ entry_in image (part.span.start / 65536)) image.2 image.3 seen in
+    let device = some_device (device_in old part.file) image.4.held in
+    left_wrote rows old part (λ image. ZerosFit image part.span) (λ image. zeros_place (is_whole image part.span) image part.span) image.0 image.1 host device.0
+    image.2 image.3 image.4 (row_below rows part.node image.0 image.2) (sym entry) device.1
+    (zero_left_fits rows rows old old part (replicate part.span.len 0) Good has image.0 image.1 host device.0.capacity image.4 less entry)

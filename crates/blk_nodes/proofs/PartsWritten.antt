@@ -1,0 +1,468 @@
+-- What the calls of an image leave where they write a piece.
+use Rattle.std.proofs.Common.{◌≡◌, ◌≢◌, ℕ, ◌+◌, ◌-◌, ◌*◌, ◌/◌, ◌%◌, ◌<◌, ◌≤◌, ◌==◌, ◌⊎◌, min, Bool, true, false, List, [], ◌∷◌, ◌++◌, length, take, drop, get_or, set, replicate, Option, Some, None, refl, sym, ◌∙◌, ap, subst, arith, inl, inr}
+use Rattle.std.specs.Prelude.{◌&&◌, ◌||◌}
+use Rattle.std.proofs.lemmas.Bool.{cases_eq, cases_lt, eq-eqb, ne_eqb}
+use Rattle.std.proofs.lemmas.List.{get_or-take, set-get_or}
+use Rattle.blk_base.proofs.Contents.{get_or-with_bytes_inside, get_or-with_bytes_outside, overwritten-within}
+use Rattle.blk_base.specs.Content.{bytes_at, with_bytes}
+use Rattle.blk_base.specs.Pieces.{Extent, end_of}
+use Rattle.blk_base.specs.declared.fault.DevNo.{DevNo}
+use Rattle.blk_base.specs.declared.fault.Outcome.{Outcome}
+use Rattle.blk_base.specs.declared.fault.Outcome.TheVariants.{Good, Torn, Io, NoSpace}
+use Rattle.q2_format.specs.Contents.{guest_byte, image_disk}
+use Rattle.q2_format.specs.Header.{header_of}
+use Rattle.q2_format.specs.declared.header.Header.{Header}
+use Rattle.q2_format.specs.declared.entries.L2Entry.{L2Entry}
+use Rattle.q2_format.specs.declared.entries.L2Entry.TheVariants as entries
+use Rattle.q2_image.specs.Guest.{file_entry}
+use Rattle.q2_image.specs.Image.{Known, IsImageOf, IsOpen, cluster_size_in, clusters_in, entry_in}
+use Rattle.q2_image.specs.Room.{WriteFits, ZerosFit, PartZerosFit, WriteFitsBy, ZerosFitBy, cluster_of, entry_for, is_whole}
+use Rattle.q2_image.specs.Writing.{IsDiskWith, PutFits, ZeroFits, own_end, own_place}
+use Rattle.q2_image.proofs.Guests.{guest_zero}
+use Rattle.q2_image.proofs.Mapped.{entry_of_file}
+use Rattle.blk_base.specs.Outcomes.{is_good}
+use Rattle.blk_nodes.specs.Found.{found_bytes, IsReadFrom}
+use Rattle.blk_nodes.specs.Reading.{IsReadAt}
+use Rattle.blk_nodes.specs.Walk.{IsKnownAt}
+use Rattle.blk_nodes.specs.declared.source.Source.{Source}
+use Rattle.blk_nodes.specs.declared.source.Source.TheVariants as sources
+use Rattle.blk_nodes.specs.Nodes.{DeviceState, AreTold, device_in}
+use Rattle.blk_nodes.specs.Parts.{OfImage, HasPiece, IsPieceOf, IsGathered, CallsRow, IsDiskAfter, RefusesPiece, StopsReading, CallsPiece, WritesPart, cluster_around, row_in}
+use Rattle.blk_nodes.specs.Writing.{taken_by, FitsAt, HasRoomAt, HasRoomBy, HasImageCause, IsTornAt}
+use Rattle.blk_nodes.specs.declared.part.Part.{Part}
+use Rattle.blk_nodes.specs.declared.row.Driver.{Driver}
+use Rattle.blk_nodes.specs.declared.row.Driver.TheVariants.{Qcow2}
+use Rattle.blk_nodes.specs.declared.row.Row.{Row}
+use Rattle.blk_nodes.proofs.Chains.{has_entry}
+use Rattle.blk_nodes.proofs.HeldDevices.{HasRisen-refl, device_risen}
+use Rattle.blk_nodes.proofs.ImageDisks.{disk_written, disk_put, disk_zeroed, disk_left}
+use Rattle.blk_nodes.proofs.Rows.{has_image, image_found, of_image, row_found}
+use Rattle.blk_nodes.proofs.Written.{length-written}
+
+-- a row with the image that it has
+same_row : (row : Row) (image : Known) → row.driver ≡ Qcow2 image → record row { driver = Qcow2 image } ≡ row
+same_row row image is = let with_driver : Driver → Row = λ d. record row { driver = d } in ap with_driver (sym is)
+
+-- a row that is put where it stands
+pub set_same : (rows : List (Option Row)) (node : ℕ) (found : Option Row) → node < length rows → row_in rows node ≡ found → set rows node found ≡ rows
+set_same rows node found below is = ap (set rows node) (sym is) ∙ set-get_or rows node None
+
+-- the cause of a call of a whole cluster, of whatever bytes
+pub cause_of : (fits : Type 0) (m n : ℕ) (old new : DeviceState) (image now : Known) (o : Outcome)
+    → HasImageCause fits None m old new image now o → HasImageCause fits None n old new image now o
+cause_of fits m n old new image now Good is = is
+cause_of fits m n old new image now (Torn done dev count) is = absurd is.1
+cause_of fits m n old new image now (Io dev count) is = is
+cause_of fits m n old new image now (NoSpace dev) is = is
+
+-- a piece of an image, and the file that is known
+module _ (rows : List (Option Row)) (old : List DeviceState) (part : Part) (image : Known) (piece : IsPieceOf rows old part image) where
+  known_of : (device : DeviceState) (b : List ℕ) → device_in old part.file ≡ Some device → device.content ≡ Some b → IsImageOf b image
+  known_of = piece.known
+
+  pub size_in : (device : DeviceState) (b : List ℕ) → device_in old part.file ≡ Some device → device.content ≡ Some b → (header_of b).size ≡ image.header.size
+  size_in device b held content = ap (λ (h : Header). h.size) (known_of device b held content).header
+
+  pub start_is : part.whole.start ≡ part.span.start - part.span.start % 65536
+  start_is = ap (λ (s : Extent). s.start) piece.whole
+
+  pub len_is : part.whole.len ≡ min 65536 (image.header.size - (part.span.start - part.span.start % 65536))
+  len_is = ap (λ (s : Extent). s.len) piece.whole
+
+  -- a piece that is its whole cluster begins where that does
+  pub begins : part.span.len ≡ part.whole.len → part.span.start % 65536 ≡ 0
+  begins all = let inside = piece.inside in let block = piece.block in let len = len_is in omega arith
+
+  pub size_bits : cluster_size_in image ≡ 65536
+  size_bits = rw piece.opened.cluster_bits refl
+
+  pub cluster_is : cluster_of image part.span ≡ part.span.start / 65536
+  cluster_is = ap (λ (c : ℕ). part.span.start / c) size_bits
+
+  pub entry_is : entry_for image part.span ≡ entry_in image (part.span.start / 65536)
+  entry_is = ap (entry_in image) cluster_is
+
+-- bytes that are put where they belong
+laid : (old bytes : List ℕ) (at : ℕ) → at + length bytes ≤ length old → 0 < length bytes → take at old ++ bytes ++ drop (at + length bytes) old ≡ with_bytes old at bytes
+laid old [] at within some = absurd (omega (arith, some))
+laid old (x ∷ xs) at within some = sym (overwritten-within old at (x ∷ xs) within)
+
+-- the cluster of a piece, put together
+pub gathered : (rows : List (Option Row)) (devices : List DeviceState) (part : Part) → HasPiece rows devices part → (old found bytes new : List ℕ)
+    → length old ≡ 65536 → new ≡ take (part.span.start % 65536) old ++ bytes ++ drop (part.span.start % 65536 + length bytes) old → length bytes ≡ part.span.len
+    → (part.span.len < part.whole.len → take part.whole.len old ≡ found) → IsGathered new found part.whole.len (part.span.start % 65536) bytes
+gathered rows devices part has old found bytes new whole is len read =
+    let image = has_image (row_in rows part.node) (IsPieceOf rows devices part) has in
+    let piece : IsPieceOf rows devices part image.1 = image.4 in
+    let at : ℕ = part.span.start % 65536 in
+    let n : ℕ = part.whole.len in
+    let count = len_is rows devices part image.1 piece in
+    let some = piece.some in
+    let block = piece.block in
+    let inside = piece.inside in
+    let put : new ≡ with_bytes old at bytes = is ∙ laid old bytes at (omega arith) (omega arith) in
+    record {
+      inside = λ i few. ap (λ (b : List ℕ). get_or b (at + i) 0) put ∙ get_or-with_bytes_inside old at bytes i few;
+      outside = λ i few apart. elim (cases_lt part.span.len n) [
+        | inl less ↦
+            ap (λ (b : List ℕ). get_or b i 0) put ∙ get_or-with_bytes_outside old at bytes i apart ∙ sym (get_or-take n old i 0 few)
+            ∙ ap (λ (b : List ℕ). get_or b i 0) (read less)
+        | inr all ↦ absurd (elim apart [ inl before ↦ omega arith | inr behind ↦ omega arith ])
+      ];
+    }
+
+-- a call on the image of a piece
+module _ (rows left : List (Option Row)) (old new : List DeviceState) (part : Part) (bytes all_bytes : List ℕ) (outcome : Outcome) (fits : Known → ℕ → Type 0) (own : Known → Option ℕ)
+    (place : ℕ) (slot : Option Row) (has : HasPiece rows old part) (below : part.node < length rows) (call : CallsRow part.file fits own (row_in rows part.node) slot old new place all_bytes outcome)
+    (is_left : left ≡ set rows part.node slot) where
+  pub piece : IsPieceOf rows old part call.image
+  piece = image_found (row_in rows part.node) call.row call.image (IsPieceOf rows old part) call.there call.driver has
+
+  row_now : left ≡ set rows part.node (Some (record call.row { driver = Qcow2 call.now }))
+  row_now = is_left ∙ ap (set rows part.node) call.left
+
+  full_by : (dev : DevNo) (o : Outcome) → outcome ≡ o → o ≡ NoSpace dev
+      → HasImageCause (fits call.image call.call.before.capacity) (own call.image) (length all_bytes) call.call.before call.call.after call.image call.now o → call.now ≡ call.image
+  full_by dev Good is none cause = absurd (cc none)
+  full_by dev (Torn done other count) is none cause = absurd (cc none)
+  full_by dev (Io other count) is none cause = absurd (cc none)
+  full_by dev (NoSpace other) is none cause = cause.3
+
+  full : (dev : DevNo) → outcome ≡ NoSpace dev → (left ≡ rows) × (new ≡ old)
+  full dev none =
+      let same = full_by dev outcome refl none call.call.call.cause in
+      let with_image : Known → List (Option Row) = λ k. set rows part.node (Some (record call.row { driver = Qcow2 k })) in
+      let back : Some (record call.row { driver = Qcow2 call.image }) ≡ Some call.row = ap (λ (r : Row). Some r) (same_row call.row call.image call.driver) in
+      (row_now ∙ ap with_image same ∙ ap (set rows part.node) back ∙ set_same rows part.node (Some call.row) below call.there, call.call.full dev none)
+
+  pub called_part : HasImageCause (fits call.image call.call.before.capacity) (own call.image) (length bytes) call.call.before call.call.after call.image call.now outcome
+      → (AreTold old → (b b' : List ℕ) → call.call.before.content ≡ Some b → call.call.after.content ≡ Some b' → IsDiskAfter old part (taken_by outcome bytes) b b')
+      → WritesPart fits own rows left old new part bytes outcome
+  called_part cause disk = record {
+    row = call.row;
+    image = call.image;
+    there = call.there;
+    driver = call.driver;
+    wrote = inr (inr record {
+      now = call.now;
+      opened = call.opened;
+      header = call.call.call.wrote.header;
+      taken = call.call.call.wrote.taken;
+      row_now = row_now;
+      before = call.call.before;
+      after = call.call.after;
+      held = call.call.held;
+      held_now = call.call.left;
+      only = call.call.only;
+      cause = cause;
+      full = full;
+      device = call.call.call.wrote.device;
+      known = call.call.call.wrote.image;
+      disk = disk;
+    });
+  }
+
+-- in place
+pub own_wrote : (rows left : List (Option Row)) (old new : List DeviceState) (part : Part) (bytes : List ℕ) (outcome : Outcome) (slot : Option Row) → HasPiece rows old part
+    → part.node < length rows
+    → CallsRow part.file (λ image capacity. own_end image part.span ≤ capacity) (λ image. Some (own_place image part.span)) (row_in rows part.node) slot old new part.span.start bytes outcome
+    → left ≡ set rows part.node slot → length bytes ≡ part.span.len
+    → WritesPart (λ image capacity. own_end image part.span ≤ capacity) (λ image. Some (own_place image part.span)) rows left old new part bytes outcome
+own_wrote rows left old new part bytes outcome slot has below call is_left len =
+    let fits : Known → ℕ → Type 0 = λ image capacity. own_end image part.span ≤ capacity in
+    let own : Known → Option ℕ = λ image. Some (own_place image part.span) in
+    let is = piece rows left old new part bytes bytes outcome fits own part.span.start slot has below call is_left in
+    called_part rows left old new part bytes bytes outcome fits own part.span.start slot has below call is_left call.call.call.cause
+    (λ all b b' was now backing rest.
+    let size = size_in rows old part call.image is call.call.before b call.call.held was in
+    let few = length-written outcome bytes in
+    let inside = is.inside in
+    disk_written b b' backing part.span.start (taken_by outcome bytes) (call.call.call.wrote.disk b b' was now) (omega arith))
+
+-- of a whole cluster
+module _ (rows left : List (Option Row)) (old new : List DeviceState) (part : Part) (outcome : Outcome) (fits : Known → ℕ → Type 0)
+    (slot : Option Row) (has : HasPiece rows old part) (below : part.node < length rows) (all_bytes bytes : List ℕ)
+    (call : CallsRow part.file fits (λ _. None) (row_in rows part.node) slot old new (part.span.start / 65536 * 65536) all_bytes outcome)
+    (is_left : left ≡ set rows part.node slot)
+    (good : AreTold old → (b b' : List ℕ) → call.call.before.content ≡ Some b → call.call.after.content ≡ Some b' → (header_of b).size ≡ call.image.header.size
+    → IsDiskWith b b' (part.span.start - part.span.start % 65536) all_bytes → IsDiskAfter old part bytes b b') where
+  abbrev base : ℕ
+  base = part.span.start - part.span.start % 65536
+
+  here : part.span.start / 65536 * 65536 ≡ base
+  here = omega arith
+
+  pub cluster_piece : IsPieceOf rows old part call.image
+  cluster_piece = piece rows left old new part bytes all_bytes outcome fits (λ _. None) (part.span.start / 65536 * 65536) slot has below call is_left
+
+  by : (o : Outcome) → HasImageCause (fits call.image call.call.before.capacity) None (length all_bytes) call.call.before call.call.after call.image call.now o
+      → AreTold old → (b b' : List ℕ) → call.call.before.content ≡ Some b → call.call.after.content ≡ Some b' → (header_of b).size ≡ call.image.header.size
+      → IsDiskWith b b' base (taken_by o all_bytes) → IsDiskAfter old part (taken_by o bytes) b b'
+  by Good cause all b b' was now size is = good all b b' was now size is
+  by (Torn done dev count) cause all b b' was now size is = absurd cause.1
+  by (Io dev count) cause all b b' was now size is = λ backing rest.
+      let inside = cluster_piece.inside in disk_written b b' backing base [] is (omega arith)
+  by (NoSpace dev) cause all b b' was now size is = λ backing rest.
+      let inside = cluster_piece.inside in disk_written b b' backing base [] is (omega arith)
+
+  pub cluster_wrote : WritesPart fits (λ _. None) rows left old new part bytes outcome
+  cluster_wrote =
+      called_part rows left old new part bytes all_bytes outcome fits (λ _. None) (part.span.start / 65536 * 65536) slot has below call is_left
+      (cause_of (fits call.image call.call.before.capacity) (length all_bytes) (length bytes) call.call.before call.call.after call.image call.now outcome call.call.call.cause)
+      (λ all b b' was now.
+      let size = size_in rows old part call.image cluster_piece call.call.before b call.call.held was in
+      let disk : IsDiskWith b b' base (taken_by outcome all_bytes) = subst (λ (at : ℕ). IsDiskWith b b' at (taken_by outcome all_bytes)) here (call.call.call.wrote.disk b b' was now) in
+      by outcome call.call.call.cause all b b' was now size disk)
+
+-- a put, of a cluster that was put together
+pub put_wrote : (rows left : List (Option Row)) (old new : List DeviceState) (part : Part) (bytes cluster : List ℕ) (outcome : Outcome) (slot : Option Row) → HasPiece rows old part
+    → part.node < length rows
+    → CallsRow part.file (λ image. PutFits image (part.span.start / 65536)) (λ _. None) (row_in rows part.node) slot old new (part.span.start / 65536 * 65536) cluster outcome
+    → left ≡ set rows part.node slot → length bytes ≡ part.span.len → length cluster ≡ 65536
+    → (AreTold old → IsGathered cluster (found_bytes old part.source part.whole.start part.whole.len) part.whole.len (part.span.start % 65536) bytes)
+    → WritesPart (λ image. PutFits image (part.span.start / 65536)) (λ _. None) rows left old new part bytes outcome
+put_wrote rows left old new part bytes cluster outcome slot has below call is_left len whole gathered =
+    let fits : Known → ℕ → Type 0 = λ image. PutFits image (part.span.start / 65536) in
+    let is : IsPieceOf rows old part call.image
+    = piece rows left old new part bytes cluster outcome fits (λ _. None) (part.span.start / 65536 * 65536) slot has below call is_left in
+    let good : AreTold old → (b b' : List ℕ) → call.call.before.content ≡ Some b → call.call.after.content ≡ Some b' → (header_of b).size ≡ call.image.header.size
+    → IsDiskWith b b' (part.span.start - part.span.start % 65536) cluster → IsDiskAfter old part bytes b b'
+    = λ all b b' was now size disk backing rest.
+    let start = start_is rows old part call.image is in
+    let count = len_is rows old part call.image is in
+    let inside = is.inside in
+    let block = is.block in
+    let found : List ℕ = found_bytes old part.source part.whole.start part.whole.len in
+    let at_base : found ≡ bytes_at (image_disk b backing) (part.span.start - part.span.start % 65536) part.whole.len
+    = rest ∙ ap (λ (k : ℕ). bytes_at (image_disk b backing) k part.whole.len) start in
+    disk_put b b' backing part.span.start part.whole.len bytes cluster found disk whole (gathered all) at_base
+    (count ∙ ap (λ (s : ℕ). min 65536 (s - (part.span.start - part.span.start % 65536))) (sym size)) (omega arith) (omega arith) in
+    cluster_wrote rows left old new part outcome fits slot has below cluster bytes call is_left good
+
+-- a whole cluster that is made to read as zeros
+pub clear_wrote : (rows left : List (Option Row)) (old new : List DeviceState) (part : Part) (outcome : Outcome) (slot : Option Row) → HasPiece rows old part
+    → part.node < length rows
+    → CallsRow part.file (λ image. ZeroFits image (part.span.start / 65536)) (λ _. None) (row_in rows part.node) slot old new (part.span.start / 65536 * 65536) (replicate 65536 0) outcome
+    → left ≡ set rows part.node slot → part.span.len ≡ part.whole.len
+    → WritesPart (λ image. ZeroFits image (part.span.start / 65536)) (λ _. None) rows left old new part (replicate part.span.len 0) outcome
+clear_wrote rows left old new part outcome slot has below call is_left all_of =
+    let fits : Known → ℕ → Type 0 = λ image. ZeroFits image (part.span.start / 65536) in
+    let zeros : List ℕ = replicate part.span.len 0 in
+    let is : IsPieceOf rows old part call.image
+    = piece rows left old new part zeros (replicate 65536 0) outcome fits (λ _. None) (part.span.start / 65536 * 65536) slot has below call is_left in
+    let good : AreTold old → (b b' : List ℕ) → call.call.before.content ≡ Some b → call.call.after.content ≡ Some b' → (header_of b).size ≡ call.image.header.size
+    → IsDiskWith b b' (part.span.start - part.span.start % 65536) (replicate 65536 0) → IsDiskAfter old part zeros b b'
+    = λ all b b' was now size disk backing rest.
+    let count = len_is rows old part call.image is in
+    let inside = is.inside in
+    let first = begins rows old part call.image is all_of in
+    disk_zeroed b b' backing part.span.start part.span.len disk first (omega arith) (omega arith) in
+    cluster_wrote rows left old new part outcome fits slot has below (replicate 65536 0) zeros call is_left good
+
+-- a part of a cluster that reads as zeros already
+pub left_wrote : (rows : List (Option Row)) (old : List DeviceState) (part : Part) (fits : Known → ℕ → Type 0) (own : Known → Option ℕ) (row : Row) (image : Known) (host : ℕ) (device : DeviceState)
+    → row_in rows part.node ≡ Some row → row.driver ≡ Qcow2 image → IsPieceOf rows old part image → part.node < length rows
+    → entry_in image (part.span.start / 65536) ≡ entries.Zero host → device_in old part.file ≡ Some device → fits image device.capacity
+    → WritesPart fits own rows rows old old part (replicate part.span.len 0) Good
+left_wrote rows old part fits own row image host device there driver is below entry held fit = record {
+  row = row;
+  image = image;
+  there = there;
+  driver = driver;
+  wrote = inr (inr record {
+    now = image;
+    opened = is.opened;
+    header = refl;
+    taken = λ n taken. taken;
+    row_now = sym (ap (set rows part.node) (ap (λ (r : Row). Some r) (same_row row image driver)) ∙ set_same rows part.node (Some row) below there);
+    before = device;
+    after = device;
+    held = held;
+    held_now = held;
+    only = record { nodes = refl; others = λ other apart. refl };
+    cause = (fit, refl);
+    full = λ dev none. absurd (cc none);
+    device = device_risen device device (HasRisen-refl device);
+    known = λ b content. is.known device b held content;
+    disk = λ all b b' was now backing rest.
+        let same : b' ≡ b = cc (sym now ∙ was) in
+        let known = is.known device b held was in
+        let size = ap (λ (h : Header). h.size) known.header in
+        let bits : (header_of b).cluster_bits ≡ 16 = ap (λ (h : Header). h.cluster_bits) known.header ∙ is.opened.cluster_bits in
+        let inside = is.inside in
+        let block = is.block in
+        let some = is.some in
+        let zero_at : (i : ℕ) → i < part.span.len → guest_byte b backing (part.span.start + i) ≡ 0
+        = λ i few.
+        let cluster : (part.span.start + i) / 65536 ≡ part.span.start / 65536 = omega arith in
+        let in_file : file_entry b ((part.span.start + i) / 65536) ≡ entries.Zero host
+        = ap (file_entry b) cluster ∙ entry_of_file b image (part.span.start / 65536) known (has_entry image (part.span.start / 65536) is.opened (omega arith)) ∙ entry in
+        guest_zero b backing (part.span.start + i) host bits in_file in
+        ap (λ (f : List ℕ). image_disk f backing) same ∙ disk_left b backing part.span.start part.span.len zero_at (omega arith);
+  });
+}
+
+-- The same by other words for the room and the place.
+module _ (rows left : List (Option Row)) (old new : List DeviceState) (part : Part) (bytes : List ℕ) (outcome : Outcome) (fits to : Known → ℕ → Type 0) (own place : Known → Option ℕ)
+    (w : WritesPart fits own rows left old new part bytes outcome) (there : (capacity : ℕ) → fits w.image capacity → to w.image capacity)
+    (back : (capacity : ℕ) → to w.image capacity → fits w.image capacity) (same : own w.image ≡ place w.image) where
+  cause_as : (capacity n : ℕ) (before after : DeviceState) (now : Known) (o : Outcome) → HasImageCause (fits w.image capacity) (own w.image) n before after w.image now o
+      → HasImageCause (to w.image capacity) (place w.image) n before after w.image now o
+  cause_as capacity n before after now Good is = (there capacity is.0, is.1)
+  cause_as capacity n before after now (Torn done dev count) is = (there capacity is.0, subst (λ (p : Option ℕ). IsTornAt p n done) same is.1, is.2)
+  cause_as capacity n before after now (Io dev count) is = (there capacity is.0, is.1)
+  cause_as capacity n before after now (NoSpace dev) is = ((λ fit. is.0 (back capacity fit)), is.1, is.2, is.3)
+
+  pub wrote_as : WritesPart to place rows left old new part bytes outcome
+  wrote_as = record {
+    row = w.row;
+    image = w.image;
+    there = w.there;
+    driver = w.driver;
+    wrote = elim w.wrote [
+      | inl r ↦ inl record {
+        dev = r.dev;
+        is = r.is;
+        device = r.device;
+        held = r.held;
+        full = λ fit. r.full (back r.device.capacity fit);
+        named = r.named;
+        rows_same = r.rows_same;
+        devices_same = r.devices_same;
+      }
+      | inr called ↦ elim called [
+        | inl s ↦ inr (inl record {
+          dev = s.dev;
+          count = s.count;
+          is = s.is;
+          device = s.device;
+          held = s.held;
+          fit = there s.device.capacity s.fit;
+          read = s.read;
+          risen = s.risen;
+          rows_same = s.rows_same;
+        })
+        | inr c ↦ inr (inr record {
+          now = c.now;
+          opened = c.opened;
+          header = c.header;
+          taken = c.taken;
+          row_now = c.row_now;
+          before = c.before;
+          after = c.after;
+          held = c.held;
+          held_now = c.held_now;
+          only = c.only;
+          cause = cause_as c.before.capacity (length bytes) c.before c.after c.now outcome c.cause;
+          full = c.full;
+          device = c.device;
+          known = c.known;
+          disk = c.disk;
+        })
+      ]
+    ];
+  }
+
+-- Over a row that was read at a place.
+module _ (rows : List (Option Row)) (old : List DeviceState) (part : Part) (has : HasPiece rows old part) (index : ℕ) (found : Option Row) (same : index ≡ part.node)
+    (below : index < length rows) (is : found ≡ get_or rows index found) where
+  there : row_in rows part.node ≡ found
+  there = row_found rows index part.node found same below is
+
+  below_node : part.node < length rows
+  below_node = omega (arith, same, below)
+
+  of_found : (P : Known → Type 0) → ((row : Row) (image : Known) → IsPieceOf rows old part image → P image) → OfImage found P
+  of_found P holds =
+      let image = has_image (row_in rows part.node) (IsPieceOf rows old part) has in
+      of_image found image.0 image.1 P (sym there ∙ image.2) image.3 (holds image.0 image.1 image.4)
+
+  cluster_below : (image : Known) → IsPieceOf rows old part image → part.span.start / 65536 < clusters_in image
+  cluster_below image piece =
+      let bits = piece.opened.cluster_bits in
+      let some = piece.some in
+      let inside = piece.inside in
+      rw bits (omega arith)
+
+  set_at : (slot : Option Row) → set rows index slot ≡ set rows part.node slot
+  set_at slot = ap (λ (k : ℕ). set rows k slot) same
+
+  pub own_at : (new : List DeviceState) (bytes : List ℕ) (outcome : Outcome) (slot : Option Row)
+      → CallsRow part.file (λ image capacity. own_end image part.span ≤ capacity) (λ image. Some (own_place image part.span)) found slot old new part.span.start bytes outcome
+      → length bytes ≡ part.span.len
+      → WritesPart (λ image capacity. own_end image part.span ≤ capacity) (λ image. Some (own_place image part.span)) rows (set rows index slot) old new part bytes outcome
+  own_at new bytes outcome slot call len =
+      let P : Option Row → Type 0 = λ f. CallsRow part.file (λ image capacity. own_end image part.span ≤ capacity) (λ image. Some (own_place image part.span)) f slot old new
+      part.span.start bytes outcome in
+      own_wrote rows (set rows index slot) old new part bytes outcome slot has below_node (subst P (sym there) call) (set_at slot) len
+
+  pub clear_asks : OfImage found (λ image. (part.span.start / 65536 < clusters_in image) × IsKnownAt part.file old image)
+  clear_asks = of_found (λ image. (part.span.start / 65536 < clusters_in image) × IsKnownAt part.file old image) (λ row image piece. (cluster_below image piece, piece.known))
+
+  pub clear_at : (new : List DeviceState) (outcome : Outcome) (slot : Option Row)
+      → CallsRow part.file (λ image. ZeroFits image (part.span.start / 65536)) (λ _. None) found slot old new (part.span.start / 65536 * 65536) (replicate 65536 0) outcome
+      → part.span.len ≡ part.whole.len
+      → WritesPart (λ image. ZeroFits image (part.span.start / 65536)) (λ _. None) rows (set rows index slot) old new part (replicate part.span.len 0) outcome
+  clear_at new outcome slot call all =
+      let P : Option Row → Type 0 = λ f. CallsRow part.file (λ image. ZeroFits image (part.span.start / 65536)) (λ _. None) f slot old new
+      (part.span.start / 65536 * 65536) (replicate 65536 0) outcome in
+      clear_wrote rows (set rows index slot) old new part outcome slot has below_node (subst P (sym there) call) (set_at slot) all
+
+-- A good outcome, and what was read by it.
+good_is : (o : Outcome) → is_good o ≡ true → o ≡ Good
+good_is Good is = refl
+good_is (Torn done dev count) is = absurd (cc is)
+good_is (Io dev count) is = absurd (cc is)
+good_is (NoSpace dev) is = absurd (cc is)
+
+good_read : (source : Source) (old new : List DeviceState) (o : Outcome) → o ≡ Good → IsReadFrom source old new o ⊎ ((o ≡ Good) × (new ≡ old)) → new ≡ old
+good_read source old new o good (inr both) = both.1
+good_read sources.Zeros old new o good (inl read) = read.1
+good_read (sources.File file start) old new o good (inl read) = subst (IsReadAt file old new) good read
+good_read (sources.Image node file) old new o good (inl read) = subst (IsReadAt file old new) good read
+
+fits_by : (file : ℕ) (devices : List DeviceState) (fits : ℕ → Type 0) (room : Outcome) → room ≡ Good → HasRoomAt file devices fits room → FitsAt file devices fits
+fits_by file devices fits room good has device held = subst (HasRoomBy (fits device.capacity) device) good (has device held)
+
+pub put_asks : (rows : List (Option Row)) (old mid : List DeviceState) (part : Part) (room read : Outcome) → HasPiece rows old part → (index : ℕ) (first found : Option Row)
+    → index ≡ part.node → index < length rows → first ≡ get_or rows index first → found ≡ get_or rows index found
+    → OfImage first (λ image. HasRoomAt part.file old (PutFits image (part.span.start / 65536)) room) → is_good room ≡ true → is_good read ≡ true
+    → IsReadFrom part.source old mid read ⊎ ((read ≡ Good) × (mid ≡ old))
+    → OfImage found (λ image. (part.span.start / 65536 < clusters_in image) × IsKnownAt part.file mid image × FitsAt part.file mid (PutFits image (part.span.start / 65536)))
+put_asks rows old mid part room read has index first found same below is_first is fits room_good read_good outcome =
+    let stays : mid ≡ old = good_read part.source old mid read (good_is read read_good) outcome in
+    let Q : Known → Type 0 = λ image. (part.span.start / 65536 < clusters_in image) × IsKnownAt part.file old image × FitsAt part.file old (PutFits image (part.span.start / 65536)) in
+    let R : List DeviceState → Type 0
+    = λ devices. OfImage found (λ image. (part.span.start / 65536 < clusters_in image) × IsKnownAt part.file devices image
+    × FitsAt part.file devices (PutFits image (part.span.start / 65536))) in
+    let row = has_image (row_in rows part.node) (IsPieceOf rows old part) has in
+    let here : row_in rows part.node ≡ first = row_found rows index part.node first same below is_first in
+    let room_of : HasRoomAt part.file old (PutFits row.1 (part.span.start / 65536)) room
+    = image_found first row.0 row.1 (λ image. HasRoomAt part.file old (PutFits image (part.span.start / 65536)) room) (sym here ∙ row.2) row.3 fits in
+    let there_now : row_in rows part.node ≡ found = row_found rows index part.node found same below is in
+    subst R (sym stays)
+    (of_image found row.0 row.1 Q (sym there_now ∙ row.2) row.3 (
+      cluster_below rows old part has index found same below is row.1 row.4,
+      row.4.known,
+      fits_by part.file old (PutFits row.1 (part.span.start / 65536)) room (good_is room room_good) room_of,
+    ))
+
+pub put_at : (rows : List (Option Row)) (old mid new : List DeviceState) (part : Part) (bytes cluster gathered_in : List ℕ) (read outcome : Outcome) (slot : Option Row) → HasPiece rows old part
+    → (index : ℕ) (found : Option Row) → index ≡ part.node → index < length rows → found ≡ get_or rows index found
+    → CallsRow part.file (λ image. PutFits image (part.span.start / 65536)) (λ _. None) found slot mid new (part.span.start / 65536 * 65536) cluster outcome
+    → length bytes ≡ part.span.len → length cluster ≡ 65536 → cluster ≡ gathered_in → is_good read ≡ true → IsReadFrom part.source old mid read ⊎ ((read ≡ Good) × (mid ≡ old))
+    → (AreTold old → read ≡ Good → IsGathered gathered_in (found_bytes old part.source part.whole.start part.whole.len) part.whole.len (part.span.start % 65536) bytes)
+    → WritesPart (λ image. PutFits image (part.span.start / 65536)) (λ _. None) rows (set rows index slot) old new part bytes outcome
+put_at rows old mid new part bytes cluster gathered_in read outcome slot has index found same below is call len whole is_cluster read_good read_is gathered =
+    let good : read ≡ Good = good_is read read_good in
+    let stays : mid ≡ old = good_read part.source old mid read good read_is in
+    let found_is : row_in rows part.node ≡ found = row_found rows index part.node found same below is in
+    let P : Option Row → Type 0 = λ f. CallsRow part.file (λ image. PutFits image (part.span.start / 65536)) (λ _. None) f slot mid new
+    (part.span.start / 65536 * 65536) cluster outcome in
+    let Q : List DeviceState → Type 0 = λ devices. CallsRow part.file (λ image. PutFits image (part.span.start / 65536)) (λ _. None) (row_in rows part.node) slot devices new
+    (part.span.start / 65536 * 65536) cluster outcome in
+    let there_call : CallsRow part.file (λ image. PutFits image (part.span.start / 65536)) (λ _. None) (row_in rows part.node) slot old new (part.span.start / 65536 * 65536) cluster outcome
+    = subst Q stays (subst P (sym found_is) call) in
+    put_wrote rows (set rows index slot) old new part bytes cluster outcome slot has (omega (arith, same, below)) there_call
+    (ap (λ (k : ℕ). set rows k slot) same) len whole
+    (λ all. subst (λ (b : List ℕ). IsGathered b (found_bytes old part.source part.whole.start part.whole.len) part.whole.len (part.span.start % 65536) bytes) (sym is_cluster) (gathered all good))

@@ -1,0 +1,64 @@
+use Rattle.std.proofs.Common.{◌≡◌, ◌*◌, ◌/◌, ℕ, List, None, length, replicate, refl, sym, ◌∙◌, ap, subst, arith}
+use Rattle.blk_base.specs.declared.fault.Outcome.{Outcome}
+use Rattle.q2_image.specs.Writing.{IsDiskWith, HasEntriesBut, ZeroFits}
+use Rattle.blk_nodes.specs.Nodes.{DeviceState}
+use Rattle.blk_nodes.specs.Writing.{HasImageCause, taken_by}
+use Rattle.blk_nodes.proofs.ImageCalls.{stable_zero, zeros_disk, cluster_cause, cluster_disk, cluster_flushed, same_state}
+use Rattle.blk_nodes.proofs.devices.Held.zero_image.Goals as goal
+
+pub zero_cluster-written-requires-clause-image : goal.zero_cluster-written-requires-clause-image
+zero_cluster-written-requires-clause-image g c = λ file told. let known = rw (sym c.self.view_is) at c.requires.known in known file told
+
+pub returns : goal.returns
+returns g c =
+    let e = c.zero_cluster-written.ensures in
+    let written = c.zero_cluster-written.result in
+    let image = c.args.image.now in
+    let left = c.zero_cluster-written.new.self in
+    let bits = c.cluster_size.ensures.bits in
+    let old : DeviceState = record {
+      node = c.self.inside.node;
+      number = c.self.inside.number;
+      content = g.D.Device.content c.self.inside.device;
+      is_flushed = g.D.Device.is_flushed c.self.inside.device;
+      log = g.D.Device.log c.self.inside.device;
+      size = g.D.Device.size c.self.inside.device;
+      capacity = g.D.Device.capacity c.self.inside.device;
+      faults = g.D.Device.faults c.self.inside.device;
+    } in
+    let new : DeviceState = record {
+      node = c.self.inside.node;
+      number = c.self.inside.number;
+      content = g.D.Device.content c.zero_cluster-written.new.dev;
+      is_flushed = g.D.Device.is_flushed c.zero_cluster-written.new.dev;
+      log = g.D.Device.log c.zero_cluster-written.new.dev;
+      size = g.D.Device.size c.zero_cluster-written.new.dev;
+      capacity = g.D.Device.capacity c.zero_cluster-written.new.dev;
+      faults = g.D.Device.faults c.zero_cluster-written.new.dev;
+    } in
+    let ok = zeros_disk written old.content new.content (c.args.cluster * 65536) (rw bits at e.disk) in
+    let bytes : List ℕ = replicate 65536 0 in
+    let place : c.args.cluster * 65536 / 65536 ≡ c.args.cluster = omega arith in
+    rw (sym c.self.view_is) (record {
+      wrote = record {
+        device = record {
+          node = refl;
+          number = refl;
+          told = e.told;
+          flushed = cluster_flushed g.D.Device image _ written left c.self.inside.device c.zero_cluster-written.new.dev e.changes;
+          capacity = e.capacity;
+          faults = e.faults;
+        };
+        image = e.image;
+        disk = λ b now was is.
+            subst (λ (o : Outcome). IsDiskWith b now (c.args.cluster * 65536) (taken_by o bytes)) (sym c.cluster_outcome.ensures)
+            (cluster_disk new written old.content new.content (c.args.cluster * 65536) bytes ok e.kept b now was is);
+        header = e.header;
+        taken = e.taken;
+        entries = subst (HasEntriesBut image left) (sym place) e.others;
+      };
+      cause = subst (HasImageCause (ZeroFits image c.args.cluster old.capacity) None (length bytes) old new image left) (sym c.cluster_outcome.ensures)
+          (cluster_cause g.D.Device (ZeroFits image c.args.cluster old.capacity) None (length bytes) image _ written left c.self.inside.device c.zero_cluster-written.new.dev old new refl refl refl e.changes
+          (λ other. stable_zero c.args.image.now c.args.cluster old.capacity (λ none. other (e.no_space.1 none)))
+          (λ is. let all = e.untouched is in (e.no_space.0 is, same_state old new refl refl all.1 all.3 all.2 all.4 e.capacity all.5, all.0)));
+    })

@@ -1,0 +1,144 @@
+-- A piece of a qcow2 node: where it lies, and what its writing leaves of the rows and the devices.
+use Rattle.std.specs.Prelude.{◌≡◌, ◌⊎◌, ℕ, ◌+◌, ◌-◌, ◌*◌, ◌/◌, ◌%◌, ◌<◌, ◌≤◌, min, List, [], length, slice_index, slice_index_or, slice_set, Option, Some, None, IsSome}
+use Rattle.blk_base.specs.Content.{bytes_at, with_bytes}
+use Rattle.blk_base.specs.Pieces.{Extent, end_of}
+use Rattle.blk_base.specs.declared.fault.DevNo.{DevNo}
+use Rattle.blk_base.specs.declared.fault.Outcome.{Outcome}
+use Rattle.blk_base.specs.declared.fault.Outcome.TheVariants.{Good, Torn, Io, NoSpace}
+use Rattle.q2_format.specs.Contents.{image_disk}
+use Rattle.q2_image.specs.Image.{Known, IsImageOf, IsOpen}
+use Rattle.q2_image.specs.Reading.{IsWithinCluster}
+use Rattle.q2_image.specs.Writing.{HasHeaderOf, StaysTaken}
+use Rattle.blk_nodes.specs.Found.{found_bytes, IsReadFrom}
+use Rattle.blk_nodes.specs.Nodes.{Nodes, DeviceState, AreTold, device_in, row_at}
+use Rattle.blk_nodes.specs.Reading.{HaveRisen, OnlyAt}
+use Rattle.blk_nodes.specs.Walk.{IsKnownAt, CanBeRead}
+use Rattle.blk_nodes.specs.Writing.{taken_by, IsDeviceAfter, IsImageCallAt, HasImageCause}
+use Rattle.blk_nodes.specs.declared.part.Part.{Part}
+use Rattle.blk_nodes.specs.declared.row.Driver.{Driver}
+use Rattle.blk_nodes.specs.declared.row.Driver.TheVariants.{File, Raw, Qcow2, CopyOnRead}
+use Rattle.blk_nodes.specs.declared.row.Row.{Row}
+
+-- a fact of the image of a qcow2 node
+abbrev pub OfImageBy : Driver → (Known → Type 0) → Type 0
+OfImageBy File P = ⊥
+OfImageBy (Raw part) P = ⊥
+OfImageBy (Qcow2 image) P = P image
+OfImageBy CopyOnRead P = ⊥
+
+abbrev pub OfImage : Option Row → (Known → Type 0) → Type 0
+OfImage None P = ⊥
+OfImage (Some row) P = OfImageBy row.driver P
+
+-- a node is a qcow2 one
+abbrev pub IsImage : Nodes → ℕ → Type 0
+IsImage nodes node = OfImage (row_at nodes node) (λ _. Unit {0})
+
+-- the cluster in which a span lies, up to the end of a disk of so many bytes
+abbrev pub cluster_around : ℕ → Extent → Extent
+cluster_around size span =
+    let start = span.start - span.start % 65536 in
+    record { start = start; len = min 65536 (size - start) }
+
+-- a piece of an image: it has bytes, lies in one cluster within the disk, and the rest of the cluster can be read
+pub record IsPieceOf (rows : List (Option Row)) (devices : List DeviceState) (part : Part)
+    (image : Known) : Type 0 where
+  pub opened : IsOpen image
+  pub some : 0 < part.span.len
+  pub block : IsWithinCluster 65536 part.span
+  pub inside : end_of part.span ≤ image.header.size
+  pub whole : part.whole ≡ cluster_around image.header.size part.span
+  pub held : IsSome (device_in devices part.file)
+  pub known : IsKnownAt part.file devices image
+  pub can : CanBeRead rows devices part.whole.start part.source
+
+abbrev pub row_in : List (Option Row) → ℕ → Option Row
+row_in rows node = slice_index_or rows node None
+
+abbrev pub HasPiece : List (Option Row) → List DeviceState → Part → Type 0
+HasPiece rows devices part = OfImage (row_in rows part.node) (IsPieceOf rows devices part)
+
+-- a cluster has these bytes from a place on, and else those that were found, of which there are n
+pub record IsGathered (cluster found : List ℕ) (n at : ℕ) (bytes : List ℕ) : Type 0 where
+  pub inside : (i : ℕ) → i < length bytes → slice_index cluster (at + i) ≡ slice_index bytes i
+  pub outside : (i : ℕ) → i < n → (i < at) ⊎ (at + length bytes ≤ i)
+      → slice_index cluster i ≡ slice_index found i
+
+-- a call of the image in a row, on the device of a `file` node
+pub record CallsRow (file : ℕ) (fits : Known → ℕ → Type 0) (own : Known → Option ℕ)
+    (old new : Option Row) (before after : List DeviceState)
+    (place : ℕ) (bytes : List ℕ) (outcome : Outcome) : Type 0 where
+  pub row : Row
+  pub image : Known
+  pub now : Known
+  pub there : old ≡ Some row
+  pub driver : row.driver ≡ Qcow2 image
+  pub left : new ≡ Some (record row { driver = Qcow2 now })
+  pub opened : IsOpen now
+  pub call : IsImageCallAt file (fits image) (own image) before after image now place bytes outcome
+
+-- What the writing of a piece leaves.
+
+-- no row and no device changed, for want of room
+pub record RefusesPiece (file : ℕ) (fits : ℕ → Type 0) (rows left : List (Option Row))
+    (old new : List DeviceState) (outcome : Outcome) : Type 0 where
+  pub dev : DevNo
+  pub is : outcome ≡ NoSpace dev
+  pub device : DeviceState
+  pub held : device_in old file ≡ Some device
+  pub full : fits device.capacity → ⊥
+  pub named : dev ≡ device.number
+  pub rows_same : left ≡ rows
+  pub devices_same : new ≡ old
+
+-- the read of the rest of the cluster was stopped
+pub record StopsReading (part : Part) (fits : ℕ → Type 0) (rows left : List (Option Row))
+    (old new : List DeviceState) (outcome : Outcome) : Type 0 where
+  pub dev : DevNo
+  pub count : ℕ
+  pub is : outcome ≡ Io dev count
+  pub device : DeviceState
+  pub held : device_in old part.file ≡ Some device
+  pub fit : fits device.capacity
+  pub read : IsReadFrom part.source old new outcome
+  pub risen : HaveRisen old new
+  pub rows_same : left ≡ rows
+
+-- the image's disk has the piece's bytes, over each backing disk from which the rest of the cluster was found
+abbrev pub IsDiskAfter : List DeviceState → Part → List ℕ → List ℕ → List ℕ → Type 0
+IsDiskAfter devices part bytes old new = (backing : List ℕ)
+    → found_bytes devices part.source part.whole.start part.whole.len
+    ≡ bytes_at (image_disk old backing) part.whole.start part.whole.len
+    → image_disk new backing ≡ with_bytes (image_disk old backing) part.span.start bytes
+
+-- the image was called
+pub record CallsPiece (part : Part) (fits : ℕ → Type 0) (own : Option ℕ) (image : Known)
+    (row : Row) (rows left : List (Option Row)) (old new : List DeviceState)
+    (bytes : List ℕ) (outcome : Outcome) : Type 0 where
+  pub now : Known
+  pub opened : IsOpen now
+  pub header : HasHeaderOf image now
+  pub taken : StaysTaken image now
+  pub row_now : left ≡ slice_set rows part.node (Some (record row { driver = Qcow2 now }))
+  pub before : DeviceState
+  pub after : DeviceState
+  pub held : device_in old part.file ≡ Some before
+  pub held_now : device_in new part.file ≡ Some after
+  pub only : OnlyAt part.file old new
+  pub cause : HasImageCause (fits before.capacity) own (length bytes) before after image now outcome
+  pub full : (dev : DevNo) → outcome ≡ NoSpace dev → (left ≡ rows) × (new ≡ old)
+  pub device : IsDeviceAfter before after
+  pub known : (b : List ℕ) → after.content ≡ Some b → IsImageOf b now
+  pub disk : AreTold old → (b b' : List ℕ) → before.content ≡ Some b → after.content ≡ Some b'
+      → IsDiskAfter old part (taken_by outcome bytes) b b'
+
+pub record WritesPart (fits : Known → ℕ → Type 0) (own : Known → Option ℕ)
+    (rows left : List (Option Row)) (old new : List DeviceState) (part : Part)
+    (bytes : List ℕ) (outcome : Outcome) : Type 0 where
+  pub row : Row
+  pub image : Known
+  pub there : row_in rows part.node ≡ Some row
+  pub driver : row.driver ≡ Qcow2 image
+  pub wrote : RefusesPiece part.file (fits image) rows left old new outcome
+      ⊎ (StopsReading part (fits image) rows left old new outcome
+      ⊎ CallsPiece part (fits image) (own image) image row rows left old new bytes outcome)

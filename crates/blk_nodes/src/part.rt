@@ -1,0 +1,34 @@
+//! Where a piece of a qcow2 node lies.
+ghost use Rattle.std.specs.Prelude.{◌≡◌, ◌≤◌};
+ghost use Rattle.blk_nodes.specs.Parts.{cluster_around};
+
+use crate::source::Source;
+use blk_base::Span;
+use blk_graph::NodeId;
+
+/// A piece of a qcow2 node, its cluster up to the disk's end, the `file` node that the image is in, and where the cluster's
+/// bytes stand now.
+#[derive(Clone, Copy, Debug, PartialEq, Eq)]
+pub(crate) struct Part {
+    pub node: NodeId,
+    pub file: NodeId,
+    pub span: Span,
+    pub whole: Span,
+    pub source: Source,
+}
+
+/// The cluster in which a span lies, up to the end of a disk of so many bytes.
+pub(crate) fn cluster_around(size: u64, span: Span) -> Span
+    requires start { span.start ≤ size }
+    requires small { size ≤ 9223372036854775808 }
+    ensures { result ≡ cluster_around size span }
+{
+    let start = span.start - span.start % 65_536;
+    if size - start < 65_536 {
+        return Span {
+            start,
+            len: size - start,
+        };
+    }
+    Span { start, len: 65_536 }
+}
