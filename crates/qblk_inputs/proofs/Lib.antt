@@ -1,3 +1,4 @@
 pub mod Stops
 pub mod TraceLists
 pub mod PlayerWords
+pub mod Rooms

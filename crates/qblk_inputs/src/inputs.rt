@@ -23,7 +23,7 @@ pub struct Inputs {
     pub guests: Names1,
     pub script: VecDeque<Order>,
     /// By guest.
-    pub traces: Vec<VecDeque<Wish>>,
+    pub traces: Vec<Vec<Wish>>,
 }
 
 /// How many bytes a script or a trace may have.
@@ -100,7 +100,7 @@ fn read_trace<S: Store>(
     store: &mut S,
     name: &str,
     asked: &mut Totals,
-) -> Result<VecDeque<Wish>, InputStop>
+) -> Result<Vec<Wish>, InputStop>
     requires { NoneOut (S.opened store.old) }
     ensures read { IfOk result (λ wishes. IfTold (S.files store.old) (HasFile name.now
         (λ f. IsTrace asked.old wishes.items asked.new f.bytes))) }
@@ -120,7 +120,7 @@ fn read_trace<S: Store>(
         return Err(refused(alloc, name, 0, InputFlaw::NotUtf8));
     };
     match read_wishes_after(alloc, asked, text) {
-        Ok(wishes) => Ok(VecDeque::from_vec(wishes)),
+        Ok(wishes) => Ok(wishes),
         Err(TraceStop::BadLine(line)) => Err(refused(alloc, name, line, InputFlaw::BadLine)),
         Err(TraceStop::TooMany(line)) => Err(refused(alloc, name, line, InputFlaw::TooMany)),
         Err(TraceStop::NoMemory) => Err(InputStop::NoMemory),
@@ -132,7 +132,7 @@ fn read_traces<S: Store>(
     alloc: Global,
     store: &mut S,
     players: &[Text],
-) -> Result<Vec<VecDeque<Wish>>, InputStop>
+) -> Result<Vec<Vec<Wish>>, InputStop>
     requires { NoneOut (S.opened store.old) }
     ensures read { IfOk result (λ traces. IfTold (S.files store.old) (HasTraces nothing
         (map player_of (texts_of players.now)) (map (λ t. t.items) traces.items))) }

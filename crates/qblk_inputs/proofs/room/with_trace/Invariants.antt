@@ -1,0 +1,7 @@
+use Rattle.std.proofs.Common.{◌≡◌, ◌+◌, drop, take}
+use Rattle.qblk_inputs.specs.Room.{entries_for, bytes_for, HaveNumbers}
+use Rattle.qblk_inputs.proofs.Rooms.{SoFar}
+use Rattle.qblk_inputs.proofs.room.with_trace.Given as goal
+
+abbrev pub invariant-loop-wish : goal.invariant-loop-wish
+invariant-loop-wish l = SoFar l.fn.room (take l.wish-index l.wishes) l.room
