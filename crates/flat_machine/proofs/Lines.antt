@@ -4,8 +4,8 @@ use Rattle.std.specs.Prelude.{◌==◌, ◌||◌, ◌&&◌, ◌/◌, ◌%◌, no
 use Rattle.std.specs.List.{list_all}
 use Rattle.std.proofs.lemmas.Bool.{eqb-false, ne_eqb, ltb-false, and_parts}
 use Rattle.std.proofs.lemmas.List.{append_assoc, append_cancel_left}
-use Rattle.core.specs.Fmt.{digit_glyph, digits_onto, digits}
-use Rattle.core.specs.Char.{digit_char}
+use Rattle.std.specs.Fmt.{digit_glyph, digits_onto, digits}
+use Rattle.std.specs.Char.{digit_char}
 use Rattle.json.specs.Print.{escape_letter, escape_byte, escape, quoted}
 use Rattle.serde_json.specs.Data.{Num, unsigned, negative, float, Data, null, boolean, number, string, array, object, Items, no_items, item, Members, no_members, member}
 use Rattle.serde_json.specs.Written.{number_text, comma_if, compact_text, items_text, members_text}
