@@ -23,7 +23,6 @@ use Rattle.blk_world.specs.Face.{Face, first_counts, counts_now, contents_of}
 use Rattle.blk_world.specs.Comes.{Comes, Shows}
 use Rattle.blk_world.specs.Carrying.{IsCarried, IsPutBack, needs_table_alone}
 use Rattle.blk_world.proofs.CountLemmas.{between-on, same-devices, runs-devices}
-
 use Rattle.blk_world.proofs.CarryPlain.{quiet-self, alone-left}
 
 module _ (w v : Face) (is : IsPutBack w v) (o : Opening) (comes : Comes o w) where

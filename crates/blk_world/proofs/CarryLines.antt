@@ -144,12 +144,18 @@ module _ (w : Face) (line : Given) (text : List ℕ) (why : Stop) (bad : command
       }
 
   fits : (o : Opening) (s : State) → IsNotDone (seen_state w) 0 → Shows o s w → Fits s entry
-  fits o s not_done shows = (shows.table.rest, (undone o s w 0 shows not_done, record {
-    understood = rw bad refl;
-    told = untold;
-    is_told = rw bad tt;
-    answered = text_is w.table untold line.text text said ∙ ap (λ (t : Table). line_text t untold line.text) (sym shows.table.table_is);
-  }))
+  fits o s not_done shows = (
+    shows.table.rest,
+    (
+      undone o s w 0 shows not_done,
+      record {
+        understood = rw bad refl;
+        told = untold;
+        is_told = rw bad tt;
+        answered = text_is w.table untold line.text text said ∙ ap (λ (t : Table). line_text t untold line.text) (sym shows.table.table_is);
+      },
+    ),
+  )
 
   stays : (s : State) → replied s line.text text ≡ s
   stays s = ap (λ changes. all_stepped s changes) (ap (edits_by s text) bad)
@@ -170,8 +176,8 @@ module _ (w : Face) (line : Given) (text : List ℕ) (why : Stop) (bad : command
       (λ s shows. (
         fits o s not_done shows,
         subst (λ (now : State). Shows o now (onward w (with_entry entry))) (sym (stays s))
-        (shows-onward o s w (with_entry entry w.progress) s.guests s.ended shows shows.guests.guests_are
-        (shows.guests.ended_are ∙ sym (ended-push w.progress.log.events entry refl))),
+            (shows-onward o s w (with_entry entry w.progress) s.guests s.ended shows shows.guests.guests_are
+            (shows.guests.ended_are ∙ sym (ended-push w.progress.log.events entry refl))),
       ))
 
 -- ---- commands

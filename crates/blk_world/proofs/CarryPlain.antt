@@ -43,7 +43,6 @@ use Rattle.blk_world.specs.Coherent.{IsCoherent, AreAlike, node_row}
 use Rattle.blk_world.specs.Comes.{Shows}
 use Rattle.blk_world.specs.Carrying.{IsCarried, IsCarriedIn, IsCaused, HasCause, IsPutBack, as_held, needs_table_alone, is_failed}
 use Rattle.blk_world.specs.Face.{Face, contents_of}
-
 use Rattle.blk_world.proofs.CarryNames.{either-of}
 use Rattle.blk_world.proofs.CarryComes.{built_accepted}
 use Rattle.blk_world.proofs.CountLemmas.{same-devices, runs-devices}

@@ -82,7 +82,7 @@ bitmaps-plain node (row ∷ rows) [] = (refl, omega arith)
 bitmaps-plain node (row ∷ rows) (dirty ∷ counts) =
     let rest = bitmaps-plain node rows counts in
     elim (row.node == node) as (λ b. (items_have_float (if b then item (bitmap_data row dirty) (bitmap_items node rows counts) else bitmap_items node rows counts) ≡ false)
-        × (items_depth (if b then item (bitmap_data row dirty) (bitmap_items node rows counts) else bitmap_items node rows counts) ≤ 1)) [
+    × (items_depth (if b then item (bitmap_data row dirty) (bitmap_items node rows counts) else bitmap_items node rows counts) ≤ 1)) [
       | true ↦ (rest.0, (let low = rest.1 in omega arith))
       | false ↦ rest
     ]
