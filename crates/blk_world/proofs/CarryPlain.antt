@@ -285,6 +285,9 @@ module _ (t u : Table) (shape : HasShape t u) where
     };
     asks = λ g device edge there writes on from.
         was.asks g device edge (sym (same-device g) ∙ there) writes (subst (λ (es : List Edge). Contains es edge) shape.edges on) from;
+    writable = λ g node device there writes on.
+        subst (λ (row : Option NodeRecord). With row (λ r. r.read_only ≡ false)) (sym (same-node node))
+        (was.writable g node device (sym (same-device g) ∙ there) writes (sym (same-drive g) ∙ on));
     within = λ g f flies.
         subst (λ (o : Option ℕ). With o (λ node. end_of (span_of f.op) ≤ size_of u node)) (sym (same-guest g))
         (within-so (disk_of_guest t g) (end_of (span_of f.op)) (was.within g f flies));

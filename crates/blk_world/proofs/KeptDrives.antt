@@ -1,5 +1,5 @@
 -- Guests' disks stay what they were where a change leaves all nodes that an edge leads to.
-use Rattle.std.proofs.Common.{◌≡◌, ◌≤◌, ℕ, zero, suc, List, Option, Some, None, refl, sym, ◌∙◌, ap, subst}
+use Rattle.std.proofs.Common.{◌≡◌, ◌≤◌, ℕ, zero, suc, false, List, Option, Some, None, refl, sym, ◌∙◌, ap, subst}
 use Rattle.std.specs.Prelude.{IsSome, Contains, option_map, option_and_then, unwrap_or}
 use Rattle.blk_base.specs.Pieces.{end_of}
 use Rattle.blk_graph.specs.declared.edge.Edge.{Edge}
@@ -14,7 +14,7 @@ use Rattle.qmp_rules.specs.Table.{Table, node_at, device_at, child}
 use Rattle.qmp_rules.specs.declared.rows.NodeRecord.{NodeRecord}
 use Rattle.flat_machine.specs.Agreement.{HasDisk}
 use Rattle.flat_machine.specs.State.{Guest, drive_of, size_of}
-use Rattle.blk_world.specs.Coherent.{HaveDrives, AreOnDisks, AreWithin}
+use Rattle.blk_world.specs.Coherent.{HaveDrives, AreOnDisks, AreOnWritable, AreWithin}
 
 -- an edge leads to the node
 pub record IsEntered (t : Table) (node : ℕ) : Type 0 where
@@ -91,6 +91,12 @@ module _ (t now : Table) (keeps : KeepsEntered t now) where
       let here = drive-entered t g node old in
       subst (λ (row : Option NodeRecord). With row HasDisk)
       (sym (ap (node_at now) (disk-same node here) ∙ keeps.rows (disk_node t node) (disk-entered node here))) (are g node old)
+
+  pub writable_kept : AreOnWritable t → AreOnWritable now
+  writable_kept are g node device there writes is =
+      let old : drive_of t g ≡ Some node = sym (keeps.drives g) ∙ is in
+      subst (λ (row : Option NodeRecord). With row (λ r. r.read_only ≡ false)) (sym (keeps.rows node (drive-entered t g node old)))
+      (are g node device (sym (keeps.devices g) ∙ there) writes old)
 
   pub within_kept : (guests : List Guest) → AreWithin t guests → AreWithin now guests
   within_kept guests are g f flies = by_drive (drive_of t g) refl (are g f flies)

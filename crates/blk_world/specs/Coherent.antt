@@ -78,6 +78,11 @@ abbrev pub AskToWrite : Table → Type 0
 AskToWrite t = (g : ℕ) (device : Device) (edge : Edge) → device_at t g ≡ Some device → device.read_only ≡ false
     → Contains t.edges edge → edge.parent ≡ GuestOf g → edge.perm.write ≡ true
 
+-- and the node that it is on isn't read-only
+abbrev pub AreOnWritable : Table → Type 0
+AreOnWritable t = (g node : ℕ) (device : Device) → device_at t g ≡ Some device → device.read_only ≡ false
+    → drive_of t g ≡ Some node → With (node_at t node) (λ row. row.read_only ≡ false)
+
 -- ---- openings
 
 -- a device that is held is that of an opening of its node's file, and not back yet
@@ -113,6 +118,7 @@ pub record IsCoherent (t : Table) (nodes : Nodes) (opened : List Opened)
   pub disks : AreOnDisks t
   pub alike : AreNodesOf t nodes
   pub asks : AskToWrite t
+  pub writable : AreOnWritable t
   pub within : AreWithin t p.guests
   pub allowed : AreAllowed t p.guests
   pub count : length p.guests ≡ length t.guests
