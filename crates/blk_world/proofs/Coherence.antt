@@ -1,22 +1,23 @@
 -- The parts of the world belong together after each event.
 use Rattle.std.proofs.Common.{◌≡◌, ℕ, zero, suc, ◌≤◌, true, false, List, [], ◌∷◌, length, get_or, replicate, inl, inr, refl, sym, ◌∙◌, ap, subst, arith, Option, Some, None}
-use Rattle.std.specs.Prelude.{slice_get, ◌||◌}
+use Rattle.std.specs.Prelude.{slice_get, ◌||◌, option_map, option_and_then}
 use Rattle.std.proofs.lemmas.Bool.{false≢true, cases_lt}
 use Rattle.std.proofs.lemmas.List.{length-replicate, get_or-replicate, get_or_past}
 use Rattle.blk_base.specs.Files.{is_out, is_out_as}
 use Rattle.blk_base.specs.Pieces.{end_of}
+use Rattle.blk_base.specs.declared.fault.Outcome.{Outcome}
 use Rattle.blk_base.specs.declared.file.Opened.{Opened}
 use Rattle.blk_base.specs.declared.memory.Room.{Room}
 use Rattle.trace_codec.specs.declared.op.Op.{Op}
 use Rattle.blk_history.specs.Disk.{span_of}
 use Rattle.blk_history.specs.Fold.{change, With}
-use Rattle.blk_history.specs.Machine.{Flight}
+use Rattle.blk_history.specs.Machine.{Flight, one_further}
 use Rattle.blk_nodes.specs.Nodes.{Nodes, no_nodes}
 use Rattle.blk_nodes.specs.declared.row.Row.{Row}
 use Rattle.qmp_rules.specs.Table.{Table, device_at, opening_table}
 use Rattle.flat_machine.specs.State.{Guest, disk_of_guest, size_of}
 use Rattle.flat_machine.specs.Legal.{IsForbidden}
-use Rattle.flat_machine.specs.Machine.{admitted, finished}
+use Rattle.flat_machine.specs.Machine.{admitted, finished, past_piece}
 use Rattle.flat_machine.specs.Opening.{new_guest}
 use Rattle.flat_machine.proofs.Finds.{bytes_eq-same}
 use Rattle.flat_machine.proofs.Openings.{start_table_rests}
@@ -60,6 +61,7 @@ module _ (t : Table) (nodes : Nodes) (opened : List Opened) (p : Progress) (was 
     disks = was.disks;
     alike = was.alike;
     asks = was.asks;
+    writable = was.writable;
     within = within;
     allowed = allowed;
     count = count ∙ was.count;
@@ -85,6 +87,25 @@ module _ (t : Table) (nodes : Nodes) (opened : List Opened) (p : Progress) (was 
       (rw is (within-put t p.guests g finished was.within (λ row f there none. absurd (let bad : ⊥ = cc none in bad))))
       (rw is (flights-change (IsAllowed t) p.guests g finished was.allowed (λ row f there none. absurd (let bad : ⊥ = cc none in bad))))
       (ap length is ∙ length-change g finished p.guests)
+
+  -- a request in flight goes on
+  pub coherent-past : (q : Progress) (g : ℕ) (outcome : Outcome) → q.guests ≡ change g (past_piece outcome) p.guests → IsCoherent t nodes opened q
+  coherent-past q g outcome is =
+      coherent-with q
+      (rw is (within-put t p.guests g (past_piece outcome) was.within (λ row f there flies.
+      let before = flew row f there row.flight refl flies in
+      subst (λ o. With (disk_of_guest t g) (λ node. end_of (span_of o) ≤ size_of t node)) before.2 (was.within g before.0 before.1))))
+      (rw is (flights-change (IsAllowed t) p.guests g (past_piece outcome) was.allowed (λ row f there flies.
+      let before = flew row f there row.flight refl flies in
+      subst (λ o. With (device_at t g) (λ device. IsForbidden o device.read_only → ⊥)) before.2 (was.allowed g before.0 before.1))))
+      (ap length is ∙ length-change g (past_piece outcome) p.guests)
+    where
+      flew : (row : Guest) (f : Flight) → slice_get p.guests g ≡ Some row → (flight : Option Flight) → row.flight ≡ flight → option_map (one_further outcome) flight ≡ Some f
+          → (b : Flight) × (flight_at p.guests g ≡ Some b) × (b.op ≡ f.op)
+      flew row f there None flight bad = absurd (let e : ⊥ = cc bad in e)
+      flew row f there (Some b) flight now =
+          let same : one_further outcome b ≡ f = cc now in
+          (b, ap (option_and_then (λ (x : Guest). x.flight)) there ∙ flight, ap (λ (x : Flight). x.op) same)
 
   pub coherent-same : (q : Progress) → q.guests ≡ p.guests → IsCoherent t nodes opened q
   coherent-same q is = coherent-with q (rw is was.within) (rw is was.allowed) (ap length is)
@@ -124,6 +145,7 @@ coherent-new guests room opened none = record {
   alike = record { listed = refl; edges = refl; rows = λ id. rw (no-row 64 id) tt };
   table = start_table_rests guests;
   asks = λ g device edge there writes on. absurd (let bad : ⊥ = cc there in bad);
+  writable = λ g node device there writes on. absurd (let bad : ⊥ = cc there in bad);
   within = λ g f flies. absurd (nobody-flies (length guests) g f flies);
   allowed = λ g f flies. absurd (nobody-flies (length guests) g f flies);
   count = length-replicate (length guests) new_guest;
