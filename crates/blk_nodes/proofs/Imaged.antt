@@ -17,7 +17,7 @@ use Rattle.blk_nodes.specs.Found.{found_bytes, IsReadFrom}
 use Rattle.blk_nodes.specs.Joined.{IsOverlay, IsJoined}
 use Rattle.blk_nodes.specs.Nodes.{Nodes, DeviceState, AreTold, row_at, device_in, size_by, size_of, file_of, backing_of}
 use Rattle.blk_nodes.specs.Parts.{HasPiece, IsPieceOf, RefusesPiece, StopsReading, CallsPiece, WritesPart, row_in}
-use Rattle.blk_nodes.specs.Reading.{LeadsTo, StoppedBelow, IsReadBelow}
+use Rattle.blk_nodes.specs.Reading.{HaveRisen, LeadsTo, StoppedBelow, IsReadBelow}
 use Rattle.blk_nodes.specs.Sources.{source_of}
 use Rattle.blk_nodes.specs.Walk.{IsKnownAt, LeadsToSource}
 use Rattle.blk_nodes.specs.Writing.{taken_by, IsDeviceAfter, HasImageCause, HasPieceCause, WritesImage, WritesBy, WritesPiece, ZerosBy, ZerosPiece, own_place_by, zeros_place, IsDriverAfter, AreRowsAfter, LeavesNodes, OwnsFile, own_file, IsOverApart, CanBeWritten, MayWrite, IsApart}
@@ -28,7 +28,7 @@ use Rattle.blk_nodes.specs.declared.row.Row.{Row}
 use Rattle.blk_nodes.proofs.Alike.{alike_but, row_refl, joined_alike, disks_alike}
 use Rattle.blk_nodes.proofs.Chains.{reads_found}
 use Rattle.blk_nodes.proofs.Disks.{disks_risen}
-use Rattle.blk_nodes.proofs.HeldDevices.{told_is, told_held, held_after, before_rise, device_risen, HasRisen-refl, some_device}
+use Rattle.blk_nodes.proofs.HeldDevices.{told_is, told_held, held_after, before_rise, device_risen, HasRisen-refl, HaveRisen-refl, some_device}
 use Rattle.blk_nodes.proofs.Joints.{joined_after}
 use Rattle.blk_nodes.proofs.Leading.{child_leads, read_below}
 use Rattle.blk_nodes.proofs.Rows.{row_below, image_found}
@@ -108,6 +108,7 @@ module _ (nodes : Nodes) (joined : IsJoined nodes) (part : Part) (may : MayWrite
           held = s.held;
           left = now.1;
           device = subst (λ (d : DeviceState). IsDeviceAfter d now.0) same_device (device_risen was.0 now.0 was.2);
+          devices = inr s.risen;
           cause = subst (HasPieceCause (fits w.image s.device.capacity) (own w.image) (length bytes) part.file nodes new node s.device now.0) (sym s.is) (s.fit, after);
         }
 
@@ -266,6 +267,7 @@ module _ (nodes : Nodes) (joined : IsJoined nodes) (part : Part) (may : MayWrite
       held = c.held;
       left = c.held_now;
       device = c.device;
+      devices = inl c.only;
       cause = cause_called outcome refl c.cause;
     }
 
@@ -322,6 +324,7 @@ module _ (nodes : Nodes) (joined : IsJoined nodes) (part : Part) (may : MayWrite
           held = r.held;
           left = left;
           device = device_risen r.device r.device (HasRisen-refl r.device);
+          devices = inr (subst (HaveRisen nodes.devices) (sym r.devices_same) (HaveRisen-refl nodes.devices));
           cause = subst (HasPieceCause (fits w.image r.device.capacity) (own w.image) (length bytes) part.file nodes new node r.device r.device) (sym r.is)
               (r.full, r.named, all_same r.rows_same r.devices_same);
         }

@@ -2,7 +2,7 @@ mod HeldDevices
 mod Rows
 mod Joints
 mod Chains
-mod Leading
+pub mod Leading
 mod Disks
 mod Additions
 pub mod KeptDisks
@@ -13,7 +13,7 @@ pub mod Dropped
 mod Written
 mod ImageCalls
 mod ImageDisks
-mod Alike
+pub mod Alike
 mod PartsWritten
 mod PartFits
 mod Imaged

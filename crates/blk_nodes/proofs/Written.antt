@@ -220,16 +220,16 @@ module _ (nodes : Nodes) (joined : IsJoined nodes) (node place : ℕ) (may : May
 
   -- where its bytes stand
   stands_by : (driver : Driver) → may.row.driver ≡ driver → IsPlain driver → (file : ℕ) × (start : ℕ) × (source_of nodes node place ≡ sources.File file start)
-      × (writing.own_file nodes node driver ≡ Some file)
+      × (writing.own_file nodes node driver ≡ Some file) × (start ≡ writing.own_start driver place)
   unfolding source_of
   stands_by File is plain =
       let step : step_of nodes node place ≡ Found (sources.File node place) = step_there is in
-      (node, place, walk_ends nodes node place (sources.File node place) 64 (omega arith) step, refl)
+      (node, place, walk_ends nodes node place (sources.File node place) 64 (omega arith) step, refl, refl)
   stands_by (Raw part) is plain =
       let below : IsPart nodes node part.offset part.size = rw is at (joined.below node may.row may.there) in
       let step : step_of nodes node place ≡ Found (sources.File below.file (part.offset + place))
       = step_there is ∙ ap (λ (f : Option ℕ). in_file f (part.offset + place)) below.edge in
-      (below.file, part.offset + place, walk_ends nodes node place (sources.File below.file (part.offset + place)) 64 (omega arith) step, below.edge)
+      (below.file, part.offset + place, walk_ends nodes node place (sources.File below.file (part.offset + place)) 64 (omega arith) step, below.edge, refl)
   stands_by (Qcow2 image) is plain = absurd plain
   stands_by CopyOnRead is plain = absurd plain
 
@@ -240,6 +240,12 @@ module _ (nodes : Nodes) (joined : IsJoined nodes) (node place : ℕ) (may : May
       let same : at.0 ≡ file = cc (sym at.2 ∙ stands) in
       let own : writing.own_file nodes node may.row.driver ≡ Some file = at.3 ∙ ap (λ (n : ℕ). Some n) same in
       (own, may.owns file own)
+
+  pub owned_at : (file start : ℕ) → source_of nodes node place ≡ sources.File file start → start ≡ writing.own_start may.row.driver place
+  owned_at file start stands =
+      let at = stands_by may.row.driver refl plain in
+      let same : at.1 ≡ start = cc (sym at.2 ∙ stands) in
+      sym same ∙ at.4
 
   pub stands : (file : ℕ) × (start : ℕ) × (source_of nodes node place ≡ sources.File file start)
   stands = let at = stands_by may.row.driver refl plain in (at.0, at.1, at.2)

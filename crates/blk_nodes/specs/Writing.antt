@@ -16,7 +16,7 @@ use Rattle.q2_image.specs.Image.{Known, IsImageOf}
 use Rattle.q2_image.specs.Room.{WriteFits, ZerosFit, entry_for, is_whole}
 use Rattle.q2_image.specs.Writing.{IsDiskWith, HasHeaderOf, HasEntriesBut, StaysTaken, own_place}
 use Rattle.blk_nodes.specs.Nodes.{Nodes, DeviceState, row_at, device_in, file_of, backing_of}
-use Rattle.blk_nodes.specs.Reading.{OnlyAt, StoppedBy, StoppedBelow, LeadsTo}
+use Rattle.blk_nodes.specs.Reading.{HaveRisen, OnlyAt, StoppedBy, StoppedBelow, LeadsTo}
 use Rattle.blk_nodes.specs.Sources.{source_of}
 use Rattle.blk_nodes.specs.declared.row.Driver.{Driver}
 use Rattle.blk_nodes.specs.declared.row.Driver.TheVariants as drivers
@@ -153,12 +153,28 @@ FitsAt file devices fits =
 
 -- Of a node.
 
--- the piece of a node was written where its bytes stand in a file
+-- the `file` node that a node reads and writes
+abbrev pub own_file : Nodes → ℕ → Driver → Option ℕ
+own_file nodes node drivers.File = Some node
+own_file nodes node (drivers.Raw part) = file_of nodes node
+own_file nodes node (drivers.Qcow2 image) = file_of nodes node
+own_file nodes node drivers.CopyOnRead = None
+
+-- where a place of a node that is no image stands in its file
+abbrev pub own_start : Driver → ℕ → ℕ
+own_start (drivers.Raw part) place = part.offset + place
+own_start driver place = place
+
+-- the piece of a node was written where its bytes stand in a file, which is the node's
 pub record WritesFile (old new : Nodes) (node place : ℕ) (bytes : List ℕ)
     (outcome : Outcome) : Type 0 where
   pub file : ℕ
   pub start : ℕ
   pub stands : source_of old node place ≡ File file start
+  pub row : Row
+  pub there : row_at old node ≡ Some row
+  pub own : own_file old node row.driver ≡ Some file
+  pub start_is : start ≡ own_start row.driver place
   pub at : IsWriteAt file old.devices new.devices start bytes outcome
 
 -- where a part of a cluster is written in place, by its entry
@@ -190,6 +206,8 @@ pub record WritesImage (fits : ℕ → Type 0) (own : Option ℕ) (old new : Nod
   pub held : device_in old.devices file ≡ Some before
   pub left : device_in new.devices file ≡ Some after
   pub device : IsDeviceAfter before after
+  -- no other device was written: it alone was called, or counts alone rose
+  pub devices : OnlyAt file old.devices new.devices ⊎ HaveRisen old.devices new.devices
   pub cause : HasPieceCause (fits before.capacity) own n file old new node before after outcome
 
 -- by what the node is
@@ -261,13 +279,6 @@ pub record HasImageIn (nodes : Nodes) (node file : ℕ) : Type 0 where
 -- no image but that of this node is in a file
 abbrev pub OwnsFile : Nodes → ℕ → ℕ → Type 0
 OwnsFile nodes node file = (other : ℕ) → HasImageIn nodes other file → other ≡ node
-
--- the `file` node that a node reads and writes
-abbrev pub own_file : Nodes → ℕ → Driver → Option ℕ
-own_file nodes node drivers.File = Some node
-own_file nodes node (drivers.Raw part) = file_of nodes node
-own_file nodes node (drivers.Qcow2 image) = file_of nodes node
-own_file nodes node drivers.CopyOnRead = None
 
 -- no path leads from a node's backing node to its file, so that what it reads below itself stays
 abbrev pub IsOverApart : Nodes → ℕ → Type 0

@@ -1,7 +1,7 @@
 use Rattle.std.proofs.Common.{◌≡◌, refl, sym, ◌∙◌, ap}
 use Rattle.blk_base.specs.Pieces.{Extent}
 use Rattle.blk_nodes.specs.Nodes.{Nodes}
-use Rattle.blk_nodes.proofs.Written.{stands, plain_if, joined_wrote, others_wrote, disk_wrote, piece_plain, leaves_devices}
+use Rattle.blk_nodes.proofs.Written.{stands, owned, owned_at, plain_if, joined_wrote, others_wrote, disk_wrote, piece_plain, leaves_devices}
 use Rattle.blk_nodes.proofs.nodes.Nodes.write_in_file.Goals as goal
 
 pub invariant_of-self : goal.invariant_of-self
@@ -26,7 +26,16 @@ returns-clause-wrote g c =
     let new : Nodes = record nodes { devices = c.write_file.new.self } in
     rw (sym c.self.view_is)
     (piece_plain nodes new c.args.node c.args.span c.args.bytes.now c.write_file.result may plain
-    (record { file = c.in-File.file; start = c.in-File.start; stands = there; at = c.write_file.ensures }))
+    (record {
+      file = c.in-File.file;
+      start = c.in-File.start;
+      stands = there;
+      row = may.row;
+      there = may.there;
+      own = (owned nodes c.self.invariant c.args.node c.args.span.start may plain c.in-File.file c.in-File.start there).0;
+      start_is = owned_at nodes c.self.invariant c.args.node c.args.span.start may plain c.in-File.file c.in-File.start there;
+      at = c.write_file.ensures;
+    }))
 
 pub returns-clause-disk : goal.returns-clause-disk
 returns-clause-disk g c =

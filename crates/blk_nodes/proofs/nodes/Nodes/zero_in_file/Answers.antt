@@ -2,7 +2,7 @@ use Rattle.std.proofs.Common.{◌≡◌, ℕ, List, replicate, refl, sym, ◌∙
 use Rattle.std.proofs.lemmas.List.{length-replicate}
 use Rattle.blk_base.specs.Pieces.{Extent}
 use Rattle.blk_nodes.specs.Nodes.{Nodes}
-use Rattle.blk_nodes.proofs.Written.{stands, plain_if, joined_wrote, others_wrote, disk_wrote, zeros_plain, leaves_devices}
+use Rattle.blk_nodes.proofs.Written.{stands, owned, owned_at, plain_if, joined_wrote, others_wrote, disk_wrote, zeros_plain, leaves_devices}
 use Rattle.blk_nodes.proofs.nodes.Nodes.zero_in_file.Goals as goal
 
 pub invariant_of-self : goal.invariant_of-self
@@ -33,7 +33,16 @@ returns-clause-wrote g c =
     let new : Nodes = record nodes { devices = c.write_file.new.self } in
     rw (sym c.self.view_is)
     (zeros_plain nodes new c.args.node c.args.span c.write_file.result may plain
-    (record { file = c.in-File.file; start = c.in-File.start; stands = there; at = at }))
+    (record {
+      file = c.in-File.file;
+      start = c.in-File.start;
+      stands = there;
+      row = may.row;
+      there = may.there;
+      own = (owned nodes c.self.invariant c.args.node c.args.span.start may plain c.in-File.file c.in-File.start there).0;
+      start_is = owned_at nodes c.self.invariant c.args.node c.args.span.start may plain c.in-File.file c.in-File.start there;
+      at = at;
+    }))
 
 pub returns-clause-disk : goal.returns-clause-disk
 returns-clause-disk g c =
