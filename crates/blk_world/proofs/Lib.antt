@@ -21,6 +21,7 @@ pub mod CarryLines
 pub mod CarryBack
 pub mod CarryGiven
 pub mod CarryInTable
+pub mod Borrowed
 pub mod TableKinds
 pub mod KeptDrives
 pub mod EasedTables

@@ -1,11 +1,13 @@
 //! Entries, put at the end of the history.
-ghost use Rattle.std.specs.Prelude.{◌≡◌, ◌<◌, ◌≤◌, length};
+ghost use Rattle.std.specs.Prelude.{◌≡◌, ◌<◌, ◌≤◌, length, option_map, string_bytes};
 ghost use Rattle.blk_history.specs.declared.event.Event.{Event};
+ghost use Rattle.qmp_codec.specs.Commands.{seen_command};
 ghost use Rattle.trace_codec.specs.Awaits.{seen_await};
 ghost use Rattle.blk_world.specs.Progress.{log_of, log_with};
 
-use blk_base::Outcome;
-use blk_history::{Asked, Awaited, Entry, History, Refused};
+use blk_base::{Outcome, Text};
+use blk_history::{Asked, Awaited, Entry, History, Refused, Understood};
+use qmp_codec::Command;
 use trace_codec::{Await, Op};
 
 /// That a request is admitted. Says where the entry stands.
@@ -66,6 +68,26 @@ pub(crate) fn note_retirement(history: &mut History, guest: u32, request: u32)
     ensures { history.new ≡ log_of history.old (Event.Retire guest request) }
 {
     history.push(Entry::Retire { guest, request });
+}
+
+/// That a line of the script is answered, with the line as it was given and the text of the answer.
+pub(crate) fn note_reply(
+    history: &mut History,
+    line: u32,
+    given: String,
+    command: Option<Command>,
+    text: String,
+)
+    requires { 0 < history.old.room }
+    ensures { history.new ≡ log_of history.old
+        (Event.Reply line (string_bytes given) (option_map seen_command command) (string_bytes text)) }
+{
+    history.push(Entry::Reply {
+        line,
+        given: Text::from_string(given),
+        command: Understood::new(command),
+        text: Text::from_string(text),
+    });
 }
 
 /// That what a line of the script waits for has come.

@@ -4,6 +4,7 @@
 
 mod adding;
 mod admission;
+mod answering;
 mod closing;
 mod creating;
 mod deleting;

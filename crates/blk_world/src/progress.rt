@@ -10,6 +10,7 @@ use crate::entries;
 use crate::row::{GuestProgress, InFlight};
 use blk_base::{NoMemory, Outcome, Room};
 use blk_history::{History, Refused};
+use qmp_codec::Command;
 use std::alloc::Global;
 use std::marker::Model;
 use trace_codec::{Await, Op};
@@ -118,7 +119,8 @@ fn all_marked(rows: &[GuestProgress]) -> bool
 }
 
 impl Progress {
-    ghost use Rattle.std.specs.Prelude.{IsSome, Contains};
+    ghost use Rattle.std.specs.Prelude.{IsSome, Contains, option_map, string_bytes};
+    ghost use Rattle.qmp_codec.specs.Commands.{seen_command};
     ghost use Rattle.blk_history.specs.Fold.{With};
     ghost use Rattle.blk_history.specs.Machine.{Flight};
     ghost use Rattle.blk_history.specs.Legal.{IsOver};
@@ -221,6 +223,18 @@ impl Progress {
                 ..row
             },
         );
+    }
+
+    /// Notes that a line of the script is answered.
+    pub(crate) fn reply(&mut self, line: u32, given: String, command: Option<Command>, text: String)
+        requires { 0 < self.old.spare.entries }
+        ensures { self.new ≡ with_entry
+            (Event.Reply line (string_bytes given) (option_map seen_command command) (string_bytes text)) self.old }
+    {
+        let spare = less(self.spare, 1, 0);
+        entries::note_reply(&mut self.history, line, given, command, text);
+        self.lines.push_reserved(line);
+        self.spare = spare;
     }
 
     /// Notes that what a line of the script waits for has come.
