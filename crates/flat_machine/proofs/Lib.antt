@@ -18,7 +18,7 @@ pub mod Suited
 pub mod Openings
 pub mod Written
 pub mod Answered
-mod ReadBack
+pub mod ReadBack
 pub mod Resting
 pub mod Histories
 mod Lines

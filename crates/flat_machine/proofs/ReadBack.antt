@@ -158,7 +158,7 @@ mutual
       let parts = or_parts (has_float d) (members_have_float ms) e in (has-numbers d h.0 parts.0, members-have ms h.1 parts.1)
 
 mutual
-  outline-depth : (d : Data) → tree.depth (outline d) ≡ depth d
+  pub outline-depth : (d : Data) → tree.depth (outline d) ≡ depth d
   outline-depth null = refl
   outline-depth (boolean b) = refl
   outline-depth (number n) = refl
@@ -175,7 +175,7 @@ mutual
   members-depth (member k d ms) = ap (λ n. max n (tree.members_depth (members_outline ms))) (outline-depth d) ∙ ap (max (depth d)) (members-depth ms)
 
 -- What is written for a value whose numbers print, and that isn't too deep, reads as its outline does.
-read-compact : (d : Data) → tree.HasNumbers (outline d) → depth d ≤ max_depth → read (compact_text d) ≡ of_json (outline d)
+pub read-compact : (d : Data) → tree.HasNumbers (outline d) → depth d ≤ max_depth → read (compact_text d) ≡ of_json (outline d)
 read-compact d numbers shallow =
     ap (λ o. option_and_then of_json (option_and_then (λ p. json.if_last p.0 p.1) o))
     (ap (json.value max_depth)

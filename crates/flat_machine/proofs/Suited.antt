@@ -350,7 +350,7 @@ unused-free k devices few =
         absurd (omega arith)
 
 -- no device has the number of a new one
-fresh_number : (t : Table) (told : Told) (id : List ℕ) → TableStands t → holds t told (ask.FreshDevice id) ≡ None
+pub fresh_number : (t : Table) (told : Told) (id : List ℕ) → TableStands t → holds t told (ask.FreshDevice id) ≡ None
     → holds t told ask.RoomForDevice ≡ None → device_at t (device_number t id) ≡ None
 unfolding holds
 fresh_number t told id h fresh room = by_place (place_from 0 id t.guests) refl
