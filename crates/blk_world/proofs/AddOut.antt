@@ -99,17 +99,26 @@ module _ (t t' : Table) (nodes : Nodes) (opened : List Opened) (out : AreOut t n
   held-at (x ∷ xs) zero d within = refl
   held-at (x ∷ xs) (suc k) d within = held-at xs k d (omega (arith, within))
 
-  below : (k : ℕ) (d : DeviceState) → k < length nodes.devices → (get_or nodes.devices k d).number ≢ device.number
-  below k d within = λ same.
+  before : (k : ℕ) (d : DeviceState) → k < length nodes.devices → (get_or nodes.devices k d).number.0 < device.number.0
+  before k d within =
       let there : Contains nodes.devices (get_or nodes.devices k d) = (k, within, held-at nodes.devices k d within) in
       let was = out.each (get_or nodes.devices k d) there in
       let less = slice_get_within opened (get_or nodes.devices k d).number.0 was.opening was.there in
-      let is : (get_or nodes.devices k d).number.0 ≡ length opened = ap (λ (n : DevNo). n.0) same ∙ at in
+      omega (arith, less, at)
+
+  below : (k : ℕ) (d : DeviceState) → k < length nodes.devices → (get_or nodes.devices k d).number ≢ device.number
+  below k d within = λ same.
+      let less = before k d within in
+      let is : (get_or nodes.devices k d).number.0 ≡ device.number.0 = ap (λ (n : DevNo). n.0) same in
       omega (arith, less, is)
 
   -- under a number of its own
   pub once-out : AllPairs (λ a b. a.number ≢ b.number) held_then
   once-out = all_pairs_push (λ a b. a.number ≢ b.number) nodes.devices (of_node id device) out.once below
+
+  -- behind those that were opened before
+  pub order-out : AllPairs (λ (a b : DeviceState). a.number.0 < b.number.0) held_then
+  order-out = all_pairs_push (λ (a b : DeviceState). a.number.0 < b.number.0) nodes.devices (of_node id device) out.order before
 
   -- and each opening that isn't back is that of one
   pub all-out : (n : ℕ) (o : Opened) → slice_get more n ≡ Some o → o.returned ≡ None → IsSome (device_numbered held_then n)

@@ -1,8 +1,7 @@
 -- A new world comes of its store's files, its room and its guests.
-use Rattle.std.proofs.Common.{◌≡◌, ℕ, true, false, List, [], ◌∷◌, length, map, replicate, refl, sym, ◌∙◌, ap, arith}
+use Rattle.std.proofs.Common.{◌≡◌, ℕ, true, List, [], ◌∷◌, length, map, replicate, refl, sym, ◌∙◌, ap, arith}
 use Rattle.std.specs.Prelude.{IfOk, Result, Ok, Err, is_some}
 use Rattle.std.proofs.lemmas.List.Elements.{All-nil}
-use Rattle.blk_base.specs.Files.{is_out}
 use Rattle.blk_base.specs.declared.memory.Room.{Room}
 use Rattle.qmp_rules.specs.Table.{opening_table}
 use Rattle.flat_machine.specs.Opening.{start, new_guest}
@@ -22,8 +21,7 @@ guests-start : (names : List (List ℕ)) → map (λ name. new_guest) names ≡ 
 guests-start [] = refl
 guests-start (name ∷ names) = ap (λ guests. new_guest ∷ guests) (guests-start names)
 
-module _ (store : StoreSeen) (guests : List (List ℕ)) (room : Room) (none_out : (name : List ℕ) → is_out name store.opened ≡ false)
-    (o : Opening) (is : IsOpeningOf store guests o) where
+module _ (store : StoreSeen) (guests : List (List ℕ)) (room : Room) (o : Opening) (is : IsOpeningOf store guests o) where
   shows-start : is_some store.files ≡ true → Shows o (start o) (new_world store guests room)
   shows-start told =
       let files = is.files_are told in
@@ -44,7 +42,7 @@ module _ (store : StoreSeen) (guests : List (List ℕ)) (room : Room) (none_out 
     };
     counted = omega arith;
     requests = sym (guests-start guests) ∙ ap (map (λ name. new_guest)) is.guests_are;
-    coherent = coherent-new guests room store.opened none_out;
+    coherent = coherent-new guests room;
     shows = λ told. shows-start told;
   }
 

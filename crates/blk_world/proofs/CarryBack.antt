@@ -93,7 +93,7 @@ pub same_back : (w : Face) → IsPutBack w w
 same_back w = record {
   table = refl;
   progress = refl;
-  runs = runs-devices w w refl refl refl refl refl (same-devices w.nodes.devices);
+  runs = runs-devices w w refl refl refl refl refl refl (same-devices w.nodes.devices);
   coherent = λ was. was;
   contents = λ told o s shows. quiet-self (contents_of w);
 }

@@ -119,6 +119,7 @@ runs-onward w u f is = record {
   told = is.told;
   room = is.room;
   first = is.first;
+  earlier = is.earlier;
   store = is.store;
   openings = is.openings;
   devices = is.devices;

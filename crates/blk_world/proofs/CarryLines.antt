@@ -138,7 +138,7 @@ module _ (w : Face) (line : Given) (text : List ℕ) (why : Stop) (bad : command
         by_files = tt;
         table = sym (ap (all_changed w.table) (unchanged w.table line.text why bad));
         progress = ap (λ (e : Event). with_entry e w.progress) same;
-        runs = runs-devices w (onward w (with_entry entry)) refl refl refl refl refl (same-devices w.nodes.devices);
+        runs = runs-devices w (onward w (with_entry entry)) refl refl refl refl refl refl (same-devices w.nodes.devices);
         licensed = licensed-of w (onward w (with_entry entry)) line untold text (line_answer w.table untold line.text).reply said mild.can (text_is w.table untold line.text text said) (rw mild.fault tt) (rw mild.fault tt) (rw mild.full tt);
         shows = λ told o s shows. rw bad (quiet-self (contents_of w));
       }

@@ -300,6 +300,7 @@ module _ (t u : Table) (shape : HasShape t u) where
           let is = was.out.each device held in
           record { opening = is.opening; there = is.there; out = is.out; named = same-filename device.node ∙ is.named; faults = is.faults };
       once = was.out.once;
+      order = was.out.order;
       all = was.out.all;
       names = was.out.names;
     };
@@ -389,7 +390,7 @@ module _ (w : Face) (u : Table) (c : Cmd) (alone : needs_table_alone c ≡ true)
         answered = judged;
         table = is;
         progress = refl;
-        runs = runs-devices w (record w { table = u }) refl refl refl refl refl (same-devices w.nodes.devices);
+        runs = runs-devices w (record w { table = u }) refl refl refl refl refl refl (same-devices w.nodes.devices);
         cause = quiet_cause w (record w { table = u }) c refusal' (λ cause some. table_quiet w.table c cause (judged ∙ some));
         coherent = coherent-shape w.table u shape w.nodes w.opened w.progress (rests-by (refusal_of w.table untold c) refl is);
         shows = λ told o s shows. told_nothing o s w (record w { table = u }) c (alone-opens c alone) shows (performed-by s (refusal_of w.table untold c) refl shape);
@@ -402,7 +403,7 @@ table_put_back w u same =
     record {
       table = same;
       progress = refl;
-      runs = runs-devices w (record w { table = u }) refl refl refl refl refl (same-devices w.nodes.devices);
+      runs = runs-devices w (record w { table = u }) refl refl refl refl refl refl (same-devices w.nodes.devices);
       coherent = coherent-shape w.table u shape w.nodes w.opened w.progress (subst TableAtRest (sym same));
       contents = λ told o s shows. shape-quiet w u shape;
     }

@@ -47,7 +47,7 @@ held-then w store fault closed joined coherent told devices name =
     let stands = coherent.table.stands in
     let have : (row : NodeRecord) → Contains w.table.nodes row → IsSome row.filename → IsSome (device_in w.nodes.devices row.id) =
     λ row there some. has-device w.table w.nodes coherent.alike joined row (stands.apart row there) (by_name row there row.filename refl some) in
-    (back-files w.table w.nodes.devices _ store fault closed coherent.out devices files.0 files.1).1 name
+    (back-files w.table w.nodes.devices _ _ fault closed.back coherent.out devices files.0 files.1).1 name
     ∙ held-is w coherent.out stands.apart have name
   where
     by_name : (row : NodeRecord) → Contains w.table.nodes row → (filename : Option (List ℕ)) → row.filename ≡ filename → IsSome filename → row.kind ≡ Protocol

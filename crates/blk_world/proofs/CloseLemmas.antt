@@ -1,7 +1,8 @@
 -- Devices that are flushed and given back, one after another: what is out, and what files hold.
-use Rattle.std.proofs.Common.{◌≡◌, ◌≢◌, ◌⊎◌, ℕ, zero, suc, Bool, true, false, cond, List, [], ◌∷◌, set, refl, sym, ◌∙◌, ap, subst, arith, inl, inr, Option, Some, None}
+use Rattle.std.proofs.Common.{◌≡◌, ◌≢◌, ◌⊎◌, ℕ, zero, suc, ◌<◌, Bool, true, false, cond, List, [], ◌∷◌, ◌++◌, set, refl, sym, ◌∙◌, ap, subst, arith, inl, inr, Option, Some, None}
 use Rattle.std.specs.Prelude.{slice_get, is_some, is_none, ◌==◌, ◌||◌, Contains, bytes_eq, option_map}
 use Rattle.std.proofs.lemmas.Bool.{false≢true, cases_eq, ne_eqb}
+use Rattle.std.proofs.lemmas.List.Folds.{list_any-append}
 use Rattle.std.proofs.lemmas.Option.{same_Some}
 use Rattle.std.proofs.lemmas.Slice.Eq.{bytes_eq-Decides}
 use Rattle.blk_base.specs.Files.{is_out, is_out_as, given_back, file_at, put_file}
@@ -17,10 +18,11 @@ use Rattle.blk_nodes.specs.Nodes.{DeviceState, AreTold}
 use Rattle.qmp_rules.specs.Table.{Table}
 use Rattle.flat_machine.specs.State.{filename_of}
 use Rattle.flat_machine.proofs.Finds.{bytes_eq-same}
-use Rattle.blk_world.specs.Closing.{IsBack, AreBack, IsClosed, AreFlushed, IsFlushedIn, IsOutFor, first_of, flushed_by, is_file_of, held_left}
+use Rattle.blk_world.specs.Closing.{IsBack, AreBack, IsClosed, AreFlushed, IsFlushedIn, IsOutFor, first_of, flushed_by, is_file_of, held_left, store_in}
 use Rattle.blk_world.specs.Coherent.{AreHeld, IsOut}
 use Rattle.blk_world.specs.Face.{Face, told_bytes}
-use Rattle.blk_world.specs.Steps.{StoreSeen}
+use Rattle.blk_world.specs.Steps.{StoreSeen, seen_in_run}
+use Rattle.blk_world.specs.Stores.{StoreInRun}
 use Rattle.blk_world.proofs.CountLemmas.{DifferInNumber, same-number}
 
 -- ---- an opening that is given back
@@ -119,6 +121,7 @@ module _ (t : Table) (device : DeviceState) (rest : List DeviceState) (opened : 
           faults = is.faults;
         };
     once = tail_pairs DifferInNumber device rest was.once;
+    order = tail_pairs (λ (a b : DeviceState). a.number.0 < b.number.0) device rest was.order;
     all = λ m p at none.
         let still = still-out m p at none in
         let past : (device.number.0 == m) ≡ false = ne_eqb device.number.0 m (λ same. still.0 (sym same)) in
@@ -353,6 +356,27 @@ back-flushed t (d ∷ devices) old new fault back held told files is none device
       | inr later ↦ back-flushed t devices back.0 new back.2 back.4 step (all-told devices d told) _ then quiet.1 device later name named
     ]
 
+-- ---- a world
+
+-- the openings of the run stand behind those before it
+pub closed-by : (w : Face) (store : StoreInRun) (whole : StoreSeen) (fault : Option FaultAt)
+    → AreBack w.table w.nodes.devices (store_in w) (seen_in_run store) fault → store.earlier ≡ w.earlier → whole.files ≡ store.files
+    → whole.opened ≡ store.earlier ++ store.opened → whole.room ≡ store.room → whole.faults ≡ store.faults → IsClosed w whole fault
+closed-by w store whole fault back earlier files opened room faults = record {
+  opened = store.opened;
+  behind = opened ∙ ap (λ (before : List Opened). before ++ store.opened) earlier;
+  back = rw (files, room, faults) back;
+}
+
+-- none of them is out
+pub none-behind : (earlier opened whole : List Opened) → whole ≡ earlier ++ opened → ((name : List ℕ) → is_out name earlier ≡ false)
+    → ((name : List ℕ) → is_out name opened ≡ false) → (name : List ℕ) → is_out name whole ≡ false
+none-behind earlier opened whole is before none name =
+    ap (is_out name) is
+    ∙ list_any-append (is_out_as name) earlier opened
+    ∙ ap (λ (b : Bool). b || is_out name opened) (before name)
+    ∙ none name
+
 pub flushed-then : (w : Face) (store : StoreSeen) (fault : Option FaultAt) → IsClosed w store fault → AreHeld w.table w.nodes.devices w.opened → is_some w.files ≡ true
     → AreTold w.nodes.devices → fault ≡ None → AreFlushed w store.files
 flushed-then w store fault closed out told devices none device name within named = by_files w.files refl told
@@ -360,5 +384,5 @@ flushed-then w store fault closed out told devices none device name within named
     by_files : (files : Option (List File)) → w.files ≡ files → is_some files ≡ true → With store.files (λ now. IsFlushedIn now name)
     by_files None is some = absurd (false≢true some)
     by_files (Some files) is some =
-        let all = back-flushed w.table w.nodes.devices _ store fault closed out devices files is none device within name named in
+        let all = back-flushed w.table w.nodes.devices _ _ fault closed.back out devices files is none device within name named in
         subst (λ (f : Option (List File)). With f (λ now. IsFlushedIn now name)) (sym all.1) all.2

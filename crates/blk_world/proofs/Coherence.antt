@@ -3,7 +3,7 @@ use Rattle.std.proofs.Common.{◌≡◌, ℕ, zero, suc, ◌≤◌, true, false,
 use Rattle.std.specs.Prelude.{slice_get, ◌||◌, option_map, option_and_then}
 use Rattle.std.proofs.lemmas.Bool.{false≢true, cases_lt}
 use Rattle.std.proofs.lemmas.List.{length-replicate, get_or-replicate, get_or_past}
-use Rattle.blk_base.specs.Files.{is_out, is_out_as}
+use Rattle.blk_base.specs.declared.file.File.{File}
 use Rattle.blk_base.specs.Pieces.{end_of}
 use Rattle.blk_base.specs.declared.fault.Outcome.{Outcome}
 use Rattle.blk_base.specs.declared.file.Opened.{Opened}
@@ -19,10 +19,9 @@ use Rattle.flat_machine.specs.State.{Guest, disk_of_guest, size_of}
 use Rattle.flat_machine.specs.Legal.{IsForbidden}
 use Rattle.flat_machine.specs.Machine.{admitted, finished, past_piece}
 use Rattle.flat_machine.specs.Opening.{new_guest}
-use Rattle.flat_machine.proofs.Finds.{bytes_eq-same}
 use Rattle.flat_machine.proofs.Openings.{start_table_rests}
 use Rattle.blk_world.specs.Progress.{Progress, flight_at, no_progress, with_admission}
-use Rattle.blk_world.specs.Coherent.{IsCoherent, AreWithin, AreAllowed}
+use Rattle.blk_world.specs.Coherent.{IsCoherent, IsWhole, AreWithin, AreAllowed}
 
 -- ---- guests
 
@@ -117,29 +116,13 @@ nobody-flies zero k f is = let bad : ⊥ = cc is in bad
 nobody-flies (suc n) zero f is = let bad : ⊥ = cc is in bad
 nobody-flies (suc n) (suc k) f is = nobody-flies n k f is
 
--- a device that is out makes its name one that is out
-is-out : (name : List ℕ) (opened : List Opened) (n : ℕ) (o : Opened) → slice_get opened n ≡ Some o → is_out_as name o ≡ true → is_out name opened ≡ true
-is-out name [] n o there is = absurd (let bad : ⊥ = cc there in bad)
-is-out name (x ∷ opened) zero o there is =
-    let same : x ≡ o = cc there in
-    ap (λ b. b || is_out name opened) (ap (is_out_as name) same ∙ is)
-is-out name (x ∷ opened) (suc n) o there is =
-    let rest = is-out name opened n o there is in
-    elim (is_out_as name x) as (λ b. (b || is_out name opened) ≡ true) [ true ↦ refl | false ↦ rest ]
-
-none-out : (opened : List Opened) → ((name : List ℕ) → is_out name opened ≡ false) → (n : ℕ) (o : Opened) → slice_get opened n ≡ Some o → o.returned ≡ None → ⊥
-none-out opened none n o there out =
-    let named : is_out_as o.name o ≡ true = rw (bytes_eq-same o.name, out) refl in
-    false≢true (sym (none o.name) ∙ is-out o.name opened n o there named)
-
 no-row : (n k : ℕ) → get_or (replicate {A = Option Row} n None) k None ≡ None
 no-row n k =
     let len = length-replicate {A = Option Row} n None in
     elim (cases_lt k n) [ inl below ↦ get_or-replicate n k None None below | inr past ↦ get_or_past (replicate n None) k None (omega arith) ]
 
-pub coherent-new : (guests : List (List ℕ)) (room : Room) (opened : List Opened) → ((name : List ℕ) → is_out name opened ≡ false)
-    → IsCoherent (opening_table guests) no_nodes opened (no_progress (length guests) room)
-coherent-new guests room opened none = record {
+pub coherent-new : (guests : List (List ℕ)) (room : Room) → IsCoherent (opening_table guests) no_nodes [] (no_progress (length guests) room)
+coherent-new guests room = record {
   drives = λ g there. absurd (false≢true there);
   disks = λ g node on. absurd (let bad : ⊥ = cc on in bad);
   alike = record { listed = refl; edges = refl; rows = λ id. rw (no-row 64 id) tt };
@@ -153,7 +136,11 @@ coherent-new guests room opened none = record {
   out = record {
     each = λ device held. absurd (omega (arith, held.1));
     once = λ i j d less within. absurd (omega arith);
-    all = λ n o there out. absurd (none-out opened none n o there out);
-    names = λ a b o p there there' out out' same. absurd (none-out opened none a o there out);
+    order = λ i j d less within. absurd (omega arith);
+    all = λ n o there out. absurd (let bad : ⊥ = cc there in bad);
+    names = λ a b o p there there' out out' same. absurd (let bad : ⊥ = cc there in bad);
   };
 }
+
+pub whole-new : (files : Option (List File)) (guests : List (List ℕ)) (room : Room) → IsWhole files (opening_table guests) no_nodes [] (no_progress (length guests) room)
+whole-new files guests room = record { coherent = coherent-new guests room; tell = λ told device held. absurd (omega (arith, held.1)) }

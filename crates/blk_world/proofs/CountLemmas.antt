@@ -1,5 +1,5 @@
 -- Counts of faults only rise, and a fault that is reached in an event was named by no entry before.
-use Rattle.std.proofs.Common.{◌≡◌, ◌≢◌, ◌⊎◌, ℕ, zero, suc, ◌+◌, ◌≤◌, Bool, true, false, cond, List, [], ◌∷◌, ◌++◌, length, map, drop, get_or, refl, sym, ◌∙◌, ap, subst, arith, inl, inr, eq-eqb, Option, Some, None}
+use Rattle.std.proofs.Common.{◌≡◌, ◌≢◌, ◌⊎◌, ℕ, zero, suc, ◌+◌, ◌<◌, ◌≤◌, Bool, true, false, cond, List, [], ◌∷◌, ◌++◌, length, map, drop, get_or, refl, sym, ◌∙◌, ap, subst, arith, inl, inr, eq-eqb, Option, Some, None}
 use Rattle.std.specs.Prelude.{slice_get, option_map, unwrap_or, is_some, IsSome, All, AllPairs, Contains, ◌==◌}
 use Rattle.std.proofs.lemmas.Bool.{false≢true, eqb-true, ne_eqb, cases_eq}
 use Rattle.std.proofs.lemmas.List.{append-nil}
@@ -32,17 +32,17 @@ with-at : {A : Type 0} (x : Option A) (a : A) (P : A → Type 0) → x ≡ Some 
 with-at None a P e is = absurd is
 with-at (Some b) a P e is = let same : b ≡ a = cc in subst P same is
 
-with-of : {A : Type 0} (x : Option A) (a : A) (P : A → Type 0) → x ≡ Some a → P a → With x P
+pub with-of : {A : Type 0} (x : Option A) (a : A) (P : A → Type 0) → x ≡ Some a → P a → With x P
 with-of None a P e is = absurd (let bad : ⊥ = cc in bad)
 with-of (Some b) a P e is = let same : a ≡ b = cc in subst P same is
 
 -- what holds of what is there, there
-record IsThere {A : Type 0} (x : Option A) (P : A → Type 0) : Type 0 where
-  at : A
-  is : x ≡ Some at
-  holds : P at
+pub record IsThere {A : Type 0} (x : Option A) (P : A → Type 0) : Type 0 where
+  pub at : A
+  pub is : x ≡ Some at
+  pub holds : P at
 
-there : {A : Type 0} (x : Option A) (P : A → Type 0) → With x P → IsThere x P
+pub there : {A : Type 0} (x : Option A) (P : A → Type 0) → With x P → IsThere x P
 there None P is = absurd is
 there (Some a) P is = record { at = a; is = refl; holds = is }
 
@@ -268,12 +268,13 @@ later-itself : (opened : List Opened) (n : ℕ) (o : Opened) → slice_get opene
 later-itself opened n o is = with-of (slice_get opened n) o (IsLater o) is (record { name = refl; first = refl; back = λ back. refl })
 
 -- where the store is called for nothing, counts run on with those of the devices
-pub runs-devices : (w v : Face) → is_some v.files ≡ is_some w.files → v.room ≡ w.room → v.first_faults ≡ w.first_faults → v.faults ≡ w.faults → v.opened ≡ w.opened
+pub runs-devices : (w v : Face) → is_some v.files ≡ is_some w.files → v.room ≡ w.room → v.first_faults ≡ w.first_faults → v.earlier ≡ w.earlier → v.faults ≡ w.faults → v.opened ≡ w.opened
     → AreSameDevices w.nodes.devices v.nodes.devices → RunsOn w v
-runs-devices w v told room first faults opened same = record {
+runs-devices w v told room first earlier faults opened same = record {
   told = told;
   room = room;
   first = first;
+  earlier = earlier;
   store = omega (arith, faults);
   openings = λ n o is. subst (λ all. With (slice_get all n) (IsLater o)) (sym opened) (later-itself w.opened n o is);
   devices = subst (λ all. HaveNotFallen (counts_now w).devices (counts_from v.nodes.devices 0 all)) (sym opened) (not-fallen w.nodes.devices v.nodes.devices same w.opened 0);
@@ -293,6 +294,7 @@ runs-then w x v first next = record {
   told = next.told ∙ first.told;
   room = next.room ∙ first.room;
   first = next.first ∙ first.first;
+  earlier = next.earlier ∙ first.earlier;
   store = omega (arith, first.store, next.store);
   openings = λ n o is.
       let then = there (slice_get x.opened n) (IsLater o) (first.openings n o is) in
@@ -315,16 +317,19 @@ found-before (a ∷ old) (b ∷ new) y same there = elim (Contains-cases b new y
 found-before [] (b ∷ new) y same there = absurd same
 found-before (a ∷ old) [] y same there = absurd same
 
-numbers-once : (old new : List DeviceState) → AreSameDevices old new → AllPairs DifferInNumber old → AllPairs DifferInNumber new
-numbers-once [] [] same once = once
-numbers-once (a ∷ old) (b ∷ new) same once =
-    more_pairs DifferInNumber b new
+-- what holds of the numbers of each two
+numbers-pairs : (P : DevNo → DevNo → Type 0) (old new : List DeviceState) → AreSameDevices old new → AllPairs (λ (a b : DeviceState). P a.number b.number) old
+    → AllPairs (λ (a b : DeviceState). P a.number b.number) new
+numbers-pairs P [] [] same all = all
+numbers-pairs P (a ∷ old) (b ∷ new) same all =
+    more_pairs (λ (x y : DeviceState). P x.number y.number) b new
     (λ y there.
     let was = found-before old new y same.1 there in
-    λ equal. head_pairs DifferInNumber a old once was.0 was.1 (sym same.0.number ∙ equal ∙ was.2.number))
-    (numbers-once old new same.1 (tail_pairs DifferInNumber a old once))
-numbers-once [] (b ∷ new) same once = absurd same
-numbers-once (a ∷ old) [] same once = absurd same
+    subst (λ (n : DevNo). P b.number n) (sym was.2.number)
+    (subst (λ (n : DevNo). P n was.0.number) (sym same.0.number) (head_pairs (λ (x y : DeviceState). P x.number y.number) a old all was.0 was.1)))
+    (numbers-pairs P old new same.1 (tail_pairs (λ (x y : DeviceState). P x.number y.number) a old all))
+numbers-pairs P [] (b ∷ new) same all = absurd same
+numbers-pairs P (a ∷ old) [] same all = absurd same
 
 pub out-same : (t : Table) (nodes now : Nodes) (opened : List Opened) → AreSameDevices nodes.devices now.devices → AreOut t nodes opened → AreOut t now opened
 out-same t nodes now opened same was = record {
@@ -338,7 +343,8 @@ out-same t nodes now opened same was = record {
         named = subst (λ n. filename_of t n ≡ Some out.opening.name) (sym before.2.node) out.named;
         faults = omega (arith, out.faults, before.2.faults);
       };
-  once = numbers-once nodes.devices now.devices same was.once;
+  once = numbers-pairs (λ (a b : DevNo). a ≢ b) nodes.devices now.devices same was.once;
+  order = numbers-pairs (λ (a b : DevNo). a.0 < b.0) nodes.devices now.devices same was.order;
   all = λ n o at out. still (device_numbered nodes.devices n) (device_numbered now.devices n) (numbered-same nodes.devices now.devices n same) (was.all n o at out);
   names = was.names;
 }
@@ -351,7 +357,7 @@ out-same t nodes now opened same was = record {
 -- ---- a device that is held has failed
 
 -- the count of a device that is out
-count-out : (t : Table) (nodes : Nodes) (opened : List Opened) (x : DeviceState) (held : Contains nodes.devices x) (out : AreOut t nodes opened)
+pub count-out : (t : Table) (nodes : Nodes) (opened : List Opened) (x : DeviceState) (held : Contains nodes.devices x) (out : AreOut t nodes opened)
     → slice_get (counts_from nodes.devices 0 opened) x.number.0 ≡ Some x.faults
 count-out t nodes opened x held out =
     let is = out.each x held in

@@ -246,6 +246,7 @@ module _ (t : Table) (nodes : Nodes) (opened : List Opened) (node : ℕ) (joined
       names = names_left;
       each = each_left;
       once = AllPairs-filter (λ (a b : DeviceState). a.number ≢ b.number) (λ x. not (is_of node x)) devices out.once;
+      order = AllPairs-filter (λ (a b : DeviceState). a.number.0 < b.number.0) (λ x. not (is_of node x)) devices out.order;
       all = all_left;
     }
 
@@ -272,6 +273,7 @@ module _ (t : Table) (nodes : Nodes) (opened : List Opened) (node : ℕ) (joined
             faults = is_out.faults;
           };
       once = AllPairs-filter (λ (a b : DeviceState). a.number ≢ b.number) (λ x. not (is_of node x)) devices out.once;
+      order = AllPairs-filter (λ (a b : DeviceState). a.number.0 < b.number.0) (λ x. not (is_of node x)) devices out.order;
       names = out.names;
       all = λ n o at back. subst (λ (ds : List DeviceState). IsSome (device_numbered ds n)) (sym same_devices) (out.all n o at back);
     }

@@ -93,6 +93,7 @@ module _ (t now : Table) (e : IsEased t now) where
           faults = is.faults;
         };
     once = out.once;
+    order = out.order;
     all = out.all;
     names = out.names;
   }

@@ -1,5 +1,5 @@
 -- The end of a world: each device is flushed and given back.
-use Rattle.std.specs.Prelude.{◌≡◌, ℕ, Bool, true, false, if◌then◌else◌, List, [], ◌∷◌, Contains, bytes_eq, Option, Some, None, MatchOption, is_some, option_map, unwrap_or}
+use Rattle.std.specs.Prelude.{◌≡◌, ℕ, Bool, true, false, if◌then◌else◌, List, [], ◌∷◌, ◌++◌, Contains, bytes_eq, Option, Some, None, MatchOption, is_some, option_map, unwrap_or}
 use Rattle.blk_base.specs.Counts.{Rose}
 use Rattle.blk_base.specs.Files.{given_back, file_at, is_out}
 use Rattle.blk_base.specs.Stored.{files_with_returned}
@@ -53,13 +53,16 @@ AreBack t (device ∷ devices) old new fault = (between : StoreSeen) × (first l
     × IsBack t device old between first × AreBack t devices between new later
     × (fault ≡ first_of first later)
 
--- what the world's store is seen as
+-- what the run sees of the world's store
 abbrev pub store_in : Face → StoreSeen
 store_in w = seen_store w.files w.opened w.room w.faults
 
--- The end of a world: all its devices are back, in their order, and that left the store so.
-abbrev pub IsClosed : Face → StoreSeen → Option FaultAt → Type 0
-IsClosed w store fault = AreBack w.table w.nodes.devices (store_in w) store fault
+-- The end of a world: all its devices are back, in their order, and that left the store so, whose openings before the run are
+-- as they were.
+pub record IsClosed (w : Face) (store : StoreSeen) (fault : Option FaultAt) : Type 0 where
+  pub opened : List Opened
+  pub behind : store.opened ≡ w.earlier ++ opened
+  pub back : AreBack w.table w.nodes.devices (store_in w) (record store { opened = opened }) fault
 
 -- the file of that name is flushed
 abbrev pub IsFlushedIn : List File → List ℕ → Type 0

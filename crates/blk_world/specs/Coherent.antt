@@ -1,6 +1,7 @@
--- How the parts of the world belong together between events, whatever the store tells.
-use Rattle.std.specs.Prelude.{◌≡◌, ◌≢◌, ℕ, ◌≤◌, true, false, List, [], length, slice_get, AllPairs, map, Contains, Option, Some, None, IsSome}
+-- How the parts of the world belong together between events.
+use Rattle.std.specs.Prelude.{◌≡◌, ◌≢◌, ℕ, ◌<◌, ◌≤◌, true, false, List, [], length, slice_get, AllPairs, map, Contains, Option, Some, None, IsSome, is_some}
 use Rattle.blk_base.specs.Pieces.{end_of}
+use Rattle.blk_base.specs.declared.file.File.{File}
 use Rattle.blk_base.specs.declared.file.Opened.{Opened}
 use Rattle.blk_history.specs.Disk.{span_of}
 use Rattle.blk_history.specs.Fold.{With}
@@ -8,7 +9,7 @@ use Rattle.blk_history.specs.Machine.{Flight}
 use Rattle.blk_graph.specs.Graph.{NodeRow}
 use Rattle.blk_graph.specs.declared.edge.Edge.{Edge}
 use Rattle.blk_graph.specs.declared.edge.Parent.TheVariants.{Guest as GuestOf}
-use Rattle.blk_nodes.specs.Nodes.{Nodes, DeviceState, row_at, kind_of}
+use Rattle.blk_nodes.specs.Nodes.{Nodes, DeviceState, AreTold, row_at, kind_of}
 use Rattle.blk_nodes.specs.declared.row.Driver.{Driver}
 use Rattle.blk_nodes.specs.declared.row.Driver.TheVariants.{Raw}
 use Rattle.blk_nodes.specs.declared.row.Row.{Row}
@@ -98,10 +99,11 @@ abbrev pub NamesAreOutOnce : List Opened → Type 0
 NamesAreOutOnce opened = (a b : ℕ) (o p : Opened) → slice_get opened a ≡ Some o → slice_get opened b ≡ Some p
     → o.returned ≡ None → p.returned ≡ None → o.name ≡ p.name → a ≡ b
 
--- these devices are the openings that are not back yet
+-- these devices are the openings that are not back yet, in the order in which they were opened
 pub record AreHeld (t : Table) (devices : List DeviceState) (opened : List Opened) : Type 0 where
   pub each : (device : DeviceState) → Contains devices device → IsOut t opened device
   pub once : AllPairs (λ a b. a.number ≢ b.number) devices
+  pub order : AllPairs (λ a b. a.number.0 < b.number.0) devices
   pub all : (n : ℕ) (o : Opened) → slice_get opened n ≡ Some o → o.returned ≡ None
       → IsSome (device_numbered devices n)
   pub names : NamesAreOutOnce opened
@@ -109,7 +111,11 @@ pub record AreHeld (t : Table) (devices : List DeviceState) (opened : List Opene
 abbrev pub AreOut : Table → Nodes → List Opened → Type 0
 AreOut t nodes opened = AreHeld t nodes.devices opened
 
--- ---- all of it; no command that starts a job is carried out yet
+-- where the store tells its files, each device tells its bytes
+abbrev pub DevicesTell : Option (List File) → List DeviceState → Type 0
+DevicesTell files devices = is_some files ≡ true → AreTold devices
+
+-- ---- whatever the store tells; no command that starts a job is carried out yet
 
 pub record IsCoherent (t : Table) (nodes : Nodes) (opened : List Opened)
     (p : Progress) : Type 0 where
@@ -124,3 +130,10 @@ pub record IsCoherent (t : Table) (nodes : Nodes) (opened : List Opened)
   pub count : length p.guests ≡ length t.guests
   pub jobs : t.jobs ≡ []
   pub out : AreOut t nodes opened
+
+-- ---- all of it
+
+pub record IsWhole (files : Option (List File)) (t : Table) (nodes : Nodes) (opened : List Opened)
+    (p : Progress) : Type 0 where
+  pub coherent : IsCoherent t nodes opened p
+  pub tell : DevicesTell files nodes.devices

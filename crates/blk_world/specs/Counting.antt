@@ -21,11 +21,12 @@ abbrev pub HaveNotFallen : List ℕ → List ℕ → Type 0
 HaveNotFallen before after = (n count : ℕ) → slice_get before n ≡ Some count
     → With (slice_get after n) (λ now. count ≤ now)
 
--- The store tells as much as before, all openings go on, and no count falls.
+-- The store tells as much as before, all openings go on, those before the run stay, and no count falls.
 pub record RunsOn (w v : Face) : Type 0 where
   pub told : is_some v.files ≡ is_some w.files
   pub room : v.room ≡ w.room
   pub first : v.first_faults ≡ w.first_faults
+  pub earlier : v.earlier ≡ w.earlier
   pub store : w.faults ≤ v.faults
   pub openings : (n : ℕ) (o : Opened) → slice_get w.opened n ≡ Some o
       → With (slice_get v.opened n) (IsLater o)

@@ -21,7 +21,8 @@ use Rattle.flat_machine.specs.Wiring.{AreApart}
 use Rattle.flat_machine.specs.State.{filename_of}
 use Rattle.blk_world.specs.Coherent.{AreNodesOf, AreOut}
 use Rattle.blk_world.specs.Face.{Face}
-use Rattle.blk_world.specs.Steps.{StoreSeen, seen_store}
+use Rattle.blk_world.specs.Steps.{StoreSeen, seen_store, seen_in_run}
+use Rattle.blk_world.specs.Stores.{StoreInRun}
 
 -- the name of the file that a `file` node stands for; of another node, none
 abbrev pub name_under : Table → ℕ → List ℕ
@@ -48,6 +49,9 @@ pub record Ground : Type 0 where
 
 abbrev pub ground : Option (List File) → List Opened → ℕ → ℕ → Nodes → Ground
 ground files opened room faults nodes = record { store = seen_store files opened room faults; nodes = nodes }
+
+abbrev pub ground_in : StoreInRun → Nodes → Ground
+ground_in store nodes = record { store = seen_in_run store; nodes = nodes }
 
 -- a node goes, and its device is back in its file
 abbrev pub left : Table → ℕ → Ground → Ground

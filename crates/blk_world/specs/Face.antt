@@ -12,10 +12,12 @@ use Rattle.flat_machine.specs.Licence.{Counts}
 use Rattle.flat_machine.specs.State.{State}
 use Rattle.blk_world.specs.Progress.{Progress, ended_in}
 
--- The store: its files where it tells them, all openings, the capacity of files that are made, its count of faults now and
--- when the world was made. Then the nodes with their devices, the table of names, the guests and the history.
+-- The store: its files where it tells them, the openings before the run and those of the run, the capacity of files that are
+-- made, its count of faults now and when the world was made. Then the nodes with their devices, the table of names, the guests
+-- and the history. A device's number is the place of its opening among those of the run.
 pub record Face : Type 0 where
   pub files : Option (List File)
+  pub earlier : List Opened
   pub opened : List Opened
   pub room : ℕ
   pub faults : ℕ

@@ -1,5 +1,5 @@
 -- What each event leaves of the world, and when each of its answers comes.
-use Rattle.std.specs.Prelude.{◌≡◌, ℕ, zero, suc, Bool, true, false, List, length, slice_get, Option, Some, None, is_some}
+use Rattle.std.specs.Prelude.{◌≡◌, ℕ, zero, suc, Bool, true, false, List, [], length, slice_get, Option, Some, None, is_some}
 use Rattle.blk_base.specs.declared.file.File.{File}
 use Rattle.blk_base.specs.declared.file.Opened.{Opened}
 use Rattle.blk_base.specs.declared.memory.Room.{Room}
@@ -17,6 +17,7 @@ use Rattle.blk_world.specs.declared.admission.Admission.TheVariants.{Admitted, R
 use Rattle.blk_world.specs.declared.admission.Seat.{Seat}
 use Rattle.blk_world.specs.Progress.{Progress, with_admission, with_refusal, with_entry, done_at, no_progress}
 use Rattle.blk_world.specs.Face.{Face, seen_state}
+use Rattle.blk_world.specs.Stores.{StoreInRun}
 
 -- a store as it is found
 pub record StoreSeen : Type 0 where
@@ -28,11 +29,16 @@ pub record StoreSeen : Type 0 where
 abbrev pub seen_store : Option (List File) → List Opened → ℕ → ℕ → StoreSeen
 seen_store files opened room faults = record { files = files; opened = opened; room = room; faults = faults }
 
--- a new world: no node is there, and no guest has asked for anything
+-- the same of a store in a run, with the run's openings alone
+abbrev pub seen_in_run : StoreInRun → StoreSeen
+seen_in_run store = seen_store store.files store.opened store.room store.faults
+
+-- a new world: no node is there, nothing has been opened, and no guest has asked for anything
 abbrev pub new_world : StoreSeen → List (List ℕ) → Room → Face
 new_world store guests room = record {
   files = store.files;
-  opened = store.opened;
+  earlier = store.opened;
+  opened = [];
   room = store.room;
   faults = store.faults;
   first_faults = store.faults;

@@ -6,8 +6,9 @@ ghost use Rattle.blk_nodes.specs.Handing.{device_state};
 ghost use Rattle.flat_machine.specs.State.{filename_of};
 ghost use Rattle.blk_world.specs.Closing.{AreBack, IsBack, IsOutFor, flushed_by};
 ghost use Rattle.blk_world.specs.Coherent.{AreHeld};
-ghost use Rattle.blk_world.specs.Steps.{seen_store};
+ghost use Rattle.blk_world.specs.Steps.{seen_in_run};
 
+use crate::run_store::RunStore;
 use blk_base::{DevNo, Device, FaultAt, FaultFrom, Store};
 use blk_graph::NodeId;
 use blk_nodes::DevicesLeft;
@@ -54,16 +55,16 @@ fn tells_flushed<D: Device>(device: &D)
 
 /// Flushes a device of a `file` node and gives it back.
 fn give_back<S: Store>(
-    store: &mut S,
+    store: &mut RunStore<S>,
     names: &Names,
     node: NodeId,
     number: DevNo,
     device: S::Dev,
 ) -> Option<FaultAt>
-    requires { IsOutFor names.now.table node (S.opened store.old) }
-    ensures { IsBack names.now.table (device_state S.Dev.Device node number device)
-        (seen_store (S.files store.old) (S.opened store.old) (S.room store.old) (S.faults store.old))
-        (seen_store (S.files store.new) (S.opened store.new) (S.room store.new) (S.faults store.new)) result }
+    requires { IsOutFor names.now.table node store.old.opened }
+    ensures back { IsBack names.now.table (device_state S.Dev.Device node number device)
+        (seen_in_run store.old) (seen_in_run store.new) result }
+    ensures earlier { store.new.earlier ≡ store.old.earlier }
 {
     let mut device = device;
     tells_flushed(&device);
@@ -74,17 +75,17 @@ fn give_back<S: Store>(
 
 /// Flushes so many devices and gives them back, one after another. Tells the first fault.
 pub(crate) fn give_all_back<S: Store>(
-    store: &mut S,
+    store: &mut RunStore<S>,
     names: &Names,
     left: &mut DevicesLeft<S::Dev>,
     count: usize,
 ) -> Option<FaultAt>
     requires count { count ≡ length left.old }
-    requires held { AreHeld names.now.table left.old (S.opened store.old) }
+    requires held { AreHeld names.now.table left.old store.old.opened }
     ensures none_left { left.new ≡ [] }
     ensures back { AreBack names.now.table left.old
-        (seen_store (S.files store.old) (S.opened store.old) (S.room store.old) (S.faults store.old))
-        (seen_store (S.files store.new) (S.opened store.new) (S.room store.new) (S.faults store.new)) result }
+        (seen_in_run store.old) (seen_in_run store.new) result }
+    ensures earlier { store.new.earlier ≡ store.old.earlier }
 {
     if count == 0 {
         return None;

@@ -14,9 +14,10 @@ ghost use Rattle.blk_nodes.specs.Contents.{disk_of};
 ghost use Rattle.blk_nodes.specs.Joined.{IsFile};
 ghost use Rattle.blk_nodes.specs.Formatting.{IsFormatAt};
 ghost use Rattle.blk_world.specs.Creating.{with_made, IsUnmade, creation_for, unformatted, CanFormat, CanCreate, HasCreated, IsUncreated};
-ghost use Rattle.blk_world.specs.Steps.{seen_store};
-ghost use Rattle.blk_world.specs.Deleting.{ground};
+ghost use Rattle.blk_world.specs.Steps.{seen_in_run};
+ghost use Rattle.blk_world.specs.Deleting.{ground_in};
 
+use crate::run_store::RunStore;
 use blk_base::{Device, FaultFrom, NoMemory, Store, StoreStop};
 use blk_graph::NodeId;
 use blk_nodes::{FormatStop, Nodes};
@@ -95,16 +96,13 @@ pub(crate) fn told_by_room(alloc: Global, options: &Created, room: u64) -> Resul
 }
 
 /// Makes a file of so many zeros, for which the store has room and of which no device is out.
-fn make_file<S: Store>(store: &mut S, name: &str, size: u64) -> Result<(), PrepareStop>
-    requires closed { IsTrue (is_out name.now (S.opened store.old)) → ⊥ }
-    requires room { size ≤ S.room store.old }
-    ensures made { OnOk result (
-        seen_store (S.files store.new) (S.opened store.new) (S.room store.new) (S.faults store.new)
-        ≡ with_made name.now size
-        (seen_store (S.files store.old) (S.opened store.old) (S.room store.old) (S.faults store.old))) }
-    ensures stop { IfErr result (IsUnmade name.now
-        (seen_store (S.files store.old) (S.opened store.old) (S.room store.old) (S.faults store.old))
-        (seen_store (S.files store.new) (S.opened store.new) (S.room store.new) (S.faults store.new))) }
+fn make_file<S: Store>(store: &mut RunStore<S>, name: &str, size: u64) -> Result<(), PrepareStop>
+    requires closed { IsTrue (is_out name.now store.old.opened) → ⊥ }
+    requires room { size ≤ store.old.room }
+    ensures made { OnOk result
+        (seen_in_run store.new ≡ with_made name.now size (seen_in_run store.old)) }
+    ensures stop { IfErr result (IsUnmade name.now (seen_in_run store.old) (seen_in_run store.new)) }
+    ensures earlier { store.new.earlier ≡ store.old.earlier }
 {
     match store.create_file(name, size) {
         Ok(()) => Ok(()),
@@ -175,19 +173,17 @@ fn format_named<D: Device>(
 
 /// Makes the file, or creates the image in the node's file.
 pub(crate) fn create<S: Store>(
-    store: &mut S,
+    store: &mut RunStore<S>,
     nodes: &mut Nodes<S::Dev>,
     names: &Names,
     options: &Created,
 ) -> Result<(), PrepareStop>
-    requires { CanCreate names.now.table (seen_created options.now)
-        (ground (S.files store.old) (S.opened store.old) (S.room store.old) (S.faults store.old) nodes.old) }
+    requires { CanCreate names.now.table (seen_created options.now) (ground_in store.old nodes.old) }
     ensures created { OnOk result (HasCreated names.now.table (seen_created options.now)
-        (ground (S.files store.old) (S.opened store.old) (S.room store.old) (S.faults store.old) nodes.old)
-        (ground (S.files store.new) (S.opened store.new) (S.room store.new) (S.faults store.new) nodes.new)) }
+        (ground_in store.old nodes.old) (ground_in store.new nodes.new)) }
     ensures stop { IfErr result (IsUncreated names.now.table (seen_created options.now)
-        (ground (S.files store.old) (S.opened store.old) (S.room store.old) (S.faults store.old) nodes.old)
-        (ground (S.files store.new) (S.opened store.new) (S.room store.new) (S.faults store.new) nodes.new)) }
+        (ground_in store.old nodes.old) (ground_in store.new nodes.new)) }
+    ensures earlier { store.new.earlier ≡ store.old.earlier }
 {
     match options {
         Created::File(c) => make_file(store, c.filename.as_str(), bytes_of(c.size)),

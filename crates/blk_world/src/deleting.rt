@@ -5,9 +5,10 @@ ghost use Rattle.blk_nodes.specs.Contents.{disk_of};
 ghost use Rattle.blk_nodes.specs.Dropping.{without};
 ghost use Rattle.blk_nodes.specs.Nodes.{device_in};
 ghost use Rattle.qmp_rules.specs.Edits.{goes_with_node};
-ghost use Rattle.blk_world.specs.Steps.{seen_store};
-ghost use Rattle.blk_world.specs.Deleting.{ground, name_under, made_with, going, with_back, TellsFlush, CanLeave, HasLeft, HaveLeft, all_left, Belong, IsFree, Deletes, IsDeleted};
+ghost use Rattle.blk_world.specs.Steps.{seen_in_run};
+ghost use Rattle.blk_world.specs.Deleting.{ground_in, name_under, made_with, going, with_back, TellsFlush, CanLeave, HasLeft, HaveLeft, all_left, Belong, IsFree, Deletes, IsDeleted};
 
+use crate::run_store::RunStore;
 use blk_base::Store;
 use blk_graph::NodeId;
 use blk_nodes::Nodes;
@@ -46,13 +47,18 @@ fn made_with(names: &Names, node: NodeId) -> Option<NodeId>
 }
 
 /// Drops a node that no edge leads to, and gives its device, where it has one, back to its file.
-fn take_node<S: Store>(store: &mut S, nodes: &mut Nodes<S::Dev>, names: &Names, node: NodeId)
-    requires { CanLeave names.now.table
-        (ground (S.files store.old) (S.opened store.old) (S.room store.old) (S.faults store.old) nodes.old) node }
+fn take_node<S: Store>(
+    store: &mut RunStore<S>,
+    nodes: &mut Nodes<S::Dev>,
+    names: &Names,
+    node: NodeId,
+)
+    requires { CanLeave names.now.table (ground_in store.old nodes.old) node }
     ensures nodes { nodes.new ≡ without node nodes.old }
-    ensures store { seen_store (S.files store.new) (S.opened store.new) (S.room store.new) (S.faults store.new)
+    ensures store { seen_in_run store.new
         ≡ with_back (name_under names.now.table node) (device_in nodes.old.devices node)
-        (seen_store (S.files store.old) (S.opened store.old) (S.room store.old) (S.faults store.old)) }
+        (seen_in_run store.old) }
+    ensures earlier { store.new.earlier ≡ store.old.earlier }
     ensures flush { TellsFlush (device_in nodes.old.devices node) }
     ensures disks { (other : ℕ) → HasNode nodes.new.graph other
         → disk_of nodes.new other ≡ disk_of nodes.old other }
@@ -65,33 +71,40 @@ fn take_node<S: Store>(store: &mut S, nodes: &mut Nodes<S::Dev>, names: &Names, 
 }
 
 /// The same, and what is true of the nodes that are left.
-fn drop_node<S: Store>(store: &mut S, nodes: &mut Nodes<S::Dev>, names: &Names, node: NodeId)
-    requires { CanLeave names.now.table
-        (ground (S.files store.old) (S.opened store.old) (S.room store.old) (S.faults store.old) nodes.old) node }
+fn drop_node<S: Store>(
+    store: &mut RunStore<S>,
+    nodes: &mut Nodes<S::Dev>,
+    names: &Names,
+    node: NodeId,
+)
+    requires { CanLeave names.now.table (ground_in store.old nodes.old) node }
     ensures nodes { nodes.new ≡ without node nodes.old }
-    ensures store { seen_store (S.files store.new) (S.opened store.new) (S.room store.new) (S.faults store.new)
+    ensures store { seen_in_run store.new
         ≡ with_back (name_under names.now.table node) (device_in nodes.old.devices node)
-        (seen_store (S.files store.old) (S.opened store.old) (S.room store.old) (S.faults store.old)) }
-    ensures left { HasLeft
-        (ground (S.files store.old) (S.opened store.old) (S.room store.old) (S.faults store.old) nodes.old) node }
+        (seen_in_run store.old) }
+    ensures earlier { store.new.earlier ≡ store.old.earlier }
+    ensures left { HasLeft (ground_in store.old nodes.old) node }
 {
     take_node(store, nodes, names, node);
     let _ = nodes.edges();
 }
 
 /// Drops a node that no edge leads to, then the file node that was made with it, and gives their devices back.
-fn drop_nodes<S: Store>(store: &mut S, nodes: &mut Nodes<S::Dev>, names: &Names, node: NodeId)
-    requires belong { Belong names.now.table
-        (ground (S.files store.old) (S.opened store.old) (S.room store.old) (S.faults store.old) nodes.old) }
+fn drop_nodes<S: Store>(
+    store: &mut RunStore<S>,
+    nodes: &mut Nodes<S::Dev>,
+    names: &Names,
+    node: NodeId,
+)
+    requires belong { Belong names.now.table (ground_in store.old nodes.old) }
     requires free { IsFree names.now.table node }
     ensures nodes { nodes.new ≡ (all_left names.now.table (going names.now.table node)
-        (ground (S.files store.old) (S.opened store.old) (S.room store.old) (S.faults store.old) nodes.old)).nodes }
-    ensures store { seen_store (S.files store.new) (S.opened store.new) (S.room store.new) (S.faults store.new)
-        ≡ (all_left names.now.table (going names.now.table node)
-        (ground (S.files store.old) (S.opened store.old) (S.room store.old) (S.faults store.old) nodes.old)).store }
-    ensures each { HaveLeft names.now.table
-        (ground (S.files store.old) (S.opened store.old) (S.room store.old) (S.faults store.old) nodes.old)
+        (ground_in store.old nodes.old)).nodes }
+    ensures store { seen_in_run store.new ≡ (all_left names.now.table (going names.now.table node)
+        (ground_in store.old nodes.old)).store }
+    ensures each { HaveLeft names.now.table (ground_in store.old nodes.old)
         (going names.now.table node) }
+    ensures earlier { store.new.earlier ≡ store.old.earlier }
 {
     let _ = nodes.edges();
     drop_node(store, nodes, names, node);
@@ -102,17 +115,16 @@ fn drop_nodes<S: Store>(store: &mut S, nodes: &mut Nodes<S::Dev>, names: &Names,
 
 /// Drops the node of a name, as `drop_nodes` does.
 pub(crate) fn drop_named<S: Store>(
-    store: &mut S,
+    store: &mut RunStore<S>,
     nodes: &mut Nodes<S::Dev>,
     names: &Names,
     name: &str,
 )
-    requires belong { Belong names.now.table
-        (ground (S.files store.old) (S.opened store.old) (S.room store.old) (S.faults store.old) nodes.old) }
+    requires belong { Belong names.now.table (ground_in store.old nodes.old) }
     requires deletes { Deletes names.now.table name.now }
-    ensures { IsDeleted names.now.table name.now
-        (ground (S.files store.old) (S.opened store.old) (S.room store.old) (S.faults store.old) nodes.old)
-        (ground (S.files store.new) (S.opened store.new) (S.room store.new) (S.faults store.new) nodes.new) }
+    ensures deleted { IsDeleted names.now.table name.now
+        (ground_in store.old nodes.old) (ground_in store.new nodes.new) }
+    ensures earlier { store.new.earlier ≡ store.old.earlier }
 {
     match names.id_named(name) {
         Some(node) => drop_nodes(store, nodes, names, node),

@@ -8,6 +8,7 @@ mod closing;
 
 use crate::admission::{Admission, refusal_of, seat_of};
 use crate::progress::Progress;
+use crate::run_store::RunStore;
 use crate::turned::Turned;
 use blk_base::{Device, Names1, NoMemory, Room, Store};
 use blk_nodes::Nodes;
@@ -18,7 +19,7 @@ use trace_codec::{Await, Op};
 
 /// A store and all that stands on it: nodes over its files, the table of names, the guests and the history.
 pub struct World<S: Store> {
-    store: S,
+    store: RunStore<S>,
     /// The store's count of faults when the world was made.
     first_faults: u64,
     nodes: Nodes<S::Dev>,
@@ -28,22 +29,23 @@ pub struct World<S: Store> {
 
 impl<S: Store> Model for World<S> {
     ghost use Rattle.blk_world.specs.Face.{Face};
-    ghost use Rattle.blk_world.specs.Coherent.{IsCoherent};
+    ghost use Rattle.blk_world.specs.Coherent.{IsWhole};
 
     ghost Value = { Face };
 
     ghost view = { λ w. record {
-      files = S.files w.store;
-      opened = S.opened w.store;
-      room = S.room w.store;
-      faults = S.faults w.store;
+      files = w.store.files;
+      earlier = w.store.earlier;
+      opened = w.store.opened;
+      room = w.store.room;
+      faults = w.store.faults;
       first_faults = w.first_faults;
       nodes = w.nodes;
       table = w.names.table;
       progress = w.progress;
     } };
 
-    ghost invariant = { λ w. IsCoherent w.names.table w.nodes (S.opened w.store) w.progress };
+    ghost invariant = { λ w. IsWhole w.store.files w.names.table w.nodes w.store.opened w.progress };
 }
 
 /// The names of the guests, as the table keeps them.
@@ -109,7 +111,7 @@ impl<S: Store> World<S> {
                 },
             ) => Ok(World {
                 first_faults: store.faults(),
-                store,
+                store: RunStore::new(store),
                 nodes,
                 names,
                 progress,

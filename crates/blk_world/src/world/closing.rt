@@ -4,7 +4,6 @@ ghost use Rattle.blk_base.specs.Files.{is_out};
 ghost use Rattle.blk_world.specs.Closing.{AreFlushed, IsClosed};
 ghost use Rattle.blk_world.specs.Face.{held, told_bytes};
 ghost use Rattle.blk_world.specs.Steps.{seen_store};
-ghost use Rattle.blk_nodes.specs.Nodes.{AreTold};
 
 use crate::closing::give_all_back;
 use crate::world::World;
@@ -19,9 +18,8 @@ impl<S: Store> World<S> {
         ensures closed { IsClosed self
             (seen_store (S.files result.0) (S.opened result.0) (S.room result.0) (S.faults result.0)) result.2 }
         ensures none_out { (name : List ℕ) → is_out name (S.opened result.0) ≡ false }
-        ensures flushed { is_some self.files ≡ true → AreTold self.nodes.devices → result.2 ≡ None
-            → AreFlushed self (S.files result.0) }
-        ensures held { is_some self.files ≡ true → AreTold self.nodes.devices
+        ensures flushed { is_some self.files ≡ true → result.2 ≡ None → AreFlushed self (S.files result.0) }
+        ensures held { is_some self.files ≡ true
             → (name : List ℕ) → told_bytes (S.files result.0) name ≡ held self name }
     {
         let World {
@@ -36,6 +34,6 @@ impl<S: Store> World<S> {
         let count = left.len();
         let fault = give_all_back(&mut store, &names, &mut left, count);
         left.end();
-        (store, progress.into_history(), fault)
+        (store.into_store(), progress.into_history(), fault)
     }
 }

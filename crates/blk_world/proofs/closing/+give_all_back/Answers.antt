@@ -6,14 +6,14 @@ use Rattle.blk_world.proofs.closing.+give_all_back.Goals as goal
 
 pub give_back-first-requires : goal.give_back-first-requires
 give_back-first-requires g t c =
-    out-of-held c.args.names.now.table _ c.next.new.self (g.S.Store.opened c.args.store.now)
-    (subst (λ (ds : List DeviceState). AreHeld c.args.names.now.table ds (g.S.Store.opened c.args.store.now)) c.in-Some.ensures c.requires.held)
+    out-of-held c.args.names.now.table _ c.next.new.self c.args.store.now.opened
+    (subst (λ (ds : List DeviceState). AreHeld c.args.names.now.table ds c.args.store.now.opened) c.in-Some.ensures c.requires.held)
 
 pub give_all_back-later-requires : goal.give_all_back-later-requires
 give_all_back-later-requires g t c κs within =
-    let before = subst (λ (ds : List DeviceState). AreHeld c.args.names.now.table ds (g.S.Store.opened c.args.store.now)) c.in-Some.ensures c.requires.held in
-    let held : AreHeld c.args.names.now.table c.next.new.self (g.S.Store.opened c.give_back-first.new.store) =
-    held-back c.args.names.now.table _ c.next.new.self _ _ c.give_back-first.result c.give_back-first.ensures before in
+    let before = subst (λ (ds : List DeviceState). AreHeld c.args.names.now.table ds c.args.store.now.opened) c.in-Some.ensures c.requires.held in
+    let held : AreHeld c.args.names.now.table c.next.new.self c.give_back-first.new.store.opened =
+    held-back c.args.names.now.table _ c.next.new.self _ _ c.give_back-first.result c.give_back-first.ensures.back before in
     let one = ap (λ (ds : List DeviceState). length ds) c.in-Some.ensures in
     let fewer : c.args.count - 1 ≡ length c.next.new.self = omega (arith, one, c.requires.count, c.if-count-eq0.false) in
     search rules

@@ -1,14 +1,13 @@
 use Rattle.std.proofs.Common.{◌∙◌, ap, refl, Result, Err}
 use Rattle.blk_nodes.specs.declared.stop.FormatStop.{FormatStop}
 use Rattle.qmp_codec.specs.Nodes.{seen_create_qcow2}
-use Rattle.blk_world.specs.Deleting.{Ground, ground}
+use Rattle.blk_world.specs.Deleting.{Ground, ground_in}
 use Rattle.blk_world.proofs.CreatedKept.{uncreated}
 use Rattle.blk_world.proofs.creating.create.Goals as goal
 
 pub returns-in-Err-clause-stop : goal.returns-in-Err-clause-stop
 returns-in-Err-clause-stop g c =
-    let S = g.S.Store in
-    let old : Ground = ground (S.files c.args.store.now) (S.opened c.args.store.now) (S.room c.args.store.now) (S.faults c.args.store.now) c.args.nodes.now in
+    let old : Ground = ground_in c.args.store.now c.args.nodes.now in
     let now : Ground = record old { nodes = c.format_named.new.nodes } in
     rw (c.unformatted.ensures, c.in-Qcow2.is)
     (uncreated c.args.names.now.table (seen_create_qcow2 c.in-Qcow2.c) old now c.in-Err.stop

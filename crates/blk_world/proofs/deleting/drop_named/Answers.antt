@@ -1,11 +1,10 @@
 use Rattle.std.proofs.Common.{sym, ◌∙◌}
-use Rattle.blk_world.specs.Deleting.{Ground, ground}
+use Rattle.blk_world.specs.Deleting.{Ground, ground_in}
 use Rattle.blk_world.proofs.DeletedSteps.{free_by}
 use Rattle.blk_world.proofs.deleting.drop_named.Goals as goal
 
 pub drop_nodes-requires-clause-free : goal.drop_nodes-requires-clause-free
 drop_nodes-requires-clause-free g c =
-    let S = g.S.Store in
-    let x : Ground = ground (S.files c.args.store.now) (S.opened c.args.store.now) (S.room c.args.store.now) (S.faults c.args.store.now) c.args.nodes.now in
+    let x : Ground = ground_in c.args.store.now c.args.nodes.now in
     free_by c.args.names.now.table x c.requires.belong c.args.name.now c.requires.deletes c.in-Some.node
     (sym c.id_named.ensures ∙ c.in-Some.is)

@@ -2,37 +2,44 @@ use Rattle.std.proofs.Common.{List, sym, subst}
 use Rattle.blk_nodes.specs.Joined.{IsJoined}
 use Rattle.blk_nodes.specs.Nodes.{DeviceState}
 use Rattle.blk_world.specs.Closing.{AreBack, IsClosed}
-use Rattle.blk_world.specs.Coherent.{AreHeld, IsCoherent}
+use Rattle.blk_world.specs.Coherent.{AreHeld, IsWhole}
 use Rattle.blk_world.specs.Face.{Face}
-use Rattle.blk_world.specs.Steps.{StoreSeen, seen_store}
-use Rattle.blk_world.proofs.CloseLemmas.{back-held, none-out, flushed-then}
+use Rattle.blk_world.specs.Steps.{StoreSeen, seen_store, seen_in_run}
+use Rattle.blk_world.specs.Stores.{StoreInRun}
+use Rattle.blk_world.proofs.CloseLemmas.{closed-by, back-held, none-out, none-behind, flushed-then}
 use Rattle.blk_world.proofs.CloseFiles.{held-then}
 use Rattle.blk_world.proofs.world.World.close_world.Goals as goal
 
+pub returns-clause-closed : goal.returns-clause-closed
+returns-clause-closed g c =
+    let store : StoreInRun = c.give_all_back-fault.new.store in
+    let whole : StoreSeen = seen_store (g.S.Store.files c.into_store.result) (g.S.Store.opened c.into_store.result) (g.S.Store.room c.into_store.result) (g.S.Store.faults c.into_store.result) in
+    let end = c.into_store.ensures in
+    let back = subst (λ (ds : List DeviceState). AreBack c.self.inside.names.table ds (seen_in_run c.self.inside.store) (seen_in_run store) c.give_all_back-fault.result)
+    c.into_devices-left.ensures c.give_all_back-fault.ensures.back in
+    rw (← c.self.view_is) (closed-by _ store whole c.give_all_back-fault.result back c.give_all_back-fault.ensures.earlier end.files end.opened end.room end.faults)
+
 pub returns-clause-none_out : goal.returns-clause-none_out
 returns-clause-none_out g c =
-    none-out c.self.inside.names.table (g.S.Store.opened c.give_all_back-fault.new.store)
+    let store : StoreInRun = c.give_all_back-fault.new.store in
+    none-behind store.earlier store.opened (g.S.Store.opened c.into_store.result) c.into_store.ensures.opened c.into_store.ensures.earlier
+    (none-out c.self.inside.names.table store.opened
     (back-held c.self.inside.names.table _ _ _ _ c.give_all_back-fault.ensures.back
-    (subst (λ (ds : List DeviceState). AreHeld c.self.inside.names.table ds (g.S.Store.opened c.self.inside.store)) (sym c.into_devices-left.ensures) c.self.invariant.out))
+    (subst (λ (ds : List DeviceState). AreHeld c.self.inside.names.table ds c.self.inside.store.opened) (sym c.into_devices-left.ensures) c.self.invariant.coherent.out)))
 
 pub returns-clause-held : goal.returns-clause-held
-returns-clause-held g c = λ told devices name.
-    let before : StoreSeen = seen_store (g.S.Store.files c.self.inside.store) (g.S.Store.opened c.self.inside.store) (g.S.Store.room c.self.inside.store) (g.S.Store.faults c.self.inside.store) in
-    let after : StoreSeen = seen_store (g.S.Store.files c.give_all_back-fault.new.store) (g.S.Store.opened c.give_all_back-fault.new.store) (g.S.Store.room c.give_all_back-fault.new.store)
-    (g.S.Store.faults c.give_all_back-fault.new.store) in
-    let back = subst (λ (ds : List DeviceState). AreBack c.self.inside.names.table ds before after c.give_all_back-fault.result) c.into_devices-left.ensures c.give_all_back-fault.ensures.back in
-    let closed : IsClosed c.args.self after c.give_all_back-fault.result = subst (λ (w : Face). IsClosed w after c.give_all_back-fault.result) c.self.view_is back in
+returns-clause-held g c = λ told name.
+    let after : StoreSeen = seen_store (g.S.Store.files c.into_store.result) (g.S.Store.opened c.into_store.result) (g.S.Store.room c.into_store.result) (g.S.Store.faults c.into_store.result) in
+    let closed : IsClosed c.args.self after c.give_all_back-fault.result = returns-clause-closed g c in
     let joined : IsJoined c.args.self.nodes = subst (λ (w : Face). IsJoined w.nodes) c.self.view_is c.edges.ensures.joined in
-    let coherent : IsCoherent c.args.self.table c.args.self.nodes c.args.self.opened c.args.self.progress =
-    subst (λ (w : Face). IsCoherent w.table w.nodes w.opened w.progress) c.self.view_is c.self.invariant in
-    held-then c.args.self after c.give_all_back-fault.result closed joined coherent told devices name
+    let whole : IsWhole c.args.self.files c.args.self.table c.args.self.nodes c.args.self.opened c.args.self.progress =
+    subst (λ (w : Face). IsWhole w.files w.table w.nodes w.opened w.progress) c.self.view_is c.self.invariant in
+    held-then c.args.self after c.give_all_back-fault.result closed joined whole.coherent told (whole.tell told) name
 
 pub returns-clause-flushed : goal.returns-clause-flushed
-returns-clause-flushed g c = λ told devices none.
-    let before : StoreSeen = seen_store (g.S.Store.files c.self.inside.store) (g.S.Store.opened c.self.inside.store) (g.S.Store.room c.self.inside.store) (g.S.Store.faults c.self.inside.store) in
-    let after : StoreSeen = seen_store (g.S.Store.files c.give_all_back-fault.new.store) (g.S.Store.opened c.give_all_back-fault.new.store) (g.S.Store.room c.give_all_back-fault.new.store)
-    (g.S.Store.faults c.give_all_back-fault.new.store) in
-    let back = subst (λ (ds : List DeviceState). AreBack c.self.inside.names.table ds before after c.give_all_back-fault.result) c.into_devices-left.ensures c.give_all_back-fault.ensures.back in
-    let closed : IsClosed c.args.self after c.give_all_back-fault.result = subst (λ (w : Face). IsClosed w after c.give_all_back-fault.result) c.self.view_is back in
-    let out : AreHeld c.args.self.table c.args.self.nodes.devices c.args.self.opened = subst (λ (w : Face). AreHeld w.table w.nodes.devices w.opened) c.self.view_is c.self.invariant.out in
-    flushed-then c.args.self after c.give_all_back-fault.result closed out told devices none
+returns-clause-flushed g c = λ told none.
+    let after : StoreSeen = seen_store (g.S.Store.files c.into_store.result) (g.S.Store.opened c.into_store.result) (g.S.Store.room c.into_store.result) (g.S.Store.faults c.into_store.result) in
+    let closed : IsClosed c.args.self after c.give_all_back-fault.result = returns-clause-closed g c in
+    let whole : IsWhole c.args.self.files c.args.self.table c.args.self.nodes c.args.self.opened c.args.self.progress =
+    subst (λ (w : Face). IsWhole w.files w.table w.nodes w.opened w.progress) c.self.view_is c.self.invariant in
+    flushed-then c.args.self after c.give_all_back-fault.result closed whole.coherent.out told (whole.tell told) none

@@ -16,4 +16,4 @@ returns-clause-comes g c =
     } in
     ok-map c.put_world.result (λ (world : Face). world ≡ new_world store c.args.guests c.args.room)
     (λ (world : Face). (o : Opening) → IsOpeningOf store c.args.guests o → Comes o world)
-    (λ world is o opening. rw is (comes-start store c.args.guests c.args.room c.requires.none_out o opening)) c.put_world.ensures.ok
+    (λ world is o opening. rw is (comes-start store c.args.guests c.args.room o opening)) c.put_world.ensures.ok
