@@ -13,7 +13,7 @@ use Rattle.qblk_core.specs.Comes.{HasLine, HaveLines}
 use Rattle.qblk_core.specs.Run.{guest_names}
 use Rattle.blk_base.specs.declared.fault.FaultAt.{FaultAt}
 use Rattle.qblk_core.specs.Session.{EndsAs, ended_as, failed_as}
-use Rattle.qblk_core.specs.Output.{IsBuffer, SendsPart, SendsFront}
+use Rattle.qblk_core.specs.Output.{Fits, AllFit, SendsPart, SendsFront}
 
 -- a put that failed sent a front
 pub front-sent : (old new : Option (List ℕ)) (bytes : List ℕ) (n before now : ℕ) → new ≡ option_map (λ s. s ++ take n bytes) old → Rose before now → SendsFront old new bytes before now
@@ -38,43 +38,54 @@ on-err (Ok x) P Q p f = tt
 on-err (Err e) P Q p f = f p
 
 -- the entry at a place, and its line
-pub have-line : (es : List Event) (at : ℕ) (e : Event) → HaveLines es → slice_get es at ≡ Some e → HasLine e
-have-line [] at e all is = let bad : ⊥ = cc is in absurd bad
-have-line (x ∷ es) zero e all is = let same : x ≡ e = cc is in subst HasLine same all.0
-have-line (x ∷ es) (suc at) e all is = have-line es at e all.1 is
+pub fits-at : (names : RowNames) (memory : ℕ) (es : List Event) (at : ℕ) (e : Event) → AllFit names memory es → slice_get es at ≡ Some e → Fits names memory e
+fits-at names memory [] at e all is = let bad : ⊥ = cc is in absurd bad
+fits-at names memory (x ∷ es) zero e all is = let same : x ≡ e = cc is in subst (Fits names memory) same all.0
+fits-at names memory (x ∷ es) (suc at) e all is = fits-at names memory es at e all.1 is
+
+-- with more memory they fit too
+pub fits-more : (names : RowNames) (a b : ℕ) (es : List Event) → a ≤ b → AllFit names a es → AllFit names b es
+fits-more names a b [] le all = tt
+fits-more names a b (e ∷ es) le all =
+    (record { named = all.0.named; room = let had = all.0.room in omega arith }, fits-more names a b es le all.1)
 
 pub get-below : (es : List Event) (at : ℕ) → at < length es → (e : Event) × (slice_get es at ≡ Some e)
 get-below [] at below = absurd (omega arith)
 get-below (x ∷ es) zero below = (x, refl)
 get-below (x ∷ es) (suc at) below = get-below es at (omega arith)
 
-pub room-of : (names : RowNames) (e : Event) → names ≡ guest_names → HasLine e → line_room names e ≤ 327940
-room-of names (Admit g r op) named line = rw (named, line.whose) (omega arith)
-room-of names (Refuse g r op why) named line = rw (named, line.whose) (omega arith)
-room-of names (Piece g r k outcome got) named line = rw (named, line.whose) (let shown = line.shown in omega arith)
-room-of names (Retire g r) named line = rw (named, line.whose) (omega arith)
-room-of names e named line = absurd line.whose
+-- the lines of a trace on one image: its guest is called `disk`, and shows at most one block
+room-of : (e : Event) → HasLine e → 65536 + line_room guest_names e ≤ 393476
+room-of (Admit g r op) line = rw line.whose (omega arith)
+room-of (Refuse g r op why) line = rw line.whose (omega arith)
+room-of (Piece g r k outcome got) line = rw line.whose (let shown = line.shown in omega arith)
+room-of (Retire g r) line = rw line.whose (omega arith)
+room-of e line = absurd line.whose
 
-pub named-by : (names : RowNames) (e : Event) → names ≡ guest_names → HasLine e → HasName names e
-named-by names (Admit g r op) named line = rw (named, line.whose) (lit< tt)
-named-by names (Refuse g r op why) named line = rw (named, line.whose) (lit< tt)
-named-by names (Piece g r k outcome got) named line = rw (named, line.whose) (lit< tt)
-named-by names (Retire g r) named line = rw (named, line.whose) (lit< tt)
-named-by names e named line = absurd line.whose
+named-by : (e : Event) → HasLine e → HasName guest_names e
+named-by (Admit g r op) line = rw line.whose (lit< tt)
+named-by (Refuse g r op why) line = rw line.whose (lit< tt)
+named-by (Piece g r k outcome got) line = rw line.whose (lit< tt)
+named-by (Retire g r) line = rw line.whose (lit< tt)
+named-by e line = absurd line.whose
+
+pub lines-fit : (es : List Event) → HaveLines es → AllFit guest_names 393476 es
+lines-fit [] all = tt
+lines-fit (e ∷ es) all = (record { named = named-by e all.0; room = room-of e all.0 }, lines-fit es all.1)
 
 -- a line that stays in the text
-pub line-kept : (old : Option (List ℕ)) (before now : Written) (more : List ℕ) (room : ℕ) → IsBuffer before → Appends before now more room → length now.bytes < 65536 → SendsPart old old (before.bytes ++ more) now
-line-kept old before now more room buffer appends short = record {
+pub line-kept : (old : Option (List ℕ)) (before now : Written) (more : List ℕ) (room : ℕ) → Appends before now more room → length now.bytes < 65536 → SendsPart (memory_of before) old old (before.bytes ++ more) now
+line-kept old before now more room appends short = record {
   part = ([], appends.bytes, nothing-sent old);
-  buffer = record { short = short; room = let had = buffer.room in let memory = appends.memory in omega arith };
+  buffer = record { short = short; room = appends.memory };
 }
 
 -- and one that goes out
-pub line-sent : (old new : Option (List ℕ)) (before mid now : Written) (more : List ℕ) (room : ℕ) → IsBuffer before → Appends before mid more room
-    → new ≡ option_map (λ s. s ++ mid.bytes) old → now.bytes ≡ [] → memory_of now ≡ memory_of mid → SendsPart old new (before.bytes ++ more) now
-line-sent old new before mid now more room buffer appends sent empty same = record {
+pub line-sent : (old new : Option (List ℕ)) (before mid now : Written) (more : List ℕ) (room : ℕ) → Appends before mid more room
+    → new ≡ option_map (λ s. s ++ mid.bytes) old → now.bytes ≡ [] → memory_of now ≡ memory_of mid → SendsPart (memory_of before) old new (before.bytes ++ more) now
+line-sent old new before mid now more room appends sent empty same = record {
   part = (mid.bytes, ap (λ bs. mid.bytes ++ bs) empty ∙ append-nil mid.bytes ∙ appends.bytes, sent);
-  buffer = record { short = rw empty (lit< tt); room = let had = buffer.room in let memory = appends.memory in omega arith };
+  buffer = record { short = rw empty (lit< tt); room = let memory = appends.memory in omega arith };
 }
 
 pub line-front : (old new : Option (List ℕ)) (before mid : Written) (more : List ℕ) (room b n : ℕ) → Appends before mid more room
@@ -88,40 +99,36 @@ pub at-ok : {T E : Type 0} (r : Result T E) (x : T) (P : Type 0) → r ≡ Ok x 
 at-ok (Ok y) x P is p = p
 at-ok (Err e) x P is p = let bad : ⊥ = cc is in absurd bad
 
--- the line of an entry, by the guest's name
-pub appended : (names : RowNames) (e : Event) (before now : Written) → names ≡ guest_names → Appends before now (line_of names e) (line_room names e) → Appends before now (line_of guest_names e) (line_room guest_names e)
-appended names e before now named appends = let P : RowNames → Type 0 = λ n. Appends before now (line_of n e) (line_room n e) in subst P named appends
-
-abbrev lines : List Event → List ℕ
-lines es = flat_map (line_of guest_names) es
+abbrev lines : RowNames → List Event → List ℕ
+lines names es = flat_map (line_of names) es
 
 -- one line more
-pub lines-next : (es : List Event) (at : ℕ) (e : Event) → slice_get es at ≡ Some e → lines (take (at + 1) es) ≡ lines (take at es) ++ line_of guest_names e
-lines-next [] at e is = let bad : ⊥ = cc is in absurd bad
-lines-next (x ∷ es) zero e is = let same : x ≡ e = cc is in append-nil (line_of guest_names x) ∙ ap (line_of guest_names) same
-lines-next (x ∷ es) (suc at) e is = let next : suc at + 1 ≡ suc (at + 1) = omega arith in rw next (ap (λ bs. line_of guest_names x ++ bs) (lines-next es at e is) ∙ sym (append_assoc (line_of guest_names x) (lines (take at es)) (line_of guest_names e)))
+pub lines-next : (names : RowNames) (es : List Event) (at : ℕ) (e : Event) → slice_get es at ≡ Some e → lines names (take (at + 1) es) ≡ lines names (take at es) ++ line_of names e
+lines-next names [] at e is = let bad : ⊥ = cc is in absurd bad
+lines-next names (x ∷ es) zero e is = let same : x ≡ e = cc is in append-nil (line_of names x) ∙ ap (line_of names) same
+lines-next names (x ∷ es) (suc at) e is = let next : suc at + 1 ≡ suc (at + 1) = omega arith in rw next (ap (λ bs. line_of names x ++ bs) (lines-next names es at e is) ∙ sym (append_assoc (line_of names x) (lines names (take at es)) (line_of names e)))
 
 -- all lines are the first, and the rest
-lines-all : (es : List Event) (n : ℕ) → lines (take n es) ++ lines (drop n es) ≡ lines es
-lines-all [] zero = refl
-lines-all [] (suc n) = refl
-lines-all (x ∷ es) zero = refl
-lines-all (x ∷ es) (suc n) = append_assoc (line_of guest_names x) (lines (take n es)) (lines (drop n es)) ∙ ap (λ bs. line_of guest_names x ++ bs) (lines-all es n)
+lines-all : (names : RowNames) (es : List Event) (n : ℕ) → lines names (take n es) ++ lines names (drop n es) ≡ lines names es
+lines-all names [] zero = refl
+lines-all names [] (suc n) = refl
+lines-all names (x ∷ es) zero = refl
+lines-all names (x ∷ es) (suc n) = append_assoc (line_of names x) (lines names (take n es)) (lines names (drop n es)) ∙ ap (λ bs. line_of names x ++ bs) (lines-all names es n)
 
 -- one part after another
-pub part-next : (old mid new : Option (List ℕ)) (whole more : List ℕ) (before now : Written) → SendsPart old mid whole before → SendsPart mid new (before.bytes ++ more) now → SendsPart old new (whole ++ more) now
-part-next old mid new whole more before now first then = record {
+pub part-next : (memory : ℕ) (old mid new : Option (List ℕ)) (whole more : List ℕ) (before now : Written) → SendsPart memory old mid whole before → SendsPart (memory_of before) mid new (before.bytes ++ more) now → SendsPart memory old new (whole ++ more) now
+part-next memory old mid new whole more before now first then = record {
   part = (
     first.part.0 ++ then.part.0,
     append_assoc first.part.0 then.part.0 now.bytes ∙ ap (λ bs. first.part.0 ++ bs) then.part.1 ∙ sym (append_assoc first.part.0 before.bytes more) ∙ ap (λ bs. bs ++ more) first.part.1,
     sent-after old mid new first.part.0 then.part.0 first.part.2 then.part.2,
   );
-  buffer = then.buffer;
+  buffer = record { short = then.buffer.short; room = let a = first.buffer.room in let b = then.buffer.room in omega arith };
 }
 
 -- a part, and then a front of what follows
-pub part-front : (old mid new : Option (List ℕ)) (whole more : List ℕ) (before : Written) (a b c : ℕ) → SendsPart old mid whole before → SendsFront mid new (before.bytes ++ more) b c → a ≤ b → SendsFront old new (whole ++ more) a c
-part-front old mid new whole more before a b c first then le = record {
+pub part-front : (memory : ℕ) (old mid new : Option (List ℕ)) (whole more : List ℕ) (before : Written) (a b c : ℕ) → SendsPart memory old mid whole before → SendsFront mid new (before.bytes ++ more) b c → a ≤ b → SendsFront old new (whole ++ more) a c
+part-front memory old mid new whole more before a b c first then le = record {
   part = (
     first.part.0 ++ then.part.0,
     then.part.1,
@@ -138,38 +145,38 @@ front-more old new whole more a b front = record {
 }
 
 -- at a line that failed, a front of the whole transcript is out
-pub line-failed : (es : List Event) (at : ℕ) (e : Event) (old mid new : Option (List ℕ)) (before : Written) (a b c : ℕ) → slice_get es at ≡ Some e → SendsPart old mid (lines (take at es)) before
-    → SendsFront mid new (before.bytes ++ line_of guest_names e) b c → a ≤ b → SendsFront old new (transcript guest_names es) a c
+pub line-failed : (names : RowNames) (memory : ℕ) (es : List Event) (at : ℕ) (e : Event) (old mid new : Option (List ℕ)) (before : Written) (a b c : ℕ) → slice_get es at ≡ Some e → SendsPart memory old mid (lines names (take at es)) before
+    → SendsFront mid new (before.bytes ++ line_of names e) b c → a ≤ b → SendsFront old new (transcript names es) a c
 unfolding transcript
-line-failed es at e old mid new before a b c is part front le =
-    let here = part-front old mid new (lines (take at es)) (line_of guest_names e) before a b c part front le in
-    let whole : (lines (take at es) ++ line_of guest_names e) ++ lines (drop (at + 1) es) ≡ lines es = ap (λ bs. bs ++ lines (drop (at + 1) es)) (sym (lines-next es at e is)) ∙ lines-all es (at + 1) in
+line-failed names memory es at e old mid new before a b c is part front le =
+    let here = part-front memory old mid new (lines names (take at es)) (line_of names e) before a b c part front le in
+    let whole : (lines names (take at es) ++ line_of names e) ++ lines names (drop (at + 1) es) ≡ lines names es = ap (λ bs. bs ++ lines names (drop (at + 1) es)) (sym (lines-next names es at e is)) ∙ lines-all names es (at + 1) in
     let P : List ℕ → Type 0 = λ w. SendsFront old new w a c in
-    subst P whole (front-more old new _ (lines (drop (at + 1) es)) a c here)
+    subst P whole (front-more old new _ (lines names (drop (at + 1) es)) a c here)
 
-take-every : (es : List Event) (n : ℕ) → n ≡ length es → lines (take n es) ≡ lines es
-take-every es n is = ap lines (take_all n es (omega arith))
+take-every : (names : RowNames) (es : List Event) (n : ℕ) → n ≡ length es → lines names (take n es) ≡ lines names es
+take-every names es n is = ap (lines names) (take_all n es (omega arith))
 
 -- where the text is empty, all of it is out
-pub all-sent : (es : List Event) (n : ℕ) (old new : Option (List ℕ)) (line : Written) → n ≡ length es → SendsPart old new (lines (take n es)) line → line.bytes ≡ [] → new ≡ option_map (λ s. s ++ transcript guest_names es) old
+pub all-sent : (names : RowNames) (memory : ℕ) (es : List Event) (n : ℕ) (old new : Option (List ℕ)) (line : Written) → n ≡ length es → SendsPart memory old new (lines names (take n es)) line → line.bytes ≡ [] → new ≡ option_map (λ s. s ++ transcript names es) old
 unfolding transcript
-all-sent es n old new line is part empty =
-    let whole : part.part.0 ≡ lines es = sym (append-nil part.part.0) ∙ ap (λ bs. part.part.0 ++ bs) (sym empty) ∙ part.part.1 ∙ take-every es n is in
+all-sent names memory es n old new line is part empty =
+    let whole : part.part.0 ≡ lines names es = sym (append-nil part.part.0) ∙ ap (λ bs. part.part.0 ++ bs) (sym empty) ∙ part.part.1 ∙ take-every names es n is in
     part.part.2 ∙ ap (λ (bs : List ℕ). option_map (λ s. s ++ bs) old) whole
 
 -- where it holds the rest, and that goes out
-pub rest-sent : (es : List Event) (n : ℕ) (old mid new : Option (List ℕ)) (line : Written) → n ≡ length es → SendsPart old mid (lines (take n es)) line → new ≡ option_map (λ s. s ++ line.bytes) mid → new ≡ option_map (λ s. s ++ transcript guest_names es) old
+pub rest-sent : (names : RowNames) (memory : ℕ) (es : List Event) (n : ℕ) (old mid new : Option (List ℕ)) (line : Written) → n ≡ length es → SendsPart memory old mid (lines names (take n es)) line → new ≡ option_map (λ s. s ++ line.bytes) mid → new ≡ option_map (λ s. s ++ transcript names es) old
 unfolding transcript
-rest-sent es n old mid new line is part sent =
-    sent-after old mid new part.part.0 line.bytes part.part.2 sent ∙ ap (λ (bs : List ℕ). option_map (λ s. s ++ bs) old) (part.part.1 ∙ take-every es n is)
+rest-sent names memory es n old mid new line is part sent =
+    sent-after old mid new part.part.0 line.bytes part.part.2 sent ∙ ap (λ (bs : List ℕ). option_map (λ s. s ++ bs) old) (part.part.1 ∙ take-every names es n is)
 
-pub rest-failed : (es : List Event) (n : ℕ) (old mid new : Option (List ℕ)) (line : Written) (a b c : ℕ) → n ≡ length es → SendsPart old mid (lines (take n es)) line → SendsFront mid new line.bytes b c → a ≤ b → SendsFront old new (transcript guest_names es) a c
+pub rest-failed : (names : RowNames) (memory : ℕ) (es : List Event) (n : ℕ) (old mid new : Option (List ℕ)) (line : Written) (a b c : ℕ) → n ≡ length es → SendsPart memory old mid (lines names (take n es)) line → SendsFront mid new line.bytes b c → a ≤ b → SendsFront old new (transcript names es) a c
 unfolding transcript
-rest-failed es n old mid new line a b c is part front le =
+rest-failed names memory es n old mid new line a b c is part front le =
     let here : SendsFront mid new (line.bytes ++ []) b c = rw (append-nil line.bytes) front in
-    let all = part-front old mid new (lines (take n es)) [] line a b c part here le in
+    let all = part-front memory old mid new (lines names (take n es)) [] line a b c part here le in
     let P : List ℕ → Type 0 = λ w. SendsFront old new w a c in
-    subst P (append-nil (lines (take n es)) ∙ take-every es n is) all
+    subst P (append-nil (lines names (take n es)) ∙ take-every names es n is) all
 
 -- the status tells how it ended
 pub ends-well : (fault : Option FaultAt) (old new : Option (List ℕ)) (whole : List ℕ) (before now : ℕ) → new ≡ option_map (λ s. s ++ whole) old → now ≡ before → EndsAs fault old new whole before now (ended_as fault)

@@ -33,7 +33,7 @@ use Rattle.qblk_core.specs.declared.input.TraceRead.TheVariants as reads
 use Rattle.qblk_core.specs.declared.status.InputWhy.{InputWhy}
 use Rattle.qblk_core.specs.declared.status.InputWhy.TheVariants as why
 use Rattle.qblk_core.specs.declared.status.Status.{Status}
-use Rattle.qblk_core.specs.declared.status.Status.TheVariants.{Done, Usage, Input, Fault, NoMemory}
+use Rattle.qblk_core.specs.declared.status.Status.TheVariants.{Done, Usage, Input, Fault, Stuck, NoMemory}
 
 -- the device of a file that is told
 pub record IsToldAs (image : List ℕ) (d : Seen) (files : List File) (f : File) : Type 0 where
@@ -257,6 +257,7 @@ store-stands before now (Fault Sink count) is = is
 store-stands before now Done is = is
 store-stands before now Usage is = is
 store-stands before now (Input name line cause) is = is
+store-stands before now (Stuck actor waits) is = is
 store-stands before now NoMemory is = is
 
 pub sink-stands : (before now : ℕ) (status : Status) → now ≡ before → SinkStands status before now
@@ -266,6 +267,7 @@ sink-stands before now (Fault Sink count) is = tt
 sink-stands before now Done is = is
 sink-stands before now Usage is = is
 sink-stands before now (Input name line cause) is = is
+sink-stands before now (Stuck actor waits) is = is
 sink-stands before now NoMemory is = is
 
 pub ends-stands : (n : Seen) (faults : ℕ) (fault : Option FaultAt) (old new : Option (List ℕ)) (whole : List ℕ) (before now : ℕ) (status : Status)

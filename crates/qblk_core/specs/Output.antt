@@ -1,17 +1,29 @@
 -- A transcript that goes out in parts.
-use Rattle.std.specs.Prelude.{◌≡◌, ℕ, ◌<◌, ◌≤◌, List, ◌++◌, length, Option, option_map}
+use Rattle.std.specs.Prelude.{◌≡◌, ℕ, ◌+◌, ◌<◌, ◌≤◌, List, [], ◌∷◌, ◌++◌, length, Option, option_map}
 use Rattle.blk_base.specs.Counts.{Rose}
 use Rattle.blk_base.specs.Written.{Written, memory_of}
+use Rattle.blk_history.specs.Line.{HasName, line_room}
+use Rattle.blk_history.specs.Names.{RowNames}
+use Rattle.blk_history.specs.declared.event.Event.{Event}
 
--- the text has less than 64 KiB, and room for the longest line
-pub record IsBuffer (line : Written) : Type 0 where
+-- an entry's line has its names, and fits in so much memory behind 64 KiB
+pub record Fits (names : RowNames) (memory : ℕ) (e : Event) : Type 0 where
+  pub named : HasName names e
+  pub room : 65536 + line_room names e ≤ memory
+
+abbrev pub AllFit : RowNames → ℕ → List Event → Type 0
+AllFit names memory [] = Unit {0}
+AllFit names memory (e ∷ es) = Fits names memory e × AllFit names memory es
+
+-- the text has less than 64 KiB, and so much memory at least
+pub record IsBuffer (memory : ℕ) (line : Written) : Type 0 where
   pub short : length line.bytes < 65536
-  pub room : 393476 ≤ memory_of line
+  pub room : memory ≤ memory_of line
 
 -- a part of these bytes went out, and the rest stands in the text
-pub record SendsPart (old new : Option (List ℕ)) (whole : List ℕ) (line : Written) : Type 0 where
+pub record SendsPart (memory : ℕ) (old new : Option (List ℕ)) (whole : List ℕ) (line : Written) : Type 0 where
   pub part : (front : List ℕ) × (front ++ line.bytes ≡ whole) × (new ≡ option_map (λ s. s ++ front) old)
-  pub buffer : IsBuffer line
+  pub buffer : IsBuffer memory line
 
 -- a part of these bytes went out, and a put failed
 pub record SendsFront (old new : Option (List ℕ)) (whole : List ℕ) (before now : ℕ) : Type 0 where

@@ -11,7 +11,7 @@ use Rattle.trace_codec.specs.Trace.{ops_of}
 use Rattle.trace_codec.specs.declared.op.Op.{Op}
 use Rattle.trace_codec.specs.declared.stop.TraceStop.TheVariants as stops
 use Rattle.blk_history.specs.Fold.{With}
-use Rattle.blk_history.specs.Machine.{State, disk_in, after, replay}
+use Rattle.blk_history.specs.Machine.{State, disk_in, replay}
 use Rattle.blk_history.specs.Legal.{Legal}
 use Rattle.blk_history.specs.Owned.{asked_by, IsIdle}
 use Rattle.blk_history.specs.Licence.{counted, RoseSince, HaveRisen, NameNone}
@@ -30,7 +30,7 @@ use Rattle.qblk_core.specs.Images.{IsKnownOf, HasImages}
 use Rattle.qblk_core.specs.declared.status.InputWhy.{InputWhy}
 use Rattle.qblk_core.specs.declared.status.InputWhy.TheVariants.{Absent, NotUtf8, TooLong, BadLine, TooMany, TooLarge, NeedsBacking, Image}
 use Rattle.qblk_core.specs.declared.status.Status.{Status}
-use Rattle.qblk_core.specs.declared.status.Status.TheVariants.{Done, Usage, Input, Fault, NoMemory}
+use Rattle.qblk_core.specs.declared.status.Status.TheVariants.{Done, Usage, Input, Fault, Stuck, NoMemory}
 
 -- what is seen of a store and a sink
 pub record Outside : Type 0 where
@@ -178,4 +178,5 @@ Answers format image trace old new Done = IsDone format image trace old new
 Answers format image trace old new Usage = ⊥
 Answers format image trace old new (Input name line why) = NothingWritten old new × IfTold old.files (IsRefusedInput format image trace name.bytes line why)
 Answers format image trace old new (Fault from count) = IsFaulty format image trace old new from count
+Answers format image trace old new (Stuck actor waits) = ⊥
 Answers format image trace old new NoMemory = NothingWritten old new

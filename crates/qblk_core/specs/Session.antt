@@ -23,7 +23,7 @@ use Rattle.qblk_core.specs.declared.input.TraceRead.TheVariants as reads
 use Rattle.qblk_core.specs.declared.status.InputWhy.{InputWhy}
 use Rattle.qblk_core.specs.declared.status.InputWhy.TheVariants.{Absent, TooLong}
 use Rattle.qblk_core.specs.declared.status.Status.{Status}
-use Rattle.qblk_core.specs.declared.status.Status.TheVariants.{Done, Usage, Input, Fault, NoMemory}
+use Rattle.qblk_core.specs.declared.status.Status.TheVariants.{Done, Usage, Input, Fault, Stuck, NoMemory}
 
 -- no device is out
 abbrev pub NoneOut : List Opened → Type 0
@@ -43,6 +43,7 @@ IsStoreStop before now (Input name line why) = ⊥
 IsStoreStop before now (Fault (Dev dev) count) = ⊥
 IsStoreStop before now (Fault Sink count) = ⊥
 IsStoreStop before now (Fault Store count) = Rose before count × (count ≡ now)
+IsStoreStop before now (Stuck actor waits) = ⊥
 IsStoreStop before now NoMemory = Unit {0}
 
 -- why an image isn't opened
@@ -53,6 +54,7 @@ IsOpenStop image files before now (Input name line why) = (name.bytes ≡ image)
 IsOpenStop image files before now (Fault (Dev dev) count) = ⊥
 IsOpenStop image files before now (Fault Sink count) = ⊥
 IsOpenStop image files before now (Fault Store count) = Rose before count × (count ≡ now)
+IsOpenStop image files before now (Stuck actor waits) = ⊥
 IsOpenStop image files before now NoMemory = Unit {0}
 
 -- what a device shows
@@ -107,6 +109,7 @@ IsTraceStop trace read Done = ⊥
 IsTraceStop trace read Usage = ⊥
 IsTraceStop trace read (Input name line why) = (name.bytes ≡ trace) × IsRefusedRead read why line
 IsTraceStop trace read (Fault from count) = ⊥
+IsTraceStop trace read (Stuck actor waits) = ⊥
 IsTraceStop trace read NoMemory = Unit {0}
 
 -- why an image isn't opened, by what its device tells
@@ -123,6 +126,7 @@ IsRunStop format image trace read before now (Input name line why) =
     ⊎ (((bytes : List ℕ) → before.content ≡ Some bytes → IsGoodImage format bytes) × (name.bytes ≡ trace) × IsRefusedRead read why line)
 IsRunStop format image trace read before now (Fault from count) =
     (format ≡ Qcow2) × (from ≡ Dev (record { 0 = 0 })) × Rose before.faults count × (count ≡ now.faults)
+IsRunStop format image trace read before now (Stuck actor waits) = ⊥
 IsRunStop format image trace read before now NoMemory = Unit {0}
 
 -- what an image that isn't opened leaves of its device

@@ -6,7 +6,7 @@ use Rattle.q2_image.specs.Text as image
 use Rattle.qblk_core.specs.declared.status.InputWhy.{InputWhy}
 use Rattle.qblk_core.specs.declared.status.InputWhy.TheVariants.{Absent, NotUtf8, TooLong, BadLine, TooMany, TooLarge, NeedsBacking, Image}
 use Rattle.qblk_core.specs.declared.status.Status.{Status}
-use Rattle.qblk_core.specs.declared.status.Status.TheVariants.{Done, Usage, Input, Fault, NoMemory}
+use Rattle.qblk_core.specs.declared.status.Status.TheVariants.{Done, Usage, Input, Fault, Stuck, NoMemory}
 
 abbrev pub why_text : InputWhy → List ℕ
 why_text Absent = codes "Absent"
@@ -29,4 +29,5 @@ status_text Done = []
 status_text Usage = codes "usage: qblk io FORMAT IMAGE TRACE | run WORKERS SCRIPT GUEST=TRACE .. | load NUMBER WORKERS"
 status_text (Input name line why) = codes "input " ++ name.bytes ++ codes " line " ++ decimal line ++ codes ": " ++ why_text why
 status_text (Fault from count) = codes "fault " ++ from_text from ++ codes " " ++ decimal count
+status_text (Stuck actor waits) = codes "stuck: actor " ++ decimal actor ++ codes " waits"
 status_text NoMemory = codes "out of memory"

@@ -7,6 +7,7 @@ ghost use Rattle.qblk_core.specs.Ready.{IsReady};
 ghost use Rattle.qblk_core.specs.Session.{IsTraceStop};
 
 use crate::engine::BLOCK;
+use crate::output::CHUNK;
 use crate::requests::room_for;
 use crate::status::{InputWhy, Status};
 use blk_base::{Bytes, Names1, NoMemory, Text};
@@ -16,9 +17,6 @@ use trace_codec::{Op, TraceStop, read_trace};
 
 /// How many bytes a trace may have.
 pub(crate) const MAX_TRACE: u64 = 64 * 1024 * 1024;
-
-/// How many bytes of the transcript are put at once, at least.
-pub(crate) const CHUNK: usize = 65536;
 
 /// Room for the line of any entry of the guest `disk`.
 const LINE: usize = 256 + 4 + 5 * BLOCK;

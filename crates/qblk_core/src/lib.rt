@@ -15,6 +15,7 @@ mod status;
 mod transfer;
 mod words;
 
+pub use output::{CHUNK, send_transcript};
 pub use run::{qblk, run_io};
 pub use status::{InputWhy, Status};
 pub use words::Format;

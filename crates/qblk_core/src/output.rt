@@ -2,14 +2,14 @@
 ghost use Rattle.std.specs.Prelude.{◌≡◌, ◌<◌, ◌≤◌, ◌++◌, [], length, OnOk, OnErr, option_map};
 ghost use Rattle.blk_history.specs.Line.{At};
 ghost use Rattle.blk_history.specs.Transcript.{line_of, transcript};
-ghost use Rattle.qblk_core.specs.Comes.{HaveLines};
-ghost use Rattle.qblk_core.specs.Run.{guest_names};
 ghost use Rattle.blk_base.specs.Written.{memory_of};
-ghost use Rattle.qblk_core.specs.Output.{IsBuffer, SendsPart, SendsFront};
+ghost use Rattle.qblk_core.specs.Output.{AllFit, SendsPart, SendsFront};
 
-use crate::input::CHUNK;
 use blk_base::{Sink, SinkFault, Text};
 use blk_history::{History, Rows};
+
+/// How many bytes of the transcript are put at once, at least.
+pub const CHUNK: usize = 65536;
 
 /// Puts what the text holds, and empties it.
 fn send<K: Sink>(line: &mut Text, out: &mut K) -> Result<(), SinkFault>
@@ -38,12 +38,15 @@ fn send_line<K: Sink>(
     out: &mut K,
 ) -> Result<(), SinkFault>
     requires within { at < length history.now.events }
-    requires lines { HaveLines history.now.events }
-    requires named { names.now ≡ guest_names }
-    requires buffer { IsBuffer line.old }
+    requires lines { AllFit names.now (memory_of line.old) history.now.events }
+    requires short { length line.old.bytes < 65536 }
     ensures quiet { OnOk result (K.faults out.new ≡ K.faults out.old) }
-    ensures ok { At history.now.events at (λ e. OnOk result (SendsPart (K.sent out.old) (K.sent out.new) (line.old.bytes ++ line_of guest_names e) line.new)) }
-    ensures failed { At history.now.events at (λ e. OnErr result (SendsFront (K.sent out.old) (K.sent out.new) (line.old.bytes ++ line_of guest_names e) (K.faults out.old) (K.faults out.new))) }
+    ensures ok { At history.now.events at (λ e. OnOk result
+        (SendsPart (memory_of line.old) (K.sent out.old) (K.sent out.new)
+        (line.old.bytes ++ line_of names.now e) line.new)) }
+    ensures failed { At history.now.events at (λ e. OnErr result
+        (SendsFront (K.sent out.old) (K.sent out.new) (line.old.bytes ++ line_of names.now e)
+        (K.faults out.old) (K.faults out.new))) }
     ensures faults { K.faults out.old ≤ K.faults out.new }
 {
     history.line(at, names, line).unwrap();
@@ -54,19 +57,19 @@ fn send_line<K: Sink>(
 }
 
 /// Writes all lines of a history, and puts them. The text comes empty, with room for 64 KiB and the longest line.
-pub(crate) fn send_transcript<K: Sink>(
+pub fn send_transcript<K: Sink>(
     history: &History,
     names: &Rows,
     line: &mut Text,
     out: &mut K,
 ) -> Result<(), SinkFault>
-    requires lines { HaveLines history.now.events }
-    requires named { names.now ≡ guest_names }
+    requires lines { AllFit names.now (memory_of line.old) history.now.events }
     requires empty { line.old.bytes ≡ [] }
-    requires buffer { IsBuffer line.old }
     ensures quiet { OnOk result (K.faults out.new ≡ K.faults out.old) }
-    ensures ok { OnOk result (K.sent out.new ≡ option_map (λ s. s ++ transcript guest_names history.now.events) (K.sent out.old)) }
-    ensures failed { OnErr result (SendsFront (K.sent out.old) (K.sent out.new) (transcript guest_names history.now.events) (K.faults out.old) (K.faults out.new)) }
+    ensures ok { OnOk result (K.sent out.new
+        ≡ option_map (λ s. s ++ transcript names.now history.now.events) (K.sent out.old)) }
+    ensures failed { OnErr result (SendsFront (K.sent out.old) (K.sent out.new)
+        (transcript names.now history.now.events) (K.faults out.old) (K.faults out.new)) }
     ensures faults { K.faults out.old ≤ K.faults out.new }
 {
     for at in 0..history.len() {

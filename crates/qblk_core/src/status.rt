@@ -5,6 +5,7 @@ ghost use Rattle.qblk_core.specs.Exit.{exit_of};
 use blk_base::{FaultFrom, Text};
 use q2_image::ImageStop;
 use std::fmt;
+use trace_codec::Waits;
 
 /// Why an input is refused.
 #[derive(Clone, Copy, Debug, PartialEq, Eq)]
@@ -45,6 +46,12 @@ pub enum Status {
         from: FaultFrom,
         count: u64,
     },
+    /// The script or a guest has more to do, and each of those can go no further. The script is actor 0, and guest g is actor
+    /// g + 1: the first of them, and what it waits for.
+    Stuck {
+        actor: u32,
+        waits: Waits,
+    },
     /// Want of memory. Nothing was put to the sink.
     NoMemory,
 }
@@ -59,6 +66,7 @@ impl Status {
             Status::Usage => 1,
             Status::Input { .. } => 2,
             Status::Fault { .. } => 3,
+            Status::Stuck { .. } => 4,
             Status::NoMemory => 5,
         }
     }
@@ -109,6 +117,7 @@ impl fmt::Display for Status {
                 }
                 FaultFrom::Sink => write!(f, "fault sink {count}"),
             },
+            Status::Stuck { actor, .. } => write!(f, "stuck: actor {actor} waits"),
             Status::NoMemory => f.write_str("out of memory"),
         }
     }

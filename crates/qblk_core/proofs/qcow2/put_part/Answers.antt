@@ -1,4 +1,4 @@
-use Rattle.std.proofs.Common.{◌≡◌, ◌-◌, take, sym, ap, subst, rules}
+use Rattle.std.proofs.Common.{◌≡◌, take, sym, ap, subst, rules}
 use Rattle.blk_base.specs.Pieces.{Extent}
 use Rattle.blk_base.specs.declared.fault.Outcome.{Outcome}
 use Rattle.blk_history.specs.Machine.{done_by}

@@ -1,4 +1,4 @@
-use Rattle.std.proofs.Common.{◌≡◌, ℕ, ◌⊎◌, ◌/◌, ◌%◌, true, replicate, take, sym, ap, subst, ◌∙◌, arith, inl, inr, List, Some, eqb-true}
+use Rattle.std.proofs.Common.{◌≡◌, ℕ, ◌⊎◌, ◌/◌, ◌%◌, replicate, take, sym, ap, subst, ◌∙◌, arith, inl, inr, List, Some, eqb-true}
 use Rattle.std.proofs.lemmas.Bool.{and_parts, or_cases}
 use Rattle.blk_base.specs.Pieces.{Extent, end_of}
 use Rattle.blk_base.specs.declared.fault.Outcome.{Outcome}
