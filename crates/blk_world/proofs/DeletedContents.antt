@@ -114,7 +114,7 @@ module _ (t : Table) (alone : StandAlone t) where
           over_by name row found.0 named ∙ ap (λ (n : ℕ). Some n) (eqb-true row.id node found.1)
 
 -- the row of a node over a file
-over-row : (t : Table) (name : List ℕ) (node : ℕ) → AreApart t → node_over t name ≡ Some node → filename_of t node ≡ Some name
+pub over-row : (t : Table) (name : List ℕ) (node : ℕ) → AreApart t → node_over t name ≡ Some node → filename_of t node ≡ Some name
 over-row t name node apart is = by_found (find (stands_for name) t.nodes) refl is
   where
     by_found : (found : Option NodeRecord) → find (stands_for name) t.nodes ≡ found → option_map (λ (r : NodeRecord). r.id) found ≡ Some node

@@ -120,7 +120,7 @@ map-same [] = refl
 map-same (row ∷ rows) = ap (λ (rs : List NodeRecord). row ∷ rs) (map-same rows)
 
 module _ (t : Table) where
-  kept_rows : (now : Table) → now.nodes ≡ t.nodes → now.edges ≡ t.edges → now.devices ≡ t.devices → now.guests ≡ t.guests → now.jobs ≡ t.jobs → IsEased t now
+  pub kept_rows : (now : Table) → now.nodes ≡ t.nodes → now.edges ≡ t.edges → now.devices ≡ t.devices → now.guests ≡ t.guests → now.jobs ≡ t.jobs → IsEased t now
   kept_rows now nodes edges devices guests jobs = record {
     f = λ row. row;
     only = λ row. inl refl;

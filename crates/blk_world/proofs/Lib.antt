@@ -24,6 +24,17 @@ pub mod CarryInTable
 pub mod Borrowed
 pub mod TableKinds
 pub mod KeptDrives
+pub mod PiecePaths
+pub mod PieceWriters
+pub mod PieceReady
+pub mod PieceNodes
+pub mod PieceTables
+pub mod PieceContents
+pub mod PieceTold
+pub mod PieceShows
+pub mod PieceFits
+pub mod PieceComes
+pub mod PieceCalls
 pub mod EasedTables
 pub mod DeletedLists
 pub mod DeletedParts

@@ -34,7 +34,7 @@ use Rattle.blk_world.proofs.Pushing.{comes-push, licensed-quiet}
 
 -- ---- the state with other guests shows the world with another history
 
-stands-onward : (s : State) (guests : List Guest) (ended : List ℕ) → StandsAtRest s → StandsAtRest (record s { guests = guests; ended = ended })
+pub stands-onward : (s : State) (guests : List Guest) (ended : List ℕ) → StandsAtRest s → StandsAtRest (record s { guests = guests; ended = ended })
 stands-onward s guests ended is = beside_rests s (record s { guests = guests; ended = ended }) refl refl refl refl (λ node has. has) is
 
 pub shows-onward : (o : Opening) (s : State) (w : Face) (p : Progress) (guests : List Guest) (ended : List ℕ) → Shows o s w → guests ≡ p.guests → ended ≡ ended_in p.log.events
@@ -115,7 +115,7 @@ admission-comes w g op (Away back) is o comes = comes
 -- ---- requests that are over
 
 -- the request in flight, by the guest's row
-in-flight : (guests : List Guest) (g : ℕ) (P : Flight → Type 0) → With (flight_at guests g) P
+pub in-flight : (guests : List Guest) (g : ℕ) (P : Flight → Type 0) → With (flight_at guests g) P
     → With (slice_get guests g) (λ row. (done_at guests g ≡ row.done) × With row.flight P)
 in-flight guests g P is = at (slice_get guests g) refl is
   where

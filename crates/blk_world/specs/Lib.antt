@@ -11,3 +11,4 @@ pub mod Carrying
 pub mod Deleting
 pub mod Creating
 pub mod Adding
+pub mod Piecing

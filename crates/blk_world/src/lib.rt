@@ -5,6 +5,7 @@
 mod adding;
 mod admission;
 mod answering;
+mod buffer;
 mod closing;
 mod creating;
 mod deleting;
@@ -12,6 +13,7 @@ mod entries;
 mod progress;
 mod row;
 mod run_store;
+mod transfer;
 mod turned;
 mod world;
 

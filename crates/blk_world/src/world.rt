@@ -5,8 +5,10 @@ ghost use Rattle.qmp_rules.specs.Table.{opening_table};
 ghost use Rattle.blk_world.specs.Progress.{no_progress};
 
 mod closing;
+mod piece;
 
 use crate::admission::{Admission, refusal_of, seat_of};
+use crate::buffer::Buffer;
 use crate::progress::Progress;
 use crate::run_store::RunStore;
 use crate::turned::Turned;
@@ -25,6 +27,7 @@ pub struct World<S: Store> {
     nodes: Nodes<S::Dev>,
     names: Names,
     progress: Progress,
+    buffer: Buffer,
 }
 
 impl<S: Store> Model for World<S> {
@@ -64,6 +67,7 @@ struct Parts<D: Device> {
     names: Names,
     progress: Progress,
     nodes: Nodes<D>,
+    buffer: Buffer,
 }
 
 /// No node, guests that have asked for nothing, and room for a run.
@@ -76,6 +80,7 @@ fn new_parts<D: Device>(alloc: Global, guests: &Names1, room: Room) -> Result<Pa
     Ok(Parts {
         names: Names::new(alloc, names_of(alloc, guests)?)?,
         progress: Progress::new(alloc, guests.len(), room)?,
+        buffer: Buffer::new(alloc)?,
         nodes: Nodes::new(alloc)?,
     })
 }
@@ -108,6 +113,7 @@ impl<S: Store> World<S> {
                     names,
                     progress,
                     nodes,
+                    buffer,
                 },
             ) => Ok(World {
                 first_faults: store.faults(),
@@ -115,6 +121,7 @@ impl<S: Store> World<S> {
                 nodes,
                 names,
                 progress,
+                buffer,
             }),
         }
     }

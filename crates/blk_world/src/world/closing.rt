@@ -28,6 +28,7 @@ impl<S: Store> World<S> {
             nodes,
             names,
             progress,
+            buffer: _,
         } = self;
         let _ = nodes.edges();
         let mut left = nodes.into_devices();

@@ -11,7 +11,7 @@ pub invariant_of-self-in-None : goal.invariant_of-self-in-None
 invariant_of-self-in-None g c =
     record {
       coherent = rw c.admit.ensures.kept (coherent-admission _ _ _ _ c.self.invariant.coherent c.args.guest c.args.op
-      (seat-fits _ c.args.guest c.in-Some.seat c.args.op c.in-Some.ensures c.in-None.ensures.inside)
-      (seat-allows _ c.args.guest c.in-Some.seat c.args.op c.in-Some.ensures c.in-None.ensures.allowed));
+          (seat-fits _ c.args.guest c.in-Some.seat c.args.op c.in-Some.ensures c.in-None.ensures.inside)
+          (seat-allows _ c.args.guest c.in-Some.seat c.args.op c.in-Some.ensures c.in-None.ensures.allowed));
       tell = c.self.invariant.tell;
     }

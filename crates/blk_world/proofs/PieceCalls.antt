@@ -1,0 +1,137 @@
+-- The calls that make a piece: what each asks, and what they leave together.
+use Rattle.std.proofs.Common.{◌≡◌, ℕ, ◌<◌, ◌≤◌, true, false, List, length, Option, Some, None, refl, sym, ◌∙◌, ap, subst, arith}
+use Rattle.std.specs.Prelude.{IsSome}
+use Rattle.std.proofs.lemmas.Bool.{false≢true}
+use Rattle.blk_base.specs.Pieces.{Extent}
+use Rattle.blk_base.specs.declared.fault.Outcome.{Outcome}
+use Rattle.trace_codec.specs.Request.{pieces_of}
+use Rattle.trace_codec.specs.declared.op.Op.{Op}
+use Rattle.blk_history.specs.Disk.{piece}
+use Rattle.blk_history.specs.Fold.{With}
+use Rattle.blk_history.specs.Machine.{Flight}
+use Rattle.qmp_rules.specs.Chains.{disk_node}
+use Rattle.qmp_rules.specs.Table.{Table, device_at}
+use Rattle.qmp_rules.specs.declared.rows.Device.{Device}
+use Rattle.flat_machine.specs.Legal.{IsForbidden}
+use Rattle.flat_machine.specs.State.{drive_of}
+use Rattle.flat_machine.specs.declared.opening.Opening.{Opening}
+use Rattle.blk_nodes.specs.Joined.{IsJoined}
+use Rattle.blk_nodes.specs.Nodes.{Nodes}
+use Rattle.blk_world.specs.Coherent.{IsCoherent, IsWhole}
+use Rattle.blk_world.specs.Comes.{Comes}
+use Rattle.blk_world.specs.Face.{Face}
+use Rattle.blk_world.specs.Piecing.{CanTransfer, IsMadeOn, IsPieceMade, HasPieceLicence, Transfers, CountFits, part_of, shown_of, shown_by, table_after}
+use Rattle.blk_world.specs.Progress.{Progress, HasNext, CanShow, flight_at, shows_in, with_piece}
+use Rattle.blk_world.proofs.CountLemmas.{IsThere, there, with-of}
+use Rattle.blk_world.proofs.PieceComes.{piece_comes, piece_licence, piece_whole}
+use Rattle.blk_world.proofs.InStep.{with-at}
+use Rattle.blk_world.proofs.PieceReady.{can_transfer}
+
+-- ---- a request in flight
+
+pub is_there : {A : Type 0} (x : Option A) (P : A → Type 0) → With x P → IsSome x
+is_there None P never = absurd never
+is_there (Some a) P is = refl
+
+pub next_at : (x : Option Flight) (f : Flight) → With x HasNext → x ≡ Some f → HasNext f
+next_at x f is at = with-at x f HasNext at is
+
+pub of_flight : {A : Type 0} (x : Option A) (P Q : A → Type 0) → With x P → ((a : A) → x ≡ Some a → P a → Q a) → With x Q
+of_flight None P Q never each = absurd never
+of_flight (Some a) P Q is each = each a refl is
+
+-- ---- its node
+
+pub can_next : (t : Table) (nodes : Nodes) (p : Progress) (joined : IsJoined nodes) (files : _) (opened : _) → IsWhole files t nodes opened p → (g drive : ℕ) → drive_of t g ≡ Some drive
+    → With (flight_at p.guests g) HasNext → With (flight_at p.guests g) (λ f. CanTransfer nodes (disk_node t drive) f.op (part_of f))
+can_next t nodes p joined files opened whole g drive on next =
+    of_flight (flight_at p.guests g) HasNext (λ f. CanTransfer nodes (disk_node t drive) f.op (part_of f)) next
+    (λ f flies has. can_transfer t nodes p joined opened whole.coherent g f drive on flies has)
+
+-- a guest with a request in flight has a drive
+pub drive_there : (t : Table) (nodes : Nodes) (p : Progress) (files : _) (opened : _) → IsWhole files t nodes opened p → (g : ℕ) → With (flight_at p.guests g) HasNext → drive_of t g ≡ None → ⊥
+drive_there t nodes p files opened whole g next none =
+    let at = there (flight_at p.guests g) HasNext next in
+    let device = is_there (device_at t g) (λ d. IsForbidden at.at.op d.read_only → ⊥) (whole.coherent.allowed g at.at at.is) in
+    false≢true (subst IsSome none (whole.coherent.drives g device))
+
+-- ---- what the calls leave together
+
+pub made_of : (w : Face) (nodes : Nodes) (table : Table) (p : Progress) (g drive node : ℕ) (f : Flight) (outcome : Outcome) (op : Op) → drive_of w.table g ≡ Some drive → node ≡ disk_node w.table drive
+    → f.op ≡ op → table ≡ table_after op node w.table → IsMadeOn w.nodes nodes w.progress p node g f outcome
+    → IsPieceMade w (record w { nodes = nodes; table = table; progress = p }) g f outcome
+made_of w nodes table p g drive node f outcome op on is_node asks noted made = record {
+  drive = drive;
+  buffer = made.buffer;
+  on = on;
+  transferred = subst (λ (n : ℕ). Transfers f.op w.nodes nodes n (part_of f) outcome made.buffer) is_node made.transferred;
+  fits = made.fits;
+  kept =
+      ap (λ (t : Table). let v : Face = record w { nodes = nodes; table = t; progress = p } in v)
+      (noted ∙ ap (λ (o : Op). table_after o node w.table) (sym asks) ∙ ap (λ (n : ℕ). table_after f.op n w.table) is_node)
+      ∙ ap (λ (q : Progress). let v : Face = record w { nodes = nodes; table = table_after f.op (disk_node w.table drive) w.table; progress = q } in v) made.noted;
+}
+
+module _ (w v : Face) (g : ℕ) (outcome : Outcome) (next : With (flight_at w.progress.guests g) HasNext)
+    (made : (f : Flight) → flight_at w.progress.guests g ≡ Some f → IsPieceMade w v g f outcome) (joined : IsJoined w.nodes)
+    (whole : IsWhole w.files w.table w.nodes w.opened w.progress) where
+  flight : IsThere (flight_at w.progress.guests g) HasNext
+  flight = there (flight_at w.progress.guests g) HasNext next
+
+  pub made_comes : (o : Opening) → Comes o w → Comes o v
+  made_comes = piece_comes w v g flight.at outcome (made flight.at flight.is) flight.holds flight.is joined whole.coherent whole.tell
+
+  pub made_whole : IsJoined v.nodes → IsWhole v.files v.table v.nodes v.opened v.progress
+  made_whole = piece_whole w v g flight.at outcome (made flight.at flight.is) flight.holds flight.is joined whole.coherent whole.tell
+
+  pub made_licence : (f : Flight) (flies : flight_at w.progress.guests g ≡ Some f) → (m : IsPieceMade w v g f outcome) × HasPieceLicence w v g f outcome m
+  made_licence f flies = (made f flies, piece_licence w v g f outcome (made f flies) (next_at (flight_at w.progress.guests g) f next flies) flies joined whole.coherent)
+
+-- ---- the piece that is made
+
+pub same_part : (x : Option Flight) (f : Flight) (op : Op) (next : ℕ) → x ≡ Some f → With x (λ y. y.op ≡ op) → With x (λ y. y.next ≡ next) → piece op next ≡ part_of f
+same_part x f op next is asks at =
+    let same : f.op ≡ op = with-at x f (λ y. y.op ≡ op) is asks in
+    let k : f.next ≡ next = with-at x f (λ y. y.next ≡ next) is at in
+    ap (λ (o : Op). piece o next) (sym same) ∙ ap (piece f.op) (sym k)
+
+pub within : (x : Option Flight) (op : Op) (next : ℕ) → With x HasNext → With x (λ y. y.op ≡ op) → With x (λ y. y.next ≡ next) → next < pieces_of op
+within None op next never asks at = absurd never
+within (Some f) op next has asks at = subst (λ (k : ℕ). k < pieces_of op) at (subst (λ (o : Op). f.next < pieces_of o) asks has.next)
+
+pub can_here : (x : Option Flight) (nodes : Nodes) (node : ℕ) (op : Op) (next : ℕ) (part : Extent) → With x (λ f. CanTransfer nodes node f.op (part_of f)) → With x (λ y. y.op ≡ op)
+    → With x (λ y. y.next ≡ next) → part ≡ piece op next → CanTransfer nodes node op part
+can_here None nodes node op next part never asks at is = absurd never
+can_here (Some f) nodes node op next part can asks at is =
+    let here : CanTransfer nodes node op (piece op next) =
+    subst (λ (k : ℕ). CanTransfer nodes node op (piece op k)) at (subst (λ (o : Op). CanTransfer nodes node o (piece o f.next)) asks can) in
+    subst (CanTransfer nodes node op) (sym is) here
+
+pub can_show : (x : Option Flight) (op : Op) (next n : ℕ) (part : Extent) → With x HasNext → With x (λ y. y.op ≡ op) → With x (λ y. y.next ≡ next) → part ≡ piece op next
+    → n ≤ shows_in op part.len → With x (CanShow n)
+can_show None op next n part never asks at is few = absurd never
+can_show (Some f) op next n part has asks at is few = record {
+  next = has.next;
+  shown =
+      let here : n ≤ shows_in op (piece op next).len = subst (λ (e : Extent). n ≤ shows_in op e.len) is few in
+      subst (λ (o : Op). n ≤ shows_in o (piece o f.next).len) (sym asks) (subst (λ (k : ℕ). n ≤ shows_in op (piece op k).len) (sym at) here);
+}
+
+pub made_on : (nodes now : Nodes) (p q : Progress) (node g : ℕ) (f : Flight) (outcome : Outcome) (op : Op) (next : ℕ) (part : Extent) (buffer shown : List ℕ)
+    → flight_at p.guests g ≡ Some f → With (flight_at p.guests g) (λ y. y.op ≡ op) → With (flight_at p.guests g) (λ y. y.next ≡ next) → part ≡ piece op next
+    → Transfers op nodes now node part outcome buffer → CountFits outcome → shown ≡ shown_of op outcome buffer → ((h : Flight) → flight_at p.guests g ≡ Some h → q ≡ with_piece g h.next outcome shown p)
+    → IsMadeOn nodes now p q node g f outcome
+made_on nodes now p q node g f outcome op next part buffer shown flies asks at is did fits shows noted =
+    let same : f.op ≡ op = with-at (flight_at p.guests g) f (λ y. y.op ≡ op) flies asks in
+    let k : f.next ≡ next = with-at (flight_at p.guests g) f (λ y. y.next ≡ next) flies at in
+    let here : part ≡ part_of f = is ∙ same_part (flight_at p.guests g) f op next flies asks at in
+    record {
+      buffer = buffer;
+      transferred =
+          subst (λ (o : Op). Transfers o nodes now node (part_of f) outcome buffer) (sym same)
+          (subst (λ (e : Extent). Transfers op nodes now node e outcome buffer) here did);
+      fits = fits;
+      noted =
+          noted f flies
+          ∙ ap (λ (bytes : List ℕ). with_piece g f.next outcome bytes p) (shows ∙ ap (λ (o : Op). shown_of o outcome buffer) (sym same));
+    }

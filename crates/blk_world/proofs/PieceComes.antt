@@ -1,0 +1,230 @@
+-- A piece leaves a world that comes of the same opening.
+use Rattle.std.proofs.Common.{◌≡◌, ◌⊎◌, ℕ, ◌<◌, ◌≤◌, Bool, true, false, List, [], ◌∷◌, ◌++◌, Option, Some, None, refl, sym, ◌∙◌, ap, subst, inl, inr, arith}
+use Rattle.std.specs.Prelude.{is_some}
+use Rattle.std.proofs.lemmas.List.Elements.{All-nil}
+use Rattle.blk_base.specs.Pieces.{Extent}
+use Rattle.blk_base.specs.declared.fault.DevNo.{DevNo}
+use Rattle.blk_base.specs.declared.fault.FaultAt.{FaultAt}
+use Rattle.blk_base.specs.declared.fault.FaultFrom.TheVariants.{Dev}
+use Rattle.blk_base.specs.declared.fault.Outcome.{Outcome}
+use Rattle.blk_base.specs.declared.fault.Outcome.TheVariants.{Good, Torn, Io, NoSpace}
+use Rattle.blk_graph.proofs.Members.{find-Some}
+use Rattle.blk_history.specs.Disk.{is_write}
+use Rattle.blk_history.specs.Fold.{With}
+use Rattle.blk_history.specs.Machine.{Flight}
+use Rattle.blk_history.specs.declared.event.Event.{Event}
+use Rattle.trace_codec.specs.declared.op.Op.{Op}
+use Rattle.qmp_rules.specs.Chains.{disk_node}
+use Rattle.qmp_rules.specs.Table.{Table, device_at}
+use Rattle.qmp_rules.specs.declared.rows.Device.{Device}
+use Rattle.flat_machine.specs.EventLicence.{IsOnTheWay, ReachesDevice, RoseIn, WouldPass, full_by, changes_disk, device_in as device_named}
+use Rattle.flat_machine.specs.Legal.{Fits, IsForbidden}
+use Rattle.flat_machine.specs.Licence.{fault_at, named_by}
+use Rattle.flat_machine.specs.Machine.{after}
+use Rattle.flat_machine.specs.Marks.{IsCalm}
+use Rattle.flat_machine.specs.State.{State, Guest, drive_of}
+use Rattle.flat_machine.specs.Writing.{CanWrite, ReadsWritten, written_file}
+use Rattle.flat_machine.specs.declared.opening.Opening.{Opening}
+use Rattle.flat_machine.proofs.Resting.{guest_can}
+use Rattle.blk_nodes.specs.Joined.{IsJoined}
+use Rattle.blk_nodes.specs.Nodes.{DeviceState, AreTold, device_in, is_of}
+use Rattle.blk_nodes.specs.Reading.{StoppedBy}
+use Rattle.blk_nodes.specs.Writing.{IsApart}
+use Rattle.blk_nodes.specs.declared.row.Row.{Row}
+use Rattle.blk_world.specs.Coherent.{IsCoherent, IsWhole, DevicesTell}
+use Rattle.blk_world.specs.Comes.{Comes, Shows}
+use Rattle.blk_world.specs.Counting.{RunsOn, IsReached, IsReachedBy, sources_of, counts_within}
+use Rattle.blk_world.specs.Face.{Face, held, counts_now, device_numbered, node_over}
+use Rattle.blk_world.specs.Piecing.{Transfers, IsPieceMade, HasPieceLicence, CanTransfer, CountFits, PassesBy, table_after, part_of, piece_entry, piece_passes, shown_by}
+use Rattle.blk_world.specs.Progress.{Progress, HasNext, flight_at, done_at, ended_in, with_piece}
+use Rattle.blk_world.proofs.Coherence.{coherent-past}
+use Rattle.blk_world.proofs.CountLemmas.{runs-devices, reached-held, licensed-on, numbered, out-same}
+use Rattle.blk_world.proofs.DeletedContents.{over-row}
+use Rattle.blk_world.proofs.InStep.{ended-push}
+use Rattle.blk_world.proofs.PieceContents.{content_after, else_by, over_same, held_after, payload_length}
+use Rattle.blk_world.proofs.PieceFits.{piece_fits, stop_reached, same_in}
+use Rattle.blk_world.proofs.PieceNodes.{AreAfter, nodes_after, StoppedOn, IsStop, stop_of, full_of}
+use Rattle.blk_world.proofs.PieceReady.{IsGuestDisk, disk_is, writer, can_transfer, is_apart}
+use Rattle.blk_world.proofs.PieceShows.{piece_done, piece_shows}
+use Rattle.blk_world.proofs.PieceTold.{told_after}
+use Rattle.blk_world.proofs.PieceTables.{coherent_moved, eased_after, rests_after, disks_after}
+use Rattle.blk_world.proofs.Pushing.{comes-push}
+
+-- ---- a device by its number
+
+numbered_by : (w : Face) → IsCoherent w.table w.nodes w.opened w.progress → (file : ℕ) (x : DeviceState) → device_in w.nodes.devices file ≡ Some x
+    → device_numbered w.nodes.devices x.number.0 ≡ Some x
+numbered_by w was file x held = numbered w.nodes.devices x was.out.once (find-Some (is_of file) w.nodes.devices x held).0
+
+-- what stopped the piece is the device that it names
+stop_names : (before after : DeviceState) (outcome : Outcome) (dev : DevNo) → IsStop before after outcome dev → dev ≡ before.number
+stop_names before after Good dev never = absurd never
+stop_names before after (Torn done other count) dev stop = stop.named
+stop_names before after (Io other count) dev stop = stop.named
+stop_names before after (NoSpace other) dev stop = stop
+
+-- a guest has a device, which allows what is asked
+allows : (t : Table) (g : ℕ) (op : Op) (device : Option Device) → device_at t g ≡ device → With device (λ d. IsForbidden op d.read_only → ⊥)
+    → (d : Device) × (device_at t g ≡ Some d) × (is_write op ≡ true → d.read_only ≡ false)
+allows t g op None is never = absurd never
+allows t g op (Some d) is allowed = (d, is, λ writes. by_access d.read_only writes allowed)
+  where
+    by_access : (read_only : Bool) → is_write op ≡ true → (IsForbidden op read_only → ⊥) → read_only ≡ false
+    by_access false writes free = refl
+    by_access true writes free = absurd (free writes)
+
+-- ---- the piece
+
+module _ (w v : Face) (g : ℕ) (f : Flight) (outcome : Outcome) (made : IsPieceMade w v g f outcome) (next : HasNext f)
+    (flies : flight_at w.progress.guests g ≡ Some f) (joined : IsJoined w.nodes) (was : IsCoherent w.table w.nodes w.opened w.progress) where
+  abbrev node : ℕ
+  node = disk_node w.table made.drive
+
+  abbrev part : Extent
+  part = part_of f
+
+  abbrev entry : Event
+  entry = piece_entry w g f outcome made.buffer
+
+  disk : IsGuestDisk w.table w.nodes g node
+  disk = disk_is w.table w.nodes w.progress joined w.opened was g f made.drive made.on flies
+
+  can : CanTransfer w.nodes node f.op part
+  can = can_transfer w.table w.nodes w.progress joined w.opened was g f made.drive made.on flies next
+
+  moved : AreAfter w.nodes v.nodes
+  moved = nodes_after w.nodes v.nodes joined f.op node part outcome made.buffer made.transferred
+
+  opened_kept : v.opened ≡ w.opened
+  opened_kept = ap (λ (x : Face). x.opened) made.kept
+
+  table_kept : v.table ≡ table_after f.op node w.table
+  table_kept = ap (λ (x : Face). x.table) made.kept
+
+  pub piece_runs : RunsOn w v
+  piece_runs =
+      runs-devices w v (ap (λ (x : Face). is_some x.files) made.kept) (ap (λ (x : Face). x.room) made.kept) (ap (λ (x : Face). x.first_faults) made.kept)
+      (ap (λ (x : Face). x.earlier) made.kept) (ap (λ (x : Face). x.faults) made.kept) opened_kept moved.devices
+
+  pub piece_coherent : IsCoherent v.table v.nodes v.opened v.progress
+  piece_coherent =
+      let q : Progress = with_piece g f.next outcome (shown_by f outcome made.buffer) w.progress in
+      let past : IsCoherent w.table w.nodes w.opened q = coherent-past w.table w.nodes w.opened w.progress was q g outcome refl in
+      let disks = disks_after w.table w.nodes w.opened w.progress joined was g made.drive made.on f.op (writer w.table w.nodes w.progress joined w.opened was g f made.drive made.on flies) in
+      let now : IsCoherent (table_after f.op node w.table) v.nodes w.opened q =
+      coherent_moved w.table (table_after f.op node w.table) (eased_after f.op node w.table) w.nodes v.nodes w.opened q moved (rests_after f.op node w.table was.table) disks past in
+      subst (λ (x : Face). IsCoherent x.table x.nodes x.opened x.progress) (sym made.kept) now
+
+  -- and its devices tell their bytes where they did
+  pub piece_whole : DevicesTell w.files w.nodes.devices → IsJoined v.nodes → IsWhole v.files v.table v.nodes v.opened v.progress
+  piece_whole tell now = record {
+    coherent = piece_coherent;
+    tell = λ tells. told_after f.op w.nodes v.nodes node part outcome made.buffer joined now made.transferred (tell (sym (ap (λ (x : Face). is_some x.files) made.kept) ∙ tells));
+  }
+
+  -- ---- its fault
+
+  stopped : (dev : DevNo) → device_named outcome ≡ Some dev → StoppedOn w.nodes v.nodes node outcome dev
+  stopped dev named = stop_of w.nodes v.nodes node f.op part outcome made.buffer dev can.may named made.transferred
+
+  on_the_way : (found : Option DevNo) → device_named outcome ≡ found → IsOnTheWay w.table (sources_of w) (drive_of w.table g) found
+  on_the_way None is = tt
+  on_the_way (Some dev) is =
+      let stop = stopped dev is in
+      let reached = stop_reached w.table w.nodes joined was.alike was.table.stands w v.nodes made.drive outcome dev refl stop (stop_names stop.before stop.after outcome dev stop.stop) in
+      subst (λ (drive : Option ℕ). With drive (λ n. ReachesDevice w.table (sources_of w) n dev.0)) (sym made.on) reached
+
+  reached_by : (dev : DevNo) (count : ℕ) (stop : StoppedOn w.nodes v.nodes node outcome dev) → StoppedBy stop.before stop.after dev count → count ≤ 18446744073709551615
+      → IsReached w v (fault_at (Dev dev) count)
+  reached_by dev count stop by fits =
+      let same = same_in w.nodes.devices v.nodes.devices stop.file stop.before stop.after moved.devices stop.held stop.left in
+      let held = (find-Some (is_of stop.file) w.nodes.devices stop.before stop.held).0 in
+      let held_now = (find-Some (is_of stop.file) v.nodes.devices stop.after stop.left).0 in
+      let own : StoppedBy stop.before stop.after stop.before.number count = subst (λ (d : DevNo). StoppedBy stop.before stop.after d count) by.named by in
+      subst (λ (d : DevNo). IsReached w v (fault_at (Dev d) count)) (sym by.named)
+      (reached-held w v stop.before stop.after count piece_runs opened_kept was.out (out-same w.table w.nodes v.nodes w.opened moved.devices was.out) held held_now same.number own fits)
+
+  reached : (o : Outcome) → outcome ≡ o → CountFits o → IsReachedBy w v (named_by o)
+  reached Good is fits = tt
+  reached (Torn done dev count) is fits =
+      let stop = stopped dev (ap device_named is) in
+      reached_by dev count stop (subst (λ (o : Outcome). IsStop stop.before stop.after o dev) is stop.stop) fits
+  reached (Io dev count) is fits =
+      let stop = stopped dev (ap device_named is) in
+      reached_by dev count stop (subst (λ (o : Outcome). IsStop stop.before stop.after o dev) is stop.stop) fits
+  reached (NoSpace dev) is fits = tt
+
+  pub piece_reached : IsReachedBy w v (named_by outcome)
+  piece_reached = reached outcome refl made.fits
+
+  rose : (fault : Option FaultAt) → IsReachedBy w v fault → RoseIn (counts_within w v) (counts_now v) fault
+  rose None is = tt
+  rose (Some fault) is = is.new
+
+  passes : (o : Outcome) → outcome ≡ o → WouldPass (piece_passes w.nodes node f.op part) (full_by o)
+  passes Good is = tt
+  passes (Torn done dev count) is = tt
+  passes (Io dev count) is = tt
+  passes (NoSpace dev) is =
+      let did : Transfers f.op w.nodes v.nodes node part (NoSpace dev) made.buffer =
+      subst (λ (o : Outcome). Transfers f.op w.nodes v.nodes node part o made.buffer) is made.transferred in
+      let full = full_of w.nodes v.nodes node f.op part made.buffer dev (payload_length f.op part) can.may did in
+      let found : device_numbered w.nodes.devices dev.0 ≡ Some full.before =
+      ap (λ (d : DevNo). device_numbered w.nodes.devices d.0) full.named ∙ numbered_by w was full.file full.before full.held in
+      subst (λ (row : Option Row). With row (λ r. With (device_numbered w.nodes.devices dev.0) (λ device. PassesBy r.driver f.op part device.capacity))) (sym full.there)
+      (subst (λ (found' : Option DeviceState). With found' (λ device. PassesBy full.row.driver f.op part device.capacity)) (sym found) full.passes)
+
+  pub piece_licence : HasPieceLicence w v g f outcome made
+  piece_licence = record {
+    runs = piece_runs;
+    licensed = (on_the_way (device_named outcome) refl, rose (named_by outcome) piece_reached, passes outcome refl);
+  }
+
+  -- ---- what nodes and files hold
+
+  over_kept : (name : List ℕ) → node_over v.table name ≡ node_over w.table name
+  over_kept name = ap (λ (t : Table). node_over t name) table_kept ∙ over_same w.table (table_after f.op node w.table) (eased_after f.op node w.table) name
+
+  held_else : (name : List ℕ) → (changes_disk f.op ≡ true → written_file w.table node ≡ Some name → ⊥) → held v name ≡ held w name
+  held_else name none =
+      held_after w v name (ap (λ (x : Face). x.files) made.kept) (over_kept name)
+      (λ n is. content_after w.nodes v.nodes node n f.op part outcome made.buffer made.transferred
+      (λ changes. else_by w.table w.nodes was.alike node disk.row disk.at disk.id_is disk.own disk.own_at disk.alike f.op n name
+      (over-row w.table name n was.table.stands.apart is) (none changes) changes))
+
+  apart : changes_disk f.op ≡ true → (other : ℕ) → (ReadsWritten w.table node other → ⊥) → IsApart w.nodes other node
+  apart changes other none =
+      is_apart w.table w.nodes joined was.alike was.table.stands node disk.row disk.at disk.held disk.id_is disk.has disk.own disk.own_at disk.alike other none
+
+  module _ (o : Opening) (s : State) (told : AreTold w.nodes.devices) (shows : Shows o s w) where
+    on_then : drive_of s.table g ≡ Some made.drive
+    on_then = ap (λ (t : Table). drive_of t g) shows.table.table_is ∙ made.on
+
+    can_write : CanWrite s made.drive f.op
+    can_write =
+        let device = allows w.table g f.op (device_at w.table g) refl (was.allowed g f flies) in
+        guest_can s g device.0 made.drive f.op shows.stands (ap (λ (t : Table). device_at t g) shows.table.table_is ∙ device.1) on_then device.2
+
+    pub shows_then : Shows o (after s entry) v
+    shows_then =
+        piece_shows o s w v g f.next made.drive f outcome entry (done_at w.progress.guests g) (shown_by f outcome made.buffer) refl shows on_then
+        (ap (λ (guests : List Guest). flight_at guests g) shows.guests.guests_are ∙ flies)
+        (ap (λ (x : Face). x.room) made.kept) table_kept (ap (λ (x : Face). x.progress.guests) made.kept)
+        (ap (λ (x : Face). ended_in x.progress.log.events) made.kept ∙ ended-push w.progress.log.events entry refl)
+        can_write (piece_done s w.table w v made.drive f.op outcome part made.buffer shows.table.table_is made.transferred apart told held_else)
+
+    pub fits_then : Fits s entry
+    fits_then = piece_fits o s w v g made.drive f outcome made.buffer disk.row shows told made.on disk.at disk.has flies next made.transferred
+
+  pub piece_comes : DevicesTell w.files w.nodes.devices → (o : Opening) → Comes o w → Comes o v
+  piece_comes told o comes =
+      comes-push o w v entry comes (record {
+        events = ap (λ (x : Face). x.progress.log.events) made.kept;
+        names = ap (λ (t : Table). t.guests) table_kept ∙ (eased_after f.op node w.table).guests;
+        told = ap (λ (x : Face). is_some x.files) made.kept;
+        guests = ap (λ (x : Face). x.progress.guests) made.kept;
+        counted = λ least. subst (λ (x : Face). x.first_faults ≤ x.faults) (sym made.kept) least;
+        coherent = λ coherent. piece_coherent;
+        licensed = licensed-on w v piece_runs w.progress.log.events entry piece_reached;
+        fits = λ tells s shows. (fits_then o s (told tells) shows, All-nil (IsCalm s), shows_then o s (told tells) shows);
+      })

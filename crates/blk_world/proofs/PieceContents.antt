@@ -1,0 +1,181 @@
+-- What nodes read as and what files hold after a piece.
+use Rattle.std.proofs.Common.{◌≡◌, ◌≢◌, ◌⊎◌, ℕ, ◌≤◌, true, false, Bool, List, [], ◌∷◌, length, map, take, replicate, Option, Some, None, refl, sym, ◌∙◌, ap, subst, inl, inr, arith, ◌==◌, cond}
+use Rattle.std.specs.Prelude.{IsSome, is_some, Contains, find, option_map, option_and_then, unwrap_or, bytes_eq}
+use Rattle.std.proofs.lemmas.Bool.{false≢true, cases_eq, eqb-true}
+use Rattle.std.proofs.lemmas.List.{length-replicate, take_all}
+use Rattle.std.proofs.Math.Seq.{take-nil}
+use Rattle.blk_base.specs.Content.{with_bytes, bytes_at}
+use Rattle.blk_base.specs.Pieces.{Extent}
+use Rattle.blk_base.specs.declared.fault.Outcome.{Outcome}
+use Rattle.blk_base.specs.declared.fault.Outcome.TheVariants.{Good, Torn, Io, NoSpace}
+use Rattle.blk_base.proofs.Contents.{length-bytes_at}
+use Rattle.trace_codec.specs.declared.op.Op.{Op}
+use Rattle.trace_codec.specs.declared.op.Op.TheVariants.{Read, Write, Zero, Flush, Discard}
+use Rattle.trace_codec.specs.declared.op.Payload.{Payload}
+use Rattle.trace_codec.specs.declared.op.Payload.TheVariants.{Fill, Raw}
+use Rattle.blk_graph.specs.Edits.{child_of}
+use Rattle.blk_graph.specs.declared.edge.Parent.TheVariants.{Node}
+use Rattle.blk_graph.specs.declared.edge.Role.TheVariants.{File}
+use Rattle.blk_graph.specs.declared.kind.Kind.{Kind}
+use Rattle.blk_graph.proofs.Members.{find-Some}
+use Rattle.blk_history.specs.Disk.{payload_in, done_in}
+use Rattle.blk_history.specs.Machine.{done_by}
+use Rattle.qmp_rules.specs.Asks.{stands_for}
+use Rattle.qmp_rules.specs.Table.{Table, node_at, child}
+use Rattle.qmp_rules.specs.declared.rows.NodeRecord.{NodeRecord}
+use Rattle.flat_machine.specs.Agreement.{Contents}
+use Rattle.flat_machine.specs.Changed.{file_of as file_by}
+use Rattle.flat_machine.specs.EventLicence.{changes_disk}
+use Rattle.flat_machine.specs.State.{filename_of}
+use Rattle.flat_machine.specs.Writing.{written_file}
+use Rattle.flat_machine.proofs.Finds.{find-map}
+use Rattle.blk_nodes.specs.Flushing.{base_of, IsFlushAt}
+use Rattle.blk_nodes.specs.Nodes.{Nodes, DeviceState, row_at, device_in, file_of, kind_of, is_of}
+use Rattle.blk_nodes.specs.Reading.{HaveRisen, HasRisen, OnlyAt}
+use Rattle.blk_nodes.specs.Writing.{WritesFile, WritesImage, WritesBy, ZerosBy, own_file, taken_by}
+use Rattle.blk_nodes.specs.declared.row.Driver.{Driver}
+use Rattle.blk_nodes.specs.declared.row.Driver.TheVariants as drivers
+use Rattle.blk_nodes.specs.declared.row.Row.{Row}
+use Rattle.blk_world.specs.Coherent.{AreNodesOf, IsRowOf}
+use Rattle.blk_world.specs.Face.{Face, held, held_by, node_over, told_bytes}
+use Rattle.blk_world.specs.Piecing.{Transfers}
+use Rattle.blk_world.proofs.EasedTables.{IsEased}
+use Rattle.blk_world.proofs.PieceTables.{row_same}
+
+-- ---- bytes of devices
+
+abbrev pub content_in : List DeviceState → ℕ → Option (List ℕ)
+content_in devices node = option_and_then (λ device. device.content) (device_in devices node)
+
+pub risen_content : (old new : List DeviceState) → HaveRisen old new → (n : ℕ) → content_in new n ≡ content_in old n
+risen_content [] [] risen n = refl
+risen_content (a ∷ old) (b ∷ new) risen n =
+    let node : b.node ≡ a.node = ap (λ (d : DeviceState). d.node) risen.0.same in
+    let content : b.content ≡ a.content = ap (λ (d : DeviceState). d.content) risen.0.same in
+    ap (λ (m : ℕ). option_and_then (λ (d : DeviceState). d.content) (cond (m == n) (Some b) (device_in new n))) node
+    ∙ by_test (a.node == n) content (risen_content old new risen.1 n)
+  where
+    by_test : (t : Bool) → b.content ≡ a.content → content_in new n ≡ content_in old n
+        → option_and_then (λ (d : DeviceState). d.content) (cond t (Some b) (device_in new n)) ≡ option_and_then (λ (d : DeviceState). d.content) (cond t (Some a) (device_in old n))
+    by_test true same rest = same
+    by_test false same rest = rest
+risen_content [] (b ∷ new) risen n = absurd risen
+risen_content (a ∷ old) [] risen n = absurd risen
+
+pub only_content : (file : ℕ) (old new : List DeviceState) → OnlyAt file old new → (n : ℕ) → n ≢ file → content_in new n ≡ content_in old n
+only_content file old new only n apart = ap (option_and_then (λ (d : DeviceState). d.content)) (only.others n apart)
+
+-- a node is not over the file that a piece writes
+abbrev pub IsElse : Op → Nodes → ℕ → ℕ → Type 0
+IsElse op nodes node n = changes_disk op ≡ true → (row : Row) (file : ℕ) → row_at nodes node ≡ Some row → own_file nodes node row.driver ≡ Some file → n ≢ file
+
+module _ (old new : Nodes) (node n : ℕ) where
+  abbrev NotItsFile : Type 0
+  NotItsFile = (row : Row) (file : ℕ) → row_at old node ≡ Some row → own_file old node row.driver ≡ Some file → n ≢ file
+
+  file_content : (place : ℕ) (bytes : List ℕ) (outcome : Outcome) → WritesFile old new node place bytes outcome → NotItsFile → content_in new.devices n ≡ content_in old.devices n
+  file_content place bytes outcome wrote apart =
+      only_content wrote.file old.devices new.devices wrote.at.only n (apart wrote.row wrote.file wrote.there wrote.own)
+
+  image_content : (fits : ℕ → Type 0) (own : Option ℕ) (m : ℕ) (outcome : Outcome) (row : Row) (d : Driver) → row_at old node ≡ Some row → row.driver ≡ d
+      → (wrote : WritesImage fits own old new node m outcome) → own_file old node d ≡ Some wrote.file → NotItsFile → content_in new.devices n ≡ content_in old.devices n
+  image_content fits own m outcome row d there driver wrote is apart = elim wrote.devices [
+    | inl only ↦ only_content wrote.file old.devices new.devices only n (apart row wrote.file there (ap (own_file old node) driver ∙ is))
+    | inr risen ↦ risen_content old.devices new.devices risen n
+  ]
+
+  write_content : (part : Extent) (bytes : List ℕ) (outcome : Outcome) (row : Row) → row_at old node ≡ Some row → (d : Driver) → row.driver ≡ d → WritesBy d old new node part bytes outcome
+      → NotItsFile → content_in new.devices n ≡ content_in old.devices n
+  write_content part bytes outcome row there drivers.File driver wrote apart = file_content part.start bytes outcome wrote apart
+  write_content part bytes outcome row there (drivers.Raw p) driver wrote apart = file_content part.start bytes outcome wrote apart
+  write_content part bytes outcome row there (drivers.Qcow2 image) driver wrote apart = image_content _ _ _ outcome row (drivers.Qcow2 image) there driver wrote wrote.edge apart
+  write_content part bytes outcome row there drivers.CopyOnRead driver wrote apart = file_content part.start bytes outcome wrote apart
+
+  zero_content : (part : Extent) (outcome : Outcome) (row : Row) → row_at old node ≡ Some row → (d : Driver) → row.driver ≡ d → ZerosBy d old new node part outcome
+      → NotItsFile → content_in new.devices n ≡ content_in old.devices n
+  zero_content part outcome row there drivers.File driver wrote apart = file_content part.start (replicate part.len 0) outcome wrote apart
+  zero_content part outcome row there (drivers.Raw p) driver wrote apart = file_content part.start (replicate part.len 0) outcome wrote apart
+  zero_content part outcome row there (drivers.Qcow2 image) driver wrote apart = image_content _ _ _ outcome row (drivers.Qcow2 image) there driver wrote wrote.edge apart
+  zero_content part outcome row there drivers.CopyOnRead driver wrote apart = file_content part.start (replicate part.len 0) outcome wrote apart
+
+  flush_content : (file : ℕ) (outcome : Outcome) → IsFlushAt file old.devices new.devices outcome → content_in new.devices n ≡ content_in old.devices n
+  flush_content file outcome flushed = by_node (cases_eq n file)
+    where
+      by_node : (n ≡ file) ⊎ (n ≢ file) → content_in new.devices n ≡ content_in old.devices n
+      by_node (inl same) =
+          ap (content_in new.devices) same ∙ ap (option_and_then (λ (d : DeviceState). d.content)) flushed.left
+          ∙ ap (λ (d : DeviceState). d.content) flushed.flush.is
+          ∙ sym (ap (content_in old.devices) same ∙ ap (option_and_then (λ (d : DeviceState). d.content)) flushed.held)
+      by_node (inr apart) = only_content file old.devices new.devices flushed.only n apart
+
+  pub content_after : (op : Op) (part : Extent) (outcome : Outcome) (buffer : List ℕ) → Transfers op old new node part outcome buffer → IsElse op old node n
+      → content_in new.devices n ≡ content_in old.devices n
+  content_after (Read span) part outcome buffer did apart = risen_content old.devices new.devices did.devices n
+  content_after (Write span payload) part outcome buffer did apart =
+      write_content part (payload_in (Write span payload) part) outcome did.0.row did.0.there did.0.row.driver refl did.0.wrote (apart refl)
+  content_after (Zero span) part outcome buffer did apart = zero_content part outcome did.0.row did.0.there did.0.row.driver refl did.0.wrote (apart refl)
+  content_after Flush part outcome buffer did apart = flush_content (base_of old node) outcome did.flushed
+  content_after (Discard span) part outcome buffer did apart = absurd did
+
+-- ---- the file that is written, by name
+
+module _ (t : Table) (nodes : Nodes) (are : AreNodesOf t nodes) (node : ℕ) (row : NodeRecord) (at : node_at t node ≡ Some row) (id_is : row.id ≡ node)
+    (own : Row) (own_at : row_at nodes node ≡ Some own) (alike : IsRowOf row own) where
+  pub written_is : (file : ℕ) → own_file nodes node own.driver ≡ Some file → written_file t node ≡ filename_of t file
+  written_is file is =
+      ap (option_and_then (λ (r : NodeRecord). file_by t r r.kind)) at ∙ ap (file_by t row) alike.kind ∙ by_driver own.driver is
+    where
+      child_is : file_of nodes node ≡ Some file → child t row.id File ≡ Some file
+      child_is edge = ap (λ (n : ℕ). child t n File) id_is ∙ ap (child_of (Node node) File) (sym are.edges) ∙ edge
+
+      by_driver : (d : Driver) → own_file nodes node d ≡ Some file → file_by t row (kind_of d) ≡ filename_of t file
+      by_driver drivers.File same =
+          let equal : node ≡ file = cc same in
+          sym (ap (option_and_then (λ (r : NodeRecord). r.filename)) (subst (λ (n : ℕ). node_at t n ≡ Some row) equal at))
+      by_driver (drivers.Raw part) edge = ap (option_and_then (filename_of t)) (child_is edge)
+      by_driver (drivers.Qcow2 image) edge = ap (option_and_then (filename_of t)) (child_is edge)
+      by_driver drivers.CopyOnRead bad = absurd (let e : ⊥ = cc bad in e)
+
+  -- a node over another file
+  pub else_by : (op : Op) (n : ℕ) (name : List ℕ) → filename_of t n ≡ Some name → (written_file t node ≡ Some name → ⊥) → IsElse op nodes node n
+  else_by op n name named other changes found file there is = λ same.
+      let rows : found ≡ own = cc (sym there ∙ own_at) in
+      let its : own_file nodes node own.driver ≡ Some file = ap (λ (r : Row). own_file nodes node r.driver) (sym rows) ∙ is in
+      other (written_is file its ∙ ap (filename_of t) (sym same) ∙ named)
+
+-- ---- the node over a file
+
+pub over_same : (t now : Table) → IsEased t now → (name : List ℕ) → node_over now name ≡ node_over t name
+over_same t now e name =
+    ap (λ (rows : List NodeRecord). option_map (λ (r : NodeRecord). r.id) (find (stands_for name) rows)) e.rows
+    ∙ ap (option_map (λ (r : NodeRecord). r.id)) (find-map (stands_for name) e.f (row_same t now e (stands_for name) (λ row. refl)) t.nodes)
+    ∙ by_found (find (stands_for name) t.nodes)
+  where
+    by_found : (found : Option NodeRecord) → option_map (λ (r : NodeRecord). r.id) (option_map e.f found) ≡ option_map (λ (r : NodeRecord). r.id) found
+    by_found None = refl
+    by_found (Some row) = ap Some (row_same t now e (λ r. r.id) (λ r. refl) row)
+
+-- what a file holds, where its device does
+pub held_after : (w v : Face) (name : List ℕ) → v.files ≡ w.files → node_over v.table name ≡ node_over w.table name
+    → ((n : ℕ) → node_over w.table name ≡ Some n → content_in v.nodes.devices n ≡ content_in w.nodes.devices n) → held v name ≡ held w name
+held_after w v name files over same = ap (held_by v name) over ∙ by_node (node_over w.table name) refl
+  where
+    by_node : (found : Option ℕ) → node_over w.table name ≡ found → held_by v name found ≡ held_by w name found
+    by_node None is = ap (λ (all : _). told_bytes all name) files
+    by_node (Some n) is = same n is
+
+-- ---- what was written
+
+pub payload_length : (op : Op) (part : Extent) → changes_disk op ≡ true → length (payload_in op part) ≡ part.len
+payload_length (Read span) part bad = absurd (false≢true bad)
+payload_length (Write span (Fill byte)) part is = length-replicate part.len byte
+payload_length (Write span (Raw bytes)) part is = length-bytes_at bytes _ part.len
+payload_length (Zero span) part is = length-replicate part.len 0
+payload_length Flush part bad = absurd (false≢true bad)
+payload_length (Discard span) part bad = absurd (false≢true bad)
+
+pub taken_is : (op : Op) (part : Extent) (outcome : Outcome) → changes_disk op ≡ true → taken_by outcome (payload_in op part) ≡ take (done_by outcome part) (payload_in op part)
+taken_is op part Good is = let len = payload_length op part is in sym (take_all part.len (payload_in op part) (omega (arith, len)))
+taken_is op part (Torn done dev count) is = refl
+taken_is op part (Io dev count) is = refl
+taken_is op part (NoSpace dev) is = refl

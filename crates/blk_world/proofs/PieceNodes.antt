@@ -1,0 +1,362 @@
+-- What a piece leaves of nodes and devices, and whose device stopped it.
+use Rattle.std.proofs.Common.{◌≡◌, ◌≢◌, ◌⊎◌, ℕ, zero, suc, ◌+◌, ◌<◌, ◌≤◌, true, false, Bool, List, [], length, get_or, replicate, Option, Some, None, refl, sym, ◌∙◌, ap, subst, inl, inr, arith}
+use Rattle.std.specs.Prelude.{IsSome, is_some, Contains, option_map, ◌||◌}
+use Rattle.std.proofs.lemmas.List.{length-replicate}
+use Rattle.blk_base.specs.Counts.{Rose}
+use Rattle.blk_base.specs.Outcomes.{is_good}
+use Rattle.blk_base.specs.Pieces.{Extent}
+use Rattle.blk_base.specs.declared.fault.DevNo.{DevNo}
+use Rattle.blk_base.specs.declared.fault.Outcome.{Outcome}
+use Rattle.blk_base.specs.declared.fault.Outcome.TheVariants.{Good, Torn, Io, NoSpace}
+use Rattle.trace_codec.specs.declared.op.Op.{Op}
+use Rattle.trace_codec.specs.declared.op.Payload.{Payload}
+use Rattle.trace_codec.specs.declared.op.Op.TheVariants.{Read, Write, Zero, Flush, Discard}
+use Rattle.blk_graph.specs.Graph.{Graph}
+use Rattle.blk_graph.specs.declared.edge.Role.TheVariants.{File as FileRole}
+use Rattle.blk_history.specs.Disk.{payload_in}
+use Rattle.qmp_rules.specs.Table.{Table, node_at}
+use Rattle.qmp_rules.specs.declared.rows.NodeRecord.{NodeRecord}
+use Rattle.flat_machine.specs.EventLicence.{changes_disk, device_in as device_named}
+use Rattle.blk_nodes.specs.Flushing.{base_in, base_of, HasFlushCause, IsFlushOf, IsFlushAt}
+use Rattle.blk_nodes.specs.Joined.{IsJoined}
+use Rattle.blk_nodes.specs.Nodes.{Nodes, DeviceState, row_at, device_in, file_of, backing_of, kind_of}
+use Rattle.blk_nodes.specs.Reading.{HaveRisen, IsReadBelow, LeadsTo, OnlyAt, StoppedBy, StoppedBelow}
+use Rattle.blk_nodes.specs.Writing.{IsRowAfter, IsDriverAfter, AreRowsAfter, LeavesNodes, WritesPiece, ZerosPiece, WritesFile, WritesImage, WritesBy, ZerosBy, IsWriteAt, HasCauseOf, HasPieceCause, MayWrite, CanBeWritten, own_file, own_start}
+use Rattle.blk_nodes.specs.declared.row.Driver.{Driver}
+use Rattle.blk_nodes.specs.declared.row.Driver.TheVariants as drivers
+use Rattle.blk_nodes.specs.declared.row.Row.{Row}
+use Rattle.blk_nodes.proofs.Alike.{alike_but, row_refl}
+use Rattle.blk_nodes.proofs.Leading.{leads_on, child_leads}
+use Rattle.blk_world.specs.Coherent.{AreNodesOf, AreAlike, IsRowOf, offset_of}
+use Rattle.blk_world.specs.Counting.{AreSameDevices, IsSameDevice}
+use Rattle.blk_world.specs.Piecing.{Transfers, ReadsPart, PutsPart, FlushesPart, PassesBy}
+use Rattle.blk_world.proofs.CountLemmas.{same-risen, same-only}
+
+-- ---- nodes after it
+
+pub record AreAfter (old new : Nodes) : Type 0 where
+  pub graph : new.graph ≡ old.graph
+  pub rows : (n : ℕ) → AreRowsAfter (row_at old n) (row_at new n)
+  pub devices : AreSameDevices old.devices new.devices
+
+rows_kept : (old new : Nodes) → new.rows ≡ old.rows → (n : ℕ) → AreRowsAfter (row_at old n) (row_at new n)
+rows_kept old new same n = subst (λ (rs : List (Option Row)). AreRowsAfter (row_at old n) (get_or rs n None)) (sym same) (row_refl (row_at old n))
+
+after_devices : (old new : Nodes) → new ≡ record old { devices = new.devices } → AreSameDevices old.devices new.devices → AreAfter old new
+after_devices old new kept devices = record {
+  graph = ap (λ (n : Nodes). n.graph) kept;
+  rows = rows_kept old new (ap (λ (n : Nodes). n.rows) kept);
+  devices = devices;
+}
+
+after_left : (old new : Nodes) (node : ℕ) → LeavesNodes old new node → AreSameDevices old.devices new.devices → AreAfter old new
+after_left old new node leaves devices = record {
+  graph = leaves.graph;
+  rows = alike_but old new node leaves.others leaves.own;
+  devices = devices;
+}
+
+module _ (old new : Nodes) (joined : IsJoined old) where
+  file_devices : (node place : ℕ) (bytes : List ℕ) (outcome : Outcome) → WritesFile old new node place bytes outcome → AreSameDevices old.devices new.devices
+  file_devices node place bytes outcome wrote =
+      same-only wrote.file old.devices new.devices wrote.at.before wrote.at.after joined.once wrote.at.only wrote.at.held wrote.at.left
+      (record { node = wrote.at.wrote.node; number = wrote.at.wrote.number; faults = wrote.at.wrote.faults })
+
+  image_devices : (fits : ℕ → Type 0) (own : Option ℕ) (node n : ℕ) (outcome : Outcome) → WritesImage fits own old new node n outcome → AreSameDevices old.devices new.devices
+  image_devices fits own node n outcome wrote = elim wrote.devices [
+    | inl only ↦
+        same-only wrote.file old.devices new.devices wrote.before wrote.after joined.once only wrote.held wrote.left
+        (record { node = wrote.device.node; number = wrote.device.number; faults = wrote.device.faults })
+    | inr risen ↦ same-risen old.devices new.devices risen
+  ]
+
+  write_devices : (node : ℕ) (part : Extent) (bytes : List ℕ) (outcome : Outcome) (d : Driver) → WritesBy d old new node part bytes outcome → AreSameDevices old.devices new.devices
+  write_devices node part bytes outcome drivers.File wrote = file_devices node part.start bytes outcome wrote
+  write_devices node part bytes outcome (drivers.Raw p) wrote = file_devices node part.start bytes outcome wrote
+  write_devices node part bytes outcome (drivers.Qcow2 image) wrote = image_devices _ _ node _ outcome wrote
+  write_devices node part bytes outcome drivers.CopyOnRead wrote = file_devices node part.start bytes outcome wrote
+
+  zero_devices : (node : ℕ) (part : Extent) (outcome : Outcome) (d : Driver) → ZerosBy d old new node part outcome → AreSameDevices old.devices new.devices
+  zero_devices node part outcome drivers.File wrote = file_devices node part.start (replicate part.len 0) outcome wrote
+  zero_devices node part outcome (drivers.Raw p) wrote = file_devices node part.start (replicate part.len 0) outcome wrote
+  zero_devices node part outcome (drivers.Qcow2 image) wrote = image_devices _ _ node _ outcome wrote
+  zero_devices node part outcome drivers.CopyOnRead wrote = file_devices node part.start (replicate part.len 0) outcome wrote
+
+  flush_devices : (file : ℕ) (outcome : Outcome) → IsFlushAt file old.devices new.devices outcome → AreSameDevices old.devices new.devices
+  flush_devices file outcome flushed =
+      same-only file old.devices new.devices flushed.before flushed.after joined.once flushed.only flushed.held flushed.left
+      (record {
+        node = ap (λ (d : DeviceState). d.node) flushed.flush.is;
+        number = ap (λ (d : DeviceState). d.number) flushed.flush.is;
+        faults = flushed.flush.faults;
+      })
+
+  pub nodes_after : (op : Op) (node : ℕ) (part : Extent) (outcome : Outcome) (buffer : List ℕ) → Transfers op old new node part outcome buffer → AreAfter old new
+  nodes_after (Read span) node part outcome buffer did = after_devices old new did.kept (same-risen old.devices new.devices did.devices)
+  nodes_after (Write span payload) node part outcome buffer did =
+      after_left old new node did.1.kept (write_devices node part (payload_in (Write span payload) part) outcome did.0.row.driver did.0.wrote)
+  nodes_after (Zero span) node part outcome buffer did = after_left old new node did.1.kept (zero_devices node part outcome did.0.row.driver did.0.wrote)
+  nodes_after Flush node part outcome buffer did = after_devices old new did.kept (flush_devices (base_of old node) outcome did.flushed)
+  nodes_after (Discard span) node part outcome buffer did = absurd did
+
+-- ---- the table speaks of them as before
+
+driver_after : (d e : Driver) → IsDriverAfter d e → (kind_of e ≡ kind_of d) × (offset_of e ≡ offset_of d)
+driver_after drivers.File e is = (ap kind_of is, ap offset_of is)
+driver_after (drivers.Raw part) e is = (ap kind_of is, ap offset_of is)
+driver_after (drivers.Qcow2 image) e is = (ap kind_of is.1, ap offset_of is.1)
+driver_after drivers.CopyOnRead e is = (ap kind_of is, ap offset_of is)
+
+alike_row : (record' : Option NodeRecord) (old new : Option Row) → AreRowsAfter old new → AreAlike record' old → AreAlike record' new
+alike_row record' None new is alike = subst (AreAlike record') (sym is) alike
+alike_row None (Some old) new is alike = absurd alike
+alike_row (Some row) (Some old) new is alike =
+    let driver = driver_after old.driver is.0.driver is.2.driver in
+    let now : IsRowOf row is.0 = record {
+      kind = alike.kind ∙ sym driver.0;
+      size = alike.size ∙ sym is.2.size;
+      access = alike.access ∙ sym is.2.is_read_only;
+      place = alike.place ∙ sym driver.1;
+    } in
+    subst (AreAlike (Some row)) (sym is.1) now
+
+pub alike_after : (t : Table) (old new : Nodes) → AreAfter old new → AreNodesOf t old → AreNodesOf t new
+alike_after t old new after are = record {
+  listed = ap (λ (g : Graph). g.nodes) after.graph ∙ are.listed;
+  edges = ap (λ (g : Graph). g.edges) after.graph ∙ are.edges;
+  rows = λ id. alike_row (node_at t id) (row_at old id) (row_at new id) (after.rows id) (are.rows id);
+}
+
+-- ---- whose device stopped it
+
+-- a node that is written in place in its file
+abbrev pub IsPlain : Driver → Type 0
+IsPlain drivers.File = Unit {0}
+IsPlain (drivers.Raw part) = Unit {0}
+IsPlain (drivers.Qcow2 image) = ⊥
+IsPlain drivers.CopyOnRead = ⊥
+
+-- a device that the node leads to; where a count is told, it rose to that
+abbrev pub IsStop : DeviceState → DeviceState → Outcome → DevNo → Type 0
+IsStop before after Good dev = ⊥
+IsStop before after (Torn done other count) dev = StoppedBy before after dev count
+IsStop before after (Io other count) dev = StoppedBy before after dev count
+IsStop before after (NoSpace other) dev = dev ≡ before.number
+
+pub record StoppedOn (old new : Nodes) (node : ℕ) (outcome : Outcome) (dev : DevNo) : Type 0 where
+  pub file : ℕ
+  pub leads : LeadsTo old.graph.edges node file
+  pub before : DeviceState
+  pub after : DeviceState
+  pub held : device_in old.devices file ≡ Some before
+  pub left : device_in new.devices file ≡ Some after
+  pub stop : IsStop before after outcome dev
+
+module _ (old new : Nodes) (node : ℕ) where
+  stop_below : (outcome : Outcome) (dev : DevNo) (count : ℕ) → outcome ≡ Io dev count → StoppedBelow old new node dev count → StoppedOn old new node outcome dev
+  stop_below outcome dev count is stopped = record {
+    file = stopped.file;
+    leads = stopped.leads;
+    before = stopped.stopped.before;
+    after = stopped.stopped.after;
+    held = stopped.stopped.held;
+    left = stopped.stopped.left;
+    stop = subst (λ (o : Outcome). IsStop stopped.stopped.before stopped.stopped.after o dev) (sym is) stopped.stopped.stopped;
+  }
+
+  read_stop : (outcome : Outcome) (dev : DevNo) → device_named outcome ≡ Some dev → IsReadBelow old new node outcome → StoppedOn old new node outcome dev
+  read_stop Good dev named is = absurd (let bad : ⊥ = cc named in bad)
+  read_stop (Torn done other count) dev named is = absurd is
+  read_stop (Io other count) dev named is =
+      let same : other ≡ dev = cc named in
+      stop_below (Io other count) dev count (ap (λ (d : DevNo). Io d count) same) (subst (λ (d : DevNo). StoppedBelow old new node d count) same is)
+  read_stop (NoSpace other) dev named is = absurd is
+
+  write_stop_by : (before after : DeviceState) (place n : ℕ) (outcome : Outcome) (dev : DevNo) → device_named outcome ≡ Some dev → HasCauseOf before after place n outcome → IsStop before after outcome dev
+  write_stop_by before after place n Good dev named cause = absurd (let bad : ⊥ = cc named in bad)
+  write_stop_by before after place n (Torn done other count) dev named cause =
+      let same : other ≡ dev = cc named in subst (λ (d : DevNo). StoppedBy before after d count) same cause.4
+  write_stop_by before after place n (Io other count) dev named cause =
+      let same : other ≡ dev = cc named in subst (λ (d : DevNo). StoppedBy before after d count) same cause.1
+  write_stop_by before after place n (NoSpace other) dev named cause = let same : other ≡ dev = cc named in sym same ∙ cause.1
+
+  file_stop : (place : ℕ) (bytes : List ℕ) (outcome : Outcome) (dev : DevNo) → device_named outcome ≡ Some dev → (wrote : WritesFile old new node place bytes outcome)
+      → LeadsTo old.graph.edges node wrote.file → StoppedOn old new node outcome dev
+  file_stop place bytes outcome dev named wrote leads = record {
+    file = wrote.file;
+    leads = leads;
+    before = wrote.at.before;
+    after = wrote.at.after;
+    held = wrote.at.held;
+    left = wrote.at.left;
+    stop = write_stop_by wrote.at.before wrote.at.after wrote.start (length bytes) outcome dev named wrote.at.wrote.cause;
+  }
+
+  image_stop : (fits : ℕ → Type 0) (own : Option ℕ) (n : ℕ) (outcome : Outcome) (dev : DevNo) → device_named outcome ≡ Some dev
+      → (wrote : WritesImage fits own old new node n outcome) → StoppedOn old new node outcome dev
+  image_stop fits own n outcome dev named wrote = by_cause outcome refl named wrote.cause
+    where
+      here : IsStop wrote.before wrote.after outcome dev → StoppedOn old new node outcome dev
+      here stop = record {
+        file = wrote.file;
+        leads = child_leads old.graph.edges node wrote.file FileRole wrote.edge;
+        before = wrote.before;
+        after = wrote.after;
+        held = wrote.held;
+        left = wrote.left;
+        stop = stop;
+      }
+
+      by_cause : (o : Outcome) → outcome ≡ o → device_named o ≡ Some dev → HasPieceCause (fits wrote.before.capacity) own n wrote.file old new node wrote.before wrote.after o
+          → StoppedOn old new node outcome dev
+      by_cause Good is named cause = absurd (let bad : ⊥ = cc named in bad)
+      by_cause (Torn done other count) is named cause =
+          let same : other ≡ dev = cc named in
+          here (subst (λ (o : Outcome). IsStop wrote.before wrote.after o dev) (sym is) (subst (λ (d : DevNo). StoppedBy wrote.before wrote.after d count) same cause.2))
+      by_cause (Io other count) is named cause =
+          let same : other ≡ dev = cc named in
+          stop_below outcome dev count (is ∙ ap (λ (d : DevNo). Io d count) same) (subst (λ (d : DevNo). StoppedBelow old new node d count) same cause.1)
+      by_cause (NoSpace other) is named cause =
+          let same : other ≡ dev = cc named in
+          here (subst (λ (o : Outcome). IsStop wrote.before wrote.after o dev) (sym is) (sym same ∙ cause.1))
+
+  flush_stop_by : (before after : DeviceState) (outcome : Outcome) (dev : DevNo) → device_named outcome ≡ Some dev → HasFlushCause before after outcome → IsStop before after outcome dev
+  flush_stop_by before after Good dev named cause = absurd (let bad : ⊥ = cc named in bad)
+  flush_stop_by before after (Torn done other count) dev named cause = absurd cause
+  flush_stop_by before after (Io other count) dev named cause =
+      let same : other ≡ dev = cc named in subst (λ (d : DevNo). StoppedBy before after d count) same cause
+  flush_stop_by before after (NoSpace other) dev named cause = absurd cause
+
+plain_leads : (nodes : Nodes) (node file : ℕ) (d : Driver) → IsPlain d → own_file nodes node d ≡ Some file → LeadsTo nodes.graph.edges node file
+plain_leads nodes node file drivers.File plain is = inl (cc is)
+plain_leads nodes node file (drivers.Raw part) plain is = child_leads nodes.graph.edges node file FileRole is
+plain_leads nodes node file (drivers.Qcow2 image) plain is = absurd plain
+plain_leads nodes node file drivers.CopyOnRead plain is = absurd plain
+
+base_leads : (nodes : Nodes) (turns node : ℕ) → LeadsTo nodes.graph.edges node (base_in turns nodes node)
+base_leads nodes zero node = inl refl
+base_leads nodes (suc turns) node = by_file (file_of nodes node) refl (base_leads nodes turns)
+  where
+    by_file : (found : Option ℕ) → file_of nodes node ≡ found → ((n : ℕ) → LeadsTo nodes.graph.edges n (base_in turns nodes n))
+        → LeadsTo nodes.graph.edges node (elim found as (λ _. ℕ) [ None ↦ node | Some next ↦ base_in turns nodes next ])
+    by_file None is rest = inl refl
+    by_file (Some next) is rest = leads_on nodes.graph.edges node next (base_in turns nodes next) (child_leads nodes.graph.edges node next FileRole is) (rest next)
+
+flush_stop : (old new : Nodes) (node : ℕ) (outcome : Outcome) (dev : DevNo) → device_named outcome ≡ Some dev → IsFlushAt (base_of old node) old.devices new.devices outcome
+    → StoppedOn old new node outcome dev
+unfolding base_of
+flush_stop old new node outcome dev named flushed = record {
+  file = base_in 64 old node;
+  leads = base_leads old 64 node;
+  before = flushed.before;
+  after = flushed.after;
+  held = flushed.held;
+  left = flushed.left;
+  stop = flush_stop_by old new node flushed.before flushed.after outcome dev named flushed.flush.cause;
+}
+
+module _ (old new : Nodes) (node : ℕ) where
+  own_of : (place : ℕ) (bytes : List ℕ) (outcome : Outcome) (row : Row) (d : Driver) → row_at old node ≡ Some row → row.driver ≡ d → (wrote : WritesFile old new node place bytes outcome)
+      → own_file old node d ≡ Some wrote.file
+  own_of place bytes outcome row d there driver wrote =
+      let same : wrote.row ≡ row = cc (sym wrote.there ∙ there) in
+      ap (own_file old node) (sym driver ∙ ap (λ (r : Row). r.driver) (sym same)) ∙ wrote.own
+
+  plain_stop : (place : ℕ) (bytes : List ℕ) (outcome : Outcome) (dev : DevNo) (row : Row) (d : Driver) → device_named outcome ≡ Some dev → row_at old node ≡ Some row → row.driver ≡ d → IsPlain d
+      → WritesFile old new node place bytes outcome → StoppedOn old new node outcome dev
+  plain_stop place bytes outcome dev row d named there driver plain wrote =
+      file_stop old new node place bytes outcome dev named wrote
+      (plain_leads old node wrote.file d plain (own_of place bytes outcome row d there driver wrote))
+
+  -- a node that may be written copies no reads
+  not_copying : (row : Row) → row_at old node ≡ Some row → row.driver ≡ drivers.CopyOnRead → MayWrite old node → ⊥
+  not_copying row there driver may =
+      let same : may.row ≡ row = cc (sym may.there ∙ there) in
+      subst (CanBeWritten old node) (ap (λ (r : Row). r.driver) same ∙ driver) may.can
+
+  written_stop : (part : Extent) (bytes : List ℕ) (outcome : Outcome) (dev : DevNo) (row : Row) → device_named outcome ≡ Some dev → row_at old node ≡ Some row → MayWrite old node
+      → (d : Driver) → row.driver ≡ d → WritesBy d old new node part bytes outcome → StoppedOn old new node outcome dev
+  written_stop part bytes outcome dev row named there may drivers.File driver wrote = plain_stop part.start bytes outcome dev row drivers.File named there driver tt wrote
+  written_stop part bytes outcome dev row named there may (drivers.Raw p) driver wrote = plain_stop part.start bytes outcome dev row (drivers.Raw p) named there driver tt wrote
+  written_stop part bytes outcome dev row named there may (drivers.Qcow2 image) driver wrote = image_stop old new node _ _ _ outcome dev named wrote
+  written_stop part bytes outcome dev row named there may drivers.CopyOnRead driver wrote = absurd (not_copying row there driver may)
+
+  zeroed_stop : (part : Extent) (outcome : Outcome) (dev : DevNo) (row : Row) → device_named outcome ≡ Some dev → row_at old node ≡ Some row → MayWrite old node
+      → (d : Driver) → row.driver ≡ d → ZerosBy d old new node part outcome → StoppedOn old new node outcome dev
+  zeroed_stop part outcome dev row named there may drivers.File driver wrote = plain_stop part.start (replicate part.len 0) outcome dev row drivers.File named there driver tt wrote
+  zeroed_stop part outcome dev row named there may (drivers.Raw p) driver wrote = plain_stop part.start (replicate part.len 0) outcome dev row (drivers.Raw p) named there driver tt wrote
+  zeroed_stop part outcome dev row named there may (drivers.Qcow2 image) driver wrote = image_stop old new node _ _ _ outcome dev named wrote
+  zeroed_stop part outcome dev row named there may drivers.CopyOnRead driver wrote = absurd (not_copying row there driver may)
+
+  -- The device that a piece names is one that its node leads to.
+  pub stop_of : (op : Op) (part : Extent) (outcome : Outcome) (buffer : List ℕ) (dev : DevNo) → (changes_disk op ≡ true → MayWrite old node) → device_named outcome ≡ Some dev
+      → Transfers op old new node part outcome buffer → StoppedOn old new node outcome dev
+  stop_of (Read span) part outcome buffer dev may named did = read_stop old new node outcome dev named did.outcome_is
+  stop_of (Write span payload) part outcome buffer dev may named did =
+      written_stop part (payload_in (Write span payload) part) outcome dev did.0.row named did.0.there (may refl) did.0.row.driver refl did.0.wrote
+  stop_of (Zero span) part outcome buffer dev may named did = zeroed_stop part outcome dev did.0.row named did.0.there (may refl) did.0.row.driver refl did.0.wrote
+  stop_of Flush part outcome buffer dev may named did = flush_stop old new node outcome dev named did.flushed
+  stop_of (Discard span) part outcome buffer dev may named did = absurd did
+
+-- ---- want of space
+
+-- a write of the piece would pass the capacity of this device
+pub record IsFull (old : Nodes) (node : ℕ) (op : Op) (part : Extent) (dev : DevNo) : Type 0 where
+  pub row : Row
+  pub there : row_at old node ≡ Some row
+  pub file : ℕ
+  pub before : DeviceState
+  pub held : device_in old.devices file ≡ Some before
+  pub named : dev ≡ before.number
+  pub passes : PassesBy row.driver op part before.capacity
+
+module _ (old new : Nodes) (node : ℕ) (part : Extent) (dev : DevNo) (row : Row) (there : row_at old node ≡ Some row) where
+  plain_full : (op : Op) (bytes : List ℕ) (d : Driver) → row.driver ≡ d → length bytes ≡ part.len
+      → (wrote : WritesFile old new node part.start bytes (NoSpace dev)) → (wrote.at.before.capacity < own_start d part.start + part.len → PassesBy d op part wrote.at.before.capacity) → IsFull old node op part dev
+  plain_full op bytes d driver len wrote is =
+      let same : wrote.row ≡ row = cc (sym wrote.there ∙ there) in
+      let start : wrote.start ≡ own_start d part.start = wrote.start_is ∙ ap (λ (r : Row). own_start r.driver part.start) same ∙ ap (λ (x : Driver). own_start x part.start) driver in
+      let cause = wrote.at.wrote.cause in
+      record {
+        row = row;
+        there = there;
+        file = wrote.file;
+        before = wrote.at.before;
+        held = wrote.at.held;
+        named = cause.1;
+        passes = subst (λ (x : Driver). PassesBy x op part wrote.at.before.capacity) (sym driver) (is (omega (arith, cause.0, start, len)));
+      }
+
+  image_full : (op : Op) (fits : ℕ → Type 0) (own : Option ℕ) (n : ℕ) (d : Driver) → row.driver ≡ d → (wrote : WritesImage fits own old new node n (NoSpace dev))
+      → PassesBy d op part wrote.before.capacity → IsFull old node op part dev
+  image_full op fits own n d driver wrote passes = record {
+    row = row;
+    there = there;
+    file = wrote.file;
+    before = wrote.before;
+    held = wrote.held;
+    named = wrote.cause.1;
+    passes = subst (λ (x : Driver). PassesBy x op part wrote.before.capacity) (sym driver) passes;
+  }
+
+  write_full : (span : Extent) (payload : Payload) (bytes : List ℕ) → length bytes ≡ part.len → MayWrite old node → (d : Driver) → row.driver ≡ d
+      → WritesBy d old new node part bytes (NoSpace dev) → IsFull old node (Write span payload) part dev
+  write_full span payload bytes len may drivers.File driver wrote = plain_full (Write span payload) bytes drivers.File driver len wrote (λ past. past)
+  write_full span payload bytes len may (drivers.Raw p) driver wrote = plain_full (Write span payload) bytes (drivers.Raw p) driver len wrote (λ past. past)
+  write_full span payload bytes len may (drivers.Qcow2 image) driver wrote = image_full (Write span payload) _ _ _ (drivers.Qcow2 image) driver wrote wrote.cause.0
+  write_full span payload bytes len may drivers.CopyOnRead driver wrote = absurd (not_copying old new node row there driver may)
+
+  zero_full : (span : Extent) → MayWrite old node → (d : Driver) → row.driver ≡ d → ZerosBy d old new node part (NoSpace dev) → IsFull old node (Zero span) part dev
+  zero_full span may drivers.File driver wrote = plain_full (Zero span) (replicate part.len 0) drivers.File driver (length-replicate part.len 0) wrote (λ past. past)
+  zero_full span may (drivers.Raw p) driver wrote = plain_full (Zero span) (replicate part.len 0) (drivers.Raw p) driver (length-replicate part.len 0) wrote (λ past. past)
+  zero_full span may (drivers.Qcow2 image) driver wrote = image_full (Zero span) _ _ _ (drivers.Qcow2 image) driver wrote wrote.cause.0
+  zero_full span may drivers.CopyOnRead driver wrote = absurd (not_copying old new node row there driver may)
+
+pub full_of : (old new : Nodes) (node : ℕ) (op : Op) (part : Extent) (buffer : List ℕ) (dev : DevNo) → (changes_disk op ≡ true → length (payload_in op part) ≡ part.len) → (changes_disk op ≡ true → MayWrite old node)
+    → Transfers op old new node part (NoSpace dev) buffer → IsFull old node op part dev
+full_of old new node (Read span) part buffer dev len may did = absurd did.outcome_is
+full_of old new node (Write span payload) part buffer dev len may did =
+    write_full old new node part dev did.0.row did.0.there span payload (payload_in (Write span payload) part) (len refl) (may refl) did.0.row.driver refl did.0.wrote
+full_of old new node (Zero span) part buffer dev len may did = zero_full old new node part dev did.0.row did.0.there span (may refl) did.0.row.driver refl did.0.wrote
+full_of old new node Flush part buffer dev len may did = absurd did.flushed.flush.cause
+full_of old new node (Discard span) part buffer dev len may did = absurd did

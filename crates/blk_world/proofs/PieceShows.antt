@@ -1,0 +1,197 @@
+-- After a piece the world shows what the flat machine comes to by it.
+use Rattle.std.proofs.Common.{◌≡◌, ◌⊎◌, ℕ, zero, suc, ◌+◌, ◌<◌, Bool, true, false, cond, List, [], ◌∷◌, ◌++◌, map, take, Option, Some, None, refl, sym, ◌∙◌, ap, subst, inl, inr}
+use Rattle.std.specs.Prelude.{IsSome, IsTrue, is_some, slice_get, option_map, option_and_then}
+use Rattle.blk_base.specs.Content.{with_bytes, bytes_at}
+use Rattle.blk_base.specs.Pieces.{Extent}
+use Rattle.blk_base.specs.declared.fault.Outcome.{Outcome}
+use Rattle.blk_base.specs.declared.fault.Outcome.TheVariants.{Good, Torn, Io, NoSpace}
+use Rattle.trace_codec.specs.declared.op.Op.{Op}
+use Rattle.trace_codec.specs.declared.op.Op.TheVariants.{Read, Write, Zero, Flush, Discard}
+use Rattle.blk_history.specs.Disk.{payload_in, done_in, piece, is_write}
+use Rattle.blk_history.specs.Fold.{run, change, With}
+use Rattle.blk_history.specs.Machine.{Flight, done_by}
+use Rattle.blk_history.specs.declared.event.Event.{Event}
+use Rattle.blk_history.specs.declared.event.Event.TheVariants.{Piece}
+use Rattle.qmp_rules.specs.Chains.{disk_node, written_under}
+use Rattle.qmp_rules.specs.Table.{Table, node_at}
+use Rattle.flat_machine.specs.Agreement.{Contents, Agrees}
+use Rattle.flat_machine.specs.EventLicence.{changes_disk}
+use Rattle.flat_machine.specs.Final.{bytes_of}
+use Rattle.flat_machine.specs.Jobs.{unsure}
+use Rattle.flat_machine.specs.Legal.{Fits, IsAtRest}
+use Rattle.flat_machine.specs.Machine.{after, with_guest, with_part, with_piece, with_disk, past_piece, flight_of, note, noted, is_noted, path, written, read_through, copies_through, touched}
+use Rattle.flat_machine.specs.Marking.{marked, where_recording}
+use Rattle.flat_machine.specs.Performing.{IsQuiet, HeldSame}
+use Rattle.flat_machine.specs.Standing.{StandsAtRest}
+use Rattle.flat_machine.specs.State.{State, Guest, Dirty, drive_of, filename_of}
+use Rattle.flat_machine.specs.Writing.{PieceDone, CanWrite, Writes, ReadsWritten, written_file}
+use Rattle.flat_machine.specs.declared.opening.Opening.{Opening}
+use Rattle.flat_machine.proofs.Resting.{piece_rests}
+use Rattle.flat_machine.proofs.Written.{piece_keeps}
+use Rattle.blk_nodes.specs.Contents.{disk_of}
+use Rattle.blk_nodes.specs.Nodes.{Nodes, AreTold}
+use Rattle.blk_nodes.specs.Writing.{IsApart, taken_by}
+use Rattle.blk_world.specs.Comes.{Shows}
+use Rattle.blk_world.specs.Face.{Face, held, contents_of, node_over}
+use Rattle.blk_world.specs.Piecing.{Transfers, PutsPart, table_after}
+use Rattle.blk_world.specs.Progress.{ended_in}
+use Rattle.blk_world.proofs.PieceContents.{taken_is}
+use Rattle.blk_world.proofs.Quiet.{stands-onward}
+
+-- ---- what stands beside the disks
+
+-- a state after a piece on a drive
+pub record LeavesBeside (s now : State) (t : Table) : Type 0 where
+  pub room : now.room ≡ s.room
+  pub table_is : now.table ≡ t
+  pub started : now.starts ≡ s.starts
+  pub ending : now.ending ≡ s.ending
+  pub ended : now.ended ≡ s.ended
+  pub guests : now.guests ≡ s.guests
+  pub clean : s.dirty ≡ [] → now.dirty ≡ []
+
+none_noted : (t : Table) (part : Extent) (nodes : List ℕ) → noted t part [] nodes ≡ []
+none_noted t part [] = refl
+none_noted t part (node ∷ nodes) = none_noted t part nodes
+
+note_part : (outcome : Outcome) (part : Extent) (drive : ℕ) (s now : State) (t : Table) → LeavesBeside s now t → LeavesBeside s (note outcome part drive now) t
+note_part outcome part drive s now t is = by_test (is_noted outcome)
+  where
+    by_test : (b : Bool) → LeavesBeside s (cond b (record now { dirty = noted now.table part now.dirty (path now.table drive) }) now) t
+    by_test true = record {
+      room = is.room;
+      table_is = is.table_is;
+      started = is.started;
+      ending = is.ending;
+      ended = is.ended;
+      guests = is.guests;
+      clean = λ none. ap (λ (ds : List Dirty). noted now.table part ds (path now.table drive)) (is.clean none) ∙ none_noted now.table part (path now.table drive);
+    }
+    by_test false = is
+
+read_part : (drive : ℕ) (s now : State) (t : Table) → LeavesBeside s now t → LeavesBeside s (read_through drive now) t
+read_part drive s now t is = by_test (copies_through now.table drive)
+  where
+    by_test : (b : Bool) → LeavesBeside s (cond b (record now { images = map (unsure (disk_node now.table drive ∷ [])) now.images }) now) t
+    by_test true = record { room = is.room; table_is = is.table_is; started = is.started; ending = is.ending; ended = is.ended; guests = is.guests; clean = is.clean }
+    by_test false = is
+
+pub part_is : (s : State) (drive : ℕ) (op : Op) (outcome : Outcome) (part : Extent) → LeavesBeside s (with_part drive op outcome part s) (table_after op (disk_node s.table drive) s.table)
+part_is s drive op outcome part = by_op op
+  where
+    done : Op → State
+    done o = with_disk (disk_node s.table drive) (done_in o part (done_by outcome part)) s
+
+    itself : (o : Op) → LeavesBeside s (done o) s.table
+    itself o = record { room = refl; table_is = refl; started = refl; ending = refl; ended = refl; guests = refl; clean = λ none. none }
+
+    was_written : (o : Op) → LeavesBeside s (written (disk_node s.table drive) (done o)) (written_under (disk_node s.table drive) s.table)
+    was_written o = record { room = refl; table_is = refl; started = refl; ending = refl; ended = refl; guests = refl; clean = λ none. none }
+
+    by_op : (o : Op) → LeavesBeside s (with_part drive o outcome part s) (table_after o (disk_node s.table drive) s.table)
+    by_op (Read span) = read_part drive s (done (Read span)) s.table (itself (Read span))
+    by_op (Write span payload) =
+        note_part outcome part drive s (written (disk_node s.table drive) (done (Write span payload))) (written_under (disk_node s.table drive) s.table) (was_written (Write span payload))
+    by_op (Zero span) =
+        note_part outcome part drive s (written (disk_node s.table drive) (done (Zero span))) (written_under (disk_node s.table drive) s.table) (was_written (Zero span))
+    by_op Flush = itself Flush
+    by_op (Discard span) = itself (Discard span)
+
+started_after : (op : Op) (node : ℕ) (t : Table) → (table_after op node t).started ≡ t.started
+unfolding written_under
+started_after (Read span) node t = refl
+started_after (Write span payload) node t = refl
+started_after (Zero span) node t = refl
+started_after Flush node t = refl
+started_after (Discard span) node t = refl
+
+-- ---- what is done
+
+-- what a piece leaves of contents, by what is asked
+module _ (t : Table) (w v : Face) (drive : ℕ) (op : Op) (outcome : Outcome) (part : Extent) (buffer : List ℕ)
+    (did : Transfers op w.nodes v.nodes (disk_node t drive) part outcome buffer)
+    (apart : changes_disk op ≡ true → (other : ℕ) → (ReadsWritten t (disk_node t drive) other → ⊥) → IsApart w.nodes other (disk_node t drive))
+    (told : AreTold w.nodes.devices)
+    (held_else : (name : List ℕ) → (changes_disk op ≡ true → written_file t (disk_node t drive) ≡ Some name → ⊥) → held v name ≡ held w name) where
+  abbrev node : ℕ
+  node = disk_node t drive
+
+  puts_done : (o : Op) → o ≡ op → changes_disk o ≡ true → PutsPart w.nodes v.nodes node part outcome (payload_in o part)
+      → (s : State) → s.table ≡ t → Writes s node o part (done_by outcome part) (contents_of w) (contents_of v)
+  puts_done o same changes puts s table = record {
+    written = puts.disk told ∙ ap (with_bytes (disk_of w.nodes node) part.start) (taken_is o part outcome changes);
+    nodes = λ other none.
+        puts.others other (apart (ap changes_disk (sym same) ∙ changes) other (subst (λ (u : Table). ReadsWritten u node other → ⊥) table none));
+    files = λ name none. held_else name (λ c is. none (subst (λ (u : Table). written_file u node ≡ Some name) (sym table) is));
+  }
+
+  quiet_done : ((other : ℕ) → disk_of v.nodes other ≡ disk_of w.nodes other) → (changes_disk op ≡ true → ⊥) → IsQuiet (contents_of w) (contents_of v)
+  quiet_done disks none = record {
+    nodes = λ other never. disks other;
+    files = λ name never. held_else name (λ changes is. none changes);
+  }
+
+pub piece_done : (s : State) (t : Table) (w v : Face) (drive : ℕ) (op : Op) (outcome : Outcome) (part : Extent) (buffer : List ℕ) → s.table ≡ t
+    → Transfers op w.nodes v.nodes (disk_node t drive) part outcome buffer
+    → (changes_disk op ≡ true → (other : ℕ) → (ReadsWritten t (disk_node t drive) other → ⊥) → IsApart w.nodes other (disk_node t drive))
+    → AreTold w.nodes.devices
+    → ((name : List ℕ) → (changes_disk op ≡ true → written_file t (disk_node t drive) ≡ Some name → ⊥) → held v name ≡ held w name)
+    → PieceDone s drive op outcome part (contents_of w) (contents_of v)
+piece_done s t w v drive (Read span) outcome part buffer table did apart told held_else =
+    inl (quiet_done t w v drive (Read span) outcome part buffer did apart told held_else did.disks (λ bad. let e : ⊥ = cc bad in e))
+piece_done s t w v drive (Write span payload) outcome part buffer table did apart told held_else =
+    subst (λ (u : Table). Writes s (disk_node u drive) (Write span payload) part (done_by outcome part) (contents_of w) (contents_of v)) (sym table)
+    (puts_done t w v drive (Write span payload) outcome part buffer did apart told held_else (Write span payload) refl refl did.1 s table)
+piece_done s t w v drive (Zero span) outcome part buffer table did apart told held_else =
+    subst (λ (u : Table). Writes s (disk_node u drive) (Zero span) part (done_by outcome part) (contents_of w) (contents_of v)) (sym table)
+    (puts_done t w v drive (Zero span) outcome part buffer did apart told held_else (Zero span) refl refl did.1 s table)
+piece_done s t w v drive Flush outcome part buffer table did apart told held_else =
+    quiet_done t w v drive Flush outcome part buffer did apart told held_else did.disks (λ bad. let e : ⊥ = cc bad in e)
+piece_done s t w v drive (Discard span) outcome part buffer table did apart told held_else = absurd did
+
+-- ---- what is shown
+
+module _ (o : Opening) (s : State) (w v : Face) (g k drive : ℕ) (f : Flight) (outcome : Outcome) (e : Event) (r : ℕ) (got : List ℕ) (e_is : e ≡ Piece g r k outcome got)
+    (shows : Shows o s w) (on : drive_of s.table g ≡ Some drive) (flies : flight_of s g ≡ Some f) where
+  abbrev now : State
+  now = with_part drive f.op outcome (piece f.op k) s
+
+  after_is : after s e ≡ with_guest g (past_piece outcome) now
+  after_is =
+      ap (after s) e_is
+      ∙ ap (λ (x : Option ℕ). with_guest g (past_piece outcome) (with_piece x (flight_of s g) k outcome s)) on
+      ∙ ap (λ (x : Option Flight). with_guest g (past_piece outcome) (with_piece (Some drive) x k outcome s)) flies
+
+  module _ (room : v.room ≡ w.room) (table : v.table ≡ table_after f.op (disk_node w.table drive) w.table) (guests : v.progress.guests ≡ change g (past_piece outcome) w.progress.guests)
+      (ends : ended_in v.progress.log.events ≡ ended_in w.progress.log.events)
+      (can : CanWrite s drive f.op) (done : PieceDone s drive f.op outcome (piece f.op k) (contents_of w) (contents_of v)) where
+    part : LeavesBeside s now (table_after f.op (disk_node s.table drive) s.table)
+    part = part_is s drive f.op outcome (piece f.op k)
+
+    agrees : Agrees (bytes_of o.files) now (contents_of v)
+    agrees = piece_keeps (bytes_of o.files) s drive f.op outcome (piece f.op k) (contents_of w) (contents_of v) can done shows.contents
+
+    pub piece_shows : Shows o (after s e) v
+    piece_shows = subst (λ (x : State). Shows o x v) (sym after_is) (record {
+      stands = stands-onward now (change g (past_piece outcome) now.guests) now.ended (piece_rests s drive f.op outcome (piece f.op k) shows.stands);
+      clean = part.clean shows.clean;
+      table = record {
+        room_is = part.room ∙ shows.table.room_is ∙ sym room;
+        table_is = part.table_is ∙ ap (λ (u : Table). table_after f.op (disk_node u drive) u) shows.table.table_is ∙ sym table;
+        rest = record {
+          started = part.started ∙ shows.table.rest.started ∙ sym (started_after f.op (disk_node s.table drive) s.table) ∙ sym (ap (λ (u : Table). u.started) part.table_is);
+          ended = part.ending ∙ shows.table.rest.ended;
+        };
+      };
+      guests = record {
+        guests_are = ap (change g (past_piece outcome)) (part.guests ∙ shows.guests.guests_are) ∙ sym guests;
+        ended_are = part.ended ∙ shows.guests.ended_are ∙ sym ends;
+      };
+      contents = record {
+        disks = agrees.disks;
+        known = agrees.known;
+        absent = agrees.absent;
+        left = agrees.left;
+        unchanged = agrees.unchanged;
+      };
+    })

@@ -1,0 +1,101 @@
+-- Devices that tell their bytes do so after a piece.
+use Rattle.std.proofs.Common.{◌≡◌, ◌≢◌, ◌⊎◌, ℕ, ◌==◌, true, false, Bool, List, [], ◌∷◌, replicate, Option, Some, None, refl, sym, ◌∙◌, ap, subst, inl, inr, eq-eqb}
+use Rattle.std.specs.Prelude.{is_some, AllPairs, Contains, option_map, option_and_then}
+use Rattle.std.proofs.lemmas.Bool.{cases_eq, ne_eqb}
+use Rattle.blk_base.specs.Pieces.{Extent}
+use Rattle.blk_base.specs.declared.fault.Outcome.{Outcome}
+use Rattle.trace_codec.specs.declared.op.Op.{Op}
+use Rattle.trace_codec.specs.declared.op.Op.TheVariants.{Read, Write, Zero, Flush, Discard}
+use Rattle.blk_graph.proofs.Members.{Contains-nil, Contains-cases}
+use Rattle.blk_graph.proofs.RoleLemmas.{tail_pairs, head_pairs}
+use Rattle.blk_history.specs.Disk.{payload_in}
+use Rattle.blk_nodes.specs.Flushing.{base_of, IsFlushAt}
+use Rattle.blk_nodes.specs.Joined.{IsJoined, DifferInNode}
+use Rattle.blk_nodes.specs.Nodes.{Nodes, DeviceState, AreTold, device_in}
+use Rattle.blk_nodes.specs.Reading.{OnlyAt}
+use Rattle.blk_nodes.specs.Writing.{WritesFile, WritesImage, WritesBy, ZerosBy}
+use Rattle.blk_nodes.specs.declared.row.Driver.{Driver}
+use Rattle.blk_nodes.specs.declared.row.Driver.TheVariants as drivers
+use Rattle.blk_world.specs.Counting.{AreSameDevices}
+use Rattle.blk_world.specs.Piecing.{Transfers}
+use Rattle.blk_world.proofs.CountLemmas.{found-before}
+use Rattle.blk_world.proofs.PieceContents.{content_in, risen_content, only_content}
+use Rattle.blk_world.proofs.PieceNodes.{nodes_after}
+
+-- a device stands at its node
+noded : (devices : List DeviceState) (x : DeviceState) → AllPairs DifferInNode devices → Contains devices x → device_in devices x.node ≡ Some x
+noded [] x once there = absurd (Contains-nil x there)
+noded (d ∷ devices) x once there = elim (Contains-cases d devices x there) [
+  | inl here ↦ let at : (d.node == x.node) ≡ true = eq-eqb d.node x.node (ap (λ (y : DeviceState). y.node) (sym here)) in rw at (ap Some (sym here))
+  | inr later ↦
+      let past : (d.node == x.node) ≡ false = ne_eqb d.node x.node (head_pairs DifferInNode d devices once x later) in
+      rw past (noded devices x (tail_pairs DifferInNode d devices once) later)
+]
+
+-- whether a node's device tells its bytes
+abbrev is_told : List DeviceState → ℕ → Bool
+is_told devices n = is_some (content_in devices n)
+
+only_told : (file : ℕ) (old new : List DeviceState) (before after : DeviceState) → OnlyAt file old new → device_in old file ≡ Some before → device_in new file ≡ Some after
+    → is_some after.content ≡ is_some before.content → (n : ℕ) → is_told new n ≡ is_told old n
+only_told file old new before after only held left same n = by_node (cases_eq n file)
+  where
+    by_node : (n ≡ file) ⊎ (n ≢ file) → is_told new n ≡ is_told old n
+    by_node (inl equal) =
+        ap (is_told new) equal ∙ ap (λ (d : Option DeviceState). is_some (option_and_then (λ (x : DeviceState). x.content) d)) left ∙ same
+        ∙ sym (ap (is_told old) equal ∙ ap (λ (d : Option DeviceState). is_some (option_and_then (λ (x : DeviceState). x.content) d)) held)
+    by_node (inr apart) = ap is_some (only_content file old new only n apart)
+
+some_mapped : (f : List ℕ → List ℕ) (content : Option (List ℕ)) → is_some (option_map f content) ≡ is_some content
+some_mapped f None = refl
+some_mapped f (Some bytes) = refl
+
+module _ (old new : Nodes) (n : ℕ) where
+  file_told : (node place : ℕ) (bytes : List ℕ) (outcome : Outcome) → WritesFile old new node place bytes outcome → is_told new.devices n ≡ is_told old.devices n
+  file_told node place bytes outcome wrote =
+      only_told wrote.file old.devices new.devices wrote.at.before wrote.at.after wrote.at.only wrote.at.held wrote.at.left
+      (ap is_some wrote.at.wrote.content ∙ some_mapped _ wrote.at.before.content) n
+
+  image_told : (fits : ℕ → Type 0) (own : Option ℕ) (node m : ℕ) (outcome : Outcome) → WritesImage fits own old new node m outcome → is_told new.devices n ≡ is_told old.devices n
+  image_told fits own node m outcome wrote = elim wrote.devices [
+    | inl only ↦ only_told wrote.file old.devices new.devices wrote.before wrote.after only wrote.held wrote.left wrote.device.told n
+    | inr risen ↦ ap is_some (risen_content old.devices new.devices risen n)
+  ]
+
+  write_told : (node : ℕ) (part : Extent) (bytes : List ℕ) (outcome : Outcome) (d : Driver) → WritesBy d old new node part bytes outcome → is_told new.devices n ≡ is_told old.devices n
+  write_told node part bytes outcome drivers.File wrote = file_told node part.start bytes outcome wrote
+  write_told node part bytes outcome (drivers.Raw p) wrote = file_told node part.start bytes outcome wrote
+  write_told node part bytes outcome (drivers.Qcow2 image) wrote = image_told _ _ node _ outcome wrote
+  write_told node part bytes outcome drivers.CopyOnRead wrote = file_told node part.start bytes outcome wrote
+
+  zero_told : (node : ℕ) (part : Extent) (outcome : Outcome) (d : Driver) → ZerosBy d old new node part outcome → is_told new.devices n ≡ is_told old.devices n
+  zero_told node part outcome drivers.File wrote = file_told node part.start (replicate part.len 0) outcome wrote
+  zero_told node part outcome (drivers.Raw p) wrote = file_told node part.start (replicate part.len 0) outcome wrote
+  zero_told node part outcome (drivers.Qcow2 image) wrote = image_told _ _ node _ outcome wrote
+  zero_told node part outcome drivers.CopyOnRead wrote = file_told node part.start (replicate part.len 0) outcome wrote
+
+  flush_told : (file : ℕ) (outcome : Outcome) → IsFlushAt file old.devices new.devices outcome → is_told new.devices n ≡ is_told old.devices n
+  flush_told file outcome flushed =
+      only_told file old.devices new.devices flushed.before flushed.after flushed.only flushed.held flushed.left
+      (ap (λ (d : DeviceState). is_some d.content) flushed.flush.is) n
+
+  told_same : (op : Op) (node : ℕ) (part : Extent) (outcome : Outcome) (buffer : List ℕ) → Transfers op old new node part outcome buffer → is_told new.devices n ≡ is_told old.devices n
+  told_same (Read span) node part outcome buffer did = ap is_some (risen_content old.devices new.devices did.devices n)
+  told_same (Write span payload) node part outcome buffer did = write_told node part (payload_in (Write span payload) part) outcome did.0.row.driver did.0.wrote
+  told_same (Zero span) node part outcome buffer did = zero_told node part outcome did.0.row.driver did.0.wrote
+  told_same Flush node part outcome buffer did = flush_told (base_of old node) outcome did.flushed
+  told_same (Discard span) node part outcome buffer did = absurd did
+
+pub told_after : (op : Op) (old new : Nodes) (node : ℕ) (part : Extent) (outcome : Outcome) (buffer : List ℕ) → IsJoined old → IsJoined new → Transfers op old new node part outcome buffer
+    → AreTold old.devices → AreTold new.devices
+told_after op old new node part outcome buffer joined now did told device there =
+    let same : AreSameDevices old.devices new.devices = (nodes_after old new joined op node part outcome buffer did).devices in
+    let before = found-before old.devices new.devices device same there in
+    let held : device_in old.devices before.0.node ≡ Some before.0 = noded old.devices before.0 joined.once before.1 in
+    let here : device_in new.devices device.node ≡ Some device = noded new.devices device now.once there in
+    let tells : List DeviceState → ℕ → Bool = λ devices n. is_some (content_in devices n) in
+    sym (ap (λ (d : Option DeviceState). is_some (option_and_then (λ (x : DeviceState). x.content) d)) here)
+    ∙ told_same old new device.node op node part outcome buffer did
+    ∙ ap (tells old.devices) before.2.node
+    ∙ ap (λ (d : Option DeviceState). is_some (option_and_then (λ (x : DeviceState). x.content) d)) held
+    ∙ told before.0 before.1

@@ -1,0 +1,66 @@
+use Rattle.std.proofs.Common.{◌≡◌, ℕ, Some, None, refl, sym, ◌∙◌, ap, subst}
+use Rattle.blk_history.specs.Machine.{Flight}
+use Rattle.flat_machine.specs.State.{drive_of}
+use Rattle.blk_world.specs.Face.{Face}
+use Rattle.blk_world.specs.Piecing.{IsPieceMade}
+use Rattle.blk_world.specs.Progress.{flight_at}
+use Rattle.blk_world.proofs.PieceCalls.{can_next, drive_there, made_of, made_whole}
+use Rattle.blk_world.proofs.InStep.{with-at}
+use Rattle.blk_world.proofs.world.World.put_piece.Goals as goal
+
+pub unreachable-requires : goal.unreachable-requires
+unreachable-requires g c =
+    let next = rw (sym c.self.view_is) at c.requires in
+    let none : drive_of c.self.inside.names.table c.args.guest ≡ None = sym c.drive.ensures ∙ c.in_default.is in
+    drive_there c.self.inside.names.table c.self.inside.nodes c.self.inside.progress c.self.inside.store.files c.self.inside.store.opened c.self.invariant c.args.guest next none
+
+pub make_next-outcome-requires-clause-can : goal.make_next-outcome-requires-clause-can
+make_next-outcome-requires-clause-can g c =
+    let next = rw (sym c.self.view_is) at c.requires in
+    let on : drive_of c.self.inside.names.table c.args.guest ≡ Some c.in-Some.drive = sym c.drive.ensures ∙ c.in-Some.is in
+    rw c.disk_node-node.ensures
+    (can_next c.self.inside.names.table c.self.inside.nodes c.self.inside.progress c.edges.ensures.joined c.self.inside.store.files c.self.inside.store.opened c.self.invariant c.args.guest
+    c.in-Some.drive on next)
+
+pub returns-clause-made : goal.returns-clause-made
+returns-clause-made g c =
+    let w : Face = record {
+      files = c.self.inside.store.files;
+      earlier = c.self.inside.store.earlier;
+      opened = c.self.inside.store.opened;
+      room = c.self.inside.store.room;
+      faults = c.self.inside.store.faults;
+      first_faults = c.self.inside.first_faults;
+      nodes = c.self.inside.nodes;
+      table = c.self.inside.names.table;
+      progress = c.self.inside.progress;
+    } in
+    let on : drive_of w.table c.args.guest ≡ Some c.in-Some.drive = sym c.drive.ensures ∙ c.in-Some.is in
+    rw (← c.self.view_is)
+    (λ f flies.
+    made_of w c.make_next-outcome.new.nodes c.note_write.new.names.table c.make_next-outcome.new.progress c.args.guest c.in-Some.drive c.disk_node-node.result f c.make_next-outcome.result
+    c.flying.result.now on c.disk_node-node.ensures
+    (with-at (flight_at w.progress.guests c.args.guest) f (λ h. h.op ≡ c.flying.result.now) flies c.flying.ensures) c.note_write.ensures (c.make_next-outcome.ensures f flies))
+
+pub invariant_of-self : goal.invariant_of-self
+invariant_of-self g c =
+    let w : Face = record {
+      files = c.self.inside.store.files;
+      earlier = c.self.inside.store.earlier;
+      opened = c.self.inside.store.opened;
+      room = c.self.inside.store.room;
+      faults = c.self.inside.store.faults;
+      first_faults = c.self.inside.first_faults;
+      nodes = c.self.inside.nodes;
+      table = c.self.inside.names.table;
+      progress = c.self.inside.progress;
+    } in
+    let v : Face = record w {
+      nodes = c.make_next-outcome.new.nodes;
+      table = c.note_write.new.names.table;
+      progress = c.make_next-outcome.new.progress;
+    } in
+    let next = rw (sym c.self.view_is) at c.requires in
+    let made : (f : Flight) → flight_at w.progress.guests c.args.guest ≡ Some f → IsPieceMade w v c.args.guest f c.make_next-outcome.result =
+    rw (sym c.self.view_is) at (returns-clause-made g c) in
+    made_whole w v c.args.guest c.make_next-outcome.result next made c.edges.ensures.joined c.self.invariant c.edges-2.ensures.joined

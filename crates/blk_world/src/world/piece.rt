@@ -1,0 +1,62 @@
+//! Pieces of requests in flight.
+ghost use Rattle.std.specs.Prelude.{◌≡◌, Some};
+ghost use Rattle.blk_history.specs.Fold.{With};
+ghost use Rattle.blk_history.specs.Machine.{Flight};
+ghost use Rattle.blk_nodes.specs.Joined.{IsJoined};
+ghost use Rattle.flat_machine.specs.declared.opening.Opening.{Opening};
+ghost use Rattle.blk_world.specs.Coherent.{IsWhole};
+ghost use Rattle.blk_world.specs.Comes.{Comes};
+ghost use Rattle.blk_world.specs.Piecing.{IsPieceMade, HasPieceLicence, table_after};
+ghost use Rattle.blk_world.specs.Progress.{HasNext, flight_at};
+
+use crate::world::World;
+use blk_base::{Outcome, Store};
+use blk_graph::NodeId;
+use qmp_rules::Names;
+use trace_codec::Op;
+
+/// A request that changes a node's disk: every other node that reads it as a backing node has no flat disk any more.
+fn note_write(names: &mut Names, node: NodeId, op: &Op)
+    ensures { names.new.table ≡ table_after op.now node names.old.table }
+{
+    match op {
+        Op::Write(..) | Op::Zero(_) => names.write_under(node),
+        Op::Read(_) | Op::Flush | Op::Discard(_) => {}
+    }
+}
+
+impl<S: Store> World<S> {
+    /// Makes the next piece of a guest's request in flight.
+    fn put_piece(&mut self, guest: u32) -> Outcome
+        requires { With (flight_at self.old.progress.guests guest) HasNext }
+        ensures made { (f : Flight) → flight_at self.old.progress.guests guest ≡ Some f
+            → IsPieceMade self.old self.new guest f result }
+        ensures joined { IsJoined self.old.nodes }
+        ensures whole { IsWhole self.old.files self.old.table self.old.nodes
+            self.old.opened self.old.progress }
+    {
+        let Some(drive) = self.names.drive(guest) else {
+            unreachable!()
+        };
+        let node = self.names.disk_node(drive);
+        let _ = self.nodes.edges();
+        note_write(&mut self.names, node, self.progress.flying(guest));
+        let outcome = self
+            .buffer
+            .make_next(&mut self.nodes, &mut self.progress, node, guest);
+        let _ = self.nodes.edges();
+        outcome
+    }
+
+    /// Makes the next piece of a guest's request in flight, on the node that its drive reads as, and notes it. A fault that it
+    /// names is one of a device which that node leads to, and was reached in this call. Takes no memory.
+    pub fn piece(&mut self, guest: u32) -> Outcome
+        requires { With (flight_at self.old.progress.guests guest) HasNext }
+        ensures made { (f : Flight) → flight_at self.old.progress.guests guest ≡ Some f
+            → (made : IsPieceMade self.old self.new guest f result)
+            × HasPieceLicence self.old self.new guest f result made }
+        ensures comes { (o : Opening) → Comes o self.old → Comes o self.new }
+    {
+        self.put_piece(guest)
+    }
+}
