@@ -18,7 +18,7 @@ use Rattle.blk_nodes.specs.Nodes.{DeviceState, AreTold}
 use Rattle.qmp_rules.specs.Table.{Table}
 use Rattle.flat_machine.specs.State.{filename_of}
 use Rattle.flat_machine.proofs.Finds.{bytes_eq-same}
-use Rattle.blk_world.specs.Closing.{IsBack, AreBack, IsClosed, AreFlushed, IsFlushedIn, IsOutFor, first_of, flushed_by, is_file_of, held_left, store_in}
+use Rattle.blk_world.specs.Closing.{IsBack, AreBack, HasGivenBack, IsClosed, AreFlushed, IsFlushedIn, IsOutFor, first_of, flushed_by, is_file_of, held_left, store_in}
 use Rattle.blk_world.specs.Coherent.{AreHeld, IsOut}
 use Rattle.blk_world.specs.Face.{Face, told_bytes}
 use Rattle.blk_world.specs.Steps.{StoreSeen, seen_in_run}
@@ -31,12 +31,12 @@ none-of : {A : Type 0} (x : Option A) → is_none x ≡ true → x ≡ None
 none-of None is = refl
 none-of (Some a) is = absurd (false≢true is)
 
-set-same : (opened : List Opened) (n : ℕ) (o now : Opened) → slice_get opened n ≡ Some o → slice_get (set opened n now) n ≡ Some now
+pub set-same : (opened : List Opened) (n : ℕ) (o now : Opened) → slice_get opened n ≡ Some o → slice_get (set opened n now) n ≡ Some now
 set-same [] n o now is = absurd (let bad : ⊥ = cc is in bad)
 set-same (x ∷ opened) zero o now is = refl
 set-same (x ∷ opened) (suc n) o now is = set-same opened n o now is
 
-set-other : (opened : List Opened) (n m : ℕ) (now : Opened) → m ≢ n → slice_get (set opened n now) m ≡ slice_get opened m
+pub set-other : (opened : List Opened) (n m : ℕ) (now : Opened) → m ≢ n → slice_get (set opened n now) m ≡ slice_get opened m
 set-other [] n m now differ = refl
 set-other (x ∷ opened) zero zero now differ = absurd (differ refl)
 set-other (x ∷ opened) zero (suc m) now differ = refl
@@ -89,7 +89,7 @@ module _ (t : Table) (device : DeviceState) (rest : List DeviceState) (opened : 
       let same : name ≡ p.name = (bytes_eq-Decides name p.name).0 (and-left (bytes_eq name p.name) (is_none p.returned) is) in
       was.names m device.number.0 p out.opening at out.there back out.out (sym same ∙ sym its-name)
 
-  now : given_back name count opened ≡ set opened device.number.0 (record out.opening { returned = Some count })
+  pub now : given_back name count opened ≡ set opened device.number.0 (record out.opening { returned = Some count })
   now = back-at opened device.number.0 out.opening name count out.there its-out only
 
   -- any other opening that is out was so, and stands elsewhere
@@ -360,12 +360,13 @@ back-flushed t (d ∷ devices) old new fault back held told files is none device
 
 -- the openings of the run stand behind those before it
 pub closed-by : (w : Face) (store : StoreInRun) (whole : StoreSeen) (fault : Option FaultAt)
-    → AreBack w.table w.nodes.devices (store_in w) (seen_in_run store) fault → store.earlier ≡ w.earlier → whole.files ≡ store.files
+    → AreBack w.table w.nodes.devices (store_in w) (seen_in_run store) fault → HasGivenBack w store.opened fault → store.earlier ≡ w.earlier → whole.files ≡ store.files
     → whole.opened ≡ store.earlier ++ store.opened → whole.room ≡ store.room → whole.faults ≡ store.faults → IsClosed w whole fault
-closed-by w store whole fault back earlier files opened room faults = record {
+closed-by w store whole fault back given earlier files opened room faults = record {
   opened = store.opened;
   behind = opened ∙ ap (λ (before : List Opened). before ++ store.opened) earlier;
   back = rw (files, room, faults) back;
+  given = given;
 }
 
 -- none of them is out

@@ -7,7 +7,6 @@ use Rattle.blk_graph.specs.declared.kind.Kind.TheVariants.{Protocol}
 use Rattle.qmp_codec.specs.declared.command.Command.TheVariants as command
 use Rattle.qmp_codec.specs.declared.fields.Amount.{Amount}
 use Rattle.qmp_codec.specs.declared.fields.Amount.TheVariants.{Number, Negative}
-use Rattle.qmp_codec.specs.declared.nodes.BlockdevCreate.{BlockdevCreate}
 use Rattle.qmp_codec.specs.declared.nodes.CreateFile.{CreateFile}
 use Rattle.qmp_codec.specs.declared.nodes.CreateQcow2.{CreateQcow2}
 use Rattle.qmp_codec.specs.declared.nodes.Created.TheVariants as created
@@ -30,7 +29,7 @@ use Rattle.flat_machine.proofs.Accepted.{is_protocol, look-quiet}
 use Rattle.flat_machine.proofs.Asked.{none-both, NoneHolds, none-holds, found-named, takes-driver, lone-node, none-stands, good-value}
 
 -- the asks of a command that nothing refuses
-asked : (t : Table) (told : Told) (c : Cmd) → refusal_of t told c ≡ None → NoneHolds t told (asks_of c)
+pub asked : (t : Table) (told : Told) (c : Cmd) → refusal_of t told c ≡ None → NoneHolds t told (asks_of c)
 unfolding refusal_of
 asked t told c none =
     let built = none-both (unbuilt c) _ none in

@@ -130,7 +130,7 @@ module _ (t : Table) (nodes : Nodes) (opened : List Opened) (node : ℕ) (joined
   of_node n d is = let found = find-Some (is_of n) devices d is in (found.0, eqb-true d.node n found.1)
 
   -- a device of that node is the one that is found
-  one_of : (n : ℕ) (a b : DeviceState) → Contains devices a → Contains devices b → a.node ≡ n → b.node ≡ n → a ≡ b
+  pub one_of : (n : ℕ) (a b : DeviceState) → Contains devices a → Contains devices b → a.node ≡ n → b.node ≡ n → a ≡ b
   one_of n a b there other of of' = elim (pairs DifferInNode devices a b joined.once there other) [
     | inl same ↦ same
     | inr apart ↦ elim apart [ inl differ ↦ absurd (differ (of ∙ sym of')) | inr differ ↦ absurd (differ (of' ∙ sym of)) ]

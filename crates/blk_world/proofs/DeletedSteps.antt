@@ -16,7 +16,7 @@ use Rattle.blk_graph.proofs.NodeLemmas.{no_child_from_None}
 use Rattle.blk_graph.proofs.RefreshLemmas.{child_of-refreshed}
 use Rattle.qmp_rules.specs.Changes.{changed, without_row}
 use Rattle.qmp_rules.specs.Edits.{goes_with_node}
-use Rattle.qmp_rules.specs.Table.{Table, node_at, kinds_of, child, first_into, id_named}
+use Rattle.qmp_rules.specs.Table.{Table, node_at, kinds_of, first_into, id_named}
 use Rattle.qmp_rules.specs.declared.rows.NodeRecord.{NodeRecord}
 use Rattle.qmp_rules.specs.declared.change.Change.TheVariants.{RemoveNode}
 use Rattle.flat_machine.specs.Wiring.{AreApart}
@@ -25,7 +25,7 @@ use Rattle.flat_machine.proofs.Finds.{bytes_eq-same}
 use Rattle.flat_machine.proofs.Tables.{refreshed-old}
 use Rattle.blk_nodes.specs.Dropping.{without}
 use Rattle.blk_nodes.specs.Joined.{IsJoined}
-use Rattle.blk_nodes.specs.Nodes.{Nodes, DeviceState, is_of, device_in, row_at}
+use Rattle.blk_nodes.specs.Nodes.{DeviceState, is_of, device_in, row_at}
 use Rattle.blk_nodes.specs.declared.row.Row.{Row}
 use Rattle.blk_world.specs.Coherent.{AreAlike, AreNodesOf, AreOut}
 use Rattle.blk_world.specs.Deleting.{name_under, with_back, Ground, left, CanLeave, HasLeft, made_with, Belong, IsFree, Deletes}
@@ -162,13 +162,17 @@ module _ (t : Table) (x : Ground) (joined : IsJoined x.nodes) (belong : Belong t
             let r = find-Some (goes_with_node node) t.nodes row at in
             (row, r.0, goes-made row node r.1, (let e : row.id ≡ file = cc found in e))
 
+    -- it is another one
+    pub file_differs : file ≢ node
+    file_differs same =
+        let under = belong.inline made.0 node made.1 made.2 in
+        unentered t x node (parts_of t x joined belong) can has under.edge under.there (under.child ∙ made.3 ∙ same)
+
     pub file_can : CanLeave t (left t node x) file
     file_can =
         let under = belong.inline made.0 node made.1 made.2 in
-        let no_edge = unentered t x node (parts_of t x joined belong) can has in
-        let differs : file ≢ node = λ same. no_edge under.edge under.there (under.child ∙ made.3 ∙ same) in
         let row_is : node_at t file ≡ Some made.0 = ap (node_at t) (sym made.3) ∙ belong.apart made.0 made.1 in
-        next_can t x node (parts_of t x joined belong) can has file differs (has_left (there_by file made.0 row_is) differs)
+        next_can t x node (parts_of t x joined belong) can has file file_differs (has_left (there_by file made.0 row_is) file_differs)
         (λ e there leads. under.sole e there (leads ∙ sym made.3))
       where
         -- a node is still there

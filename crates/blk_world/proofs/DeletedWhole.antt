@@ -13,7 +13,7 @@ use Rattle.flat_machine.specs.Wiring.{StandsFor, AreFileNodes, StandAlone}
 use Rattle.flat_machine.specs.State.{State}
 use Rattle.blk_nodes.specs.Contents.{disk_of, Unfolds}
 use Rattle.blk_nodes.specs.Dropping.{without}
-use Rattle.blk_nodes.specs.Nodes.{Nodes, DeviceState, AreTold, is_of, device_in, row_at}
+use Rattle.blk_nodes.specs.Nodes.{DeviceState, AreTold, is_of, device_in, row_at}
 use Rattle.blk_nodes.specs.declared.row.Row.{Row}
 use Rattle.blk_world.specs.Deleting.{TellsFlush, ground_of, left, CanLeave, HasLeft, without_node}
 use Rattle.blk_world.specs.Face.{Face, contents_of}

@@ -60,3 +60,13 @@ pub mod AddFacts
 pub mod AddClosed
 pub mod AddPerformed
 pub mod AddPlaces
+pub mod GuestEdges
+pub mod Belonging
+pub mod Placed
+pub mod DeletedRuns
+pub mod DeletedCarried
+pub mod Handled
+pub mod CloseCounts
+pub mod Attached
+pub mod AttachedCarried
+pub mod HandledDevices

@@ -12,7 +12,7 @@ use Rattle.flat_machine.specs.Legal.{Fits}
 use Rattle.flat_machine.specs.Marks.{IsCalm, marks_of}
 use Rattle.flat_machine.specs.Licence.{Counts, AreLicensed, named_in, faults_of}
 use Rattle.flat_machine.specs.Opening.{start, new_guest}
-use Rattle.flat_machine.specs.Comes.{IsHistoryOf, guest_step, guests_after}
+use Rattle.flat_machine.specs.Comes.{IsHistoryOf, guest_step}
 use Rattle.flat_machine.specs.declared.opening.Opening.{Opening}
 use Rattle.blk_world.specs.Coherent.{IsCoherent}
 use Rattle.blk_world.specs.Face.{Face, first_counts, counts_now}

@@ -1,8 +1,9 @@
 -- The end of a world: each device is flushed and given back.
-use Rattle.std.specs.Prelude.{◌≡◌, ℕ, Bool, true, false, if◌then◌else◌, List, [], ◌∷◌, ◌++◌, Contains, bytes_eq, Option, Some, None, MatchOption, is_some, option_map, unwrap_or}
+use Rattle.std.specs.Prelude.{◌≡◌, ◌≤◌, ℕ, Bool, true, false, if◌then◌else◌, List, [], ◌∷◌, ◌++◌, map, slice_get, Contains, bytes_eq, Option, Some, None, MatchOption, is_some, option_map, unwrap_or}
 use Rattle.blk_base.specs.Counts.{Rose}
 use Rattle.blk_base.specs.Files.{given_back, file_at, is_out}
 use Rattle.blk_base.specs.Stored.{files_with_returned}
+use Rattle.blk_base.specs.declared.fault.DevNo.{DevNo}
 use Rattle.blk_base.specs.declared.fault.FaultAt.{FaultAt}
 use Rattle.blk_base.specs.declared.fault.FaultFrom.TheVariants.{Dev}
 use Rattle.blk_base.specs.declared.file.File.{File}
@@ -13,7 +14,8 @@ use Rattle.qmp_rules.specs.Table.{Table}
 use Rattle.flat_machine.specs.Licence.{fault_at}
 use Rattle.flat_machine.specs.State.{filename_of}
 use Rattle.blk_world.specs.Steps.{StoreSeen, seen_store}
-use Rattle.blk_world.specs.Face.{Face, told_bytes}
+use Rattle.blk_world.specs.Counting.{HaveNotFallen}
+use Rattle.blk_world.specs.Face.{Face, counts_now, told_bytes}
 
 -- Why a flush of a device ended so: its count stands, or it is named with its count, which rose.
 abbrev pub HasFlushFault : DeviceState → ℕ → Option FaultAt → Type 0
@@ -36,6 +38,7 @@ pub record IsBack (t : Table) (device : DeviceState) (old new : StoreSeen) (faul
   pub named : filename_of t device.node ≡ Some name
   pub tells : is_some device.content ≡ true → is_some device.is_flushed ≡ true
   pub cause : HasFlushFault device count fault
+  pub least : device.faults ≤ count
   pub kept : new ≡ record old {
     files = files_with_returned name device.content device.capacity
         (flushed_by fault device.is_flushed) old.files;
@@ -57,12 +60,31 @@ AreBack t (device ∷ devices) old new fault = (between : StoreSeen) × (first l
 abbrev pub store_in : Face → StoreSeen
 store_in w = seen_store w.files w.opened w.room w.faults
 
+-- how many faults a device had when it was given back
+abbrev pub count_back : Opened → ℕ
+count_back o = unwrap_or o.returned 0
+
+-- the fault that is told is that of a device, which had so many then
+pub record IsToldBack (w : Face) (opened : List Opened) (fault : FaultAt) : Type 0 where
+  pub number : DevNo
+  pub from : fault.from ≡ Dev number
+  pub count : With (slice_get opened number.0) (λ o. o.returned ≡ Some fault.count)
+  pub rose : With (slice_get (counts_now w).devices number.0) (λ before. Rose before fault.count)
+
+-- the run's openings once each device is back: no count has fallen
+pub record HasGivenBack (w : Face) (opened : List Opened) (fault : Option FaultAt) : Type 0 where
+  pub names : map (λ o. o.name) opened ≡ map (λ o. o.name) w.opened
+  pub first : map (λ o. o.faults) opened ≡ map (λ o. o.faults) w.opened
+  pub counts : HaveNotFallen (counts_now w).devices (map count_back opened)
+  pub told : MatchOption fault (Unit {0}) (IsToldBack w opened)
+
 -- The end of a world: all its devices are back, in their order, and that left the store so, whose openings before the run are
 -- as they were.
 pub record IsClosed (w : Face) (store : StoreSeen) (fault : Option FaultAt) : Type 0 where
   pub opened : List Opened
   pub behind : store.opened ≡ w.earlier ++ opened
   pub back : AreBack w.table w.nodes.devices (store_in w) (record store { opened = opened }) fault
+  pub given : HasGivenBack w opened fault
 
 -- the file of that name is flushed
 abbrev pub IsFlushedIn : List File → List ℕ → Type 0

@@ -11,4 +11,5 @@ pub mod Carrying
 pub mod Deleting
 pub mod Creating
 pub mod Adding
+pub mod Handling
 pub mod Piecing

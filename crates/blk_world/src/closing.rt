@@ -1,5 +1,5 @@
 //! Devices that are flushed and given back at the end.
-ghost use Rattle.std.specs.Prelude.{◌≡◌, [], length, true, is_some, MatchOption, IsSome, Some};
+ghost use Rattle.std.specs.Prelude.{◌≡◌, ◌≤◌, [], length, true, is_some, MatchOption, IsSome, Some};
 ghost use Rattle.blk_base.specs.Counts.{Rose};
 ghost use Rattle.blk_base.specs.declared.fault.FaultFrom.{FaultFrom};
 ghost use Rattle.blk_nodes.specs.Handing.{device_state};
@@ -33,6 +33,7 @@ fn last_flush<D: Device>(device: &mut D, number: DevNo) -> Option<FaultAt>
     ensures fault { MatchOption result (D.faults device.new ≡ D.faults device.old)
         (λ fault. (fault.from ≡ FaultFrom.Dev number) × (fault.count ≡ D.faults device.new)
         × Rose (D.faults device.old) fault.count) }
+    ensures least { D.faults device.old ≤ D.faults device.new }
     ensures flushed { D.is_flushed device.new ≡ flushed_by result (D.is_flushed device.old) }
     ensures content { D.content device.new ≡ D.content device.old }
     ensures capacity { D.capacity device.new ≡ D.capacity device.old }

@@ -1,18 +1,25 @@
 //! Nodes that go, with their devices.
-ghost use Rattle.std.specs.Prelude.{◌≡◌, ℕ};
+ghost use Rattle.std.specs.Prelude.{◌≡◌, ℕ, true, None, IfOk, OnErr, string_bytes};
 ghost use Rattle.blk_graph.specs.Graph.{HasNode};
 ghost use Rattle.blk_nodes.specs.Contents.{disk_of};
 ghost use Rattle.blk_nodes.specs.Dropping.{without};
 ghost use Rattle.blk_nodes.specs.Nodes.{device_in};
+ghost use Rattle.qmp_codec.specs.Commands.{seen_command};
+ghost use Rattle.qmp_rules.specs.Answers.{refusal_of, untold};
 ghost use Rattle.qmp_rules.specs.Edits.{goes_with_node};
+ghost use Rattle.blk_world.specs.Handling.{IsDeletedBy, IsHandled, IsUntouched, is_deletion};
 ghost use Rattle.blk_world.specs.Steps.{seen_in_run};
 ghost use Rattle.blk_world.specs.Deleting.{ground_in, name_under, made_with, going, with_back, TellsFlush, CanLeave, HasLeft, HaveLeft, all_left, Belong, IsFree, Deletes, IsDeleted};
 
+use crate::answering::accepted_text;
+use crate::handling::refused;
 use crate::run_store::RunStore;
-use blk_base::Store;
+use blk_base::{NoMemory, Store};
 use blk_graph::NodeId;
 use blk_nodes::Nodes;
-use qmp_rules::{Names, NodeRecord};
+use qmp_codec::Command;
+use qmp_rules::{Names, NodeRecord, Told};
+use std::alloc::Global;
 
 /// The name of the file that a `file` node stands for; of another node, none.
 fn name_under(names: &Names, node: NodeId) -> &str
@@ -129,5 +136,58 @@ pub(crate) fn drop_named<S: Store>(
     match names.id_named(name) {
         Some(node) => drop_nodes(store, nodes, names, node),
         None => unreachable!(),
+    }
+}
+
+/// Drops the node that a deletion names.
+#[tactic(auto, using(crate::proofs::CreatedAsked::del_asked))]
+fn drop_by<S: Store>(
+    store: &mut RunStore<S>,
+    nodes: &mut Nodes<S::Dev>,
+    names: &Names,
+    command: &Command,
+)
+    requires belong { Belong names.now.table (ground_in store.old nodes.old) }
+    requires deletion { is_deletion (seen_command command.now) ≡ true }
+    requires accepted { refusal_of names.now.table untold (seen_command command.now) ≡ None }
+    ensures deleted { IsDeletedBy names.now.table (seen_command command.now)
+        (ground_in store.old nodes.old) (ground_in store.new nodes.new) }
+    ensures earlier { store.new.earlier ≡ store.old.earlier }
+{
+    match command {
+        Command::BlockdevDel(name) => drop_named(store, nodes, names, name.as_str()),
+        _ => unreachable!(),
+    }
+}
+
+/// Carries out `blockdev-del`, or refuses it. Says the text of the reply.
+pub(crate) fn delete<S: Store>(
+    alloc: Global,
+    store: &mut RunStore<S>,
+    nodes: &mut Nodes<S::Dev>,
+    names: &mut Names,
+    given: &str,
+    command: &Command,
+) -> Result<String, NoMemory>
+    requires belong { Belong names.old.table (ground_in store.old nodes.old) }
+    requires deletion { is_deletion (seen_command command.now) ≡ true }
+    ensures handled { IfOk result (λ text. IsHandled given.now names.old.table
+        (seen_command command.now) names.new.table
+        (IsDeletedBy names.old.table (seen_command command.now)
+        (ground_in store.old nodes.old) (ground_in store.new nodes.new))
+        (ground_in store.new nodes.new ≡ ground_in store.old nodes.old) (string_bytes text)) }
+    ensures back { OnErr result (IsUntouched names.old.table names.new.table
+        (ground_in store.new nodes.new ≡ ground_in store.old nodes.old)) }
+    ensures earlier { store.new.earlier ≡ store.old.earlier }
+{
+    let told = Told::nothing(alloc);
+    match names.prepare(alloc, command, &told) {
+        Ok(edits) => {
+            let text = accepted_text(alloc, names, given, &told, command)?;
+            drop_by(store, nodes, names, command);
+            names.apply(edits);
+            Ok(text)
+        }
+        Err(stop) => refused(alloc, given, stop),
     }
 }

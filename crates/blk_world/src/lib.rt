@@ -5,11 +5,13 @@
 mod adding;
 mod admission;
 mod answering;
+mod attaching;
 mod buffer;
 mod closing;
 mod creating;
 mod deleting;
 mod entries;
+mod handling;
 mod progress;
 mod row;
 mod run_store;

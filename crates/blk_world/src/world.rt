@@ -4,7 +4,9 @@ ghost use Rattle.blk_nodes.specs.Nodes.{no_nodes};
 ghost use Rattle.qmp_rules.specs.Table.{opening_table};
 ghost use Rattle.blk_world.specs.Progress.{no_progress};
 
+mod attaching;
 mod closing;
+mod deleting;
 mod piece;
 
 use crate::admission::{Admission, refusal_of, seat_of};

@@ -1,4 +1,4 @@
-use Rattle.std.proofs.Common.{◌≡◌, ℕ, List, IsTrue, refl, sym, ◌∙◌}
+use Rattle.std.proofs.Common.{ℕ, List, IsTrue, refl, sym, ◌∙◌}
 use Rattle.blk_base.specs.Files.{is_out}
 use Rattle.blk_base.specs.declared.file.Opened.{Opened}
 use Rattle.blk_world.specs.Stores.{last_opened}

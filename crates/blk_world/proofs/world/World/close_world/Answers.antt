@@ -1,4 +1,4 @@
-use Rattle.std.proofs.Common.{List, sym, subst}
+use Rattle.std.proofs.Common.{List, sym, ◌∙◌, ap, subst}
 use Rattle.blk_nodes.specs.Joined.{IsJoined}
 use Rattle.blk_nodes.specs.Nodes.{DeviceState}
 use Rattle.blk_world.specs.Closing.{AreBack, IsClosed}
@@ -7,6 +7,7 @@ use Rattle.blk_world.specs.Face.{Face}
 use Rattle.blk_world.specs.Steps.{StoreSeen, seen_store, seen_in_run}
 use Rattle.blk_world.specs.Stores.{StoreInRun}
 use Rattle.blk_world.proofs.CloseLemmas.{closed-by, back-held, none-out, none-behind, flushed-then}
+use Rattle.blk_world.proofs.CloseCounts.{given-back, faults-kept}
 use Rattle.blk_world.proofs.CloseFiles.{held-then}
 use Rattle.blk_world.proofs.world.World.close_world.Goals as goal
 
@@ -17,7 +18,14 @@ returns-clause-closed g c =
     let end = c.into_store.ensures in
     let back = subst (λ (ds : List DeviceState). AreBack c.self.inside.names.table ds (seen_in_run c.self.inside.store) (seen_in_run store) c.give_all_back-fault.result)
     c.into_devices-left.ensures c.give_all_back-fault.ensures.back in
-    rw (← c.self.view_is) (closed-by _ store whole c.give_all_back-fault.result back c.give_all_back-fault.ensures.earlier end.files end.opened end.room end.faults)
+    rw (← c.self.view_is) (closed-by _ store whole c.give_all_back-fault.result back
+    (given-back _ (seen_in_run store) c.give_all_back-fault.result back c.self.invariant.coherent.out) c.give_all_back-fault.ensures.earlier end.files end.opened end.room end.faults)
+
+pub returns-clause-faults : goal.returns-clause-faults
+returns-clause-faults g c =
+    c.into_store.ensures.faults
+    ∙ faults-kept c.self.inside.names.table _ _ _ c.give_all_back-fault.result c.give_all_back-fault.ensures.back
+    ∙ ap (λ (w : Face). w.faults) c.self.view_is
 
 pub returns-clause-none_out : goal.returns-clause-none_out
 returns-clause-none_out g c =

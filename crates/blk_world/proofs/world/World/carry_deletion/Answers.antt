@@ -1,0 +1,60 @@
+use Rattle.std.specs.Prelude.{string_bytes}
+use Rattle.qmp_codec.specs.Commands.{seen_command}
+use Rattle.blk_world.specs.Deleting.{ground_in}
+use Rattle.blk_world.specs.Face.{Face}
+use Rattle.blk_world.proofs.Belonging.{belong_of}
+use Rattle.blk_world.proofs.Handled.{deletion_texts, deletion_whole, untouched_back}
+use Rattle.blk_world.proofs.world.World.carry_deletion.Goals as goal
+
+pub delete-requires-clause-belong : goal.delete-requires-clause-belong
+delete-requires-clause-belong g c =
+    belong_of c.self.inside.names.table (ground_in c.self.inside.store c.self.inside.nodes) c.self.inside.progress c.self.invariant.coherent
+
+pub returns-clause-carried : goal.returns-clause-carried
+returns-clause-carried g c =
+    let w : Face = record {
+      files = c.self.inside.store.files;
+      earlier = c.self.inside.store.earlier;
+      opened = c.self.inside.store.opened;
+      room = c.self.inside.store.room;
+      faults = c.self.inside.store.faults;
+      first_faults = c.self.inside.first_faults;
+      nodes = c.self.inside.nodes;
+      table = c.self.inside.names.table;
+      progress = c.self.inside.progress;
+    } in
+    rw (← c.self.view_is, c.delete.ensures.earlier)
+    (deletion_texts w c.self.invariant c.edges.ensures.joined c.edges.ensures.disks c.args.given.now (ground_in c.delete.new.store c.delete.new.nodes)
+    c.delete.new.names.table (seen_command c.args.command.now) c.requires c.delete.result string_bytes c.delete.ensures.handled)
+
+pub returns-clause-back : goal.returns-clause-back
+returns-clause-back g c =
+    let w : Face = record {
+      files = c.self.inside.store.files;
+      earlier = c.self.inside.store.earlier;
+      opened = c.self.inside.store.opened;
+      room = c.self.inside.store.room;
+      faults = c.self.inside.store.faults;
+      first_faults = c.self.inside.first_faults;
+      nodes = c.self.inside.nodes;
+      table = c.self.inside.names.table;
+      progress = c.self.inside.progress;
+    } in
+    rw (← c.self.view_is, c.delete.ensures.earlier)
+    (untouched_back c.delete.result string_bytes w (ground_in c.delete.new.store c.delete.new.nodes) c.delete.new.names.table c.delete.ensures.back)
+
+pub invariant_of-self : goal.invariant_of-self
+invariant_of-self g c =
+    let w : Face = record {
+      files = c.self.inside.store.files;
+      earlier = c.self.inside.store.earlier;
+      opened = c.self.inside.store.opened;
+      room = c.self.inside.store.room;
+      faults = c.self.inside.store.faults;
+      first_faults = c.self.inside.first_faults;
+      nodes = c.self.inside.nodes;
+      table = c.self.inside.names.table;
+      progress = c.self.inside.progress;
+    } in
+    deletion_whole w c.self.invariant c.edges.ensures.joined c.edges.ensures.disks c.args.given.now (ground_in c.delete.new.store c.delete.new.nodes)
+    c.delete.new.names.table (seen_command c.args.command.now) c.requires c.delete.result string_bytes c.delete.ensures.handled c.delete.ensures.back
