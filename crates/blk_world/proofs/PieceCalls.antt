@@ -1,5 +1,5 @@
 -- The calls that make a piece: what each asks, and what they leave together.
-use Rattle.std.proofs.Common.{◌≡◌, ℕ, ◌<◌, ◌≤◌, true, false, List, length, Option, Some, None, refl, sym, ◌∙◌, ap, subst, arith}
+use Rattle.std.proofs.Common.{◌≡◌, ℕ, ◌<◌, ◌≤◌, List, Option, Some, None, refl, sym, ◌∙◌, ap, subst}
 use Rattle.std.specs.Prelude.{IsSome}
 use Rattle.std.proofs.lemmas.Bool.{false≢true}
 use Rattle.blk_base.specs.Pieces.{Extent}
@@ -11,18 +11,17 @@ use Rattle.blk_history.specs.Fold.{With}
 use Rattle.blk_history.specs.Machine.{Flight}
 use Rattle.qmp_rules.specs.Chains.{disk_node}
 use Rattle.qmp_rules.specs.Table.{Table, device_at}
-use Rattle.qmp_rules.specs.declared.rows.Device.{Device}
 use Rattle.flat_machine.specs.Legal.{IsForbidden}
 use Rattle.flat_machine.specs.State.{drive_of}
 use Rattle.flat_machine.specs.declared.opening.Opening.{Opening}
 use Rattle.blk_nodes.specs.Joined.{IsJoined}
 use Rattle.blk_nodes.specs.Nodes.{Nodes}
-use Rattle.blk_world.specs.Coherent.{IsCoherent, IsWhole}
+use Rattle.blk_world.specs.Coherent.{IsWhole}
 use Rattle.blk_world.specs.Comes.{Comes}
 use Rattle.blk_world.specs.Face.{Face}
-use Rattle.blk_world.specs.Piecing.{CanTransfer, IsMadeOn, IsPieceMade, HasPieceLicence, Transfers, CountFits, part_of, shown_of, shown_by, table_after}
+use Rattle.blk_world.specs.Piecing.{CanTransfer, IsMadeOn, IsPieceMade, HasPieceLicence, Transfers, CountFits, part_of, shown_of, table_after}
 use Rattle.blk_world.specs.Progress.{Progress, HasNext, CanShow, flight_at, shows_in, with_piece}
-use Rattle.blk_world.proofs.CountLemmas.{IsThere, there, with-of}
+use Rattle.blk_world.proofs.CountLemmas.{IsThere, there}
 use Rattle.blk_world.proofs.PieceComes.{piece_comes, piece_licence, piece_whole}
 use Rattle.blk_world.proofs.InStep.{with-at}
 use Rattle.blk_world.proofs.PieceReady.{can_transfer}

@@ -1,37 +1,31 @@
 -- What nodes read as and what files hold after a piece.
-use Rattle.std.proofs.Common.{◌≡◌, ◌≢◌, ◌⊎◌, ℕ, ◌≤◌, true, false, Bool, List, [], ◌∷◌, length, map, take, replicate, Option, Some, None, refl, sym, ◌∙◌, ap, subst, inl, inr, arith, ◌==◌, cond}
-use Rattle.std.specs.Prelude.{IsSome, is_some, Contains, find, option_map, option_and_then, unwrap_or, bytes_eq}
-use Rattle.std.proofs.lemmas.Bool.{false≢true, cases_eq, eqb-true}
+use Rattle.std.proofs.Common.{◌≡◌, ◌≢◌, ◌⊎◌, ℕ, true, false, Bool, List, [], ◌∷◌, length, take, replicate, Option, Some, None, refl, sym, ◌∙◌, ap, subst, inl, inr, arith, ◌==◌, cond}
+use Rattle.std.specs.Prelude.{find, option_map, option_and_then}
+use Rattle.std.proofs.lemmas.Bool.{false≢true, cases_eq}
 use Rattle.std.proofs.lemmas.List.{length-replicate, take_all}
-use Rattle.std.proofs.Math.Seq.{take-nil}
-use Rattle.blk_base.specs.Content.{with_bytes, bytes_at}
 use Rattle.blk_base.specs.Pieces.{Extent}
 use Rattle.blk_base.specs.declared.fault.Outcome.{Outcome}
 use Rattle.blk_base.specs.declared.fault.Outcome.TheVariants.{Good, Torn, Io, NoSpace}
 use Rattle.blk_base.proofs.Contents.{length-bytes_at}
 use Rattle.trace_codec.specs.declared.op.Op.{Op}
 use Rattle.trace_codec.specs.declared.op.Op.TheVariants.{Read, Write, Zero, Flush, Discard}
-use Rattle.trace_codec.specs.declared.op.Payload.{Payload}
 use Rattle.trace_codec.specs.declared.op.Payload.TheVariants.{Fill, Raw}
 use Rattle.blk_graph.specs.Edits.{child_of}
 use Rattle.blk_graph.specs.declared.edge.Parent.TheVariants.{Node}
 use Rattle.blk_graph.specs.declared.edge.Role.TheVariants.{File}
-use Rattle.blk_graph.specs.declared.kind.Kind.{Kind}
-use Rattle.blk_graph.proofs.Members.{find-Some}
-use Rattle.blk_history.specs.Disk.{payload_in, done_in}
+use Rattle.blk_history.specs.Disk.{payload_in}
 use Rattle.blk_history.specs.Machine.{done_by}
 use Rattle.qmp_rules.specs.Asks.{stands_for}
 use Rattle.qmp_rules.specs.Table.{Table, node_at, child}
 use Rattle.qmp_rules.specs.declared.rows.NodeRecord.{NodeRecord}
-use Rattle.flat_machine.specs.Agreement.{Contents}
 use Rattle.flat_machine.specs.Changed.{file_of as file_by}
 use Rattle.flat_machine.specs.EventLicence.{changes_disk}
 use Rattle.flat_machine.specs.State.{filename_of}
 use Rattle.flat_machine.specs.Writing.{written_file}
 use Rattle.flat_machine.proofs.Finds.{find-map}
 use Rattle.blk_nodes.specs.Flushing.{base_of, IsFlushAt}
-use Rattle.blk_nodes.specs.Nodes.{Nodes, DeviceState, row_at, device_in, file_of, kind_of, is_of}
-use Rattle.blk_nodes.specs.Reading.{HaveRisen, HasRisen, OnlyAt}
+use Rattle.blk_nodes.specs.Nodes.{Nodes, DeviceState, row_at, device_in, file_of, kind_of}
+use Rattle.blk_nodes.specs.Reading.{HaveRisen, OnlyAt}
 use Rattle.blk_nodes.specs.Writing.{WritesFile, WritesImage, WritesBy, ZerosBy, own_file, taken_by}
 use Rattle.blk_nodes.specs.declared.row.Driver.{Driver}
 use Rattle.blk_nodes.specs.declared.row.Driver.TheVariants as drivers

@@ -1,13 +1,10 @@
 -- The entry of a piece fits, and names a device that its guest's node reaches.
-use Rattle.std.proofs.Common.{◌≡◌, ◌≢◌, ◌⊎◌, ℕ, zero, suc, ◌<◌, ◌≤◌, ◌==◌, ◌||◌, Bool, true, false, cond, List, [], ◌∷◌, length, replicate, Option, Some, None, refl, sym, ◌∙◌, ap, subst, inl, inr, arith, eq-eqb}
-use Rattle.std.specs.Prelude.{IsSome, IsTrue, Contains, slice_get, option_map, option_and_then, unwrap_or, ◌&&◌}
+use Rattle.std.proofs.Common.{◌≡◌, ◌⊎◌, ℕ, zero, suc, ◌<◌, ◌==◌, ◌||◌, Bool, true, false, cond, List, [], ◌∷◌, length, replicate, Option, Some, None, refl, sym, ◌∙◌, ap, subst, inl, inr, arith, eq-eqb}
+use Rattle.std.specs.Prelude.{IsTrue, Contains, slice_get, option_map, option_and_then, unwrap_or, ◌&&◌}
 use Rattle.std.specs.List.{list_any}
-use Rattle.std.proofs.lemmas.Bool.{false≢true}
 use Rattle.std.proofs.lemmas.List.{length-replicate}
-use Rattle.blk_base.specs.Content.{bytes_at}
 use Rattle.blk_base.specs.Pieces.{Extent}
 use Rattle.blk_base.specs.declared.fault.DevNo.{DevNo}
-use Rattle.blk_base.specs.declared.fault.FaultAt.{FaultAt}
 use Rattle.blk_base.specs.declared.fault.Outcome.{Outcome}
 use Rattle.blk_base.specs.declared.fault.Outcome.TheVariants.{Good, Torn, Io, NoSpace}
 use Rattle.trace_codec.specs.declared.op.Op.{Op}
@@ -18,18 +15,17 @@ use Rattle.blk_graph.specs.declared.edge.Edge.{Edge}
 use Rattle.blk_graph.specs.declared.edge.Parent.{Parent}
 use Rattle.blk_graph.specs.declared.edge.Parent.TheVariants.{Node}
 use Rattle.blk_graph.proofs.InverseLemmas.{same_parent-refl}
-use Rattle.blk_graph.proofs.Members.{Contains-nil, Contains-cases, find-Some}
+use Rattle.blk_graph.proofs.Members.{Contains-nil, Contains-cases}
 use Rattle.blk_graph.proofs.PathLemmas.{Reaches-edge}
-use Rattle.blk_history.specs.Disk.{payload_in, shown_in, is_write, piece}
+use Rattle.blk_history.specs.Disk.{payload_in, shown_in, is_write}
 use Rattle.blk_history.specs.Fold.{With}
 use Rattle.blk_history.specs.Legal.{Tells, IsNextPiece}
 use Rattle.blk_history.specs.Machine.{Flight}
-use Rattle.blk_history.specs.declared.event.Event.TheVariants.{Piece}
 use Rattle.qmp_rules.specs.Chains.{disk_node, is_settled, leads, reaches}
 use Rattle.qmp_rules.specs.Table.{Table, node_at}
 use Rattle.qmp_rules.specs.declared.rows.NodeRecord.{NodeRecord}
 use Rattle.flat_machine.specs.Agreement.{HasDisk}
-use Rattle.flat_machine.specs.EventLicence.{ReachesDevice, IsOnTheWay, changes_disk, device_in as device_named}
+use Rattle.flat_machine.specs.EventLicence.{ReachesDevice}
 use Rattle.flat_machine.specs.Legal.{Fits, guest_disk}
 use Rattle.flat_machine.specs.State.{State, Guest, disk_of as flat_disk, disk_of_guest, drive_of, bytes_in}
 use Rattle.flat_machine.specs.Wiring.{TableStands}
@@ -37,9 +33,9 @@ use Rattle.flat_machine.specs.declared.opening.Opening.{Opening}
 use Rattle.flat_machine.proofs.Kept.{own_disk}
 use Rattle.blk_nodes.specs.Contents.{disk_of}
 use Rattle.blk_nodes.specs.Joined.{IsJoined}
-use Rattle.blk_nodes.specs.Nodes.{Nodes, DeviceState, AreTold, device_in, is_of}
-use Rattle.blk_nodes.specs.Reading.{LeadsTo, IsReadBelow}
-use Rattle.blk_nodes.specs.Writing.{WritesFile, WritesImage, WritesBy, ZerosBy, IsTornAt, HasCauseOf, HasPieceCause}
+use Rattle.blk_nodes.specs.Nodes.{Nodes, DeviceState, AreTold, device_in}
+use Rattle.blk_nodes.specs.Reading.{LeadsTo}
+use Rattle.blk_nodes.specs.Writing.{WritesBy, ZerosBy, IsTornAt, HasCauseOf}
 use Rattle.blk_nodes.specs.declared.row.Driver.{Driver}
 use Rattle.blk_nodes.specs.declared.row.Driver.TheVariants as drivers
 use Rattle.blk_nodes.proofs.Leading.{leads_on}
@@ -50,7 +46,7 @@ use Rattle.blk_world.specs.Face.{Face}
 use Rattle.blk_world.specs.Piecing.{Transfers, part_of, shown_of, shown_by, piece_entry}
 use Rattle.blk_world.specs.Progress.{HasNext, flight_at, done_at}
 use Rattle.blk_world.proofs.PieceContents.{payload_length}
-use Rattle.blk_world.proofs.PieceNodes.{IsStop, StoppedOn}
+use Rattle.blk_world.proofs.PieceNodes.{StoppedOn}
 use Rattle.blk_world.proofs.PiecePaths.{short, or-right}
 use Rattle.blk_world.proofs.PieceWriters.{filter_edge, down_disk}
 use Rattle.blk_world.proofs.Quiet.{in-flight}

@@ -1,9 +1,6 @@
 -- What a piece leaves of nodes and devices, and whose device stopped it.
-use Rattle.std.proofs.Common.{◌≡◌, ◌≢◌, ◌⊎◌, ℕ, zero, suc, ◌+◌, ◌<◌, ◌≤◌, true, false, Bool, List, [], length, get_or, replicate, Option, Some, None, refl, sym, ◌∙◌, ap, subst, inl, inr, arith}
-use Rattle.std.specs.Prelude.{IsSome, is_some, Contains, option_map, ◌||◌}
+use Rattle.std.proofs.Common.{◌≡◌, ℕ, zero, suc, ◌+◌, ◌<◌, true, List, length, get_or, replicate, Option, Some, None, refl, sym, ◌∙◌, ap, subst, inl, inr, arith}
 use Rattle.std.proofs.lemmas.List.{length-replicate}
-use Rattle.blk_base.specs.Counts.{Rose}
-use Rattle.blk_base.specs.Outcomes.{is_good}
 use Rattle.blk_base.specs.Pieces.{Extent}
 use Rattle.blk_base.specs.declared.fault.DevNo.{DevNo}
 use Rattle.blk_base.specs.declared.fault.Outcome.{Outcome}
@@ -17,19 +14,19 @@ use Rattle.blk_history.specs.Disk.{payload_in}
 use Rattle.qmp_rules.specs.Table.{Table, node_at}
 use Rattle.qmp_rules.specs.declared.rows.NodeRecord.{NodeRecord}
 use Rattle.flat_machine.specs.EventLicence.{changes_disk, device_in as device_named}
-use Rattle.blk_nodes.specs.Flushing.{base_in, base_of, HasFlushCause, IsFlushOf, IsFlushAt}
+use Rattle.blk_nodes.specs.Flushing.{base_in, base_of, HasFlushCause, IsFlushAt}
 use Rattle.blk_nodes.specs.Joined.{IsJoined}
-use Rattle.blk_nodes.specs.Nodes.{Nodes, DeviceState, row_at, device_in, file_of, backing_of, kind_of}
-use Rattle.blk_nodes.specs.Reading.{HaveRisen, IsReadBelow, LeadsTo, OnlyAt, StoppedBy, StoppedBelow}
-use Rattle.blk_nodes.specs.Writing.{IsRowAfter, IsDriverAfter, AreRowsAfter, LeavesNodes, WritesPiece, ZerosPiece, WritesFile, WritesImage, WritesBy, ZerosBy, IsWriteAt, HasCauseOf, HasPieceCause, MayWrite, CanBeWritten, own_file, own_start}
+use Rattle.blk_nodes.specs.Nodes.{Nodes, DeviceState, row_at, device_in, file_of, kind_of}
+use Rattle.blk_nodes.specs.Reading.{IsReadBelow, LeadsTo, StoppedBy, StoppedBelow}
+use Rattle.blk_nodes.specs.Writing.{IsDriverAfter, AreRowsAfter, LeavesNodes, WritesFile, WritesImage, WritesBy, ZerosBy, HasCauseOf, HasPieceCause, MayWrite, CanBeWritten, own_file, own_start}
 use Rattle.blk_nodes.specs.declared.row.Driver.{Driver}
 use Rattle.blk_nodes.specs.declared.row.Driver.TheVariants as drivers
 use Rattle.blk_nodes.specs.declared.row.Row.{Row}
 use Rattle.blk_nodes.proofs.Alike.{alike_but, row_refl}
 use Rattle.blk_nodes.proofs.Leading.{leads_on, child_leads}
 use Rattle.blk_world.specs.Coherent.{AreNodesOf, AreAlike, IsRowOf, offset_of}
-use Rattle.blk_world.specs.Counting.{AreSameDevices, IsSameDevice}
-use Rattle.blk_world.specs.Piecing.{Transfers, ReadsPart, PutsPart, FlushesPart, PassesBy}
+use Rattle.blk_world.specs.Counting.{AreSameDevices}
+use Rattle.blk_world.specs.Piecing.{Transfers, PassesBy}
 use Rattle.blk_world.proofs.CountLemmas.{same-risen, same-only}
 
 -- ---- nodes after it

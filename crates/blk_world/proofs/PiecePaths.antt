@@ -5,7 +5,7 @@ use Rattle.std.proofs.lemmas.Bool.{false≢true, eqb-true}
 use Rattle.blk_graph.specs.Edges.{DifferInPlace}
 use Rattle.blk_graph.specs.Edits.{is_edge, child_of}
 use Rattle.blk_graph.specs.Graph.{PathsAreShort}
-use Rattle.blk_graph.specs.Paths.{IsPath, Reaches, IsAcyclic}
+use Rattle.blk_graph.specs.Paths.{IsPath, IsAcyclic}
 use Rattle.blk_graph.specs.Permissions.{has_role}
 use Rattle.blk_graph.specs.Edges.{same_parent, same_role}
 use Rattle.blk_graph.specs.declared.edge.Edge.{Edge}
@@ -20,10 +20,10 @@ use Rattle.blk_graph.proofs.GraphLemmas.{PathsAreShort-from_IsSound}
 use Rattle.blk_graph.proofs.InverseLemmas.{same_parent-refl}
 use Rattle.blk_graph.proofs.Members.{Contains-nil, Contains-cases, find-Some}
 use Rattle.blk_graph.proofs.RoleLemmas.{same_role-true, same_role-refl, head_pairs, tail_pairs}
-use Rattle.qmp_rules.specs.Chains.{filter_role, filtered, disk_from, disk_node, backing, chain_from, chain, below, has_id, is_over}
+use Rattle.qmp_rules.specs.Chains.{filter_role, filtered, disk_from, disk_node, chain_from, chain, below, has_id, is_over}
 use Rattle.qmp_rules.specs.Table.{Table, node_at, child}
 use Rattle.qmp_rules.specs.declared.rows.NodeRecord.{NodeRecord}
-use Rattle.flat_machine.specs.Wiring.{HasFile, StandsFor, TableStands}
+use Rattle.flat_machine.specs.Wiring.{HasFile, TableStands}
 use Rattle.flat_machine.proofs.Kept.{own_disk}
 use Rattle.blk_nodes.specs.Joined.{IsJoined}
 use Rattle.blk_nodes.specs.Nodes.{Nodes}

@@ -1,6 +1,6 @@
 -- A node that a guest's device is on can be asked for a piece, and what doesn't read it is apart from it.
-use Rattle.std.proofs.Common.{◌≡◌, ◌≢◌, ◌⊎◌, ℕ, zero, suc, ◌+◌, ◌-◌, ◌*◌, ◌/◌, ◌<◌, ◌≤◌, ◌==◌, min, max, cond, Bool, true, false, not, List, [], ◌∷◌, Option, Some, None, refl, sym, ◌∙◌, ap, subst, inl, inr, arith}
-use Rattle.std.specs.Prelude.{IsSome, IsTrue, Contains, ◌&&◌, ◌||◌, find, option_map, unwrap_or}
+use Rattle.std.proofs.Common.{◌≡◌, ℕ, ◌+◌, ◌-◌, ◌*◌, ◌/◌, ◌<◌, ◌≤◌, ◌==◌, min, max, cond, Bool, true, false, not, List, [], ◌∷◌, Option, Some, None, refl, sym, ◌∙◌, ap, subst, inl, inr, arith}
+use Rattle.std.specs.Prelude.{IsSome, Contains, option_map, unwrap_or}
 use Rattle.std.proofs.lemmas.Bool.{false≢true}
 use Rattle.blk_base.specs.Pieces.{Extent, end_of, count_of_pieces, piece_of}
 use Rattle.blk_base.specs.declared.file.Opened.{Opened}
@@ -13,7 +13,7 @@ use Rattle.blk_graph.specs.declared.edge.Edge.{Edge}
 use Rattle.blk_graph.specs.declared.edge.Parent.TheVariants.{Node}
 use Rattle.blk_graph.specs.declared.edge.Role.TheVariants.{File, Backing}
 use Rattle.blk_graph.proofs.PathLemmas.{Reaches-edge, Reaches-joined}
-use Rattle.qmp_rules.specs.Chains.{filter_role, disk_node, is_over}
+use Rattle.qmp_rules.specs.Chains.{filter_role, disk_node}
 use Rattle.qmp_rules.specs.Table.{Table, node_at, device_at, child}
 use Rattle.qmp_rules.specs.declared.rows.Device.{Device}
 use Rattle.qmp_rules.specs.declared.rows.NodeRecord.{NodeRecord}
@@ -25,12 +25,12 @@ use Rattle.flat_machine.specs.EventLicence.{changes_disk}
 use Rattle.flat_machine.specs.Legal.{IsForbidden}
 use Rattle.flat_machine.specs.Machine.{copies_through}
 use Rattle.flat_machine.specs.State.{drive_of, disk_of_guest, size_of}
-use Rattle.flat_machine.specs.Wiring.{HasFile, IsTaken, IsDiskOf, TableStands, writes_through}
+use Rattle.flat_machine.specs.Wiring.{HasFile, IsTaken, IsDiskOf, TableStands}
 use Rattle.flat_machine.specs.Writing.{ReadsWritten}
 use Rattle.blk_nodes.specs.Joined.{IsJoined}
-use Rattle.blk_nodes.specs.Nodes.{Nodes, row_at, file_of, backing_of, kind_of, size_by, size_of as size_in}
+use Rattle.blk_nodes.specs.Nodes.{Nodes, row_at, file_of, kind_of, size_by, size_of as size_in}
 use Rattle.blk_nodes.specs.Reading.{LeadsTo}
-use Rattle.blk_nodes.specs.Writing.{MayWrite, CanBeWritten, IsOverApart, OwnsFile, HasImageIn, IsApart, own_file}
+use Rattle.blk_nodes.specs.Writing.{MayWrite, CanBeWritten, IsOverApart, OwnsFile, IsApart, own_file}
 use Rattle.blk_nodes.specs.declared.row.Driver.{Driver}
 use Rattle.blk_nodes.specs.declared.row.Driver.TheVariants as drivers
 use Rattle.blk_nodes.specs.declared.row.Row.{Row}

@@ -1,38 +1,33 @@
 -- After a piece the world shows what the flat machine comes to by it.
-use Rattle.std.proofs.Common.{◌≡◌, ◌⊎◌, ℕ, zero, suc, ◌+◌, ◌<◌, Bool, true, false, cond, List, [], ◌∷◌, ◌++◌, map, take, Option, Some, None, refl, sym, ◌∙◌, ap, subst, inl, inr}
-use Rattle.std.specs.Prelude.{IsSome, IsTrue, is_some, slice_get, option_map, option_and_then}
-use Rattle.blk_base.specs.Content.{with_bytes, bytes_at}
+use Rattle.std.proofs.Common.{◌≡◌, ℕ, Bool, true, false, cond, List, [], ◌∷◌, map, Option, Some, refl, sym, ◌∙◌, ap, subst, inl}
+use Rattle.blk_base.specs.Content.{with_bytes}
 use Rattle.blk_base.specs.Pieces.{Extent}
 use Rattle.blk_base.specs.declared.fault.Outcome.{Outcome}
-use Rattle.blk_base.specs.declared.fault.Outcome.TheVariants.{Good, Torn, Io, NoSpace}
 use Rattle.trace_codec.specs.declared.op.Op.{Op}
 use Rattle.trace_codec.specs.declared.op.Op.TheVariants.{Read, Write, Zero, Flush, Discard}
-use Rattle.blk_history.specs.Disk.{payload_in, done_in, piece, is_write}
-use Rattle.blk_history.specs.Fold.{run, change, With}
+use Rattle.blk_history.specs.Disk.{payload_in, done_in, piece}
+use Rattle.blk_history.specs.Fold.{change}
 use Rattle.blk_history.specs.Machine.{Flight, done_by}
 use Rattle.blk_history.specs.declared.event.Event.{Event}
 use Rattle.blk_history.specs.declared.event.Event.TheVariants.{Piece}
 use Rattle.qmp_rules.specs.Chains.{disk_node, written_under}
-use Rattle.qmp_rules.specs.Table.{Table, node_at}
-use Rattle.flat_machine.specs.Agreement.{Contents, Agrees}
+use Rattle.qmp_rules.specs.Table.{Table}
+use Rattle.flat_machine.specs.Agreement.{Agrees}
 use Rattle.flat_machine.specs.EventLicence.{changes_disk}
 use Rattle.flat_machine.specs.Final.{bytes_of}
 use Rattle.flat_machine.specs.Jobs.{unsure}
-use Rattle.flat_machine.specs.Legal.{Fits, IsAtRest}
-use Rattle.flat_machine.specs.Machine.{after, with_guest, with_part, with_piece, with_disk, past_piece, flight_of, note, noted, is_noted, path, written, read_through, copies_through, touched}
-use Rattle.flat_machine.specs.Marking.{marked, where_recording}
-use Rattle.flat_machine.specs.Performing.{IsQuiet, HeldSame}
-use Rattle.flat_machine.specs.Standing.{StandsAtRest}
-use Rattle.flat_machine.specs.State.{State, Guest, Dirty, drive_of, filename_of}
+use Rattle.flat_machine.specs.Machine.{after, with_guest, with_part, with_piece, with_disk, past_piece, flight_of, note, noted, is_noted, path, written, read_through, copies_through}
+use Rattle.flat_machine.specs.Performing.{IsQuiet}
+use Rattle.flat_machine.specs.State.{State, Dirty, drive_of}
 use Rattle.flat_machine.specs.Writing.{PieceDone, CanWrite, Writes, ReadsWritten, written_file}
 use Rattle.flat_machine.specs.declared.opening.Opening.{Opening}
 use Rattle.flat_machine.proofs.Resting.{piece_rests}
 use Rattle.flat_machine.proofs.Written.{piece_keeps}
 use Rattle.blk_nodes.specs.Contents.{disk_of}
-use Rattle.blk_nodes.specs.Nodes.{Nodes, AreTold}
-use Rattle.blk_nodes.specs.Writing.{IsApart, taken_by}
+use Rattle.blk_nodes.specs.Nodes.{AreTold}
+use Rattle.blk_nodes.specs.Writing.{IsApart}
 use Rattle.blk_world.specs.Comes.{Shows}
-use Rattle.blk_world.specs.Face.{Face, held, contents_of, node_over}
+use Rattle.blk_world.specs.Face.{Face, held, contents_of}
 use Rattle.blk_world.specs.Piecing.{Transfers, PutsPart, table_after}
 use Rattle.blk_world.specs.Progress.{ended_in}
 use Rattle.blk_world.proofs.PieceContents.{taken_is}

@@ -1,5 +1,5 @@
 -- The parts of the world belong together after a piece.
-use Rattle.std.proofs.Common.{◌≡◌, ◌⊎◌, ℕ, zero, suc, ◌≤◌, ◌==◌, Bool, true, false, cond, List, length, map, Option, Some, None, refl, sym, ◌∙◌, ap, subst, inl, inr}
+use Rattle.std.proofs.Common.{◌≡◌, ◌⊎◌, ℕ, ◌≤◌, ◌==◌, Bool, true, false, cond, List, length, Option, Some, None, refl, sym, ◌∙◌, ap, subst, inl, inr}
 use Rattle.std.specs.Prelude.{IsSome, Contains, find, option_map, option_and_then, unwrap_or}
 use Rattle.std.proofs.lemmas.Bool.{eqb-true}
 use Rattle.blk_base.specs.Pieces.{end_of}
@@ -14,7 +14,6 @@ use Rattle.blk_graph.specs.declared.edge.Role.TheVariants.{Drive}
 use Rattle.blk_graph.proofs.Members.{find-Some}
 use Rattle.blk_history.specs.Disk.{span_of}
 use Rattle.blk_history.specs.Fold.{With}
-use Rattle.blk_history.specs.Machine.{Flight}
 use Rattle.qmp_rules.specs.Changes.{unsettled}
 use Rattle.qmp_rules.specs.Chains.{filter_role, filtered, disk_node, is_over, unsettled_over, written_under}
 use Rattle.qmp_rules.specs.Table.{Table, node_at, device_at, child}

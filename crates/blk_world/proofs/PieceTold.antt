@@ -1,5 +1,5 @@
 -- Devices that tell their bytes do so after a piece.
-use Rattle.std.proofs.Common.{◌≡◌, ◌≢◌, ◌⊎◌, ℕ, ◌==◌, true, false, Bool, List, [], ◌∷◌, replicate, Option, Some, None, refl, sym, ◌∙◌, ap, subst, inl, inr, eq-eqb}
+use Rattle.std.proofs.Common.{◌≡◌, ◌≢◌, ◌⊎◌, ℕ, ◌==◌, true, false, Bool, List, [], ◌∷◌, replicate, Option, Some, None, refl, sym, ◌∙◌, ap, inl, inr, eq-eqb}
 use Rattle.std.specs.Prelude.{is_some, AllPairs, Contains, option_map, option_and_then}
 use Rattle.std.proofs.lemmas.Bool.{cases_eq, ne_eqb}
 use Rattle.blk_base.specs.Pieces.{Extent}

@@ -1,10 +1,9 @@
 -- A guest that may write a node is not on top of one that is read by another guest: then the two would break the rule on permissions.
-use Rattle.std.proofs.Common.{◌≡◌, ◌≢◌, ◌⊎◌, ℕ, zero, suc, ◌<◌, ◌≤◌, ◌==◌, ◌||◌, Bool, true, false, cond, not, eq-eqb, List, [], ◌∷◌, length, get_or, drop, Option, Some, None, refl, sym, ◌∙◌, ap, subst, inl, inr, arith}
-use Rattle.std.specs.Prelude.{IsSome, IsTrue, Contains, find, slice_get, option_map, option_and_then, ◌&&◌}
+use Rattle.std.proofs.Common.{◌≡◌, ◌⊎◌, ℕ, zero, suc, ◌<◌, ◌==◌, ◌||◌, Bool, true, false, cond, not, eq-eqb, List, [], ◌∷◌, length, get_or, drop, Option, Some, None, refl, sym, ◌∙◌, ap, subst, inl, inr, arith}
+use Rattle.std.specs.Prelude.{Contains, slice_get, option_map, option_and_then, ◌&&◌}
 use Rattle.std.proofs.lemmas.Bool.{false≢true, eqb-true, cases_eq}
-use Rattle.blk_graph.specs.Edits.{child_of}
-use Rattle.blk_graph.specs.Permissions.{has_role, derived_uses, uses_by, drive_edge, IsDrive}
-use Rattle.blk_graph.specs.Refreshed.{kind_at, joined, uses_into, with_uses, ruled, ruled_from, IsRefreshed, IsOf}
+use Rattle.blk_graph.specs.Permissions.{has_role, derived_uses, uses_by, IsDrive}
+use Rattle.blk_graph.specs.Refreshed.{joined, uses_into, with_uses, ruled_from, IsRefreshed, IsOf}
 use Rattle.blk_graph.specs.Rule.{KeepsPermissions}
 use Rattle.blk_graph.specs.declared.edge.Edge.{Edge}
 use Rattle.blk_graph.specs.declared.edge.Parent.{Parent}
@@ -14,18 +13,18 @@ use Rattle.blk_graph.specs.declared.edge.Role.{Role}
 use Rattle.blk_graph.specs.declared.edge.Role.TheVariants.{Drive, File, Backing}
 use Rattle.blk_graph.specs.declared.edge.Uses.{Uses}
 use Rattle.blk_graph.specs.declared.kind.Kind.{Kind}
-use Rattle.blk_graph.specs.declared.kind.Kind.TheVariants.{Protocol, Raw, Qcow2, CopyOnRead, BeforeWrite, Mirror, Commit}
+use Rattle.blk_graph.specs.declared.kind.Kind.TheVariants.{Qcow2, CopyOnRead}
 use Rattle.blk_graph.specs.declared.kind.NodeKind.{NodeKind}
-use Rattle.blk_graph.proofs.ChildLemmas.{child-edge, HasEdge}
+use Rattle.blk_graph.proofs.ChildLemmas.{child-edge}
 use Rattle.blk_graph.proofs.Members.{Contains-nil, Contains-cases}
-use Rattle.qmp_rules.specs.Chains.{filter_role, filtered, disk_from, disk_node, backing, chain_from, chain, below, has_id, is_over}
+use Rattle.qmp_rules.specs.Chains.{filter_role, filtered, disk_from, disk_node, chain_from, chain, has_id, is_over}
 use Rattle.qmp_rules.specs.Table.{Table, node_at, device_at, child}
 use Rattle.qmp_rules.specs.declared.rows.Device.{Device}
 use Rattle.qmp_rules.specs.declared.rows.NodeRecord.{NodeRecord}
 use Rattle.flat_machine.specs.State.{drive_of}
 use Rattle.flat_machine.specs.Wiring.{TableStands}
 use Rattle.blk_nodes.specs.Joined.{IsJoined}
-use Rattle.blk_nodes.specs.Nodes.{Nodes, row_at, kind_of, node_kind}
+use Rattle.blk_nodes.specs.Nodes.{Nodes, row_at, kind_of}
 use Rattle.blk_nodes.specs.declared.row.Driver.{Driver}
 use Rattle.blk_nodes.specs.declared.row.Driver.TheVariants as drivers
 use Rattle.blk_nodes.specs.declared.row.Row.{Row}

@@ -7,7 +7,6 @@ use Rattle.blk_base.specs.declared.fault.Outcome.TheVariants.{Good, Torn, Io, No
 use Rattle.trace_codec.specs.declared.op.Op.{Op}
 use Rattle.trace_codec.specs.declared.op.Op.TheVariants.{Read, Write, Zero, Flush, Discard}
 use Rattle.blk_graph.specs.Graph.{HasNode}
-use Rattle.q2_image.specs.Reading.{IsWithinCluster}
 use Rattle.q2_image.specs.Room.{WriteFits, ZerosFit}
 use Rattle.blk_history.specs.Disk.{piece, payload_in}
 use Rattle.blk_history.specs.Fold.{With}

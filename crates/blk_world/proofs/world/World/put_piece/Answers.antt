@@ -1,4 +1,4 @@
-use Rattle.std.proofs.Common.{◌≡◌, ℕ, Some, None, refl, sym, ◌∙◌, ap, subst}
+use Rattle.std.proofs.Common.{◌≡◌, Some, None, sym, ◌∙◌}
 use Rattle.blk_history.specs.Machine.{Flight}
 use Rattle.flat_machine.specs.State.{drive_of}
 use Rattle.blk_world.specs.Face.{Face}
