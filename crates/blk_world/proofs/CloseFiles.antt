@@ -1,18 +1,21 @@
 -- At the end of a world the files hold what they held before.
-use Rattle.std.proofs.Common.{◌≡◌, ℕ, true, List, refl, sym, ◌∙◌, subst, Option, Some, None}
-use Rattle.std.specs.Prelude.{IsSome, is_some, Contains}
-use Rattle.std.proofs.lemmas.Bool.{false≢true}
+use Rattle.std.proofs.Common.{◌≡◌, ℕ, true, List, refl, sym, ◌∙◌, ap, subst, Option, Some, None}
+use Rattle.std.specs.Prelude.{IsSome, is_some, Contains, option_and_then, ◌==◌}
+use Rattle.std.proofs.lemmas.Bool.{false≢true, eqb-true}
 use Rattle.blk_base.specs.declared.fault.FaultAt.{FaultAt}
 use Rattle.blk_base.specs.declared.file.File.{File}
 use Rattle.blk_graph.specs.declared.kind.Kind.TheVariants.{Protocol}
 use Rattle.blk_nodes.specs.Joined.{IsJoined, HasBelow}
-use Rattle.blk_nodes.specs.Nodes.{Nodes, AreTold, row_at, device_in, kind_of}
+use Rattle.blk_nodes.specs.Nodes.{Nodes, DeviceState, AreTold, row_at, device_in, is_of, kind_of}
+use Rattle.blk_graph.proofs.Members.{find-Some}
+use Rattle.blk_history.specs.Fold.{With}
+use Rattle.flat_machine.specs.State.{filename_of}
 use Rattle.blk_nodes.specs.declared.row.Driver.{Driver}
 use Rattle.blk_nodes.specs.declared.row.Driver.TheVariants as drivers
 use Rattle.blk_nodes.specs.declared.row.Row.{Row}
 use Rattle.qmp_rules.specs.declared.rows.NodeRecord.{NodeRecord}
 use Rattle.qmp_rules.specs.Table.{Table, node_at}
-use Rattle.blk_world.specs.Closing.{IsClosed}
+use Rattle.blk_world.specs.Closing.{IsClosed, AreFlushed, AreNodesFlushed, IsFlushedIn}
 use Rattle.blk_world.specs.Coherent.{IsCoherent, AreNodesOf, AreAlike}
 use Rattle.blk_world.specs.Face.{Face, held, told_bytes}
 use Rattle.blk_world.specs.Steps.{StoreSeen}
@@ -53,3 +56,31 @@ held-then w store fault closed joined coherent told devices name =
     by_name : (row : NodeRecord) → Contains w.table.nodes row → (filename : Option (List ℕ)) → row.filename ≡ filename → IsSome filename → row.kind ≡ Protocol
     by_name row there None is some = absurd (false≢true some)
     by_name row there (Some n) is some = coherent.table.stands.drivers n row (record { there = there; filename = is })
+
+-- the file of each `file` node is that of its device
+pub nodes-flushed : (w : Face) (files : Option (List File)) → IsJoined w.nodes → IsCoherent w.table w.nodes w.opened w.progress → AreFlushed w files → AreNodesFlushed w.table files
+nodes-flushed w files joined coherent flushed node name named = by_row (node_at w.table node) refl
+  where
+    by_device : (device : Option DeviceState) → device_in w.nodes.devices node ≡ device → IsSome device → With files (λ told. IsFlushedIn told name)
+    by_device None none there = absurd (false≢true there)
+    by_device (Some device) is there =
+        let at = find-Some (is_of node) w.nodes.devices device is in
+        let same : device.node ≡ node = eqb-true device.node node at.1 in
+        flushed device name at.0 (ap (filename_of w.table) same ∙ named)
+
+    by_row : (found : Option NodeRecord) → node_at w.table node ≡ found → With files (λ told. IsFlushedIn told name)
+    by_row None none = let bad : None ≡ Some name = sym (ap (option_and_then (λ (r : NodeRecord). r.filename)) none) ∙ named in let no : ⊥ = cc bad in absurd no
+    by_row (Some row) found =
+        let at = find-Some (λ (r : NodeRecord). r.id == node) w.table.nodes row found in
+        let id : row.id ≡ node = eqb-true row.id node at.1 in
+        let filename : row.filename ≡ Some name = sym (ap (option_and_then (λ (r : NodeRecord). r.filename)) found) ∙ named in
+        let kind = coherent.table.stands.drivers name row (record { there = at.0; filename = filename }) in
+        by_device (device_in w.nodes.devices node) refl
+        (subst (λ (n : ℕ). IsSome (device_in w.nodes.devices n)) id (has-device w.table w.nodes coherent.alike joined row (ap (node_at w.table) id ∙ found) kind))
+
+-- they are still told
+pub told-then : (w : Face) (store : StoreSeen) (fault : Option FaultAt) → IsClosed w store fault → IsCoherent w.table w.nodes w.opened w.progress
+    → is_some w.files ≡ true → AreTold w.nodes.devices → is_some store.files ≡ true
+told-then w store fault closed coherent told devices =
+    let files = told-files w.files told in
+    (back-files w.table w.nodes.devices _ _ fault closed.back coherent.out devices files.0 files.1).0

@@ -17,7 +17,7 @@ use Rattle.blk_world.specs.Face.{Face, held, held_by, device_numbered}
 use Rattle.blk_world.proofs.CloseLemmas.{AreOther, left-other}
 use Rattle.blk_world.proofs.CountLemmas.{numbered}
 
-none-passes : {A : Type 0} (p : A → Bool) (xs : List A) (x : A) → find p xs ≡ None → Contains xs x → p x ≡ true → ⊥
+pub none-passes : {A : Type 0} (p : A → Bool) (xs : List A) (x : A) → find p xs ≡ None → Contains xs x → p x ≡ true → ⊥
 none-passes p [] x none there passes = Contains-nil x there
 none-passes p (y ∷ xs) x none there passes = by_test (p y) refl none (none-passes p xs x)
   where

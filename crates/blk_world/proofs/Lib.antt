@@ -9,6 +9,7 @@ pub mod Judging
 pub mod CountLemmas
 pub mod CloseLemmas
 pub mod CloseHeld
+pub mod CloseDisks
 pub mod CloseFiles
 pub mod CarryTexts
 pub mod CarryWords

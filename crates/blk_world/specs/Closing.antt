@@ -95,6 +95,11 @@ abbrev pub AreFlushed : Face → Option (List File) → Type 0
 AreFlushed w files = (device : DeviceState) (name : List ℕ) → Contains w.nodes.devices device
     → filename_of w.table device.node ≡ Some name → With files (λ told. IsFlushedIn told name)
 
+-- and that of each `file` node
+abbrev pub AreNodesFlushed : Table → Option (List File) → Type 0
+AreNodesFlushed t files = (node : ℕ) (name : List ℕ) → filename_of t node ≡ Some name
+    → With files (λ told. IsFlushedIn told name)
+
 -- what a file holds while these devices are still to be given back: what the device of that file does, or what the store does
 abbrev pub is_file_of : Table → List ℕ → DeviceState → Bool
 is_file_of t name device = unwrap_or (option_map (λ filename. bytes_eq filename name) (filename_of t device.node)) false

@@ -1,8 +1,12 @@
 //! The end of a world.
 ghost use Rattle.std.specs.Prelude.{◌≡◌, ℕ, List, None, false, true, is_some};
 ghost use Rattle.blk_base.specs.Files.{is_out};
-ghost use Rattle.blk_world.specs.Closing.{AreFlushed, IsClosed};
-ghost use Rattle.blk_world.specs.Face.{held, told_bytes};
+ghost use Rattle.blk_history.specs.Fold.{With};
+ghost use Rattle.flat_machine.specs.Agreement.{ReadAsDisks};
+ghost use Rattle.flat_machine.specs.Final.{AreDisks};
+ghost use Rattle.flat_machine.specs.State.{State};
+ghost use Rattle.blk_world.specs.Closing.{AreFlushed, AreNodesFlushed, IsClosed};
+ghost use Rattle.blk_world.specs.Face.{held, told_bytes, contents_of};
 ghost use Rattle.blk_world.specs.Steps.{seen_store};
 
 use crate::closing::give_all_back;
@@ -20,6 +24,10 @@ impl<S: Store> World<S> {
         ensures faults { S.faults result.0 ≡ self.faults }
         ensures none_out { (name : List ℕ) → is_out name (S.opened result.0) ≡ false }
         ensures flushed { is_some self.files ≡ true → result.2 ≡ None → AreFlushed self (S.files result.0) }
+        ensures named { is_some self.files ≡ true → result.2 ≡ None
+            → AreNodesFlushed self.table (S.files result.0) }
+        ensures disks { is_some self.files ≡ true → (s : State) → s.table ≡ self.table
+            → ReadAsDisks s (contents_of self) → With (S.files result.0) (λ files. AreDisks files s) }
         ensures held { is_some self.files ≡ true
             → (name : List ℕ) → told_bytes (S.files result.0) name ≡ held self name }
     {

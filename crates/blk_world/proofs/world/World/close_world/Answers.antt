@@ -1,4 +1,5 @@
 use Rattle.std.proofs.Common.{List, sym, ◌∙◌, ap, subst}
+use Rattle.blk_nodes.specs.Contents.{Unfolds}
 use Rattle.blk_nodes.specs.Joined.{IsJoined}
 use Rattle.blk_nodes.specs.Nodes.{DeviceState}
 use Rattle.blk_world.specs.Closing.{AreBack, IsClosed}
@@ -8,7 +9,8 @@ use Rattle.blk_world.specs.Steps.{StoreSeen, seen_store, seen_in_run}
 use Rattle.blk_world.specs.Stores.{StoreInRun}
 use Rattle.blk_world.proofs.CloseLemmas.{closed-by, back-held, none-out, none-behind, flushed-then}
 use Rattle.blk_world.proofs.CloseCounts.{given-back, faults-kept}
-use Rattle.blk_world.proofs.CloseFiles.{held-then}
+use Rattle.blk_world.proofs.CloseFiles.{held-then, told-then, nodes-flushed}
+use Rattle.blk_world.proofs.CloseDisks.{all-disks}
 use Rattle.blk_world.proofs.world.World.close_world.Goals as goal
 
 pub returns-clause-closed : goal.returns-clause-closed
@@ -51,3 +53,21 @@ returns-clause-flushed g c = λ told none.
     let whole : IsWhole c.args.self.files c.args.self.table c.args.self.nodes c.args.self.opened c.args.self.progress =
     subst (λ (w : Face). IsWhole w.files w.table w.nodes w.opened w.progress) c.self.view_is c.self.invariant in
     flushed-then c.args.self after c.give_all_back-fault.result closed whole.coherent.out told (whole.tell told) none
+
+pub returns-clause-named : goal.returns-clause-named
+returns-clause-named g c = λ told none.
+    let joined : IsJoined c.args.self.nodes = subst (λ (w : Face). IsJoined w.nodes) c.self.view_is c.edges.ensures.joined in
+    let whole : IsWhole c.args.self.files c.args.self.table c.args.self.nodes c.args.self.opened c.args.self.progress =
+    subst (λ (w : Face). IsWhole w.files w.table w.nodes w.opened w.progress) c.self.view_is c.self.invariant in
+    nodes-flushed c.args.self (g.S.Store.files c.into_store.result) joined whole.coherent (returns-clause-flushed g c told none)
+
+pub returns-clause-disks : goal.returns-clause-disks
+returns-clause-disks g c = λ told s same agrees.
+    let joined : IsJoined c.args.self.nodes = subst (λ (w : Face). IsJoined w.nodes) c.self.view_is c.edges.ensures.joined in
+    let whole : IsWhole c.args.self.files c.args.self.table c.args.self.nodes c.args.self.opened c.args.self.progress =
+    subst (λ (w : Face). IsWhole w.files w.table w.nodes w.opened w.progress) c.self.view_is c.self.invariant in
+    let after : StoreSeen = seen_store (g.S.Store.files c.into_store.result) (g.S.Store.opened c.into_store.result) (g.S.Store.room c.into_store.result) (g.S.Store.faults c.into_store.result) in
+    let closed : IsClosed c.args.self after c.give_all_back-fault.result = returns-clause-closed g c in
+    all-disks c.args.self (g.S.Store.files c.into_store.result) joined (subst (λ (w : Face). Unfolds w.nodes) c.self.view_is c.edges.ensures.disks) whole.coherent
+    (told-then c.args.self after c.give_all_back-fault.result closed whole.coherent told (whole.tell told))
+    (returns-clause-held g c told) s same agrees

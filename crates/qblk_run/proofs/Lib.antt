@@ -1,0 +1,14 @@
+pub mod Lists
+pub mod Waits
+pub mod History
+pub mod Sums
+pub mod Moves
+pub mod Orders
+pub mod Scripts
+pub mod Continuing
+pub mod GuestTurns
+pub mod Answered
+pub mod ScriptTurns
+pub mod Lines
+pub mod Ending
+pub mod Firsts

@@ -1,0 +1,22 @@
+use Rattle.std.proofs.Common.{refl, ap, ◌∙◌}
+use Rattle.qblk_run.specs.Tasks.{Task}
+use Rattle.qblk_run.proofs.GuestTurns.{is-open, is-idle, end-move, row-known, end-room}
+use Rattle.qblk_run.proofs.guest_turn.end.Goals as goal
+
+pub finish-requires-clause-known : goal.finish-requires-clause-known
+finish-requires-clause-known g c = row-known (g.W.Events.face c.args.world.now).progress c.args.guest c.args.task.now c.requires.task
+
+pub finish-requires-clause-open : goal.finish-requires-clause-open
+finish-requires-clause-open g c = is-open (g.W.Events.face c.args.world.now) c.args.guest c.args.task.now c.requires.task c.requires.runs
+
+pub finish-requires-clause-idle : goal.finish-requires-clause-idle
+finish-requires-clause-idle g c = is-idle (g.W.Events.face c.args.world.now).progress c.args.guest c.args.task.now c.requires.task c.requires.idle
+
+pub finish-requires-clause-room : goal.finish-requires-clause-room
+finish-requires-clause-room g c = end-room (g.W.Events.face c.args.world.now).progress c.args.task.now c.requires.runs c.requires.entries
+
+pub returns-clause-moved : goal.returns-clause-moved
+returns-clause-moved g c =
+    end-move (g.W.Events.face c.args.world.now) (g.W.Events.face c.finish.new.self) c.args.guest c.args.task.now _ c.requires.task
+    c.requires.idle c.requires.runs c.requires.used c.requires.entries c.finish.ensures.kept
+    (ap (λ (t : Task). t.wishes) c.task.view_is ∙ c.requires.used) (ap (λ (t : Task). t.left) c.task.view_is ∙ c.requires.idle) refl

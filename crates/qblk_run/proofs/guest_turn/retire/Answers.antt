@@ -1,0 +1,12 @@
+use Rattle.std.proofs.Common.{refl, ap}
+use Rattle.qblk_run.specs.Tasks.{Task}
+use Rattle.qblk_run.proofs.GuestTurns.{is-over, retire-move}
+use Rattle.qblk_run.proofs.guest_turn.retire.Goals as goal
+
+pub retire-requires : goal.retire-requires
+retire-requires g c = is-over (g.W.Events.face c.args.world.now).progress c.args.guest c.args.task.now c.requires.task c.requires.over
+
+pub returns-clause-moved : goal.returns-clause-moved
+returns-clause-moved g c =
+    retire-move (g.W.Events.face c.args.world.now) (g.W.Events.face c.retire.new.self) c.args.guest c.args.task.now _ c.requires.task c.requires.over c.retire.ensures.kept
+    (ap (λ (t : Task). t.wishes) c.task.view_is) refl (ap (λ (t : Task). t.is_done) c.task.view_is)

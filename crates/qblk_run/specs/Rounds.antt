@@ -1,0 +1,72 @@
+-- What several turns do, one behind the other.
+use Rattle.std.specs.Prelude.{◌≡◌, ◌⊎◌, ℕ, ◌+◌, ◌<◌, ◌≤◌, Bool, true, false, List, length, slice_get, slice_set, Some}
+use Rattle.trace_codec.specs.declared.wish.Wish.{Wish}
+use Rattle.trace_codec.specs.declared.waits.Waits.{Waits}
+use Rattle.trace_codec.specs.Script.{Order}
+use Rattle.flat_machine.specs.Blocked.{ScriptWaits, TraceWaits}
+use Rattle.blk_world.specs.Face.{Face, seen_state}
+use Rattle.qblk_run.specs.Tasks.{Task, Tasks, CanGoOn, KeepsTo, HaveLines, Rests, ScriptRests, steps_of_tasks}
+use Rattle.qblk_run.specs.Turns.{IsTurn}
+
+-- The history still keeps the order of script and traces, and what is left of these are the tasks.
+abbrev pub OrderStays : Face → Face → Tasks → Tasks → Type 0
+OrderStays w v before after = (script : List Order) (traces : List (List Wish))
+    → KeepsTo script traces w.progress.log.events before → KeepsTo script traces v.progress.log.events after
+
+-- Its entries have lines.
+abbrev pub LinesStay : Face → Face → Tasks → Type 0
+LinesStay w v before = (guests : List (List ℕ)) → length before.guests ≤ length guests
+    → HaveLines guests w.progress.log.events → HaveLines guests v.progress.log.events
+
+-- after some turns the actors can go on
+pub record Continues (w v : Face) (before after : Tasks) : Type 0 where
+  pub can : CanGoOn v.progress after
+  pub order : OrderStays w v before after
+  pub lines : LinesStay w v before
+  pub steps : steps_of_tasks after ≤ steps_of_tasks before
+  pub count : length after.guests ≡ length before.guests
+
+-- each actor is done or waits
+abbrev pub GuestsRest : Face → ℕ → List Task → Type 0
+GuestsRest w n tasks = (g : ℕ) (task : Task) → g < n → slice_get tasks g ≡ Some task → Rests w g task
+
+pub record AllRest (w : Face) (tasks : Tasks) : Type 0 where
+  pub script : ScriptRests w tasks.script
+  pub guests : GuestsRest w (length tasks.guests) tasks.guests
+
+-- An entry was made, and less is left to do; or none was, and the first n guests and the script are done or wait.
+abbrev pub Goes : Face → Face → Tasks → Tasks → ℕ → Bool → Type 0
+Goes w v before after n true = steps_of_tasks after < steps_of_tasks before
+Goes w v before after n false = (v ≡ w) × ScriptRests w after.script × GuestsRest w n after.guests
+
+-- a guest of a list had its turn
+pub record HasTurn (w v : Face) (before after : List Task) (g : ℕ) (moved : Bool) : Type 0 where
+  pub task : Task
+  pub now : Task
+  pub there : slice_get before g ≡ Some task
+  pub after_is : after ≡ slice_set before g now
+  pub turn : IsTurn w v g task now moved
+
+-- ---- who is named
+
+abbrev pub AllAreDone : List Task → Type 0
+AllAreDone tasks = (g : ℕ) (task : Task) → slice_get tasks g ≡ Some task → task.is_done ≡ true
+
+-- script and guests are done
+pub record AreDone (tasks : Tasks) : Type 0 where
+  pub script : tasks.script.is_done ≡ true
+  pub guests : AllAreDone tasks.guests
+
+-- a guest is the first that is not done
+pub record IsFirstGuest (w : Face) (tasks : List Task) (g : ℕ) (what : Waits (List ℕ)) : Type 0 where
+  pub task : Task
+  pub there : slice_get tasks g ≡ Some task
+  pub runs : task.is_done ≡ false
+  pub waits : TraceWaits (seen_state w) g task.wishes what
+  pub before : (other : ℕ) (done : Task) → other < g → slice_get tasks other ≡ Some done → done.is_done ≡ true
+
+-- the first actor that is not done, and what it waits for
+abbrev pub IsFirst : Face → Tasks → ℕ → Waits (List ℕ) → Type 0
+IsFirst w tasks actor what =
+    ((actor ≡ 0) × (tasks.script.is_done ≡ false) × ScriptWaits (seen_state w) tasks.script.orders what)
+    ⊎ ((tasks.script.is_done ≡ true) × ((g : ℕ) × (actor ≡ g + 1) × IsFirstGuest w tasks.guests g what))

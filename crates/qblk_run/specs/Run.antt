@@ -1,0 +1,205 @@
+-- What a run of a script and traces is, seen from outside.
+use Rattle.std.specs.Prelude.{◌≡◌, ◌⊎◌, ℕ, ◌≤◌, Bool, true, false, List, ◌++◌, length, map, take, slice_get, All, Option, Some, IsSome, is_some, option_map, unwrap_or}
+use Rattle.blk_base.specs.Counts.{Rose}
+use Rattle.blk_base.specs.Files.{IfTold}
+use Rattle.blk_base.specs.Written.{Written}
+use Rattle.blk_base.specs.declared.fault.DevNo.{DevNo}
+use Rattle.blk_base.specs.declared.fault.FaultAt.{FaultAt}
+use Rattle.blk_base.specs.declared.fault.FaultFrom.{FaultFrom}
+use Rattle.blk_base.specs.declared.fault.FaultFrom.TheVariants.{Store, Dev, Sink}
+use Rattle.blk_base.specs.declared.file.File.{File}
+use Rattle.blk_base.specs.declared.file.Opened.{Opened}
+use Rattle.trace_codec.specs.declared.waits.Waits.{Waits}
+use Rattle.trace_codec.specs.declared.waits.Waits.TheVariants as waits
+use Rattle.qmp_rules.specs.Table.{Table}
+use Rattle.blk_history.specs.Fold.{With}
+use Rattle.blk_history.specs.declared.event.Event.{Event}
+use Rattle.flat_machine.specs.State.{State, filename_of}
+use Rattle.flat_machine.specs.Machine.{replay}
+use Rattle.flat_machine.specs.Opening.{start}
+use Rattle.flat_machine.specs.Comes.{IsHistoryOf, IsInOrder, HasEnded, guests_after, transcript_of}
+use Rattle.flat_machine.specs.Courses.{Course, course_of, course_after}
+use Rattle.flat_machine.specs.Blocked.{IsStuck}
+use Rattle.flat_machine.specs.Licence.{Counts, AreLicensed, faults_of}
+use Rattle.flat_machine.specs.Final.{AreLeftBy}
+use Rattle.flat_machine.specs.declared.opening.Opening.{Opening}
+use Rattle.blk_world.specs.Closing.{IsFlushedIn}
+use Rattle.blk_world.specs.Steps.{StoreSeen, IsOpeningOf}
+use Rattle.qblk_inputs.specs.Inputs.{Work, HasWork, IsRefusedInput}
+use Rattle.qblk_inputs.specs.Words.{Cast, guests_of}
+use Rattle.qblk_inputs.specs.declared.stop.InputFlaw.{InputFlaw}
+use Rattle.qblk_inputs.specs.declared.stop.InputFlaw.TheVariants as flaws
+use Rattle.qblk_core.specs.declared.status.InputWhy.{InputWhy}
+use Rattle.qblk_core.specs.declared.status.InputWhy.TheVariants as whys
+use Rattle.qblk_core.specs.declared.status.Status.{Status}
+use Rattle.qblk_core.specs.declared.status.Status.TheVariants.{Done, Usage, Input, Fault, Stuck, NoMemory}
+
+-- what is seen of a store and a sink
+pub record Setting : Type 0 where
+  pub store : StoreSeen
+  pub sent : Option (List ℕ)
+  pub sink_faults : ℕ
+
+-- What a run was: what it began with, the openings of devices in it, and its history.
+pub record Account : Type 0 where
+  pub opening : Opening
+  pub openings : List Opened
+  pub events : List Event
+
+-- ---- counts of faults
+
+-- the openings of a run stand behind those before it, and all are back
+pub record HasOpened (before after made : List Opened) : Type 0 where
+  pub behind : after ≡ before ++ made
+  pub back : All (λ o. IsSome o.returned) made
+
+-- the counts of the store, and of each device at its opening and when it was given back
+abbrev pub counts_at_first : StoreSeen → Account → Counts
+counts_at_first old a = record { store = old.faults; devices = map (λ o. o.faults) a.openings }
+
+abbrev pub counts_at_last : StoreSeen → Account → Counts
+counts_at_last new a =
+    record { store = new.faults; devices = map (λ o. unwrap_or o.returned 0) a.openings }
+
+-- ---- files
+
+-- the file of each `file` node is flushed
+abbrev pub NodesAreFlushed : Table → List File → Type 0
+NodesAreFlushed t files = (node : ℕ) (name : List ℕ) → filename_of t node ≡ Some name → IsFlushedIn files name
+
+-- the state that a history comes to
+abbrev pub state_after : Opening → List Event → State
+state_after o h = replay (start o) h
+
+-- The history is one of its opening: it is legal, and no mark of it splits a request. Each node of the last table that has a
+-- flat disk reads as it, by these files alone; left disks are what their drivers read; and files that no command named for
+-- writing are as they were.
+pub record LeavesFiles (a : Account) (is_flushed : Bool) (files : List File) : Type 0 where
+  pub history : IsHistoryOf a.opening a.events
+  pub left : AreLeftBy a.opening.files (state_after a.opening a.events) files
+  pub flushed : is_flushed ≡ true → NodesAreFlushed (state_after a.opening a.events).table files
+
+-- ---- a run
+
+-- Each guest's requests are its trace's, in order, and so it is with the script; each fault that the history names is a
+-- rise of its count in this run, and is named once. The rest speaks of a store that tells its files.
+pub record IsRun (cast : Cast) (work : Work) (is_flushed : Bool) (old new : StoreSeen) (a : Account) : Type 0 where
+  pub opening : IsOpeningOf old (guests_of cast) a.opening
+  pub openings : HasOpened old.opened new.opened a.openings
+  pub order : IsInOrder a.opening work.script work.traces a.events
+  pub licensed : AreLicensed (counts_at_first old a) (counts_at_last new a) a.events
+  pub files : IfTold old.files (λ told. With new.files (LeavesFiles a is_flushed))
+
+-- what is left of script and traces behind the history
+abbrev pub course_in : Work → Account → Course
+course_in work a = course_after (course_of work.script work.traces) a.events
+
+-- Some actor is unfinished, and each of those is blocked; the first is named. The state in which that is so is the one that the
+-- history comes to, where the store tells its files.
+pub record EndsStuck (is_told : Bool) (work : Work) (a : Account) (actor : ℕ) (what : Waits (List ℕ)) : Type 0 where
+  pub state : State
+  pub told : is_told ≡ true → state ≡ state_after a.opening a.events
+  pub guests : state.guests ≡ guests_after a.opening a.events
+  pub ended : state.ended ≡ (course_in work a).ended
+  pub stuck : IsStuck state (course_in work a) actor what
+
+-- script and traces are used up
+abbrev pub EndsDone : Bool → Work → Account → Type 0
+EndsDone is_told work a = HasEnded a.opening is_told work.script work.traces a.events
+
+-- a run stops in one of these two ways
+abbrev pub HasStopped : Bool → Work → Account → Type 0
+HasStopped is_told work a =
+    EndsDone is_told work a ⊎ ((actor : ℕ) × (what : Waits (List ℕ)) × EndsStuck is_told work a actor what)
+
+-- ---- what went out
+
+abbrev pub whole_transcript : Account → List ℕ
+whole_transcript a = transcript_of a.opening a.events
+
+-- script and traces are what the words name, they were run, and of the transcript the first n bytes went out
+pub record WasRun (cast : Cast) (work : Work) (is_flushed : Bool) (old new : Setting) (a : Account) (n : ℕ) : Type 0 where
+  pub inputs : IfTold old.store.files (HasWork cast work)
+  pub run : IsRun cast work is_flushed old.store new.store a
+  pub sent : new.sent ≡ option_map (λ s. s ++ take n (whole_transcript a)) old.sent
+
+-- all of it did, and no call failed since the last event
+pub record WasRunWhole (cast : Cast) (work : Work) (old new : Setting) (a : Account) : Type 0 where
+  pub was : WasRun cast work true old new a (length (whole_transcript a))
+  pub sink : new.sink_faults ≡ old.sink_faults
+
+-- it stopped, whether or not all of it went out
+pub record WasStopped (cast : Cast) (work : Work) (is_flushed : Bool) (old new : Setting) (a : Account) (n : ℕ) : Type 0 where
+  pub was : WasRun cast work is_flushed old new a n
+  pub stopped : HasStopped (is_some old.store.files) work a
+
+-- nothing was written, neither to a file nor to the sink
+pub record NothingWritten (old new : Setting) : Type 0 where
+  pub files : new.store.files ≡ old.store.files
+  pub opened : new.store.opened ≡ old.store.opened
+  pub sent : new.sent ≡ old.sent
+  pub sink : new.sink_faults ≡ old.sink_faults
+
+-- ---- faults
+
+-- a device failed in the last flush: a rise above all that the history names of it
+pub record FailsToFlush (a : Account) (dev : DevNo) (count : ℕ) : Type 0 where
+  pub last : With (slice_get a.openings dev.0) (λ o. o.returned ≡ Some count)
+  pub before : ℕ
+  pub rose : Rose before count
+  pub named : All (λ f. f.from ≡ Dev dev → f.count ≤ before) (faults_of a.events)
+
+-- the transcript goes out nevertheless, or a put of it failed too
+abbrev pub GoesOut : Setting → Setting → Account → ℕ → Type 0
+GoesOut old new a n =
+    ((n ≡ length (whole_transcript a)) × (new.sink_faults ≡ old.sink_faults))
+    ⊎ Rose old.sink_faults new.sink_faults
+
+-- the first fault: while the inputs were read, in the last flush, or while the transcript went out
+abbrev pub IsFaulty : Cast → Setting → Setting → FaultFrom → ℕ → Type 0
+IsFaulty cast old new Store count =
+    NothingWritten old new × Rose old.store.faults count × (count ≡ new.store.faults)
+IsFaulty cast old new (Dev dev) count = (work : Work) × (a : Account) × (n : ℕ)
+    × WasStopped cast work false old new a n × FailsToFlush a dev count × GoesOut old new a n
+IsFaulty cast old new Sink count = (work : Work) × (a : Account) × (n : ℕ)
+    × WasStopped cast work true old new a n × Rose old.sink_faults count × (count ≡ new.sink_faults)
+
+-- ---- statuses
+
+-- as a status says it
+abbrev pub why_of : InputFlaw → InputWhy
+why_of flaws.Absent = whys.Absent
+why_of flaws.NotUtf8 = whys.NotUtf8
+why_of flaws.TooLong = whys.TooLong
+why_of flaws.BadLine = whys.BadLine
+why_of flaws.TooMany = whys.TooMany
+
+-- its texts as bytes
+abbrev pub seen_waits : Waits Written → Waits (List ℕ)
+seen_waits waits.Attached = waits.Attached
+seen_waits (waits.Line line) = waits.Line line
+seen_waits (waits.Guest guest requests) = waits.Guest guest requests
+seen_waits (waits.Ready id) = waits.Ready id.bytes
+seen_waits (waits.Ended id) = waits.Ended id.bytes
+
+-- an input is refused
+abbrev pub IsRefusedFor : Cast → Setting → Setting → List ℕ → ℕ → InputWhy → Type 0
+IsRefusedFor cast old new name line why = NothingWritten old new
+    × ((flaw : InputFlaw) × (why ≡ why_of flaw) × IfTold old.store.files (IsRefusedInput cast name line flaw))
+
+-- memory wasn't had: nothing went out, and the files are as the events so far left them
+abbrev pub IsUnsent : Cast → Setting → Setting → Type 0
+IsUnsent cast old new = (new.sent ≡ old.sent) × (new.sink_faults ≡ old.sink_faults)
+    × ((new.store.files ≡ old.store.files)
+    ⊎ ((work : Work) × (a : Account) × IsRun cast work false old.store new.store a))
+
+-- why a run of these words ended so
+abbrev pub Answers : Cast → Setting → Setting → Status → Type 0
+Answers cast old new Done = (work : Work) × (a : Account)
+    × WasRunWhole cast work old new a × EndsDone (is_some old.store.files) work a
+Answers cast old new Usage = ⊥
+Answers cast old new (Input name line why) = IsRefusedFor cast old new name.bytes line why
+Answers cast old new (Fault from count) = IsFaulty cast old new from count
+Answers cast old new (Stuck actor what) = (work : Work) × (a : Account)
+    × WasRunWhole cast work old new a × EndsStuck (is_some old.store.files) work a actor (seen_waits what)
+Answers cast old new NoMemory = IsUnsent cast old new

@@ -1,0 +1,87 @@
+//! What rounds ask of a world.
+ghost use Rattle.std.specs.Prelude.{◌≡◌, ◌↔◌, ◌+◌, ◌^◌, ◌<◌, ◌≤◌, ℕ, List, length, slice_get, Some, IsTrue, IsNone, IfSome, OnOk, OnErr, Contains, is_none};
+ghost use Rattle.std.specs.String.{string_bytes};
+ghost use Rattle.blk_history.specs.Fold.{With};
+ghost use Rattle.blk_history.specs.Legal.{IsOver};
+ghost use Rattle.blk_history.specs.Machine.{Flight};
+ghost use Rattle.trace_codec.specs.Awaits.{seen_await};
+ghost use Rattle.flat_machine.specs.Legal.{IsMet, IsNotDone};
+ghost use Rattle.flat_machine.specs.declared.opening.Opening.{Opening};
+ghost use Rattle.blk_world.specs.Carrying.{IsReplied, IsPutBack};
+ghost use Rattle.blk_world.specs.Comes.{Comes};
+ghost use Rattle.blk_world.specs.Face.{Face, seen_state};
+ghost use Rattle.blk_world.specs.Progress.{IsFree, HasNext, HasRoomFor, CanShow, flight_at, answered_in, with_piece, with_retirement};
+ghost use Rattle.blk_world.specs.Steps.{onward, after_admission, IsAnswered, after_wait, after_end, IsIdle};
+ghost use Rattle.qblk_run.specs.Turns.{StaysIn};
+
+use blk_base::{NoMemory, Outcome};
+use blk_world::Admission;
+use std::alloc::Global;
+use trace_codec::{Await, Op};
+
+/// The events of a run, each one call. A world has them.
+pub(crate) trait Events {
+    /// What contracts see of the world.
+    ghost face: { Self → Face };
+
+    /// Admits a guest's next request, or refuses it. It is away where the guest has no device.
+    fn admit(&mut self, guest: u32, op: Op) -> Admission
+        requires open { IsNotDone (seen_state (face self.old)) (guest + 1) }
+        requires free { With (slice_get (face self.old).progress.guests guest) IsFree }
+        requires room { HasRoomFor op (face self.old).progress.spare }
+        ensures answer { IsAnswered (face self.old) guest op result }
+        ensures kept { face self.new ≡ after_admission (face self.old) guest op result }
+        ensures stays { StaysIn (face self.old) (face self.new) }
+        ensures comes { (o : Opening) → Comes o (face self.old) → Comes o (face self.new) };
+
+    /// Makes the next piece of a guest's request in flight.
+    fn piece(&mut self, guest: u32) -> Outcome
+        requires { With (flight_at (face self.old).progress.guests guest) HasNext }
+        ensures made { (f : Flight) → flight_at (face self.old).progress.guests guest ≡ Some f
+            → (got : List ℕ) × ((face self.new).progress
+            ≡ with_piece guest f.next result got (face self.old).progress) × CanShow (length got) f }
+        ensures stays { StaysIn (face self.old) (face self.new) }
+        ensures comes { (o : Opening) → Comes o (face self.old) → Comes o (face self.new) };
+
+    /// Ends a request.
+    fn retire(&mut self, guest: u32)
+        requires { With (flight_at (face self.old).progress.guests guest) IsOver }
+        ensures kept { face self.new ≡ onward (face self.old) (with_retirement guest) }
+        ensures stays { StaysIn (face self.old) (face self.new) }
+        ensures comes { (o : Opening) → Comes o (face self.old) → Comes o (face self.new) };
+
+    /// Carries out a line of the script.
+    fn execute(&mut self, alloc: Global, line: u32, given: String) -> Result<(), NoMemory>
+        requires open { IsNotDone (seen_state (face self.old)) 0 }
+        requires room { 0 < (face self.old).progress.spare.entries }
+        ensures replied { OnOk result (IsReplied (face self.old) (face self.new)
+            (record { number = line; text = string_bytes given })) }
+        ensures back { OnErr result (IsPutBack (face self.old) (face self.new)) }
+        ensures stays { StaysIn (face self.old) (face self.new) }
+        ensures comes { (o : Opening) → Comes o (face self.old) → Comes o (face self.new) };
+
+    /// Notes that what a line of the script waits for has come, or gives it back.
+    fn reach(&mut self, line: u32, what: Await) -> Option<Await>
+        requires open { IsNotDone (seen_state (face self.old)) 0 }
+        requires room { 0 < (face self.old).progress.spare.entries }
+        ensures met { IsNone result ↔ IsMet (seen_state (face self.old)) (seen_await what) }
+        ensures back { IfSome result (λ back. back ≡ what) }
+        ensures kept { face self.new
+            ≡ after_wait (face self.old) line (seen_await what) (is_none result) }
+        ensures stays { StaysIn (face self.old) (face self.new) }
+        ensures comes { (o : Opening) → Comes o (face self.old) → Comes o (face self.new) };
+
+    /// Notes that an actor is done.
+    fn finish(&mut self, actor: u32)
+        requires known { actor ≤ length (face self.old).progress.guests }
+        requires open { IsNotDone (seen_state (face self.old)) actor }
+        requires idle { IsIdle (face self.old).progress.guests actor }
+        requires room { 0 < (face self.old).progress.spare.entries }
+        ensures kept { face self.new ≡ after_end (face self.old) actor }
+        ensures stays { StaysIn (face self.old) (face self.new) }
+        ensures comes { (o : Opening) → Comes o (face self.old) → Comes o (face self.new) };
+
+    /// Whether a line of the script has its reply, or its wait is over.
+    fn answered(&self, line: u32) -> bool
+        ensures { IsTrue result ↔ Contains (answered_in (face self.now).progress.log.events) line };
+}

@@ -1,0 +1,51 @@
+//! The script's turn: it makes at most one entry.
+ghost use Rattle.std.specs.Prelude.{◌≡◌, ◌≤◌, IfOk, OnErr};
+ghost use Rattle.flat_machine.specs.declared.opening.Opening.{Opening};
+ghost use Rattle.blk_world.specs.Comes.{Comes};
+ghost use Rattle.qblk_run.specs.Tasks.{IsScriptIn, entries_of_script};
+ghost use Rattle.qblk_run.specs.Turns.{StaysIn, IsScriptTurn};
+
+use crate::events::Events;
+use crate::task::{Script, look};
+use blk_base::NoMemory;
+use std::alloc::Global;
+use trace_codec::Order;
+
+/// Gives the script its turn: its next line is carried out, or was waited for. Says whether it made an entry.
+pub(crate) fn script_turn<W: Events>(
+    alloc: Global,
+    world: &mut W,
+    script: &mut Script,
+) -> Result<bool, NoMemory>
+    requires task { IsScriptIn (W.face world.old).progress script.old }
+    requires entries { entries_of_script script.old ≤ (W.face world.old).progress.spare.entries }
+    ensures turn { IfOk result (IsScriptTurn (W.face world.old) (W.face world.new) script.old script.new) }
+    ensures stop { OnErr result ((W.face world.new).progress ≡ (W.face world.old).progress) }
+    ensures stays { StaysIn (W.face world.old) (W.face world.new) }
+    ensures comes { (o : Opening) → Comes o (W.face world.old) → Comes o (W.face world.new) }
+{
+    if script.is_done {
+        return Ok(false);
+    }
+    look(&mut script.next, &mut script.rest);
+    match script.next.take() {
+        None => {
+            world.finish(0);
+            script.is_done = true;
+            Ok(true)
+        }
+        Some(Order::Give(line, text)) => {
+            match world.execute(alloc, line, text.into_string()) {
+                Ok(()) => Ok(true),
+                Err(stop) => Err(stop),
+            }
+        }
+        Some(Order::Watch(line, what)) => match world.reach(line, what) {
+            None => Ok(true),
+            Some(what) => {
+                script.next = Some(Order::Watch(line, what));
+                Ok(false)
+            }
+        },
+    }
+}
