@@ -62,7 +62,7 @@ find-past p (x ∷ xs) y fails = by_test (p x) (find-past p xs y fails)
     by_test true rest = refl
     by_test false rest = rest
 
-module _ (w : Face) (whole : IsWhole w.files w.table w.nodes w.opened w.progress) (joined : IsJoined w.nodes)
+module _ (w : Face) (whole : IsWhole w) (joined : IsJoined w.nodes)
     (c : DeviceAdd (List ℕ)) (none : refusal_of w.table untold (command.DeviceAdd c) ≡ None) where
   abbrev t : Table
   t = w.table
@@ -330,7 +330,7 @@ module _ (w : Face) (whole : IsWhole w.files w.table w.nodes w.opened w.progress
 
   -- as it was said to be put there
   pub attachment_done : (now : Nodes) (x : Table) → x ≡ all_changed w.table (answer w.table untold (command.DeviceAdd c)).changes → IsAttached x c w.nodes now → IsJoined now
-      → CarriedUntold w (record w { nodes = now; table = x }) (command.DeviceAdd c) None × IsWhole w.files x now w.opened w.progress
+      → CarriedUntold w (record w { nodes = now; table = x }) (command.DeviceAdd c) None × IsWhole (record w { nodes = now; table = x })
   attachment_done now x table put after =
       let same_table : x ≡ u =
       table ∙ ap (λ (a : Answer). all_changed w.table a.changes) (answer-is w.table untold (command.DeviceAdd c) None none) ∙ table_is w.table h c none in
@@ -346,6 +346,6 @@ module _ (w : Face) (whole : IsWhole w.files w.table w.nodes w.opened w.progress
       ∙ ap (λ (y : Table). let f : Face = record w { nodes = now; table = y } in f) (sym same_table) in (
         subst (λ (f : Face). CarriedUntold w f (command.DeviceAdd c) None) same
             (attached_carried joined_then (λ n. subst (λ (ns : Nodes). disk_of ns n ≡ disk_of w.nodes n) same_nodes (put.disks n))),
-        subst (λ (f : Face). IsWhole f.files f.table f.nodes f.opened f.progress) same
-            (record { coherent = attached_coherent joined_then; tell = whole.tell }),
+        subst IsWhole same
+            (record { coherent = attached_coherent joined_then; tell = whole.tell; counted = whole.counted }),
       )

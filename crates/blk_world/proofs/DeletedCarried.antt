@@ -73,6 +73,7 @@ module _ (w : Face) (node : ℕ) (goes : Goes w) (can : CanLeave w.table (ground
         parts = subst (Parts v.table) same_ground (parts_left w.table (ground_of w) node goes.parts can has);
         unfolds = has.unfolds;
         tell = tell_left w node goes.parts goes.tell has;
+        counted = goes.counted;
         drives = drives_kept w.table v.table keeps goes.drives;
         disks = disks_kept w.table v.table keeps goes.disks;
         asks = asks_left w.table node goes.asks;
@@ -154,7 +155,7 @@ two_gone w t node file goes can has named can_file has_file named_file =
 
 -- ---- a deletion
 
-module _ (w : Face) (whole : IsWhole w.files w.table w.nodes w.opened w.progress) (joined : IsJoined w.nodes) (unfolds : Unfolds w.nodes)
+module _ (w : Face) (whole : IsWhole w) (joined : IsJoined w.nodes) (unfolds : Unfolds w.nodes)
     (name : List ℕ) (none : refusal_of w.table untold (command.BlockdevDel name) ≡ None) (x : Ground) (deleted : IsDeleted w.table name (ground_of w) x) where
   abbrev c : Cmd
   c = command.BlockdevDel name
@@ -280,12 +281,12 @@ module _ (w : Face) (whole : IsWhole w.files w.table w.nodes w.opened w.progress
       (end.performed s told shows.table.table_is))
 
   pub deleted_carried : (u : Table) → u ≡ all_changed w.table (answer w.table untold c).changes
-      → CarriedUntold w (placed w x u) c None × IsWhole x.store.files u x.nodes x.store.opened w.progress
+      → CarriedUntold w (placed w x u) c None × IsWhole (placed w x u)
   deleted_carried u is =
       let same : final ≡ placed w x u =
       last_placed (made_with w.table node)
       ∙ ap (λ (y : Ground). placed w y final.table) (sym end.ground_is)
       ∙ ap (placed w x) (final_table ∙ sym is) in (
         subst (λ (v : Face). CarriedUntold w v c None) same final_carried,
-        subst (λ (v : Face). IsWhole v.files v.table v.nodes v.opened v.progress) same (whole_of final end.goes rest),
+        subst IsWhole same (whole_of final end.goes rest),
       )

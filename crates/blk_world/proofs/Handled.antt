@@ -54,14 +54,14 @@ module _ (given : List ℕ) (t : Table) (c : Cmd) (u : Table) (done undone : Typ
 
 -- a refusal leaves all as it was
 pub refused_placed : (w : Face) (c : Cmd) (cause : Refusal) → opens_nothing c ≡ true → refusal_of w.table untold c ≡ Some cause → left_by w.table c cause ≡ []
-    → (x : Ground) (u : Table) → x ≡ ground_of w → u ≡ all_changed w.table (answer w.table untold c).changes → IsWhole w.files w.table w.nodes w.opened w.progress
-    → CarriedUntold w (placed w x u) c (Some cause) × IsWhole x.store.files u x.nodes x.store.opened w.progress
+    → (x : Ground) (u : Table) → x ≡ ground_of w → u ≡ all_changed w.table (answer w.table untold c).changes → IsWhole w
+    → CarriedUntold w (placed w x u) c (Some cause) × IsWhole (placed w x u)
 refused_placed w c cause opens some nothing x u ground table whole =
     let kept : u ≡ w.table =
     table ∙ ap (λ (a : Answer). all_changed w.table a.changes) (answer-is w.table untold c (Some cause) some) ∙ ap (all_changed w.table) nothing in
     let same = placed_same w x u ground kept in (
       subst (λ (v : Face). CarriedUntold w v c (Some cause)) same (refused_by w c cause opens some nothing),
-      subst (λ (v : Face). IsWhole v.files v.table v.nodes v.opened v.progress) same whole,
+      subst IsWhole same whole,
     )
 
 -- its text is the answer's
@@ -73,15 +73,15 @@ said_as w given v text c refusal carried said = record {
   said = subst (λ (told : Told). IsSaid given (answer w.table told c).reply text) (sym carried.1) said;
 }
 
-module _ (w : Face) (whole : IsWhole w.files w.table w.nodes w.opened w.progress) (joined : IsJoined w.nodes) (unfolds : Unfolds w.nodes)
+module _ (w : Face) (whole : IsWhole w) (joined : IsJoined w.nodes) (unfolds : Unfolds w.nodes)
     (given : List ℕ) (x : Ground) (u : Table) (text : List ℕ) where
   pub deletion_carried : (c : Cmd) → is_deletion c ≡ true → IsHandled given w.table c u (IsDeletedBy w.table c (ground_of w) x) (x ≡ ground_of w) text
-      → IsCarriedAs w (placed w x u) given c text × IsWhole x.store.files u x.nodes x.store.opened w.progress
+      → IsCarriedAs w (placed w x u) given c text × IsWhole (placed w x u)
   deletion_carried (command.BlockdevDel name) is handled = by_refusal handled.refusal handled.judged handled.done_is
     where
       by_refusal : (refusal : Option Refusal) → refusal_of w.table untold (command.BlockdevDel name) ≡ refusal
           → DoneIf refusal (IsDeletedBy w.table (command.BlockdevDel name) (ground_of w) x) (x ≡ ground_of w)
-          → IsCarriedAs w (placed w x u) given (command.BlockdevDel name) text × IsWhole x.store.files u x.nodes x.store.opened w.progress
+          → IsCarriedAs w (placed w x u) given (command.BlockdevDel name) text × IsWhole (placed w x u)
       by_refusal None none done =
           let all = deleted_carried w whole joined unfolds name none x done u handled.table in
           (said_as w given (placed w x u) text (command.BlockdevDel name) None all.0 handled.said, all.1)
@@ -93,10 +93,10 @@ module _ (w : Face) (whole : IsWhole w.files w.table w.nodes w.opened w.progress
 -- ---- answers of a call
 
 -- for want of memory all is as it was
-pub untouched_whole : (w : Face) (x : Ground) (u : Table) → IsWhole w.files w.table w.nodes w.opened w.progress → IsUntouched w.table u (x ≡ ground_of w)
-    → IsWhole x.store.files u x.nodes x.store.opened w.progress
+pub untouched_whole : (w : Face) (x : Ground) (u : Table) → IsWhole w → IsUntouched w.table u (x ≡ ground_of w)
+    → IsWhole (placed w x u)
 untouched_whole w x u whole kept =
-    subst (λ (v : Face). IsWhole v.files v.table v.nodes v.opened v.progress) (placed_same w x u kept.kept kept.table) whole
+    subst IsWhole (placed_same w x u kept.kept kept.table) whole
 
 module _ {A E : Type 0} (r : Result A E) (text : A → List ℕ) where
   -- refused as it was not prepared
@@ -126,7 +126,7 @@ pub deletion_leaves : (t : Table) (c : Cmd) (cause : Refusal) → is_deletion c 
 deletion_leaves t (command.BlockdevCreate c) cause is = absurd (let bad : ⊥ = cc is in bad)
 deletion_leaves t c cause is = refl
 
-module _ (w : Face) (whole : IsWhole w.files w.table w.nodes w.opened w.progress) (joined : IsJoined w.nodes) (unfolds : Unfolds w.nodes)
+module _ (w : Face) (whole : IsWhole w) (joined : IsJoined w.nodes) (unfolds : Unfolds w.nodes)
     (given : List ℕ) (x : Ground) (u : Table) (c : Cmd) (is : is_deletion c ≡ true) {A E : Type 0} (r : Result A E) (text : A → List ℕ)
     (handled : IfOk r (λ a. IsHandled given w.table c u (IsDeletedBy w.table c (ground_of w) x) (x ≡ ground_of w) (text a))) where
   pub deletion_texts : IfOk r (λ a. IsCarriedAs w (placed w x u) given c (text a))
@@ -137,10 +137,10 @@ module _ (w : Face) (whole : IsWhole w.files w.table w.nodes w.opened w.progress
       by_result (Ok a) handled = (deletion_carried w whole joined unfolds given x u (text a) c is handled).0
       by_result (Err e) handled = handled
 
-  pub deletion_whole : OnErr r (IsUntouched w.table u (x ≡ ground_of w)) → IsWhole x.store.files u x.nodes x.store.opened w.progress
+  pub deletion_whole : OnErr r (IsUntouched w.table u (x ≡ ground_of w)) → IsWhole (placed w x u)
   deletion_whole kept = by_result r handled kept
     where
       by_result : (r : Result A E) → IfOk r (λ a. IsHandled given w.table c u (IsDeletedBy w.table c (ground_of w) x) (x ≡ ground_of w) (text a))
-          → OnErr r (IsUntouched w.table u (x ≡ ground_of w)) → IsWhole x.store.files u x.nodes x.store.opened w.progress
+          → OnErr r (IsUntouched w.table u (x ≡ ground_of w)) → IsWhole (placed w x u)
       by_result (Ok a) handled kept = (deletion_carried w whole joined unfolds given x u (text a) c is handled).1
       by_result (Err e) handled kept = untouched_whole w x u whole kept

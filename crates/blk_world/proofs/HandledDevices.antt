@@ -31,15 +31,15 @@ ground_with w nodes = record { store = (ground_of w).store; nodes = nodes }
 same_ground : (w : Face) (now : Nodes) → now ≡ w.nodes → ground_with w now ≡ ground_of w
 same_ground w now same = ap (ground_with w) same
 
-module _ (w : Face) (whole : IsWhole w.files w.table w.nodes w.opened w.progress) (joined : IsJoined w.nodes) (given : List ℕ) (now : Nodes) (after : IsJoined now)
+module _ (w : Face) (whole : IsWhole w) (joined : IsJoined w.nodes) (given : List ℕ) (now : Nodes) (after : IsJoined now)
     (u : Table) where
   attachment_carried : (c : Cmd) (text : List ℕ) → is_attachment c ≡ true → IsHandled given w.table c u (IsAttachedBy u c w.nodes now) (now ≡ w.nodes) text
-      → IsCarriedAs w (rewired_so w now u) given c text × IsWhole w.files u now w.opened w.progress
+      → IsCarriedAs w (rewired_so w now u) given c text × IsWhole (rewired_so w now u)
   attachment_carried (command.DeviceAdd c) text is handled = by_refusal handled.refusal handled.judged handled.done_is
     where
       by_refusal : (refusal : Option Refusal) → refusal_of w.table untold (command.DeviceAdd c) ≡ refusal
           → DoneIf refusal (IsAttachedBy u (command.DeviceAdd c) w.nodes now) (now ≡ w.nodes)
-          → IsCarriedAs w (rewired_so w now u) given (command.DeviceAdd c) text × IsWhole w.files u now w.opened w.progress
+          → IsCarriedAs w (rewired_so w now u) given (command.DeviceAdd c) text × IsWhole (rewired_so w now u)
       by_refusal None none done =
           let all = attachment_done w whole joined c none now u handled.table done after in
           (said_as w given (rewired_so w now u) text (command.DeviceAdd c) None all.0 handled.said, all.1)
@@ -62,13 +62,13 @@ module _ (w : Face) (whole : IsWhole w.files w.table w.nodes w.opened w.progress
         by_result (Ok a) handled = (attachment_carried c (text a) is handled).0
         by_result (Err e) handled = handled
 
-    pub attachment_whole : OnErr r (IsUntouched w.table u (now ≡ w.nodes)) → IsWhole w.files u now w.opened w.progress
+    pub attachment_whole : OnErr r (IsUntouched w.table u (now ≡ w.nodes)) → IsWhole (rewired_so w now u)
     attachment_whole kept = by_result r handled kept
       where
         by_result : (r : Result A E) → IfOk r (λ a. IsHandled given w.table c u (IsAttachedBy u c w.nodes now) (now ≡ w.nodes) (text a))
-            → OnErr r (IsUntouched w.table u (now ≡ w.nodes)) → IsWhole w.files u now w.opened w.progress
+            → OnErr r (IsUntouched w.table u (now ≡ w.nodes)) → IsWhole (rewired_so w now u)
         by_result (Ok a) handled kept = (attachment_carried c (text a) is handled).1
-        by_result (Err e) handled kept = subst (λ (v : Face). IsWhole v.files v.table v.nodes v.opened v.progress) (untouched kept) whole
+        by_result (Err e) handled kept = subst IsWhole (untouched kept) whole
 
     pub attachment_back : OnErr r (IsUntouched w.table u (now ≡ w.nodes)) → OnErr r (IsPutBack w (rewired_so w now u))
     attachment_back kept = by_result r kept

@@ -16,7 +16,7 @@ use Rattle.flat_machine.specs.State.{drive_of}
 use Rattle.flat_machine.specs.declared.opening.Opening.{Opening}
 use Rattle.blk_nodes.specs.Joined.{IsJoined}
 use Rattle.blk_nodes.specs.Nodes.{Nodes}
-use Rattle.blk_world.specs.Coherent.{IsWhole}
+use Rattle.blk_world.specs.Coherent.{IsCoherent, IsWhole}
 use Rattle.blk_world.specs.Comes.{Comes}
 use Rattle.blk_world.specs.Face.{Face}
 use Rattle.blk_world.specs.Piecing.{CanTransfer, IsMadeOn, IsPieceMade, HasPieceLicence, Transfers, CountFits, part_of, shown_of, table_after}
@@ -41,18 +41,18 @@ of_flight (Some a) P Q is each = each a refl is
 
 -- ---- its node
 
-pub can_next : (t : Table) (nodes : Nodes) (p : Progress) (joined : IsJoined nodes) (files : _) (opened : _) → IsWhole files t nodes opened p → (g drive : ℕ) → drive_of t g ≡ Some drive
+pub can_next : (t : Table) (nodes : Nodes) (p : Progress) (joined : IsJoined nodes) (opened : _) → IsCoherent t nodes opened p → (g drive : ℕ) → drive_of t g ≡ Some drive
     → With (flight_at p.guests g) HasNext → With (flight_at p.guests g) (λ f. CanTransfer nodes (disk_node t drive) f.op (part_of f))
-can_next t nodes p joined files opened whole g drive on next =
+can_next t nodes p joined opened coherent g drive on next =
     of_flight (flight_at p.guests g) HasNext (λ f. CanTransfer nodes (disk_node t drive) f.op (part_of f)) next
-    (λ f flies has. can_transfer t nodes p joined opened whole.coherent g f drive on flies has)
+    (λ f flies has. can_transfer t nodes p joined opened coherent g f drive on flies has)
 
 -- a guest with a request in flight has a drive
-pub drive_there : (t : Table) (nodes : Nodes) (p : Progress) (files : _) (opened : _) → IsWhole files t nodes opened p → (g : ℕ) → With (flight_at p.guests g) HasNext → drive_of t g ≡ None → ⊥
-drive_there t nodes p files opened whole g next none =
+pub drive_there : (t : Table) (nodes : Nodes) (p : Progress) (opened : _) → IsCoherent t nodes opened p → (g : ℕ) → With (flight_at p.guests g) HasNext → drive_of t g ≡ None → ⊥
+drive_there t nodes p opened coherent g next none =
     let at = there (flight_at p.guests g) HasNext next in
-    let device = is_there (device_at t g) (λ d. IsForbidden at.at.op d.read_only → ⊥) (whole.coherent.allowed g at.at at.is) in
-    false≢true (subst IsSome none (whole.coherent.drives g device))
+    let device = is_there (device_at t g) (λ d. IsForbidden at.at.op d.read_only → ⊥) (coherent.allowed g at.at at.is) in
+    false≢true (subst IsSome none (coherent.drives g device))
 
 -- ---- what the calls leave together
 
@@ -73,15 +73,15 @@ made_of w nodes table p g drive node f outcome op on is_node asks noted made = r
 
 module _ (w v : Face) (g : ℕ) (outcome : Outcome) (next : With (flight_at w.progress.guests g) HasNext)
     (made : (f : Flight) → flight_at w.progress.guests g ≡ Some f → IsPieceMade w v g f outcome) (joined : IsJoined w.nodes)
-    (whole : IsWhole w.files w.table w.nodes w.opened w.progress) where
+    (whole : IsWhole w) where
   flight : IsThere (flight_at w.progress.guests g) HasNext
   flight = there (flight_at w.progress.guests g) HasNext next
 
   pub made_comes : (o : Opening) → Comes o w → Comes o v
   made_comes = piece_comes w v g flight.at outcome (made flight.at flight.is) flight.holds flight.is joined whole.coherent whole.tell
 
-  pub made_whole : IsJoined v.nodes → IsWhole v.files v.table v.nodes v.opened v.progress
-  made_whole = piece_whole w v g flight.at outcome (made flight.at flight.is) flight.holds flight.is joined whole.coherent whole.tell
+  pub made_whole : IsJoined v.nodes → IsWhole v
+  made_whole = piece_whole w v g flight.at outcome (made flight.at flight.is) flight.holds flight.is joined whole.coherent whole.tell whole.counted
 
   pub made_licence : (f : Flight) (flies : flight_at w.progress.guests g ≡ Some f) → (m : IsPieceMade w v g f outcome) × HasPieceLicence w v g f outcome m
   made_licence f flies = (made f flies, piece_licence w v g f outcome (made f flies) (next_at (flight_at w.progress.guests g) f next flies) flies joined whole.coherent)

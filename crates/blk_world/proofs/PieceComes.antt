@@ -116,10 +116,11 @@ module _ (w v : Face) (g : ℕ) (f : Flight) (outcome : Outcome) (made : IsPiece
       subst (λ (x : Face). IsCoherent x.table x.nodes x.opened x.progress) (sym made.kept) now
 
   -- and its devices tell their bytes where they did
-  pub piece_whole : DevicesTell w.files w.nodes.devices → IsJoined v.nodes → IsWhole v.files v.table v.nodes v.opened v.progress
-  piece_whole tell now = record {
+  pub piece_whole : DevicesTell w.files w.nodes.devices → w.first_faults ≤ w.faults → IsJoined v.nodes → IsWhole v
+  piece_whole tell counted now = record {
     coherent = piece_coherent;
     tell = λ tells. told_after f.op w.nodes v.nodes node part outcome made.buffer joined now made.transferred (tell (sym (ap (λ (x : Face). is_some x.files) made.kept) ∙ tells));
+    counted = subst (λ (x : Face). x.first_faults ≤ x.faults) (sym made.kept) counted;
   }
 
   -- ---- its fault

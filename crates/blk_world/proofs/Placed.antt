@@ -1,5 +1,5 @@
 -- A world whose store, nodes and table are others: what stays belonging together, and what an answer says of it.
-use Rattle.std.proofs.Common.{◌≡◌, ℕ, ◌==◌, true, List, [], ◌++◌, length, Option, Some, None, refl, sym, ◌∙◌, ap, subst}
+use Rattle.std.proofs.Common.{◌≡◌, ◌≤◌, ℕ, ◌==◌, true, List, [], ◌++◌, length, Option, Some, None, refl, sym, ◌∙◌, ap, subst}
 use Rattle.std.specs.Prelude.{Contains, find, is_some}
 use Rattle.blk_graph.specs.declared.edge.Parent.TheVariants.{Node, Guest as GuestOf}
 use Rattle.blk_graph.specs.declared.edge.Role.TheVariants.{Drive}
@@ -130,6 +130,7 @@ pub record Goes (w : Face) : Type 0 where
   pub parts : Parts w.table (ground_of w)
   pub unfolds : Unfolds w.nodes
   pub tell : DevicesTell w.files w.nodes.devices
+  pub counted : w.first_faults ≤ w.faults
   pub drives : HaveDrives w.table
   pub disks : AreOnDisks w.table
   pub asks : AskToWrite w.table
@@ -141,13 +142,14 @@ pub record Goes (w : Face) : Type 0 where
   pub alone : StandAlone w.table
   pub drivers : AreFileNodes w.table
 
-pub goes_of : (w : Face) → IsWhole w.files w.table w.nodes w.opened w.progress → IsJoined w.nodes → Unfolds w.nodes → Goes w
+pub goes_of : (w : Face) → IsWhole w → IsJoined w.nodes → Unfolds w.nodes → Goes w
 goes_of w whole joined unfolds =
     let is = whole.coherent in
     record {
       parts = record { joined = joined; alike = is.alike; apart = is.table.stands.apart; out = is.out };
       unfolds = unfolds;
       tell = whole.tell;
+      counted = whole.counted;
       drives = is.drives;
       disks = is.disks;
       asks = is.asks;
@@ -175,8 +177,8 @@ coherent_of w goes rest = record {
   out = goes.parts.out;
 }
 
-pub whole_of : (w : Face) → Goes w → TableAtRest w.table → IsWhole w.files w.table w.nodes w.opened w.progress
-whole_of w goes rest = record { coherent = coherent_of w goes rest; tell = goes.tell }
+pub whole_of : (w : Face) → Goes w → TableAtRest w.table → IsWhole w
+whole_of w goes rest = record { coherent = coherent_of w goes rest; tell = goes.tell; counted = goes.counted }
 
 -- a guest's device is the same
 pub allowed_same : (t now : Table) (guests : List Guest) → ((g : ℕ) → device_at now g ≡ device_at t g) → AreAllowed t guests → AreAllowed now guests
@@ -247,6 +249,7 @@ goes_shape w now shape e goes =
       };
       unfolds = goes.unfolds;
       tell = goes.tell;
+      counted = goes.counted;
       drives = drives_kept w.table now keeps goes.drives;
       disks = disks_kept w.table now keeps goes.disks;
       asks = asks_eased w.table now e goes.asks;

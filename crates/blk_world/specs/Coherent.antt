@@ -22,7 +22,7 @@ use Rattle.flat_machine.specs.Legal.{IsForbidden}
 use Rattle.flat_machine.specs.Wiring.{TableAtRest}
 use Rattle.flat_machine.specs.State.{Guest, drive_of, disk_of_guest, size_of, filename_of}
 use Rattle.blk_world.specs.Progress.{Progress, flight_at}
-use Rattle.blk_world.specs.Face.{device_numbered}
+use Rattle.blk_world.specs.Face.{Face, device_numbered}
 
 -- ---- the table
 
@@ -133,7 +133,7 @@ pub record IsCoherent (t : Table) (nodes : Nodes) (opened : List Opened)
 
 -- ---- all of it
 
-pub record IsWhole (files : Option (List File)) (t : Table) (nodes : Nodes) (opened : List Opened)
-    (p : Progress) : Type 0 where
-  pub coherent : IsCoherent t nodes opened p
-  pub tell : DevicesTell files nodes.devices
+pub record IsWhole (w : Face) : Type 0 where
+  pub coherent : IsCoherent w.table w.nodes w.opened w.progress
+  pub tell : DevicesTell w.files w.nodes.devices
+  pub counted : w.first_faults ≤ w.faults

@@ -11,6 +11,7 @@ use Rattle.flat_machine.specs.Final.{bytes_of}
 use Rattle.flat_machine.specs.Licence.{Counts}
 use Rattle.flat_machine.specs.State.{State}
 use Rattle.blk_world.specs.Progress.{Progress, ended_in}
+use Rattle.blk_world.specs.Stores.{StoreInRun}
 
 -- The store: its files where it tells them, the openings before the run and those of the run, the capacity of files that are
 -- made, its count of faults now and when the world was made. Then the nodes with their devices, the table of names, the guests
@@ -25,6 +26,20 @@ pub record Face : Type 0 where
   pub nodes : Nodes
   pub table : Table
   pub progress : Progress
+
+-- what is seen of these parts
+abbrev pub face_of : StoreInRun → ℕ → Nodes → Table → Progress → Face
+face_of store first_faults nodes table progress = record {
+  files = store.files;
+  earlier = store.earlier;
+  opened = store.opened;
+  room = store.room;
+  faults = store.faults;
+  first_faults = first_faults;
+  nodes = nodes;
+  table = table;
+  progress = progress;
+}
 
 -- ---- the flat machine's state, as far as the world keeps it; of disks and files it keeps the bytes alone
 

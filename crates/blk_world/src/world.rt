@@ -33,24 +33,15 @@ pub struct World<S: Store> {
 }
 
 impl<S: Store> Model for World<S> {
-    ghost use Rattle.blk_world.specs.Face.{Face};
+    ghost use Rattle.blk_world.specs.Face.{Face, face_of};
     ghost use Rattle.blk_world.specs.Coherent.{IsWhole};
 
     ghost Value = { Face };
 
-    ghost view = { λ w. record {
-      files = w.store.files;
-      earlier = w.store.earlier;
-      opened = w.store.opened;
-      room = w.store.room;
-      faults = w.store.faults;
-      first_faults = w.first_faults;
-      nodes = w.nodes;
-      table = w.names.table;
-      progress = w.progress;
-    } };
+    ghost view = { λ w. face_of w.store w.first_faults w.nodes w.names.table w.progress };
 
-    ghost invariant = { λ w. IsWhole w.store.files w.names.table w.nodes w.store.opened w.progress };
+    ghost invariant = { λ w. IsWhole
+        (face_of w.store w.first_faults w.nodes w.names.table w.progress) };
 }
 
 /// The names of the guests, as the table keeps them.

@@ -32,8 +32,7 @@ impl<S: Store> World<S> {
         ensures made { (f : Flight) → flight_at self.old.progress.guests guest ≡ Some f
             → IsPieceMade self.old self.new guest f result }
         ensures joined { IsJoined self.old.nodes }
-        ensures whole { IsWhole self.old.files self.old.table self.old.nodes
-            self.old.opened self.old.progress }
+        ensures whole { IsWhole self.old }
     {
         let Some(drive) = self.names.drive(guest) else {
             unreachable!()

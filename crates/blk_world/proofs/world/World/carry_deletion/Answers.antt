@@ -56,5 +56,6 @@ invariant_of-self g c =
       table = c.self.inside.names.table;
       progress = c.self.inside.progress;
     } in
-    deletion_whole w c.self.invariant c.edges.ensures.joined c.edges.ensures.disks c.args.given.now (ground_in c.delete.new.store c.delete.new.nodes)
-    c.delete.new.names.table (seen_command c.args.command.now) c.requires c.delete.result string_bytes c.delete.ensures.handled c.delete.ensures.back
+    rw c.delete.ensures.earlier
+    (deletion_whole w c.self.invariant c.edges.ensures.joined c.edges.ensures.disks c.args.given.now (ground_in c.delete.new.store c.delete.new.nodes)
+    c.delete.new.names.table (seen_command c.args.command.now) c.requires c.delete.result string_bytes c.delete.ensures.handled c.delete.ensures.back)

@@ -42,30 +42,26 @@ returns-clause-held g c = λ told name.
     let after : StoreSeen = seen_store (g.S.Store.files c.into_store.result) (g.S.Store.opened c.into_store.result) (g.S.Store.room c.into_store.result) (g.S.Store.faults c.into_store.result) in
     let closed : IsClosed c.args.self after c.give_all_back-fault.result = returns-clause-closed g c in
     let joined : IsJoined c.args.self.nodes = subst (λ (w : Face). IsJoined w.nodes) c.self.view_is c.edges.ensures.joined in
-    let whole : IsWhole c.args.self.files c.args.self.table c.args.self.nodes c.args.self.opened c.args.self.progress =
-    subst (λ (w : Face). IsWhole w.files w.table w.nodes w.opened w.progress) c.self.view_is c.self.invariant in
+    let whole : IsWhole c.args.self = subst IsWhole c.self.view_is c.self.invariant in
     held-then c.args.self after c.give_all_back-fault.result closed joined whole.coherent told (whole.tell told) name
 
 pub returns-clause-flushed : goal.returns-clause-flushed
 returns-clause-flushed g c = λ told none.
     let after : StoreSeen = seen_store (g.S.Store.files c.into_store.result) (g.S.Store.opened c.into_store.result) (g.S.Store.room c.into_store.result) (g.S.Store.faults c.into_store.result) in
     let closed : IsClosed c.args.self after c.give_all_back-fault.result = returns-clause-closed g c in
-    let whole : IsWhole c.args.self.files c.args.self.table c.args.self.nodes c.args.self.opened c.args.self.progress =
-    subst (λ (w : Face). IsWhole w.files w.table w.nodes w.opened w.progress) c.self.view_is c.self.invariant in
+    let whole : IsWhole c.args.self = subst IsWhole c.self.view_is c.self.invariant in
     flushed-then c.args.self after c.give_all_back-fault.result closed whole.coherent.out told (whole.tell told) none
 
 pub returns-clause-named : goal.returns-clause-named
 returns-clause-named g c = λ told none.
     let joined : IsJoined c.args.self.nodes = subst (λ (w : Face). IsJoined w.nodes) c.self.view_is c.edges.ensures.joined in
-    let whole : IsWhole c.args.self.files c.args.self.table c.args.self.nodes c.args.self.opened c.args.self.progress =
-    subst (λ (w : Face). IsWhole w.files w.table w.nodes w.opened w.progress) c.self.view_is c.self.invariant in
+    let whole : IsWhole c.args.self = subst IsWhole c.self.view_is c.self.invariant in
     nodes-flushed c.args.self (g.S.Store.files c.into_store.result) joined whole.coherent (returns-clause-flushed g c told none)
 
 pub returns-clause-disks : goal.returns-clause-disks
 returns-clause-disks g c = λ told s same agrees.
     let joined : IsJoined c.args.self.nodes = subst (λ (w : Face). IsJoined w.nodes) c.self.view_is c.edges.ensures.joined in
-    let whole : IsWhole c.args.self.files c.args.self.table c.args.self.nodes c.args.self.opened c.args.self.progress =
-    subst (λ (w : Face). IsWhole w.files w.table w.nodes w.opened w.progress) c.self.view_is c.self.invariant in
+    let whole : IsWhole c.args.self = subst IsWhole c.self.view_is c.self.invariant in
     let after : StoreSeen = seen_store (g.S.Store.files c.into_store.result) (g.S.Store.opened c.into_store.result) (g.S.Store.room c.into_store.result) (g.S.Store.faults c.into_store.result) in
     let closed : IsClosed c.args.self after c.give_all_back-fault.result = returns-clause-closed g c in
     all-disks c.args.self (g.S.Store.files c.into_store.result) joined (subst (λ (w : Face). Unfolds w.nodes) c.self.view_is c.edges.ensures.disks) whole.coherent

@@ -12,14 +12,14 @@ pub unreachable-requires : goal.unreachable-requires
 unreachable-requires g c =
     let next = rw (sym c.self.view_is) at c.requires in
     let none : drive_of c.self.inside.names.table c.args.guest ≡ None = sym c.drive.ensures ∙ c.in_default.is in
-    drive_there c.self.inside.names.table c.self.inside.nodes c.self.inside.progress c.self.inside.store.files c.self.inside.store.opened c.self.invariant c.args.guest next none
+    drive_there c.self.inside.names.table c.self.inside.nodes c.self.inside.progress c.self.inside.store.opened c.self.invariant.coherent c.args.guest next none
 
 pub make_next-outcome-requires-clause-can : goal.make_next-outcome-requires-clause-can
 make_next-outcome-requires-clause-can g c =
     let next = rw (sym c.self.view_is) at c.requires in
     let on : drive_of c.self.inside.names.table c.args.guest ≡ Some c.in-Some.drive = sym c.drive.ensures ∙ c.in-Some.is in
     rw c.disk_node-node.ensures
-    (can_next c.self.inside.names.table c.self.inside.nodes c.self.inside.progress c.edges.ensures.joined c.self.inside.store.files c.self.inside.store.opened c.self.invariant c.args.guest
+    (can_next c.self.inside.names.table c.self.inside.nodes c.self.inside.progress c.edges.ensures.joined c.self.inside.store.opened c.self.invariant.coherent c.args.guest
     c.in-Some.drive on next)
 
 pub returns-clause-made : goal.returns-clause-made
