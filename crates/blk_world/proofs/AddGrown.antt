@@ -114,10 +114,10 @@ module _ (t t' : Table) (new but : ℕ) (change : NodeRecord → NodeRecord) (gr
   guest-other : (g : ℕ) → Guest g ≢ Node new
   guest-other g = λ same. absurd (cc same)
 
-  drive-same : (g : ℕ) → drive_of t' g ≡ drive_of t g
+  pub drive-same : (g : ℕ) → drive_of t' g ≡ drive_of t g
   drive-same g = grows.children (Guest g) Drive (guest-other g)
 
-  device-same : (g : ℕ) → device_at t' g ≡ device_at t g
+  pub device-same : (g : ℕ) → device_at t' g ≡ device_at t g
   device-same g = ap (λ (devices : List Device). device_at (record t { devices = devices }) g) grows.devices
 
   pub drives-grown : HaveDrives t → HaveDrives t'
@@ -134,7 +134,7 @@ module _ (t t' : Table) (new but : ℕ) (change : NodeRecord → NodeRecord) (gr
     | inr led ↦ led
   ]
 
-  drive-other : (g node : ℕ) → drive_of t g ≡ Some node → node ≢ new
+  pub drive-other : (g node : ℕ) → drive_of t g ≡ Some node → node ≢ new
   drive-other g node on = let led = drive-led g node on in subst (λ (n : ℕ). n ≢ new) led.2 (grows.away led.0 led.1)
 
   disk-other : (g node : ℕ) → drive_of t g ≡ Some node → disk_node t node ≢ new

@@ -352,11 +352,11 @@ module _ (opening : List ℕ → Option (List ℕ)) (s : State) (held : Contents
 
   -- what was seen may be told
   pub seen-looks : (out : Option Taken) (image : Option Known) (told : Told) → Looks s.table c at old new out image told → IsSeenAs s c told
-  seen-looks out image told (inl away) = by_away away.away
+  seen-looks out image told (inl looks) = by_away looks.0.away
     where
       by_away : (rules.refusal_of s.table (probe at.what) (command.BlockdevAdd c) ≢ Some refusal.Aborted) ⊎ (is_unopened s.table at.filename ≡ true) → IsSeenAs s c told
       by_away (inl not) = seen-unreached s c told at.what (looks-as c at opener) (has-at c at opener) not
-      by_away (inr closed) = seen-whole s c told (expects-closed s c at opener closed ∙ sym away.is)
+      by_away (inr closed) = seen-whole s c told (expects-closed s c at opener closed ∙ sym looks.0.is)
   seen-looks None image told (inr looks) = in-vain told looks.1 looks.0
   seen-looks (Some now) image told (inr looks) =
       let inside = looks.0 in

@@ -1,5 +1,5 @@
 -- The addition of a node: what the store and the image in its file tell for it.
-use Rattle.std.specs.Prelude.{◌≡◌, ◌≢◌, ◌⊎◌, ℕ, ◌≤◌, Bool, true, false, List, [], ◌∷◌, ◌++◌, length, Option, Some, None, is_some}
+use Rattle.std.specs.Prelude.{◌≡◌, ◌≢◌, ◌⊎◌, ℕ, ◌^◌, ◌<◌, ◌≤◌, Bool, true, false, List, [], ◌∷◌, ◌++◌, length, Option, Some, None, is_some}
 use Rattle.blk_base.specs.Answers.{HasFile, LacksFile}
 use Rattle.blk_base.specs.Content.{Log}
 use Rattle.blk_base.specs.Counts.{Rose}
@@ -90,6 +90,8 @@ pub record HasFailed (old new : StoreInRun) (name : List ℕ) (why : Refusal) : 
   pub is : why ≡ Io Store new.faults
   pub there : IfTold old.files (HasFile name (λ _. Unit {0}))
   pub rose : Rose old.faults new.faults
+  pub faults : old.faults ≤ new.faults
+  pub fits : new.faults ≤ 18446744073709551615
   pub kept : new ≡ record old { faults = new.faults }
 
 abbrev pub IsUnopened : StoreInRun → StoreInRun → List ℕ → Refusal → Type 0
@@ -112,11 +114,18 @@ pub record IsOpenOn (old new : Taken) (image : Known) : Type 0 where
   pub on : IsOpenedOn (of_node 0 old) image
   pub kept : new ≡ old
 
+-- a count that a stop names is one of 64 bits
+abbrev pub CountFits : ImageStop → Type 0
+CountFits (stop.Io count) = count ≤ 18446744073709551615
+CountFits other = Unit {0}
+
 -- or it isn't open, for that
 pub record IsNotOpenOn (old new : Taken) (why : Refusal) : Type 0 where
   pub cause : ImageStop
   pub is : why ≡ unopened old.number cause
   pub memory : cause ≢ stop.NoMemory
+  pub fits : CountFits cause
+  pub numbered : old.number.0 < 2 ^ 32
   pub on : IsUnopenedOn (of_node 0 old) (of_node 0 new) cause
   pub kept : new ≡ record old { faults = new.faults }
   pub faults : old.faults ≤ new.faults
@@ -226,7 +235,7 @@ LooksAtFile t c filename old new None image told = LooksInVain filename old new 
 abbrev pub Looks : Table → Adding → Opens → StoreInRun → StoreInRun → Option Taken → Option Known
     → Told → Type 0
 Looks t c at old new out image told =
-    LooksAway t (command.BlockdevAdd c) at old new told
+    (LooksAway t (command.BlockdevAdd c) at old new told × (out ≡ None) × (image ≡ None))
     ⊎ (LooksAtFile t c at.filename old new out image told × (is_unopened t at.filename ≡ false))
 
 -- ---- a device that is given back
@@ -275,6 +284,8 @@ pub record LooksBadly (t : Table) (file : List ℕ) (old new : Nodes) (told : To
   pub held : device_in old.devices node ≡ Some device
   pub cause : ImageStop
   pub memory : cause ≢ stop.NoMemory
+  pub fits : CountFits cause
+  pub numbered : device.number.0 < 2 ^ 32
   pub stopped : IsUnopenedAt old.devices new.devices node cause
   pub is : told ≡ told_as None None
       (Some (record { look = look.Image; refusal = unopened device.number cause }))

@@ -1,6 +1,9 @@
 pub mod Progress
 pub mod Stores
 pub mod Face
+pub mod Looking
+pub mod Joining
+pub mod Staging
 pub mod Comes
 pub mod Coherent
 pub mod Steps
