@@ -13,3 +13,4 @@ pub mod Creating
 pub mod Adding
 pub mod Handling
 pub mod Piecing
+pub mod Tabling
