@@ -42,6 +42,7 @@ module _ (store : StoreSeen) (guests : List (List ℕ)) (room : Room) (o : Openi
     };
     counted = omega arith;
     requests = sym (guests-start guests) ∙ ap (map (λ name. new_guest)) is.guests_are;
+    table = ap opening_table is.guests_are;
     coherent = coherent-new guests room;
     shows = λ told. shows-start told;
   }

@@ -21,6 +21,7 @@ use Rattle.flat_machine.proofs.Kept.{changes_keep}
 use Rattle.blk_world.specs.Progress.{Progress, ended_in}
 use Rattle.blk_world.specs.Face.{Face, first_counts, counts_now, contents_of}
 use Rattle.blk_world.specs.Comes.{Comes, Shows}
+use Rattle.blk_world.specs.Tabling.{IsTableAfter}
 use Rattle.blk_world.specs.Carrying.{IsCarried, IsPutBack, needs_table_alone}
 use Rattle.blk_world.proofs.CountLemmas.{between-on, same-devices, runs-devices}
 use Rattle.blk_world.proofs.CarryPlain.{quiet-self, alone-left}
@@ -62,6 +63,9 @@ module _ (w v : Face) (is : IsPutBack w v) (o : Opening) (comes : Comes o w) whe
     };
     counted = let was = comes.counted in let first = is.runs.first in let now = is.runs.store in omega arith;
     requests = ap (λ (p : Progress). p.guests) is.progress ∙ comes.requests ∙ ap (guests_after o) (sym same-events);
+    table =
+        subst (λ (t : Table). IsTableAfter o.guests v.progress.log.events t) (sym is.table)
+        (subst (λ (es : List Event). IsTableAfter o.guests es w.table) (sym same-events) comes.table);
     coherent = is.coherent comes.coherent;
     shows = λ told.
         let was = sym is.runs.told ∙ told in

@@ -49,6 +49,7 @@ use Rattle.blk_world.specs.Comes.{Comes, Shows}
 use Rattle.blk_world.specs.Saying.{IsSaid}
 use Rattle.blk_world.specs.Carrying.{IsCarried, IsCarriedIn, IsCaused, HasCause}
 use Rattle.blk_world.specs.Steps.{onward}
+use Rattle.blk_world.specs.Tabling.{IsAnsweredBy}
 use Rattle.blk_world.proofs.InStep.{ended-push}
 use Rattle.blk_world.proofs.Coherence.{coherent-same}
 use Rattle.blk_world.proofs.Pushing.{comes-push}
@@ -172,6 +173,20 @@ module _ (w u : Face) (c : Cmd) (refusal' : Option Refusal) (is : IsCarried w u 
         let no = (reads_refused text (id_at given) (refusal_class cause) (refusal_text cause) says.reads).0 in
         absurd (false≢true (sym no ∙ known))
 
+    -- the answer, as that to the line
+    line-own : answer w.table is.told c ≡ line_answer w.table is.told given
+    unfolding line_answer
+    line-own = sym (ap (answer_for w.table is.told given) line)
+
+    answered-by : IsAnsweredBy w.table given text u.table
+    unfolding line_text
+    answered-by = record {
+      told = is.told;
+      clean = is.clean;
+      says = said.prints ∙ ap (λ (a : Answer). compact_text (reply_data (id_at given) a.reply)) line-own;
+      changes = is.table ∙ ap (λ (a : Answer). all_changed w.table a.changes) line-own;
+    }
+
     -- ---- where the store tells its files
 
     module _ (o : Opening) (s : State) (told : is_some w.files ≡ true) (shows : Shows o s w) where
@@ -284,6 +299,7 @@ module _ (w u : Face) (c : Cmd) (refusal' : Option Refusal) (is : IsCarried w u 
       names = ap (λ (t : Table). t.guests) is.table ∙ (all_tables_keep (answer w.table is.told c).changes w.table (answer-plain w.table is.told c)).guests;
       told = is.runs.told;
       guests = ap (λ (p : Progress). p.guests) is.progress;
+      table = answered-by;
       counted = λ was. (let first = is.runs.first in let now = is.runs.store in omega arith);
       coherent = λ was. coherent-same u.table u.nodes u.opened u.progress (is.coherent was) (with_entry (reply number) u.progress) refl;
       licensed = licensed-on w (onward u (with_entry (reply number))) (runs-onward w u (with_entry (reply number)) is.runs) w.progress.log.events (reply number) (reached-onward w u (with_entry (reply number)) (named_in (reply number)) (names-reached number));

@@ -172,6 +172,12 @@ module _ (w : Face) (line : Given) (text : List ℕ) (why : Stop) (bad : command
 
   pub no_command_comes : (o : Opening) → IsNotDone (seen_state w) 0 → Comes o w → Comes o (onward w (with_entry entry))
   no_command_comes o not_done comes = quiet o w (with_entry entry w.progress) entry comes refl refl
+      (record {
+        told = untold;
+        clean = refl;
+        says = text_is w.table untold line.text text said;
+        changes = sym (ap (all_changed w.table) (unchanged w.table line.text why bad));
+      })
       (λ was. coherent-same w.table w.nodes w.opened w.progress was (with_entry entry w.progress) refl) names-none unmarked
       (λ s shows. (
         fits o s not_done shows,

@@ -37,6 +37,7 @@ use Rattle.blk_world.specs.Counting.{RunsOn, IsReached, IsReachedBy, sources_of,
 use Rattle.blk_world.specs.Face.{Face, held, counts_now, device_numbered, node_over}
 use Rattle.blk_world.specs.Piecing.{Transfers, IsPieceMade, HasPieceLicence, CanTransfer, CountFits, PassesBy, table_after, part_of, piece_entry, piece_passes, shown_by}
 use Rattle.blk_world.specs.Progress.{Progress, HasNext, flight_at, done_at, ended_in, with_piece}
+use Rattle.blk_world.specs.Tabling.{piece_table}
 use Rattle.blk_world.proofs.Coherence.{coherent-past}
 use Rattle.blk_world.proofs.CountLemmas.{runs-devices, reached-held, licensed-on, numbered, out-same}
 use Rattle.blk_world.proofs.DeletedContents.{over-row}
@@ -224,6 +225,9 @@ module _ (w v : Face) (g : ℕ) (f : Flight) (outcome : Outcome) (made : IsPiece
         names = ap (λ (t : Table). t.guests) table_kept ∙ (eased_after f.op node w.table).guests;
         told = ap (λ (x : Face). is_some x.files) made.kept;
         guests = ap (λ (x : Face). x.progress.guests) made.kept;
+        table =
+            table_kept ∙ ap (λ (drive : Option ℕ). piece_table drive (Some f) w.table) (sym made.on)
+            ∙ ap (λ (flight : Option Flight). piece_table (drive_of w.table g) flight w.table) (sym flies);
         counted = λ least. subst (λ (x : Face). x.first_faults ≤ x.faults) (sym made.kept) least;
         coherent = λ coherent. piece_coherent;
         licensed = licensed-on w v piece_runs w.progress.log.events entry piece_reached;

@@ -6,7 +6,8 @@ use Rattle.std.proofs.lemmas.List.Elements.{filter_map-append}
 use Rattle.blk_history.specs.Fold.{run}
 use Rattle.blk_history.specs.declared.event.Event.{Event}
 use Rattle.blk_history.proofs.Folds.{run-push, each-push}
-use Rattle.flat_machine.specs.State.{State}
+use Rattle.flat_machine.specs.State.{State, Guest}
+use Rattle.qmp_rules.specs.Table.{Table, opening_table}
 use Rattle.flat_machine.specs.Machine.{after, replay}
 use Rattle.flat_machine.specs.Legal.{Fits}
 use Rattle.flat_machine.specs.Marks.{IsCalm, marks_of}
@@ -17,6 +18,13 @@ use Rattle.flat_machine.specs.declared.opening.Opening.{Opening}
 use Rattle.blk_world.specs.Coherent.{IsCoherent}
 use Rattle.blk_world.specs.Face.{Face, first_counts, counts_now}
 use Rattle.blk_world.specs.Comes.{Comes, Shows}
+use Rattle.blk_world.specs.Tabling.{IsTableBy, AreTablesBy}
+
+-- the table after one more entry
+tables-push : (guests : List Guest) (t : Table) (es : List Event) (e : Event) (mid now : Table) → AreTablesBy guests t es mid → IsTableBy (run guest_step guests es) mid e now
+    → AreTablesBy guests t (es ++ e ∷ []) now
+tables-push guests t [] e mid now same by = (now, subst (λ (u : Table). IsTableBy guests u e now) same by, refl)
+tables-push guests t (x ∷ es) e mid now tables by = (tables.0, tables.1, tables-push (guest_step guests x) tables.0 es e mid now tables.2 by)
 
 -- what one more entry has to be
 pub record Pushes (o : Opening) (w v : Face) (e : Event) : Type 0 where
@@ -24,6 +32,7 @@ pub record Pushes (o : Opening) (w v : Face) (e : Event) : Type 0 where
   pub names : v.table.guests ≡ w.table.guests
   pub told : is_some v.files ≡ is_some w.files
   pub guests : v.progress.guests ≡ guest_step w.progress.guests e
+  pub table : IsTableBy w.progress.guests w.table e v.table
   pub counted : w.first_faults ≤ w.faults → v.first_faults ≤ v.faults
   pub coherent : IsCoherent w.table w.nodes w.opened w.progress → IsCoherent v.table v.nodes v.opened v.progress
   pub licensed : AreLicensed (first_counts w) (counts_now w) w.progress.log.events
@@ -39,6 +48,9 @@ comes-push o w v e comes pushes = record {
   };
   counted = pushes.counted comes.counted;
   requests = pushes.guests ∙ rw (comes.requests, pushes.events, run-push guest_step (map (λ name. new_guest) o.guests) w.progress.log.events e) refl;
+  table =
+      rw pushes.events (tables-push (map (λ name. new_guest) o.guests) (opening_table o.guests) w.progress.log.events e w.table v.table comes.table
+      (subst (λ (guests : List Guest). IsTableBy guests w.table e v.table) comes.requests pushes.table));
   coherent = pushes.coherent comes.coherent;
   shows = λ told. shows (sym pushes.told ∙ told);
 }

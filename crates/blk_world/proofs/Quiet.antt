@@ -25,6 +25,7 @@ use Rattle.blk_world.specs.declared.admission.Admission.TheVariants.{Admitted, R
 use Rattle.blk_world.specs.Progress.{Progress, ended_in, done_by, done_at, flight_at, with_admission, with_refusal, with_retirement, with_entry}
 use Rattle.blk_world.specs.Face.{Face, seen_state}
 use Rattle.blk_world.specs.Comes.{Comes, Shows}
+use Rattle.blk_world.specs.Tabling.{IsTableBy}
 use Rattle.blk_world.specs.Steps.{onward, after_admission, IsAnswered, after_wait, after_end, IsIdle}
 use Rattle.blk_world.proofs.InStep.{ended-push}
 use Rattle.blk_world.proofs.Coherence.{coherent-admission, coherent-end, coherent-same}
@@ -55,13 +56,15 @@ shows-onward o s w p guests ended shows are ends = record {
 
 -- an entry that names no fault and marks no disk
 pub quiet : (o : Opening) (w : Face) (p : Progress) (e : Event) → Comes o w → p.log.events ≡ w.progress.log.events ++ e ∷ [] → p.guests ≡ guest_step w.progress.guests e
+    → IsTableBy w.progress.guests w.table e w.table
     → (IsCoherent w.table w.nodes w.opened w.progress → IsCoherent w.table w.nodes w.opened p)
     → named_in e ≡ None → ((s : State) → marks_of s e ≡ []) → ((s : State) → Shows o s w → Fits s e × Shows o (after s e) (record w { progress = p })) → Comes o (record w { progress = p })
-quiet o w p e comes events guests coherent names marks fits = comes-push o w (record w { progress = p }) e comes (record {
+quiet o w p e comes events guests table coherent names marks fits = comes-push o w (record w { progress = p }) e comes (record {
   events = events;
   names = refl;
   told = refl;
   guests = guests;
+  table = table;
   counted = λ was. was;
   coherent = coherent;
   licensed = licensed-quiet _ _ w.progress.log.events e names;
@@ -78,7 +81,7 @@ judged o s w g r P shows is = rw (shows.guests.ended_are, shows.guests.guests_ar
 
 admission-kept : (o : Opening) (w : Face) (g : ℕ) (op : Op) → IsJudged (seen_state w) g (done_at w.progress.guests g) (CanAdmit op) → Comes o w → Comes o (onward w (with_admission g op))
 admission-kept o w g op is comes =
-    quiet o w (with_admission g op w.progress) (Admit g (done_at w.progress.guests g) op) comes refl refl
+    quiet o w (with_admission g op w.progress) (Admit g (done_at w.progress.guests g) op) comes refl refl refl
     (λ was. coherent-admission _ _ _ _ was g op (judged-inside w g (done_at w.progress.guests g) op is) (judged-allowed w g (done_at w.progress.guests g) op is)) refl (λ s. refl)
     (λ s shows. (
       (shows.table.rest, judged o s w g (done_at w.progress.guests g) (CanAdmit op) shows is),
@@ -89,7 +92,7 @@ admission-kept o w g op is comes =
 refusal-kept : (o : Opening) (w : Face) (g : ℕ) (op : Op) (why : Refused) → IsJudged (seen_state w) g (done_at w.progress.guests g) (λ access size. IsRefusedFor op access size why)
     → Comes o w → Comes o (onward w (with_refusal g op why))
 refusal-kept o w g op why is comes =
-    quiet o w (with_refusal g op why w.progress) (Refuse g (done_at w.progress.guests g) op why) comes refl refl
+    quiet o w (with_refusal g op why w.progress) (Refuse g (done_at w.progress.guests g) op why) comes refl refl refl
     (λ was. coherent-end _ _ _ _ was (with_refusal g op why w.progress) g refl) refl (λ s. refl)
     (λ s shows. (
       (shows.table.rest, judged o s w g (done_at w.progress.guests g) (λ access size. IsRefusedFor op access size why) shows is),
@@ -125,7 +128,7 @@ in-flight guests g P is = at (slice_get guests g) refl is
 
 pub retirement-comes : (w : Face) (g : ℕ) → With (flight_at w.progress.guests g) IsOver → (o : Opening) → Comes o w → Comes o (onward w (with_retirement g))
 retirement-comes w g is o comes =
-    quiet o w (with_retirement g w.progress) (Retire g (done_at w.progress.guests g)) comes refl refl
+    quiet o w (with_retirement g w.progress) (Retire g (done_at w.progress.guests g)) comes refl refl refl
     (λ was. coherent-end _ _ _ _ was (with_retirement g w.progress) g refl) refl (λ s. refl)
     (λ s shows. (
       (shows.table.rest, rw shows.guests.guests_are (in-flight w.progress.guests g IsOver is)),
@@ -150,7 +153,7 @@ undone o s w actor shows is = rw shows.guests.ended_are is
 pub wait-comes : (w : Face) (line : ℕ) (what : Await (List ℕ)) (is_over : Bool) → IsNotDone (seen_state w) 0 → (is_over ≡ true → IsMet (seen_state w) what)
     → (o : Opening) → Comes o w → Comes o (after_wait w line what is_over)
 wait-comes w line what true not_done is o comes =
-    quiet o w (with_entry (Reached line what) w.progress) (Reached line what) comes refl refl
+    quiet o w (with_entry (Reached line what) w.progress) (Reached line what) comes refl refl refl
     (λ was. coherent-same _ _ _ _ was (with_entry (Reached line what) w.progress) refl) refl (λ s. refl)
     (λ s shows. (
       (shows.table.rest, (undone o s w 0 shows not_done, met o s w what shows (is refl))),
@@ -167,7 +170,7 @@ end-fits o s w (suc g) shows not_done idle = (shows.table.rest, (rw (add-one g) 
 
 pub end-comes : (w : Face) (actor : ℕ) → IsNotDone (seen_state w) actor → IsIdle w.progress.guests actor → (o : Opening) → Comes o w → Comes o (after_end w actor)
 end-comes w actor not_done idle o comes =
-    quiet o w (with_entry (Done actor) w.progress) (Done actor) comes refl refl
+    quiet o w (with_entry (Done actor) w.progress) (Done actor) comes refl refl refl
     (λ was. coherent-same _ _ _ _ was (with_entry (Done actor) w.progress) refl) refl (λ s. refl)
     (λ s shows. (
       end-fits o s w actor shows not_done idle,

@@ -12,6 +12,7 @@ use Rattle.flat_machine.specs.declared.opening.Opening.{Opening}
 use Rattle.blk_world.specs.Progress.{ended_in}
 use Rattle.blk_world.specs.Coherent.{IsCoherent}
 use Rattle.blk_world.specs.Face.{Face, contents_of, first_counts, counts_now}
+use Rattle.blk_world.specs.Tabling.{IsTableAfter}
 
 -- ---- facts about one moment, each over the parts that it names
 
@@ -41,8 +42,8 @@ pub record Shows (o : Opening) (s : State) (w : Face) : Type 0 where
 
 -- ---- the whole
 
--- The guests are the opening's, their rows are what their own entries make of them, the parts of the world belong together,
--- the store's count hasn't fallen, and each fault that the history names is a rise that it names once. Where the store tells
+-- The guests are the opening's, their rows are what their own entries make of them, the table is one that the entries make, the
+-- parts of the world belong together, the store's count hasn't fallen, and each fault that the history names is a rise that it names once. Where the store tells
 -- its files, the history is one of that opening, and what the world shows at this moment is what the flat machine comes to by
 -- it.
 pub record Comes (o : Opening) (w : Face) : Type 0 where
@@ -50,5 +51,6 @@ pub record Comes (o : Opening) (w : Face) : Type 0 where
       (first_counts w) (counts_now w) w.progress.log.events
   pub counted : w.first_faults ≤ w.faults
   pub requests : w.progress.guests ≡ guests_after o w.progress.log.events
+  pub table : IsTableAfter o.guests w.progress.log.events w.table
   pub coherent : IsCoherent w.table w.nodes w.opened w.progress
   pub shows : is_some w.files ≡ true → Shows o (replay (start o) w.progress.log.events) w

@@ -17,3 +17,4 @@ pub mod Creating
 pub mod Adding
 pub mod Handling
 pub mod Piecing
+pub mod Tabling
