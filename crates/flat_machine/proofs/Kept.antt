@@ -440,6 +440,7 @@ module _ (opening : List ℕ → Option (List ℕ)) where
           → With held (IsBlank image (option_map (λ len. max len (created_length image)) (length_in (content_in s.files name))))
       by_held None is = absurd is
       by_held (Some bytes) is = record {
+        shape = refl;
         can = is.can;
         created = is.created;
         length_is = blank_length s old name bytes image (content_in s.files name) h refl is.length_is;

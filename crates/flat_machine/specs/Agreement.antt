@@ -1,6 +1,6 @@
 -- What nodes read as and what files hold, and that it is what the flat machine says.
 use Rattle.std.specs.Prelude.{◌≡◌, ℕ, true, false, List, length, All, Option, Some, None}
-use Rattle.q2_format.specs.Created.{Creation, CanBeCreated, IsCreated}
+use Rattle.q2_format.specs.Created.{Creation, CanBeCreated, IsCreated, creation_of}
 use Rattle.qmp_rules.specs.declared.rows.NodeRecord.{NodeRecord}
 use Rattle.qmp_rules.specs.declared.rows.JobRecord.{JobRecord}
 use Rattle.qmp_rules.specs.Table.{node_at, job_at, has_name}
@@ -28,6 +28,7 @@ ReadAsDisks s c = (node : ℕ) (row : NodeRecord) → node_at s.table node ≡ S
 
 -- a created image, which maps nothing, of that length where it is known
 pub record IsBlank (new : Creation) (len : Option ℕ) (bytes : List ℕ) : Type 0 where
+  pub shape : new ≡ creation_of new.size new.name new.format
   pub can : CanBeCreated new.size new.name new.format
   pub created : IsCreated new bytes
   pub length_is : (n : ℕ) → len ≡ Some n → length bytes ≡ n
