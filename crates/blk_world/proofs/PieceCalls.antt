@@ -65,6 +65,7 @@ made_of w nodes table p g drive node f outcome op on is_node asks noted made = r
   on = on;
   transferred = subst (λ (n : ℕ). Transfers f.op w.nodes nodes n (part_of f) outcome made.buffer) is_node made.transferred;
   fits = made.fits;
+  shown = made.shown;
   kept =
       ap (λ (t : Table). let v : Face = record w { nodes = nodes; table = t; progress = p } in v)
       (noted ∙ ap (λ (o : Op). table_after o node w.table) (sym asks) ∙ ap (λ (n : ℕ). table_after f.op n w.table) is_node)
@@ -85,52 +86,3 @@ module _ (w v : Face) (g : ℕ) (outcome : Outcome) (next : With (flight_at w.pr
 
   pub made_licence : (f : Flight) (flies : flight_at w.progress.guests g ≡ Some f) → (m : IsPieceMade w v g f outcome) × HasPieceLicence w v g f outcome m
   made_licence f flies = (made f flies, piece_licence w v g f outcome (made f flies) (next_at (flight_at w.progress.guests g) f next flies) flies joined whole.coherent)
-
--- ---- the piece that is made
-
-pub same_part : (x : Option Flight) (f : Flight) (op : Op) (next : ℕ) → x ≡ Some f → With x (λ y. y.op ≡ op) → With x (λ y. y.next ≡ next) → piece op next ≡ part_of f
-same_part x f op next is asks at =
-    let same : f.op ≡ op = with-at x f (λ y. y.op ≡ op) is asks in
-    let k : f.next ≡ next = with-at x f (λ y. y.next ≡ next) is at in
-    ap (λ (o : Op). piece o next) (sym same) ∙ ap (piece f.op) (sym k)
-
-pub within : (x : Option Flight) (op : Op) (next : ℕ) → With x HasNext → With x (λ y. y.op ≡ op) → With x (λ y. y.next ≡ next) → next < pieces_of op
-within None op next never asks at = absurd never
-within (Some f) op next has asks at = subst (λ (k : ℕ). k < pieces_of op) at (subst (λ (o : Op). f.next < pieces_of o) asks has.next)
-
-pub can_here : (x : Option Flight) (nodes : Nodes) (node : ℕ) (op : Op) (next : ℕ) (part : Extent) → With x (λ f. CanTransfer nodes node f.op (part_of f)) → With x (λ y. y.op ≡ op)
-    → With x (λ y. y.next ≡ next) → part ≡ piece op next → CanTransfer nodes node op part
-can_here None nodes node op next part never asks at is = absurd never
-can_here (Some f) nodes node op next part can asks at is =
-    let here : CanTransfer nodes node op (piece op next) =
-    subst (λ (k : ℕ). CanTransfer nodes node op (piece op k)) at (subst (λ (o : Op). CanTransfer nodes node o (piece o f.next)) asks can) in
-    subst (CanTransfer nodes node op) (sym is) here
-
-pub can_show : (x : Option Flight) (op : Op) (next n : ℕ) (part : Extent) → With x HasNext → With x (λ y. y.op ≡ op) → With x (λ y. y.next ≡ next) → part ≡ piece op next
-    → n ≤ shows_in op part.len → With x (CanShow n)
-can_show None op next n part never asks at is few = absurd never
-can_show (Some f) op next n part has asks at is few = record {
-  next = has.next;
-  shown =
-      let here : n ≤ shows_in op (piece op next).len = subst (λ (e : Extent). n ≤ shows_in op e.len) is few in
-      subst (λ (o : Op). n ≤ shows_in o (piece o f.next).len) (sym asks) (subst (λ (k : ℕ). n ≤ shows_in op (piece op k).len) (sym at) here);
-}
-
-pub made_on : (nodes now : Nodes) (p q : Progress) (node g : ℕ) (f : Flight) (outcome : Outcome) (op : Op) (next : ℕ) (part : Extent) (buffer shown : List ℕ)
-    → flight_at p.guests g ≡ Some f → With (flight_at p.guests g) (λ y. y.op ≡ op) → With (flight_at p.guests g) (λ y. y.next ≡ next) → part ≡ piece op next
-    → Transfers op nodes now node part outcome buffer → CountFits outcome → shown ≡ shown_of op outcome buffer → ((h : Flight) → flight_at p.guests g ≡ Some h → q ≡ with_piece g h.next outcome shown p)
-    → IsMadeOn nodes now p q node g f outcome
-made_on nodes now p q node g f outcome op next part buffer shown flies asks at is did fits shows noted =
-    let same : f.op ≡ op = with-at (flight_at p.guests g) f (λ y. y.op ≡ op) flies asks in
-    let k : f.next ≡ next = with-at (flight_at p.guests g) f (λ y. y.next ≡ next) flies at in
-    let here : part ≡ part_of f = is ∙ same_part (flight_at p.guests g) f op next flies asks at in
-    record {
-      buffer = buffer;
-      transferred =
-          subst (λ (o : Op). Transfers o nodes now node (part_of f) outcome buffer) (sym same)
-          (subst (λ (e : Extent). Transfers op nodes now node e outcome buffer) here did);
-      fits = fits;
-      noted =
-          noted f flies
-          ∙ ap (λ (bytes : List ℕ). with_piece g f.next outcome bytes p) (shows ∙ ap (λ (o : Op). shown_of o outcome buffer) (sym same));
-    }

@@ -1,5 +1,5 @@
 -- What a piece of a guest's request does to nodes and devices, and what it leaves of the world.
-use Rattle.std.specs.Prelude.{◌≡◌, ◌+◌, ◌<◌, ◌≤◌, ℕ, true, List, [], replicate, Some}
+use Rattle.std.specs.Prelude.{◌≡◌, ◌+◌, ◌<◌, ◌≤◌, ℕ, true, List, [], length, replicate, Some}
 use Rattle.blk_base.specs.Content.{with_bytes}
 use Rattle.blk_base.specs.Pieces.{Extent, end_of}
 use Rattle.blk_base.specs.declared.fault.Outcome.{Outcome}
@@ -26,7 +26,7 @@ use Rattle.flat_machine.specs.EventLicence.{IsLicensedBy, changes_disk}
 use Rattle.flat_machine.specs.State.{drive_of}
 use Rattle.blk_world.specs.Counting.{RunsOn, sources_of, counts_within}
 use Rattle.blk_world.specs.Face.{Face, counts_now, device_numbered, seen_state}
-use Rattle.blk_world.specs.Progress.{Progress, with_piece, done_at}
+use Rattle.blk_world.specs.Progress.{Progress, with_piece, done_at, shows_in}
 
 -- ---- what a piece is
 
@@ -132,6 +132,7 @@ pub record IsMadeOn (nodes now : Nodes) (p q : Progress) (node g : ℕ) (f : Fli
   pub buffer : List ℕ
   pub transferred : Transfers f.op nodes now node (part_of f) outcome buffer
   pub fits : CountFits outcome
+  pub shown : length (shown_by f outcome buffer) ≤ shows_in f.op (part_of f).len
   pub noted : q ≡ with_piece g f.next outcome (shown_by f outcome buffer) p
 
 -- So it was in the world, on the node that the guest's drive reads as.
@@ -142,6 +143,7 @@ pub record IsPieceMade (w v : Face) (g : ℕ) (f : Flight) (outcome : Outcome) :
   pub transferred : Transfers f.op w.nodes v.nodes (disk_node w.table drive) (part_of f)
       outcome buffer
   pub fits : CountFits outcome
+  pub shown : length (shown_by f outcome buffer) ≤ shows_in f.op (part_of f).len
   pub kept : v ≡ record w {
     nodes = v.nodes;
     table = table_after f.op (disk_node w.table drive) w.table;
