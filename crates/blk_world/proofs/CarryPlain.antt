@@ -41,7 +41,8 @@ use Rattle.flat_machine.proofs.Finds.{same-bytes_eq, bytes_eq-same}
 use Rattle.blk_world.specs.Progress.{Progress}
 use Rattle.blk_world.specs.Coherent.{IsCoherent, AreAlike, node_row}
 use Rattle.blk_world.specs.Comes.{Shows}
-use Rattle.blk_world.specs.Carrying.{IsCarried, IsCarriedIn, IsCaused, HasCause, IsPutBack, as_held, needs_table_alone, is_failed}
+use Rattle.blk_world.specs.Saying.{IsSaid}
+use Rattle.blk_world.specs.Carrying.{IsCarried, IsCarriedIn, IsCarriedAs, IsCaused, HasCause, IsPutBack, as_held, needs_table_alone, is_failed}
 use Rattle.blk_world.specs.Face.{Face, contents_of}
 use Rattle.blk_world.proofs.CarryNames.{either-of}
 use Rattle.blk_world.proofs.CarryComes.{built_accepted}
@@ -395,6 +396,15 @@ module _ (w : Face) (u : Table) (c : Cmd) (alone : needs_table_alone c ≡ true)
         coherent = coherent-shape w.table u shape w.nodes w.opened w.progress (rests-by (refusal_of w.table untold c) refl is);
         shows = λ told o s shows. told_nothing o s w (record w { table = u }) c (alone-opens c alone) shows (performed-by s (refusal_of w.table untold c) refl shape);
       }
+
+  pub table_carried_as : (given text : List ℕ) → u ≡ all_changed w.table (answer w.table untold c).changes
+      → IsSaid given (answer w.table untold c).reply text → IsCarriedAs w (record w { table = u }) given c text
+  unfolding table_carried
+  table_carried_as given text is said = record {
+    refusal = refusal_of w.table untold c;
+    carried = table_carried (refusal_of w.table untold c) refl is;
+    said = said;
+  }
 
 -- want of memory, where the table stays
 pub table_put_back : (w : Face) (u : Table) → u ≡ w.table → IsPutBack w (record w { table = u })

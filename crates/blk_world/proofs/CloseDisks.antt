@@ -72,7 +72,6 @@ none-long nodes n joined path to is =
 
 module _ (w : Face) (files : List File) (joined : IsJoined w.nodes) (unfolds : Unfolds w.nodes) (whole : IsCoherent w.table w.nodes w.opened w.progress)
     (holds : (name : List ℕ) → bytes_of files name ≡ held w name) where
-
   -- ---- `file` nodes
 
   node-over-is : (n : ℕ) (row : NodeRecord) (name : List ℕ) → Contains w.table.nodes row → row.id ≡ n → row.filename ≡ Some name

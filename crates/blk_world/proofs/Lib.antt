@@ -23,6 +23,7 @@ pub mod CarryBack
 pub mod CarryGiven
 pub mod CarryInTable
 pub mod Borrowed
+pub mod FailedTexts
 pub mod TableKinds
 pub mod KeptDrives
 pub mod PiecePaths

@@ -7,6 +7,7 @@ pub mod Steps
 pub mod Counting
 pub mod Closing
 pub mod Saying
+pub mod Lines
 pub mod Carrying
 pub mod Deleting
 pub mod Creating

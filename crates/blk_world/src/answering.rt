@@ -12,7 +12,7 @@ use serde_json::Value;
 use std::alloc::Global;
 
 /// The text of an answer that gives a value.
-fn given_text(alloc: Global, given: &str, value: Value) -> Result<String, NoMemory>
+pub(crate) fn given_text(alloc: Global, given: &str, value: Value) -> Result<String, NoMemory>
     requires { IsPlain 126 (view value) }
     ensures { IfOk result (λ text. IsSaid given.now (Ok (view value)) (string_bytes text)) }
 {

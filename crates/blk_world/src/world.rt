@@ -4,9 +4,11 @@ ghost use Rattle.blk_nodes.specs.Nodes.{no_nodes};
 ghost use Rattle.qmp_rules.specs.Table.{opening_table};
 ghost use Rattle.blk_world.specs.Progress.{no_progress};
 
+mod alone;
 mod attaching;
 mod closing;
 mod deleting;
+mod execute;
 mod piece;
 
 use crate::admission::{Admission, refusal_of, seat_of};
