@@ -1,26 +1,17 @@
 use Rattle.std.specs.Prelude.{string_bytes}
 use Rattle.qmp_codec.specs.Commands.{seen_command}
-use Rattle.blk_world.specs.Face.{Face}
+use Rattle.blk_world.specs.Face.{Face, face_of}
 use Rattle.blk_world.proofs.CarryInTable.{in_table_coherent, in_table_carried, in_table_back}
 use Rattle.blk_world.proofs.world.World.carry_alone.Goals as goal
 
 pub invariant_of-self : goal.invariant_of-self
 invariant_of-self g c =
-    let w : Face = record {
-      files = c.self.inside.store.files;
-      earlier = c.self.inside.store.earlier;
-      opened = c.self.inside.store.opened;
-      room = c.self.inside.store.room;
-      faults = c.self.inside.store.faults;
-      first_faults = c.self.inside.first_faults;
-      nodes = c.self.inside.nodes;
-      table = c.self.inside.names.table;
-      progress = c.self.inside.progress;
-    } in
+    let w : Face = face_of c.self.inside.store c.self.inside.first_faults c.self.inside.nodes c.self.inside.names.table c.self.inside.progress in
     record {
       coherent = in_table_coherent w c.answer_alone.new.names.table (seen_command c.args.command.now) c.requires c.answer_alone.result
           c.answer_alone.ensures.changed c.answer_alone.ensures.kept c.self.invariant.coherent;
       tell = c.self.invariant.tell;
+      counted = c.self.invariant.counted;
     }
 
 pub returns-clause-carried : goal.returns-clause-carried
