@@ -14,7 +14,7 @@ use Rattle.qmp_rules.specs.Table.{Table, node_at}
 use Rattle.flat_machine.proofs.Tables.{pushed-cases}
 use Rattle.blk_world.specs.Adding.{Adding, Taken, of_node}
 use Rattle.blk_world.specs.Carrying.{IsPutBack}
-use Rattle.blk_world.specs.Coherent.{AreAlike, AreNodesOf, AreOut, DevicesTell, IsCoherent, IsWhole, NamesAreOutOnce}
+use Rattle.blk_world.specs.Coherent.{AreAlike, AreNodesOf, AreOut, DevicesTell, IsCoherent, NamesAreOutOnce}
 use Rattle.blk_world.specs.Face.{Face}
 use Rattle.blk_world.specs.Joining.{HasAdded}
 use Rattle.blk_world.specs.Looking.{HasCalled, Site, site}
@@ -99,27 +99,26 @@ told-more ds new told own d there = elim (pushed-cases ds new d there) [
 
 -- ---- by what the looks left
 
-module _ (w : Face) (whole : IsWhole w.files w.table w.nodes w.opened w.progress) (now : Site) (driver : Added (List ℕ)) (out : Option Taken) (x : Site) where
+module _ (w : Face) (coherent : IsCoherent w.table w.nodes w.opened w.progress) (tell : DevicesTell w.files w.nodes.devices) (now : Site) (driver : Added (List ℕ)) (out : Option Taken) (x : Site) where
   -- nothing is left of it
-  pub back-whole : IsLookedSo (opened_name driver) (site_of w) now out → x ≡ site (back_if driver out now.store) now.nodes
-      → IsWhole x.store.files w.table x.nodes x.store.opened w.progress
-  back-whole (inl called) is =
+  pub back-both : IsLookedSo (opened_name driver) (site_of w) now out → x ≡ site (back_if driver out now.store) now.nodes
+      → IsCoherent w.table x.nodes x.store.opened w.progress × DevicesTell x.store.files x.nodes.devices
+  back-both (inl called) is =
       let store : x.store ≡ record (store_of w) { faults = now.store.faults } =
       ap (λ (y : Site). y.store) is ∙ ap (λ (o : Option Taken). back_if driver o now.store) called.none ∙ called.store in
       let nodes : x.nodes ≡ now.nodes = ap (λ (y : Site). y.nodes) is in
       let opened : x.store.opened ≡ w.opened = ap (λ (s : StoreInRun). s.opened) store in
       let files : x.store.files ≡ w.files = ap (λ (s : StoreInRun). s.files) store in
-      record {
-        coherent =
-            subst (λ (n : Nodes). IsCoherent w.table n x.store.opened w.progress) (sym nodes)
+      (
+        subst (λ (n : Nodes). IsCoherent w.table n x.store.opened w.progress) (sym nodes)
             (subst (λ (o : List Opened). IsCoherent w.table now.nodes o w.progress) (sym opened)
-            (coherent-put w.table w.nodes now.nodes w.opened w.opened w.progress whole.coherent (alike-called w.table w.nodes now.nodes called.called whole.coherent.alike)
-            (out-same w.table w.nodes now.nodes w.opened (same-risen w.nodes.devices now.nodes.devices called.called.risen) whole.coherent.out)));
-        tell = λ told.
+            (coherent-put w.table w.nodes now.nodes w.opened w.opened w.progress coherent (alike-called w.table w.nodes now.nodes called.called coherent.alike)
+            (out-same w.table w.nodes now.nodes w.opened (same-risen w.nodes.devices now.nodes.devices called.called.risen) coherent.out))),
+        λ told.
             subst (λ (n : Nodes). AreTold n.devices) (sym nodes)
-            (told-risen w.nodes.devices now.nodes.devices called.called.risen (whole.tell (ap (λ (f : Option (List File)). is_some f) (sym files) ∙ told)));
-      }
-  back-whole (inr opened) is =
+            (told-risen w.nodes.devices now.nodes.devices called.called.risen (tell (ap (λ (f : Option (List File)). is_some f) (sym files) ∙ told))),
+      )
+  back-both (inr opened) is =
       let closed : Opened = closed-opening (store_of w) now.store (opened_name driver) opened.first opened.device opened.taken opened.read.same opened.inside in
       let store : x.store ≡ record (store_of w) { opened = w.opened ++ closed ∷ [] } =
       ap (λ (y : Site). y.store) is ∙ ap (λ (o : Option Taken). back_if driver o now.store) opened.is
@@ -127,15 +126,14 @@ module _ (w : Face) (whole : IsWhole w.files w.table w.nodes w.opened w.progress
       let nodes : x.nodes ≡ w.nodes = ap (λ (y : Site). y.nodes) is ∙ opened.nodes in
       let openings : x.store.opened ≡ w.opened ++ closed ∷ [] = ap (λ (s : StoreInRun). s.opened) store in
       let files : x.store.files ≡ w.files = ap (λ (s : StoreInRun). s.files) store in
-      record {
-        coherent =
-            subst (λ (n : Nodes). IsCoherent w.table n x.store.opened w.progress) (sym nodes)
+      (
+        subst (λ (n : Nodes). IsCoherent w.table n x.store.opened w.progress) (sym nodes)
             (subst (λ (o : List Opened). IsCoherent w.table w.nodes o w.progress) (sym openings)
-            (coherent-put w.table w.nodes w.nodes w.opened (w.opened ++ closed ∷ []) w.progress whole.coherent whole.coherent.alike
-            (out-closed w.table w.nodes w.opened closed opened.device.faults refl whole.coherent.out)));
-        tell = λ told.
-            subst (λ (n : Nodes). AreTold n.devices) (sym nodes) (whole.tell (ap (λ (f : Option (List File)). is_some f) (sym files) ∙ told));
-      }
+            (coherent-put w.table w.nodes w.nodes w.opened (w.opened ++ closed ∷ []) w.progress coherent coherent.alike
+            (out-closed w.table w.nodes w.opened closed opened.device.faults refl coherent.out))),
+        λ told.
+            subst (λ (n : Nodes). AreTold n.devices) (sym nodes) (tell (ap (λ (f : Option (List File)). is_some f) (sym files) ∙ told)),
+      )
 
   -- its device tells what the store does
   pub added-tell : (t : Table) (c : Adding) (image : Option Known) → IsLookedSo (opened_name driver) (site_of w) now out → x.store ≡ now.store
@@ -145,7 +143,7 @@ module _ (w : Face) (whole : IsWhole w.files w.table w.nodes w.opened w.progress
       let devices : x.nodes.devices ≡ now.nodes.devices =
       no-device-more t c image now.nodes x.nodes (subst (λ (o : Option Taken). HasAdded t c o image now.nodes x.nodes) called.none has) in
       subst AreTold (sym devices)
-      (told-risen w.nodes.devices now.nodes.devices called.called.risen (whole.tell (ap (λ (f : Option (List File)). is_some f) (sym files) ∙ told)))
+      (told-risen w.nodes.devices now.nodes.devices called.called.risen (tell (ap (λ (f : Option (List File)). is_some f) (sym files) ∙ told)))
   added-tell t c image (inr opened) same has told =
       let files : x.store.files ≡ w.files = ap (λ (s : StoreInRun). s.files) (same ∙ opened.taken.kept) in
       let made = has-device t c image now.nodes x.nodes opened.device (subst (λ (o : Option Taken). HasAdded t c o image now.nodes x.nodes) opened.is has) in
@@ -154,7 +152,7 @@ module _ (w : Face) (whole : IsWhole w.files w.table w.nodes w.opened w.progress
       let told_w : is_some w.files ≡ true = ap (λ (f : Option (List File)). is_some f) (sym files) ∙ told in
       let content : is_some opened.device.content ≡ true =
       ap (λ (d : Taken). is_some d.content) opened.read.same ∙ by_files w.files told_w opened.taken.is_its in
-      subst AreTold (sym devices) (told-more w.nodes.devices (of_node made.id opened.device) (whole.tell told_w) content)
+      subst AreTold (sym devices) (told-more w.nodes.devices (of_node made.id opened.device) (tell told_w) content)
     where
       by_files : (f : Option (List File)) → is_some f ≡ true → IsDeviceOf f (opened_name driver) opened.first.content opened.first.capacity opened.first.is_flushed
           → is_some opened.first.content ≡ true

@@ -16,7 +16,7 @@ use Rattle.qmp_rules.specs.declared.told.Told.{Told}
 use Rattle.flat_machine.specs.Agreement.{Agrees, Contents}
 use Rattle.flat_machine.specs.Final.{bytes_of}
 use Rattle.flat_machine.specs.Performing.{AllPerformed}
-use Rattle.flat_machine.specs.Sights.{Fails, told_by}
+use Rattle.flat_machine.specs.Sights.{Fails, IsTold, told_by}
 use Rattle.flat_machine.specs.Standing.{Stands, StandsAtRest}
 use Rattle.flat_machine.specs.State.{State, Known, Content, Bytes, content_in}
 use Rattle.flat_machine.specs.declared.opening.Opening.{Opening}
@@ -125,12 +125,27 @@ expects-unknown s c e = rw e refl
 
 -- ---- it was carried out so
 
-pub carried-in : (o : Opening) (s : State) (w v : Face) (c : Adding) (told : Told) → Shows o s w → expects (as_held w s) c ≡ expects s c → IsSeenAs s c told
-    → AllPerformed s (answer w.table told (command.BlockdevAdd c)).changes (contents_of w) (contents_of v) → IsCarriedIn s w v (command.BlockdevAdd c) told
-carried-in o s w v c told shows same is did = record {
+-- what was seen may be told, by what files hold
+pub record IsSeenHeld (s : State) (w : Face) (c : Adding) (told : Told) : Type 0 where
+  pub seen : Told
+  pub is_told : IsTold s (command.BlockdevAdd c) seen
+  pub exact : StopsExactly (as_held w s) (command.BlockdevAdd c) seen.stopped
+  pub same : answer s.table seen (command.BlockdevAdd c) ≡ answer s.table told (command.BlockdevAdd c)
+
+pub held-of : (s : State) (w : Face) (c : Adding) (told : Told) → expects (as_held w s) c ≡ expects s c → IsSeenAs s c told → IsSeenHeld s w c told
+held-of s w c told same is = record {
   seen = is.seen;
   is_told = is.is_told;
   exact = exact-held w s c is.seen.stopped same is.exact;
+  same = is.same;
+}
+
+pub carried-in : (o : Opening) (s : State) (w v : Face) (c : Adding) (told : Told) → Shows o s w → IsSeenHeld s w c told
+    → AllPerformed s (answer w.table told (command.BlockdevAdd c)).changes (contents_of w) (contents_of v) → IsCarriedIn s w v (command.BlockdevAdd c) told
+carried-in o s w v c told shows is did = record {
+  seen = is.seen;
+  is_told = is.is_told;
+  exact = is.exact;
   same = subst (λ (t : Table). answer t is.seen (command.BlockdevAdd c) ≡ answer t told (command.BlockdevAdd c)) shows.table.table_is is.same;
   performed = did;
 }

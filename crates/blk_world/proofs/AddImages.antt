@@ -46,7 +46,7 @@ use Rattle.blk_world.proofs.AddTold.{has_look}
 
 -- ---- devices of which counts have risen
 
-opened-risen : (old new : List DeviceState) → HaveRisen old new → (file : ℕ) (d : DeviceState) → device_in old file ≡ Some d
+pub opened-risen : (old new : List DeviceState) → HaveRisen old new → (file : ℕ) (d : DeviceState) → device_in old file ≡ Some d
     → (e : DeviceState) × (device_in new file ≡ Some e) × HasRisen d e
 opened-risen [] [] risen file d is = absurd (let bad : ⊥ = cc is in bad)
 opened-risen [] (b ∷ new) risen file d is = absurd risen

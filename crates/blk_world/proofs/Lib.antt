@@ -92,3 +92,7 @@ pub mod AddShown
 pub mod AddExact
 pub mod AddClean
 pub mod AddBack
+pub mod AddBlank
+pub mod AddCarried
+pub mod AddEnds
+pub mod AddPut

@@ -3,7 +3,7 @@ use Rattle.std.specs.Prelude.{◌≡◌, ◌≢◌, ◌⊎◌, ℕ, ◌^◌, ◌
 use Rattle.blk_base.specs.Answers.{HasFile, LacksFile}
 use Rattle.blk_base.specs.Content.{Log}
 use Rattle.blk_base.specs.Counts.{Rose}
-use Rattle.blk_base.specs.Files.{IfTold, given_back}
+use Rattle.blk_base.specs.Files.{IfTold, given_back, is_out}
 use Rattle.blk_base.specs.Stored.{IsDeviceOf, files_with_returned}
 use Rattle.blk_base.specs.declared.fault.DevNo.{DevNo}
 use Rattle.blk_base.specs.declared.fault.FaultFrom.TheVariants.{Store, Dev}
@@ -251,6 +251,7 @@ pub record IsBackAgain (old new : StoreInRun) (filename : List ℕ) : Type 0 whe
   pub first : Taken
   pub now : Taken
   pub between : StoreInRun
+  pub inside : is_out filename old.opened ≡ false
   pub out : IsTakenOut old between filename first
   pub same : now ≡ record first { faults = now.faults }
   pub faults : first.faults ≤ now.faults
