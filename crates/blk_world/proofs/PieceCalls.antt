@@ -1,12 +1,9 @@
 -- The calls that make a piece: what each asks, and what they leave together.
-use Rattle.std.proofs.Common.{◌≡◌, ℕ, ◌<◌, ◌≤◌, List, Option, Some, None, refl, sym, ◌∙◌, ap, subst}
+use Rattle.std.proofs.Common.{◌≡◌, ℕ, Option, Some, None, refl, sym, ◌∙◌, ap, subst}
 use Rattle.std.specs.Prelude.{IsSome}
 use Rattle.std.proofs.lemmas.Bool.{false≢true}
-use Rattle.blk_base.specs.Pieces.{Extent}
 use Rattle.blk_base.specs.declared.fault.Outcome.{Outcome}
-use Rattle.trace_codec.specs.Request.{pieces_of}
 use Rattle.trace_codec.specs.declared.op.Op.{Op}
-use Rattle.blk_history.specs.Disk.{piece}
 use Rattle.blk_history.specs.Fold.{With}
 use Rattle.blk_history.specs.Machine.{Flight}
 use Rattle.qmp_rules.specs.Chains.{disk_node}
@@ -19,8 +16,8 @@ use Rattle.blk_nodes.specs.Nodes.{Nodes}
 use Rattle.blk_world.specs.Coherent.{IsCoherent, IsWhole}
 use Rattle.blk_world.specs.Comes.{Comes}
 use Rattle.blk_world.specs.Face.{Face}
-use Rattle.blk_world.specs.Piecing.{CanTransfer, IsMadeOn, IsPieceMade, HasPieceLicence, Transfers, CountFits, part_of, shown_of, table_after}
-use Rattle.blk_world.specs.Progress.{Progress, HasNext, CanShow, flight_at, shows_in, with_piece}
+use Rattle.blk_world.specs.Piecing.{CanTransfer, IsMadeOn, IsPieceMade, HasPieceLicence, Transfers, part_of, table_after}
+use Rattle.blk_world.specs.Progress.{Progress, HasNext, flight_at}
 use Rattle.blk_world.proofs.CountLemmas.{IsThere, there}
 use Rattle.blk_world.proofs.PieceComes.{piece_comes, piece_licence, piece_whole}
 use Rattle.blk_world.proofs.InStep.{with-at}
