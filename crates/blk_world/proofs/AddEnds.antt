@@ -109,7 +109,7 @@ module _ (w : Face) (coherent : IsCoherent w.table w.nodes w.opened w.progress) 
           table = table;
           progress = refl;
           runs = runs;
-          cause = tt;
+          cause = λ dev called passes. passes;
           coherent = λ was.
               subst (λ (t : Table). IsCoherent t x.nodes x.store.opened w.progress) (sym ends.table)
               (whole w.table is.told c ends.accepted.none (site_of w) is.between x is.out is.image w.progress coherent is.joined is.looked ends.added ends.store);

@@ -28,7 +28,7 @@ use Rattle.blk_world.specs.Face.{Face, counts_now, contents_of, seen_state}
 use Rattle.blk_world.specs.Counting.{sources_of, counts_within}
 use Rattle.blk_world.specs.Comes.{Comes, Shows}
 use Rattle.blk_world.specs.Saying.{Given, IsSaid}
-use Rattle.blk_world.specs.Carrying.{IsCarried, IsCarriedIn, IsCarriedAs, HasCause, IsReplied, reply_entry, would_pass}
+use Rattle.blk_world.specs.Carrying.{IsCarried, IsCarriedIn, IsCarriedAs, HasCause, HasFitted, IsReplied, reply_entry, would_pass}
 use Rattle.blk_world.specs.Steps.{onward}
 use Rattle.blk_world.proofs.InStep.{ended-push}
 use Rattle.blk_world.proofs.Coherence.{coherent-same}
@@ -140,6 +140,7 @@ module _ (w : Face) (line : Given) (text : List ℕ) (why : Stop) (bad : command
         progress = ap (λ (e : Event). with_entry e w.progress) same;
         runs = runs-devices w (onward w (with_entry entry)) refl refl refl refl refl refl (same-devices w.nodes.devices);
         licensed = licensed-of w (onward w (with_entry entry)) line untold text (line_answer w.table untold line.text).reply said mild.can (text_is w.table untold line.text text said) (rw mild.fault tt) (rw mild.fault tt) (rw mild.full tt);
+        fits = rw no-command tt;
         shows = λ told o s shows. rw bad (quiet-self (contents_of w));
       }
 
@@ -222,6 +223,10 @@ module _ (w u : Face) (c : Cmd) (refusal' : Option Refusal) (is : IsCarried w u 
   full-by (Some (refusal.NoSpace dev)) caused = (caused.called, caused.passes)
   full-by (Some _) caused = tt
 
+  fits-by : (first : Option Refusal) → HasCause w u c first → HasFitted w (Some c) (answer_by w.table is.told c first).reply
+  fits-by None caused = caused
+  fits-by (Some _) caused = tt
+
   cause-first : HasCause w u c (refusal_of w.table is.told c)
   cause-first = rw is.answered is.cause
 
@@ -240,6 +245,7 @@ module _ (w u : Face) (c : Cmd) (refusal' : Option Refusal) (is : IsCarried w u 
         progress = ap (λ (e : Event). with_entry e u.progress) same ∙ ap (with_entry (reply_entry w is.told line)) is.progress;
         runs = runs-onward w u (with_entry reply) is.runs;
         licensed = licensed-of w (onward u (with_entry reply)) line is.told text (answer w.table is.told c).reply said (can_tell w u c refusal' is) (text_is w.table is.told line.text text line-said) (rw is-command (called-by (refusal_of w.table is.told c) cause-first)) (rose-by (refusal_of w.table is.told c) cause-first) (rw is-command (full-by (refusal_of w.table is.told c) cause-first));
+        fits = rw (is-command, line_command w.table is.told line.text c good) (fits-by (refusal_of w.table is.told c) cause-first);
         shows = λ told o s shows. rw good (seen-onward w u c is.told s (with_entry reply) (is.shows told o s shows));
       }
 

@@ -42,7 +42,7 @@ use Rattle.blk_world.specs.Progress.{Progress}
 use Rattle.blk_world.specs.Coherent.{IsCoherent, AreAlike, node_row}
 use Rattle.blk_world.specs.Comes.{Shows}
 use Rattle.blk_world.specs.Saying.{IsSaid}
-use Rattle.blk_world.specs.Carrying.{IsCarried, IsCarriedIn, IsCarriedAs, IsCaused, HasCause, IsPutBack, as_held, needs_table_alone, is_failed}
+use Rattle.blk_world.specs.Carrying.{IsCarried, IsCarriedIn, IsCarriedAs, IsCaused, HasCause, FitsAll, IsPutBack, as_held, needs_table_alone, is_failed}
 use Rattle.blk_world.specs.Face.{Face, contents_of}
 use Rattle.blk_world.proofs.CarryNames.{either-of}
 use Rattle.blk_world.proofs.CarryComes.{built_accepted}
@@ -109,9 +109,20 @@ table_quiet t c cause is = at (is_built c) refl is
       ]
     ]
 
-pub quiet_cause : (w v : Face) (c : Cmd) (refusal' : Option Refusal) → ((cause : Refusal) → refusal' ≡ Some cause → is_failed cause ≡ false) → HasCause w v c refusal'
-quiet_cause w v c None quiet = tt
-quiet_cause w v c (Some cause) quiet = at cause (quiet cause refl)
+abbrev pub opens_nothing : Cmd → Bool
+opens_nothing (command.BlockdevAdd c) = false
+opens_nothing (command.BlockdevCreate c) = false
+opens_nothing c = true
+
+-- only a creation may pass a capacity
+pub fits_all : (w : Face) (c : Cmd) → opens_nothing c ≡ true → FitsAll w c
+fits_all w (command.BlockdevCreate c) opens = absurd cc
+fits_all w _ opens = λ dev called passes. passes
+
+pub quiet_cause : (w v : Face) (c : Cmd) (refusal' : Option Refusal) → opens_nothing c ≡ true
+    → ((cause : Refusal) → refusal' ≡ Some cause → is_failed cause ≡ false) → HasCause w v c refusal'
+quiet_cause w v c None opens quiet = fits_all w c opens
+quiet_cause w v c (Some cause) opens quiet = at cause (quiet cause refl)
   where
     at : (cause : Refusal) → is_failed cause ≡ false → IsCaused w v c cause
     at (refusal.Io source count) call = absurd cc
@@ -119,11 +130,6 @@ quiet_cause w v c (Some cause) quiet = at cause (quiet cause refl)
     at _ call = tt
 
 -- ---- what such a command is told: nothing, but which overlays map a cluster
-
-abbrev pub opens_nothing : Cmd → Bool
-opens_nothing (command.BlockdevAdd c) = false
-opens_nothing (command.BlockdevCreate c) = false
-opens_nothing c = true
 
 told-nothing : (s : State) (c : Cmd) → opens_nothing c ≡ true → told_by s c ≡ untold
 told-nothing s (command.BlockdevAdd c) opens = absurd cc
@@ -392,7 +398,7 @@ module _ (w : Face) (u : Table) (c : Cmd) (alone : needs_table_alone c ≡ true)
         table = is;
         progress = refl;
         runs = runs-devices w (record w { table = u }) refl refl refl refl refl refl (same-devices w.nodes.devices);
-        cause = quiet_cause w (record w { table = u }) c refusal' (λ cause some. table_quiet w.table c cause (judged ∙ some));
+        cause = quiet_cause w (record w { table = u }) c refusal' (alone-opens c alone) (λ cause some. table_quiet w.table c cause (judged ∙ some));
         coherent = coherent-shape w.table u shape w.nodes w.opened w.progress (rests-by (refusal_of w.table untold c) refl is);
         shows = λ told o s shows. told_nothing o s w (record w { table = u }) c (alone-opens c alone) shows (performed-by s (refusal_of w.table untold c) refl shape);
       }

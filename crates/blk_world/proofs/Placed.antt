@@ -32,7 +32,7 @@ use Rattle.blk_world.specs.Comes.{Shows}
 use Rattle.blk_world.specs.Counting.{RunsOn}
 use Rattle.blk_world.specs.Deleting.{Ground, ground_of}
 use Rattle.blk_world.specs.Face.{Face, contents_of}
-use Rattle.blk_world.proofs.CarryPlain.{HasShape, opens_nothing, quiet_cause, quiet-self, table_quiet, told_nothing}
+use Rattle.blk_world.proofs.CarryPlain.{HasShape, fits_all, opens_nothing, quiet_cause, quiet-self, table_quiet, told_nothing}
 use Rattle.blk_world.proofs.CountLemmas.{runs-devices, same-devices}
 use Rattle.blk_world.proofs.DeletedSteps.{Parts}
 use Rattle.blk_world.proofs.EasedTables.{IsEased, nodes_of_eased, out_eased}
@@ -84,7 +84,7 @@ carried_by w v c opens none table progress runs coherent performed =
       table = table;
       progress = progress;
       runs = runs;
-      cause = tt;
+      cause = fits_all w c opens;
       coherent = coherent;
       shows = λ told o s shows. told_nothing o s w v c opens shows (performed o s told shows);
     } in
@@ -103,7 +103,7 @@ refused_by w c cause opens some nothing =
       table = sym (ap (all_changed w.table) changes);
       progress = refl;
       runs = runs-devices w w refl refl refl refl refl refl (same-devices w.nodes.devices);
-      cause = quiet_cause w w c (Some cause) (λ other is. table_quiet w.table c other (some ∙ is));
+      cause = quiet_cause w w c (Some cause) opens (λ other is. table_quiet w.table c other (some ∙ is));
       coherent = λ was. was;
       shows = λ told o s shows. told_nothing o s w w c opens shows
           (subst (λ (cs : List Change). AllPerformed s cs (contents_of w) (contents_of w)) (sym changes) (quiet-self (contents_of w)));

@@ -1,5 +1,6 @@
 -- What a command leaves of the world, before its reply stands in the history.
 use Rattle.std.specs.Prelude.{◌≡◌, ◌⊎◌, ℕ, ◌<◌, ◌^◌, Bool, true, false, [], Result, Ok, Err, Option, Some, None, is_some, map, option_map, List}
+use Rattle.serde_json.specs.Data.{Data}
 use Rattle.blk_base.specs.declared.fault.DevNo.{DevNo}
 use Rattle.blk_base.specs.declared.fault.FaultFrom.{FaultFrom}
 use Rattle.blk_base.specs.declared.fault.FaultFrom.TheVariants.{Dev}
@@ -117,8 +118,14 @@ IsCaused w v c (Io from count) = HasFailed w v c from count
 IsCaused w v c (NoSpace dev) = HasNoSpace w c dev
 IsCaused w v c cause = Unit {0}
 
+-- no write of the command passes the capacity of a device that it calls
+abbrev pub FitsAll : Face → Cmd → Type 0
+FitsAll w c = (dev : DevNo) → IsCalledBy w.table (sources_of w) (counts_now w) (Dev dev) (Some c)
+    → would_pass w (Some c) dev.0 → ⊥
+
+-- what is accepted has had its space
 abbrev pub HasCause : Face → Face → Cmd → Option Refusal → Type 0
-HasCause w v c None = Unit {0}
+HasCause w v c None = FitsAll w c
 HasCause w v c (Some cause) = IsCaused w v c cause
 
 -- ---- the whole
@@ -182,6 +189,11 @@ abbrev pub IsSeenIn : State → Face → Face → Told → Result Cmd Stop → T
 IsSeenIn s w v told (Ok c) = IsCarriedIn s w v c told
 IsSeenIn s w v told (Err why) = IsQuiet (contents_of w) (contents_of v)
 
+-- what a line is accepted for has had its space
+abbrev pub HasFitted : Face → Option Cmd → Result Data Refusal → Type 0
+HasFitted w (Some c) (Ok d) = FitsAll w c
+HasFitted w c reply = Unit {0}
+
 -- A line is answered: its reply is the last entry, and the table has the changes of the answer. No fault is named but one
 -- that was reached in this event by what the line calls.
 pub record IsReplied (w v : Face) (line : Given) : Type 0 where
@@ -194,5 +206,6 @@ pub record IsReplied (w v : Face) (line : Given) : Type 0 where
   pub licensed : IsLicensedBy (seen_state w) (sources_of w)
       (counts_now w) (counts_within w v) (counts_now v)
       (would_pass w (command_in (command_at line.text))) (reply_entry w told line)
+  pub fits : HasFitted w (command_in (command_at line.text)) (line_answer w.table told line.text).reply
   pub shows : is_some w.files ≡ true → (o : Opening) (s : State) → Shows o s w
       → IsSeenIn s w v told (command_at line.text)
