@@ -108,8 +108,7 @@ module _ (w : Face) (coherent : IsCoherent w.table w.nodes w.opened w.progress) 
       ap (λ (y : Site). y.store) is ∙ ap (λ (o : Option Taken). back_if driver o now.store) called.none ∙ called.store in
       let nodes : x.nodes ≡ now.nodes = ap (λ (y : Site). y.nodes) is in
       let opened : x.store.opened ≡ w.opened = ap (λ (s : StoreInRun). s.opened) store in
-      let files : x.store.files ≡ w.files = ap (λ (s : StoreInRun). s.files) store in
-      (
+      let files : x.store.files ≡ w.files = ap (λ (s : StoreInRun). s.files) store in (
         subst (λ (n : Nodes). IsCoherent w.table n x.store.opened w.progress) (sym nodes)
             (subst (λ (o : List Opened). IsCoherent w.table now.nodes o w.progress) (sym opened)
             (coherent-put w.table w.nodes now.nodes w.opened w.opened w.progress coherent (alike-called w.table w.nodes now.nodes called.called coherent.alike)
@@ -125,8 +124,7 @@ module _ (w : Face) (coherent : IsCoherent w.table w.nodes w.opened w.progress) 
       ∙ back-is (store_of w) now.store (opened_name driver) opened.first opened.device opened.taken opened.read.same opened.inside in
       let nodes : x.nodes ≡ w.nodes = ap (λ (y : Site). y.nodes) is ∙ opened.nodes in
       let openings : x.store.opened ≡ w.opened ++ closed ∷ [] = ap (λ (s : StoreInRun). s.opened) store in
-      let files : x.store.files ≡ w.files = ap (λ (s : StoreInRun). s.files) store in
-      (
+      let files : x.store.files ≡ w.files = ap (λ (s : StoreInRun). s.files) store in (
         subst (λ (n : Nodes). IsCoherent w.table n x.store.opened w.progress) (sym nodes)
             (subst (λ (o : List Opened). IsCoherent w.table w.nodes o w.progress) (sym openings)
             (coherent-put w.table w.nodes w.nodes w.opened (w.opened ++ closed ∷ []) w.progress coherent coherent.alike

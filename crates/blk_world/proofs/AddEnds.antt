@@ -42,7 +42,7 @@ pub record IsAccounted (w v : Face) (c : Adding) (told : Told) : Type 0 where
   pub causes : (cause : Refusal) → refusal_of w.table told (command.BlockdevAdd c) ≡ Some cause → IsCaused w v (command.BlockdevAdd c) cause
   pub seen : is_some w.files ≡ true → (o : Opening) (s : State) → Shows o s w → IsSeenHeld s w c told
 
-some-files : (f : Option (List File)) → is_some f ≡ true → (files : List File) × (f ≡ Some files)
+pub some-files : (f : Option (List File)) → is_some f ≡ true → (files : List File) × (f ≡ Some files)
 some-files None bad = absurd (let e : false ≡ true = bad in cc e)
 some-files (Some files) some = (files, refl)
 
@@ -146,9 +146,8 @@ module _ (w : Face) (coherent : IsCoherent w.table w.nodes w.opened w.progress) 
       by_end (inl refused) =
           let both = back-both w coherent tell is.between c.driver is.out x (so is) refused.is in
           (subst (λ (t : Table). IsCoherent t x.nodes x.store.opened w.progress) (sym refused.table) both.0, both.1)
-      by_end (inr added) =
-          (
-            subst (λ (t : Table). IsCoherent t x.nodes x.store.opened w.progress) (sym added.table)
+      by_end (inr added) = (
+        subst (λ (t : Table). IsCoherent t x.nodes x.store.opened w.progress) (sym added.table)
             (whole w.table is.told c added.accepted.none (site_of w) is.between x is.out is.image w.progress coherent is.joined is.looked added.added added.store),
-            added-tell w coherent tell is.between c.driver is.out x w.table c is.image (so is) added.store added.added,
-          )
+        added-tell w coherent tell is.between c.driver is.out x w.table c is.image (so is) added.store added.added,
+      )

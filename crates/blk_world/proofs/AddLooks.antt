@@ -50,11 +50,11 @@ use Rattle.blk_world.proofs.AddTold.{has_look}
 -- ---- refusals of files that were opened
 
 -- none says that the file is absent
-abbrev IsThere : Option Refusal → Type 0
+abbrev pub IsThere : Option Refusal → Type 0
 IsThere None = Unit {0}
 IsThere (Some cause) = (c : Adding) → is_opened (command.BlockdevAdd c) cause ≡ true
 
-abbrev AreThere : Option Stopped → Type 0
+abbrev pub AreThere : Option Stopped → Type 0
 AreThere None = Unit {0}
 AreThere (Some stopped) = (c : Adding) → is_opened (command.BlockdevAdd c) stopped.refusal ≡ true
 
@@ -86,7 +86,7 @@ there-part name raw n =
     (nat_lt 549755813888 n || not (part_fits raw.offset raw.size n))
 
 -- a stop of the image says nothing of the kind, and stands at the image or behind it
-abbrev IsBehind : Option Stopped → Type 0
+abbrev pub IsBehind : Option Stopped → Type 0
 IsBehind None = Unit {0}
 IsBehind (Some stopped) = (stopped.look ≡ look.Image) ⊎ (3 < order_of stopped.look)
 
@@ -113,12 +113,12 @@ there-row : (size : ℕ) (name : List ℕ) (found : Option NodeRecord)
 there-row size name None = tt
 there-row size name (Some row) = there-if (not (row.size == size)) (refusal.SizeDiffers name row.name) (λ c. refl)
 
-there-inside : (t : Table) (name : List ℕ) (added : AddQcow2 (List ℕ)) (sight : ImageSight) → AreThere (image_stop t name added sight)
+pub there-inside : (t : Table) (name : List ℕ) (added : AddQcow2 (List ℕ)) (sight : ImageSight) → AreThere (image_stop t name added sight)
 there-inside t name added sight =
     there-sizes name sight.stop (sight.names_backing && is_none added.backing) (sizes_of t name added sight.size)
     (there-row sight.size name (option_and_then (node_named t) (backing_name added.backing)))
 
-behind-inside : (t : Table) (name : List ℕ) (added : AddQcow2 (List ℕ)) (sight : ImageSight) → IsBehind (image_stop t name added sight)
+pub behind-inside : (t : Table) (name : List ℕ) (added : AddQcow2 (List ℕ)) (sight : ImageSight) → IsBehind (image_stop t name added sight)
 behind-inside t name added sight =
     behind-sizes name sight.stop (sight.names_backing && is_none added.backing) (sizes_of t name added sight.size)
 
@@ -131,7 +131,7 @@ long-at name true stopped is = cc (sym is)
 
 -- ---- what a stop of an image names
 
-named-stop : (found : Option Unsound) (cause : ImageStop) → cause ≢ stop.NoMemory → ((n : ℕ) → cause ≢ stop.Io n) → Names found cause
+pub named-stop : (found : Option Unsound) (cause : ImageStop) → cause ≢ stop.NoMemory → ((n : ℕ) → cause ≢ stop.Io n) → Names found cause
     → option_map stop_for found ≡ Some cause
 named-stop found (stop.Header why) memory io names = ap (option_map stop_for) names
 named-stop found (stop.Offset offset) memory io names = ap (option_map stop_for) names
@@ -144,7 +144,7 @@ named-stop found (stop.Io count) memory io names = absurd (io count refl)
 named-stop found stop.NoMemory memory io names = absurd (memory refl)
 
 -- a stop is a failed read or none
-is-io : (cause : ImageStop) → ((n : ℕ) × (cause ≡ stop.Io n)) ⊎ ((n : ℕ) → cause ≢ stop.Io n)
+pub is-io : (cause : ImageStop) → ((n : ℕ) × (cause ≡ stop.Io n)) ⊎ ((n : ℕ) → cause ≢ stop.Io n)
 is-io (stop.Io n) = inl (n, refl)
 is-io (stop.Header why) = inr (λ n same. absurd (cc same))
 is-io (stop.Offset offset) = inr (λ n same. absurd (cc same))
@@ -155,7 +155,7 @@ is-io (stop.Refcount cluster) = inr (λ n same. absurd (cc same))
 is-io stop.HeaderFull = inr (λ n same. absurd (cc same))
 is-io stop.NoMemory = inr (λ n same. absurd (cc same))
 
-not-io : (number : DevNo) (cause : ImageStop) → ((n : ℕ) → cause ≢ stop.Io n) → unopened number cause ≡ refusal.Image cause
+pub not-io : (number : DevNo) (cause : ImageStop) → ((n : ℕ) → cause ≢ stop.Io n) → unopened number cause ≡ refusal.Image cause
 not-io number (stop.Io n) io = absurd (io n refl)
 not-io number (stop.Header why) io = refl
 not-io number (stop.Offset offset) io = refl
@@ -172,7 +172,7 @@ reach-file : (c : Adding) (expected : Option Stopped) → AreThere expected → 
 reach-file c None there = tt
 reach-file c (Some stopped) there = inr (inl refl, there c)
 
-reach-image : (c : Adding) (expected : Option Stopped) → AreThere expected → IsBehind expected → IsReached (command.BlockdevAdd c) look.Image expected
+pub reach-image : (c : Adding) (expected : Option Stopped) → AreThere expected → IsBehind expected → IsReached (command.BlockdevAdd c) look.Image expected
 reach-image c None there behind = tt
 reach-image c (Some stopped) there (inl at) = inr (inr (sym at), there c)
 reach-image c (Some stopped) there (inr later) = inl later
@@ -201,7 +201,7 @@ holds-file old new files name device told out =
 sight_by : Option Unsound → Header → ImageSight
 sight_by why header = record { stop = option_map stop_for why; size = header.size; names_backing = is_some header.name }
 
-sight-open : (bytes : List ℕ) (header : Header) → image_refusal bytes ≡ None → header_of bytes ≡ header → image_sight (Bytes bytes) ≡ opened_sight header
+pub sight-open : (bytes : List ℕ) (header : Header) → image_refusal bytes ≡ None → header_of bytes ≡ header → image_sight (Bytes bytes) ≡ opened_sight header
 unfolding sight_by
 sight-open bytes header sound is = ap (λ (why : Option Unsound). sight_by why (header_of bytes)) sound ∙ ap (sight_by None) is
 

@@ -57,11 +57,10 @@ module _ (w : Face) (coherent : IsCoherent w.table w.nodes w.opened w.progress) 
         (out-same w.table w.nodes x.nodes w.opened (same-risen w.nodes.devices x.nodes.devices put.called.risen) coherent.out)
 
     pub put-both : IsCoherent w.table x.nodes x.store.opened w.progress × DevicesTell x.store.files x.nodes.devices
-    put-both =
-        (
-          by_store put.store,
-          λ told. told-risen w.nodes.devices x.nodes.devices put.called.risen (tell (ap (λ (f : Option (List File)). is_some f) (sym same-files) ∙ told)),
-        )
+    put-both = (
+      by_store put.store,
+      λ told. told-risen w.nodes.devices x.nodes.devices put.called.risen (tell (ap (λ (f : Option (List File)). is_some f) (sym same-files) ∙ told)),
+    )
       where
         by_store : IsCounted (store_of w) x.store ⊎ IsOverAgain (store_of w) x.store → IsCoherent w.table x.nodes x.store.opened w.progress
         by_store (inl counted) =

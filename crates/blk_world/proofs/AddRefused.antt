@@ -26,7 +26,7 @@ use Rattle.blk_world.specs.Adding.{Adding, probe}
 use Rattle.blk_world.proofs.AddTold.{first-told, looks_at, has_look, unreached, stop-refuses}
 
 -- behind the asks: what the edges break
-abbrev broken : Table → Adding → Option Refusal
+abbrev pub broken : Table → Adding → Option Refusal
 broken t c = conflict_after (is_joined c.driver) t (edits_of t untold (command.BlockdevAdd c))
 
 pub refusal-is : (t : Table) (told : Told) (c : Adding)

@@ -96,3 +96,8 @@ pub mod AddBlank
 pub mod AddCarried
 pub mod AddEnds
 pub mod AddPut
+pub mod AddFailed
+pub mod AddCause
+pub mod AddUnder
+pub mod AddAccount
+pub mod AddHandled

@@ -1,5 +1,5 @@
 -- The course of an addition: what was looked at, what is answered, and what becomes of the store and the nodes.
-use Rattle.std.specs.Prelude.{◌≡◌, ◌⊎◌, ℕ, false, IsTrue, List, [], length, Option, Some, None, Ok, Err, option_map, unwrap_or, string_bytes}
+use Rattle.std.specs.Prelude.{◌≡◌, ◌⊎◌, ℕ, Bool, true, false, IsTrue, List, [], length, Option, Some, None, Ok, Err, option_map, unwrap_or, string_bytes}
 use Rattle.blk_base.specs.Files.{is_out}
 use Rattle.q2_image.specs.Image.{Known}
 use Rattle.blk_nodes.specs.Joined.{IsJoined}
@@ -123,3 +123,17 @@ pub record IsUnadded (t : Table) (c : Adding) (old new : Site) : Type 0 where
 
 abbrev pub IsNotAdded : Table → Adding → Site → Site → Type 0
 IsNotAdded t c old new = IsLookedBack c.driver old new ⊎ IsUnadded t c old new
+
+-- ---- by the command
+
+abbrev pub is_addition : Cmd → Bool
+is_addition (command.BlockdevAdd c) = true
+is_addition c = false
+
+abbrev pub IsAdditionBy : Table → List ℕ → Cmd → Site → Site → Table → List ℕ → Type 0
+IsAdditionBy t given (command.BlockdevAdd c) old new now text = IsAdditionOf t given c old new now text
+IsAdditionBy t given c old new now text = ⊥
+
+abbrev pub IsNotAddedBy : Table → Cmd → Site → Site → Type 0
+IsNotAddedBy t (command.BlockdevAdd c) old new = IsNotAdded t c old new
+IsNotAddedBy t c old new = ⊥

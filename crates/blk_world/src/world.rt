@@ -4,6 +4,7 @@ ghost use Rattle.blk_nodes.specs.Nodes.{no_nodes};
 ghost use Rattle.qmp_rules.specs.Table.{opening_table};
 ghost use Rattle.blk_world.specs.Progress.{no_progress};
 
+mod adding;
 mod alone;
 mod attaching;
 mod closing;

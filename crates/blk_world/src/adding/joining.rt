@@ -393,8 +393,8 @@ fn add_over_nodes<D: Device>(
     }
 }
 
-/// Adds the nodes of an addition, with the device that was taken out and the image that was opened for it. The memory for both
-/// nodes is taken before the first is added.
+/// Adds the nodes of an addition, with the device that was taken out and the image that was opened for it. The memory for
+/// both is taken before the first is added.
 pub(crate) fn add_nodes<D: Device>(
     alloc: Global,
     nodes: &mut Nodes<D>,

@@ -1,5 +1,5 @@
 //! The course of an addition.
-ghost use Rattle.std.specs.Prelude.{◌≡◌, length, None, IfOk, OnOk, OnErr, string_bytes};
+ghost use Rattle.std.specs.Prelude.{◌≡◌, length, true, None, IfOk, OnOk, OnErr, string_bytes};
 ghost use Rattle.qmp_codec.specs.Commands.{seen_command};
 ghost use Rattle.qmp_codec.specs.Nodes.{seen_added, seen_blockdev_add};
 ghost use Rattle.qmp_codec.specs.declared.command.Command.TheVariants.{BlockdevAdd as AddCommand};
@@ -9,7 +9,7 @@ ghost use Rattle.qmp_rules.specs.Fitting.{AllFit};
 ghost use Rattle.qmp_rules.specs.Room.{HasRoom};
 ghost use Rattle.blk_world.specs.Joining.{CanAdd, HasAdded};
 ghost use Rattle.blk_world.specs.Looking.{site};
-ghost use Rattle.blk_world.specs.Staging.{CanLook, HasEnded, IsAdditionOf, IsNotAdded, IsOutFor, IsStaged, back_if, opened_name};
+ghost use Rattle.blk_world.specs.Staging.{CanLook, HasEnded, IsAdditionBy, IsAdditionOf, IsNotAdded, IsNotAddedBy, IsOutFor, IsStaged, back_if, is_addition, opened_name};
 
 use crate::adding::joining::add_nodes;
 use crate::adding::looking::{Looked, look};
@@ -153,8 +153,8 @@ fn end<S: Store>(
     }
 }
 
-/// Looks at what an addition needs, answers it, and adds its nodes where it is accepted. For want of memory nothing is added.
-pub(crate) fn add<S: Store>(
+/// Looks at what an addition needs, answers it, and adds its nodes where it is accepted.
+fn add<S: Store>(
     alloc: Global,
     store: &mut RunStore<S>,
     nodes: &mut Nodes<S::Dev>,
@@ -182,5 +182,28 @@ pub(crate) fn add<S: Store>(
             give_back_if(store, &c.driver, out);
             Err(stop)
         }
+    }
+}
+
+/// Carries out `blockdev-add`, or refuses it. Says the text of the reply.
+pub(crate) fn add_by<S: Store>(
+    alloc: Global,
+    store: &mut RunStore<S>,
+    nodes: &mut Nodes<S::Dev>,
+    names: &mut Names,
+    given: &str,
+    command: &Command,
+) -> Result<String, NoMemory>
+    requires addition { is_addition (seen_command command.now) ≡ true }
+    requires can { CanLook names.old.table (site store.old nodes.old) }
+    ensures ok { IfOk result (λ text. IsAdditionBy names.old.table given.now (seen_command command.now)
+        (site store.old nodes.old) (site store.new nodes.new) names.new.table (string_bytes text)) }
+    ensures back { OnErr result (IsNotAddedBy names.old.table (seen_command command.now)
+        (site store.old nodes.old) (site store.new nodes.new)) }
+    ensures same { OnErr result (names.new.table ≡ names.old.table) }
+{
+    match command {
+        Command::BlockdevAdd(c) => add(alloc, store, nodes, names, given, command, c),
+        _ => unreachable!(),
     }
 }

@@ -24,7 +24,7 @@ impl<S: Store> World<S> {
         ensures back { OnErr result (IsPutBack self.old self.new) }
     {
         match command {
-            Command::BlockdevAdd(_) => Err(NoMemory),
+            Command::BlockdevAdd(_) => self.carry_addition(alloc, given, command),
             Command::BlockdevCreate(_) => Err(NoMemory),
             Command::BlockdevDel(_) => self.carry_deletion(alloc, given, command),
             Command::DeviceAdd(_) => self.carry_attachment(alloc, given, command),

@@ -1,0 +1,84 @@
+-- What the world's call of an addition leaves.
+use Rattle.std.proofs.Common.{◌≡◌, ℕ, ◌≤◌, true, false, List, refl, sym, ap, subst, arith, Ok, Err}
+use Rattle.std.specs.Prelude.{Result, IfOk, OnErr}
+use Rattle.blk_nodes.specs.Joined.{IsJoined}
+use Rattle.qmp_codec.specs.Commands.{Cmd}
+use Rattle.qmp_codec.specs.declared.command.Command.TheVariants as command
+use Rattle.qmp_rules.specs.Table.{Table}
+use Rattle.blk_world.specs.Carrying.{IsCarriedAs, IsPutBack}
+use Rattle.blk_world.specs.Coherent.{IsWhole}
+use Rattle.blk_world.specs.Face.{Face}
+use Rattle.blk_world.specs.Looking.{Site}
+use Rattle.blk_world.specs.Staging.{CanLook, IsAdditionBy, IsNotAddedBy, is_addition, site_of}
+use Rattle.blk_world.proofs.AddAccount.{accounted, runs-so}
+use Rattle.blk_world.proofs.AddCarried.{sited}
+use Rattle.blk_world.proofs.AddClosed.{closed-in}
+use Rattle.blk_world.proofs.AddEnds.{carried-as, carried-both}
+use Rattle.blk_world.proofs.AddPut.{put-back, put-both, put-so}
+
+pub can-look : (w : Face) → IsWhole w → CanLook w.table (site_of w)
+can-look w whole = record {
+  alike = whole.coherent.alike;
+  apart = whole.coherent.table.stands.apart;
+  closed = λ name unopened. closed-in w.table w.nodes w.opened name whole.coherent.out unopened;
+}
+
+module _ (w : Face) (whole : IsWhole w) (joined : IsJoined w.nodes) (given : List ℕ) (x : Site) (u : Table) where
+  carried-by : (text : List ℕ) (c : Cmd) → is_addition c ≡ true → IsAdditionBy w.table given c (site_of w) x u text
+      → IsCarriedAs w (sited w x u) given c text
+  carried-by text (command.BlockdevAdd c) sure is =
+      carried-as w whole.coherent whole.tell joined given c x u text is (accounted w whole given c x u text is)
+  carried-by text c sure is = absurd (let bad : ⊥ = cc sure in bad)
+
+  whole-by : (text : List ℕ) (c : Cmd) → is_addition c ≡ true → IsAdditionBy w.table given c (site_of w) x u text → IsWhole (sited w x u)
+  whole-by text (command.BlockdevAdd c) sure is =
+      let both = carried-both w whole.coherent whole.tell joined given c x u text is in
+      let runs = runs-so w whole given c x u text is in
+      let store = runs.store in
+      let counted = whole.counted in
+      record {
+        coherent = both.0;
+        tell = both.1;
+        counted = omega (arith, store, counted);
+      }
+  whole-by text c sure is = absurd (let bad : ⊥ = cc sure in bad)
+
+  put-by : (c : Cmd) → is_addition c ≡ true → IsNotAddedBy w.table c (site_of w) x → u ≡ w.table → IsPutBack w (sited w x u) × IsWhole (sited w x u)
+  put-by (command.BlockdevAdd c) sure is table =
+      let put = put-so w whole.coherent whole.tell x c is in
+      let back = put-back w whole.coherent whole.tell x put u table in
+      let both = put-both w whole.coherent whole.tell x put in
+      let store = back.runs.store in
+      let counted = whole.counted in (
+        back,
+        record {
+          coherent = back.coherent whole.coherent;
+          tell = both.1;
+          counted = omega (arith, store, counted);
+        },
+      )
+  put-by c sure is table = absurd (let bad : ⊥ = cc sure in bad)
+
+  module _ {A E : Type 0} (r : Result A E) (text : A → List ℕ) (c : Cmd) (sure : is_addition c ≡ true) where
+    pub addition-texts : IfOk r (λ a. IsAdditionBy w.table given c (site_of w) x u (text a)) → IfOk r (λ a. IsCarriedAs w (sited w x u) given c (text a))
+    addition-texts is = by_result r is
+      where
+        by_result : (r : Result A E) → IfOk r (λ a. IsAdditionBy w.table given c (site_of w) x u (text a)) → IfOk r (λ a. IsCarriedAs w (sited w x u) given c (text a))
+        by_result (Ok a) is = carried-by (text a) c sure is
+        by_result (Err e) is = is
+
+    pub addition-back : OnErr r (IsNotAddedBy w.table c (site_of w) x) → OnErr r (u ≡ w.table) → OnErr r (IsPutBack w (sited w x u))
+    addition-back is same = by_result r is same
+      where
+        by_result : (r : Result A E) → OnErr r (IsNotAddedBy w.table c (site_of w) x) → OnErr r (u ≡ w.table) → OnErr r (IsPutBack w (sited w x u))
+        by_result (Ok a) is same = is
+        by_result (Err e) is same = (put-by c sure is same).0
+
+    pub addition-whole : IfOk r (λ a. IsAdditionBy w.table given c (site_of w) x u (text a)) → OnErr r (IsNotAddedBy w.table c (site_of w) x)
+        → OnErr r (u ≡ w.table) → IsWhole (sited w x u)
+    addition-whole ok back same = by_result r ok back same
+      where
+        by_result : (r : Result A E) → IfOk r (λ a. IsAdditionBy w.table given c (site_of w) x u (text a)) → OnErr r (IsNotAddedBy w.table c (site_of w) x)
+            → OnErr r (u ≡ w.table) → IsWhole (sited w x u)
+        by_result (Ok a) ok back same = whole-by (text a) c sure ok
+        by_result (Err e) ok back same = (put-by c sure back same).1

@@ -1,0 +1,36 @@
+//! Nodes that are added to a world.
+ghost use Rattle.std.specs.Prelude.{◌≡◌, true, IfOk, OnErr, string_bytes};
+ghost use Rattle.qmp_codec.specs.Commands.{seen_command};
+ghost use Rattle.blk_world.specs.Carrying.{IsCarriedAs, IsPutBack};
+ghost use Rattle.blk_world.specs.Staging.{is_addition};
+
+use crate::adding::staging::add_by;
+use crate::world::World;
+use blk_base::{NoMemory, Store};
+use qmp_codec::Command;
+use std::alloc::Global;
+
+impl<S: Store> World<S> {
+    /// Carries out `blockdev-add`, or refuses it. Says the text of the reply.
+    pub(crate) fn carry_addition(
+        &mut self,
+        alloc: Global,
+        given: &str,
+        command: &Command,
+    ) -> Result<String, NoMemory>
+        requires { is_addition (seen_command command.now) ≡ true }
+        ensures carried { IfOk result (λ text. IsCarriedAs self.old self.new given.now
+            (seen_command command.now) (string_bytes text)) }
+        ensures back { OnErr result (IsPutBack self.old self.new) }
+    {
+        let _ = self.nodes.edges();
+        add_by(
+            alloc,
+            &mut self.store,
+            &mut self.nodes,
+            &mut self.names,
+            given,
+            command,
+        )
+    }
+}
