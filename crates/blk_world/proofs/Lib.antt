@@ -47,6 +47,7 @@ pub mod CreatedContents
 pub mod CreatedAsked
 pub mod CreatedReady
 pub mod CreatedKept
+pub mod CreatedFits
 pub mod RunOpenings
 pub mod AddStops
 pub mod AddTold
