@@ -1,10 +1,7 @@
 -- What was seen of files for an addition is what they hold, whatever it looked at; and why its calls failed.
-use Rattle.std.proofs.Common.{◌≡◌, ◌⊎◌, ℕ, ◌≤◌, true, false, List, inl, inr, refl, sym, ◌∙◌, ap, subst, arith, Option, Some, None}
-use Rattle.std.specs.Prelude.{is_some}
+use Rattle.std.proofs.Common.{◌≡◌, ℕ, List, inl, inr, refl, sym, ◌∙◌, Option, Some, None}
 use Rattle.blk_base.specs.declared.file.File.{File}
 use Rattle.q2_image.specs.Image.{Known}
-use Rattle.blk_nodes.specs.Nodes.{Nodes}
-use Rattle.qmp_codec.specs.Commands.{Cmd}
 use Rattle.qmp_codec.specs.declared.command.Command.TheVariants as command
 use Rattle.qmp_codec.specs.declared.nodes.AddQcow2.{AddQcow2}
 use Rattle.qmp_codec.specs.declared.nodes.AddRaw.{AddRaw}
@@ -19,18 +16,18 @@ use Rattle.qmp_rules.specs.declared.told.Look.TheVariants as look
 use Rattle.qmp_rules.specs.declared.told.Told.{Told}
 use Rattle.flat_machine.specs.State.{State}
 use Rattle.flat_machine.specs.declared.opening.Opening.{Opening}
-use Rattle.blk_world.specs.Adding.{Adding, LooksUnder, Opens, Taken}
+use Rattle.blk_world.specs.Adding.{Adding, Opens, Taken}
 use Rattle.blk_world.specs.Carrying.{IsCaused, as_held}
 use Rattle.blk_world.specs.Coherent.{DevicesTell, IsCoherent, IsWhole}
 use Rattle.blk_world.specs.Comes.{Shows}
 use Rattle.blk_world.specs.Counting.{RunsOn}
 use Rattle.blk_world.specs.Face.{Face}
-use Rattle.blk_world.specs.Looking.{AreIn, HasLooked, LooksAtImage, LooksAtPart, LooksBy, LooksOut, Site, site}
+use Rattle.blk_world.specs.Looking.{AreIn, LooksAtImage, LooksAtPart, LooksBy, LooksOut, Site}
 use Rattle.blk_world.specs.Staging.{HasEnded, IsAdditionOf, opened_name, site_of, store_of}
 use Rattle.blk_world.proofs.AddCarried.{sited}
 use Rattle.blk_world.proofs.AddCause.{causes}
 use Rattle.blk_world.proofs.AddClosed.{closed-in}
-use Rattle.blk_world.proofs.AddEnds.{IsAccounted, carried-both, some-files}
+use Rattle.blk_world.proofs.AddEnds.{IsAccounted, some-files}
 use Rattle.blk_world.proofs.AddExact.{IsSeenHeld, expects-filter, expects-held, expects-nothing, expects-unknown, held-of, seen-store}
 use Rattle.blk_world.proofs.AddKinds.{IsLookedSo, looked-so}
 use Rattle.blk_world.proofs.AddRunsOn.{runs-added, runs-back}

@@ -1,40 +1,29 @@
 -- What it means that nothing refuses an addition.
-use Rattle.std.proofs.Common.{◌≡◌, ◌≢◌, ◌⊎◌, ℕ, ◌+◌, ◌-◌, ◌≤◌, ◌==◌, Bool, true, false, List, [], ◌∷◌, ◌++◌, length, inl, inr, refl, sym, ◌∙◌, ap, subst, arith, Option, Some, None}
-use Rattle.std.specs.Prelude.{codes, is_none, is_some, nat_le, nat_lt, not, ◌||◌, ◌&&◌, option_and_then, option_map}
-use Rattle.std.specs.List.{list_any}
-use Rattle.std.proofs.lemmas.Bool.{leb-true, not-false, or_parts, eqb-true}
+use Rattle.std.proofs.Common.{◌≡◌, ◌≢◌, ◌⊎◌, ℕ, ◌+◌, ◌≤◌, Bool, true, false, List, ◌∷◌, ◌++◌, inl, inr, refl, sym, ◌∙◌, ap, subst, arith, Option, Some, None}
+use Rattle.std.specs.Prelude.{codes, is_some, not, option_map}
+use Rattle.std.proofs.lemmas.Bool.{leb-true}
 use Rattle.blk_graph.specs.declared.edge.Conflict.{Conflict as Pair}
 use Rattle.blk_graph.specs.Rule.{first_conflict}
 use Rattle.qmp_codec.specs.declared.command.Command.TheVariants as command
 use Rattle.qmp_codec.specs.declared.fields.Amount.{Amount}
-use Rattle.qmp_codec.specs.declared.fields.Amount.TheVariants.{Number, Negative}
-use Rattle.qmp_codec.specs.declared.nodes.AddQcow2.{AddQcow2}
-use Rattle.qmp_codec.specs.declared.nodes.AddRaw.{AddRaw}
-use Rattle.qmp_codec.specs.declared.nodes.Added.{Added}
-use Rattle.qmp_codec.specs.declared.nodes.Added.TheVariants as added
-use Rattle.qmp_codec.specs.declared.nodes.FileRef.TheVariants as file_ref
-use Rattle.qmp_codec.specs.declared.nodes.InlineFile.{InlineFile}
 use Rattle.qmp_rules.specs.Answers.{conflict_after, conflict_in, conflict_refusal, is_joined, out_of_turn, refusal_of, untold}
-use Rattle.qmp_rules.specs.Asks.{Asking, first, holds, if_there, is_lost, stands_for}
+use Rattle.qmp_rules.specs.Asks.{Asking, first, holds}
 use Rattle.qmp_rules.specs.Changes.{all_changed}
 use Rattle.qmp_rules.specs.Edits.{edits_of, ids}
-use Rattle.qmp_rules.specs.Looks.{file_stop, is_unopened, raw_stop, stop_at, too_long}
+use Rattle.qmp_rules.specs.Looks.{is_unopened}
 use Rattle.qmp_rules.specs.NodeAsks.{add_asks, added_names, added_rest, added_values, is_added, is_read_only, option_values}
-use Rattle.qmp_rules.specs.Refusals.{or_else, refused}
 use Rattle.qmp_rules.specs.Table.{Table, file_state, node_named}
-use Rattle.qmp_rules.specs.Values.{begins_within, ends_within, part_fits, part_offset, part_size}
+use Rattle.qmp_rules.specs.Values.{begins_within, ends_within, part_offset, part_size}
 use Rattle.qmp_rules.specs.declared.ask.Ask.TheVariants as ask
-use Rattle.qmp_rules.specs.declared.change.Change.{Change}
 use Rattle.qmp_rules.specs.declared.refusal.Refusal.{Refusal}
 use Rattle.qmp_rules.specs.declared.refusal.Refusal.TheVariants as refusal
 use Rattle.qmp_rules.specs.declared.rows.NodeRecord.{NodeRecord}
 use Rattle.qmp_rules.specs.declared.told.Look.{Look}
 use Rattle.qmp_rules.specs.declared.told.Look.TheVariants as look
-use Rattle.qmp_rules.specs.declared.told.Stopped.{Stopped}
 use Rattle.qmp_rules.specs.declared.told.Told.{Told}
 use Rattle.flat_machine.proofs.Accepted.{less_lost, opened}
 use Rattle.flat_machine.proofs.Asked.{NoneHolds, good-value, known-file, none-behind, none-both, none-holds, none-stands, not-refused}
-use Rattle.blk_world.specs.Adding.{Adding, Opens, Taken, LooksInside, Looks, LooksAtFile, LooksInVain, probe}
+use Rattle.blk_world.specs.Adding.{Adding, Opens, Taken, LooksInside, Looks, probe}
 use Rattle.blk_world.specs.Stores.{StoreInRun}
 use Rattle.q2_image.specs.Image.{Known}
 use Rattle.blk_world.proofs.AddTold.{has_look}

@@ -1,27 +1,25 @@
 -- A world in which an addition was looked at and not made is as whole as before.
-use Rattle.std.proofs.Common.{◌≡◌, ◌≢◌, ◌⊎◌, ℕ, ◌≤◌, Bool, true, false, List, [], ◌∷◌, ◌++◌, length, inl, inr, refl, sym, ◌∙◌, ap, subst, Option, Some, None}
-use Rattle.std.specs.Prelude.{Contains, is_some, slice_get}
+use Rattle.std.proofs.Common.{◌≡◌, ◌⊎◌, ℕ, true, false, List, [], ◌∷◌, ◌++◌, length, inl, inr, refl, sym, ◌∙◌, ap, subst, Option, Some, None}
+use Rattle.std.specs.Prelude.{is_some, slice_get}
 use Rattle.blk_base.specs.Stored.{IsDeviceOf}
 use Rattle.blk_base.specs.declared.file.File.{File}
 use Rattle.blk_base.specs.declared.file.Opened.{Opened}
 use Rattle.blk_graph.proofs.Members.{Contains-cases, Contains-here, Contains-nil, Contains-there}
 use Rattle.q2_image.specs.Image.{Known}
-use Rattle.blk_nodes.specs.Joined.{IsJoined}
 use Rattle.blk_nodes.specs.Nodes.{AreTold, DeviceState, Nodes, row_at}
 use Rattle.blk_nodes.specs.Reading.{HaveRisen}
 use Rattle.qmp_codec.specs.declared.nodes.Added.{Added}
 use Rattle.qmp_rules.specs.Table.{Table, node_at}
 use Rattle.flat_machine.proofs.Tables.{pushed-cases}
 use Rattle.blk_world.specs.Adding.{Adding, Taken, of_node}
-use Rattle.blk_world.specs.Carrying.{IsPutBack}
-use Rattle.blk_world.specs.Coherent.{AreAlike, AreNodesOf, AreOut, DevicesTell, IsCoherent, NamesAreOutOnce}
+use Rattle.blk_world.specs.Coherent.{AreAlike, AreNodesOf, AreOut, DevicesTell, IsCoherent}
 use Rattle.blk_world.specs.Face.{Face}
 use Rattle.blk_world.specs.Joining.{HasAdded}
 use Rattle.blk_world.specs.Looking.{HasCalled, Site, site}
 use Rattle.blk_world.specs.Progress.{Progress}
 use Rattle.blk_world.specs.Staging.{back_if, opened_name, site_of, store_of}
 use Rattle.blk_world.specs.Stores.{StoreInRun}
-use Rattle.blk_world.proofs.AddKinds.{HasDevice, IsCalled, IsLookedSo, IsOpenedFor, has-device, no-device-more}
+use Rattle.blk_world.proofs.AddKinds.{IsLookedSo, has-device, no-device-more}
 use Rattle.blk_world.proofs.AddOut.{get-before, get-cases}
 use Rattle.blk_world.proofs.AddRuns.{back-is, closed-opening}
 use Rattle.blk_world.proofs.CountLemmas.{out-same, same-risen}

@@ -1,18 +1,13 @@
 -- What a created image tells when it is opened, by how long its file is.
-use Rattle.std.proofs.Common.{◌≡◌, ℕ, ◌+◌, ◌<◌, ◌≤◌, Bool, true, false, List, [], ◌∷◌, length, refl, sym, ◌∙◌, ap, subst, arith, Option, Some, None}
-use Rattle.std.specs.Prelude.{is_some, nat_lt, option_map, if◌then◌else◌}
-use Rattle.std.proofs.lemmas.Bool.{le-ltb, lt-ltb, cases_lt}
-use Rattle.q2_format.specs.Created.{CanBeCreated, Creation, HasCreatedFields, IsCreated, created_header, creation_of}
+use Rattle.std.proofs.Common.{◌≡◌, ℕ, ◌<◌, List, [], ◌∷◌, length, refl, arith, Option, Some, None}
+use Rattle.std.specs.Prelude.{nat_lt}
+use Rattle.std.proofs.lemmas.Bool.{le-ltb, lt-ltb}
+use Rattle.q2_format.specs.Created.{CanBeCreated, HasCreatedFields, IsCreated, created_header, creation_of}
 use Rattle.q2_format.specs.Header.{first, refused_where, format_refusal, header_of, header_refusal, name_refusal, profile_refusal, extension_refusal, size_refusal}
 use Rattle.q2_format.specs.Sizes.{clusters_for}
-use Rattle.q2_format.specs.Sound.{Refusal, InHeader, image_refusal}
-use Rattle.q2_format.specs.declared.header.HeaderStop.{HeaderStop}
+use Rattle.q2_format.specs.Sound.{InHeader, image_refusal}
 use Rattle.q2_format.specs.declared.header.HeaderStop.TheVariants.{Short, TooLarge}
-use Rattle.q2_format.proofs.CreatedSound.{created_is_sound}
 use Rattle.q2_format.proofs.ReadBack.{created_header_accepted, header_read}
-use Rattle.qmp_rules.specs.Looks.{ImageSight}
-use Rattle.flat_machine.specs.Sights.{blank_stop, image_sight, stop_for, too_large}
-use Rattle.flat_machine.specs.State.{Content, Bytes, Blank}
 
 first-none : {R : Type 0} (a : Option R) (rest : List (Option R)) → first (a ∷ rest) ≡ None → (a ≡ None) × (first rest ≡ None)
 first-none None rest none = (refl, none)

@@ -1,11 +1,10 @@
 -- What an addition leaves of the world, carried out, refused or not made.
-use Rattle.std.proofs.Common.{◌≡◌, ◌⊎◌, ℕ, ◌≤◌, Bool, true, false, List, [], ◌∷◌, ◌++◌, length, inl, inr, refl, sym, ◌∙◌, ap, subst, Option, Some, None, Ok, Err}
-use Rattle.std.specs.Prelude.{is_some, option_and_then}
+use Rattle.std.proofs.Common.{◌≡◌, ℕ, List, refl, sym, ◌∙◌, ap, subst, Option, Some, None}
+use Rattle.std.specs.Prelude.{option_and_then}
 use Rattle.blk_base.specs.declared.file.File.{File}
 use Rattle.q2_image.specs.Image.{Known}
 use Rattle.blk_nodes.specs.Joined.{IsJoined}
 use Rattle.blk_nodes.specs.Nodes.{Nodes}
-use Rattle.qmp_codec.specs.Commands.{Cmd}
 use Rattle.qmp_codec.specs.declared.command.Command.TheVariants as command
 use Rattle.qmp_codec.specs.declared.nodes.AddQcow2.{AddQcow2}
 use Rattle.qmp_codec.specs.declared.nodes.AddRaw.{AddRaw}
@@ -13,7 +12,7 @@ use Rattle.qmp_codec.specs.declared.nodes.Added.{Added}
 use Rattle.qmp_codec.specs.declared.nodes.Added.TheVariants as added
 use Rattle.qmp_codec.specs.declared.nodes.FileRef.{FileRef}
 use Rattle.qmp_codec.specs.declared.nodes.FileRef.TheVariants as file_ref
-use Rattle.qmp_rules.specs.Answers.{Answer, answer, answer_by, command_edits, refusal_of, returned}
+use Rattle.qmp_rules.specs.Answers.{command_edits, refusal_of}
 use Rattle.qmp_rules.specs.Asks.{id_or}
 use Rattle.qmp_rules.specs.Changes.{all_changed}
 use Rattle.qmp_rules.specs.Edits.{added_edits, edits_of, free_id, image_row, qcow2_edits, raw_edits}
@@ -21,40 +20,28 @@ use Rattle.qmp_rules.specs.Looks.{file_stop, raw_stop}
 use Rattle.qmp_rules.specs.NodeAsks.{backing_name, is_read_only}
 use Rattle.qmp_rules.specs.Table.{Table, id_named}
 use Rattle.qmp_rules.specs.declared.change.Change.{Change}
-use Rattle.qmp_rules.specs.declared.refusal.Refusal.{Refusal}
 use Rattle.qmp_rules.specs.declared.told.Look.TheVariants as look
 use Rattle.qmp_rules.specs.declared.told.Told.{Told}
 use Rattle.flat_machine.specs.Performing.{AllPerformed, IsQuiet}
 use Rattle.flat_machine.specs.State.{State}
-use Rattle.flat_machine.specs.declared.opening.Opening.{Opening}
-use Rattle.blk_world.specs.Adding.{Adding, IsTakenOut, Opens, Taken, Tells, TellsInside, TellsLength}
-use Rattle.blk_world.specs.Carrying.{IsCarried, IsCarriedAs, IsCarriedIn, IsCaused, IsPutBack}
-use Rattle.blk_world.specs.Coherent.{DevicesTell, IsCoherent}
-use Rattle.blk_world.specs.Comes.{Shows}
+use Rattle.blk_world.specs.Adding.{Adding, IsTakenOut, Taken, Tells, TellsInside, TellsLength}
+use Rattle.blk_world.specs.Coherent.{IsCoherent}
 use Rattle.blk_world.specs.Face.{Face, contents_of, told_bytes}
 use Rattle.blk_world.specs.Joining.{HasAdded, HasAddedBy, HasAddedFile, HasAddedImage, HasAddedPart}
-use Rattle.blk_world.specs.Looking.{AreIn, HasLooked, LooksAtImage, LooksAtPart, LooksBy, Site, site}
-use Rattle.blk_world.specs.Saying.{IsSaid}
-use Rattle.blk_world.specs.Staging.{HasEnded, IsAddedSo, IsAdditionOf, IsRefusedSo, back_if, opened_name, site_of, store_of}
+use Rattle.blk_world.specs.Looking.{HasLooked, LooksAtImage, LooksAtPart, LooksBy, Site}
+use Rattle.blk_world.specs.Staging.{site_of, store_of}
 use Rattle.blk_world.specs.Stores.{StoreInRun}
 use Rattle.blk_world.proofs.AddAsked.{known-driver, taken-out}
-use Rattle.blk_world.proofs.AddBack.{added-tell, alike-called, back-both, coherent-put}
-use Rattle.blk_world.proofs.AddClean.{told-clean}
-use Rattle.blk_world.proofs.AddClosed.{closed-in}
-use Rattle.blk_world.proofs.AddCoherent.{whole}
+use Rattle.blk_world.proofs.AddBack.{alike-called, coherent-put}
 use Rattle.blk_world.proofs.AddDid.{did-sooner}
-use Rattle.blk_world.proofs.AddExact.{IsSeenHeld, carried-in}
 use Rattle.blk_world.proofs.AddImages.{image-inside, image-there}
-use Rattle.blk_world.proofs.AddKinds.{IsLookedSo, looked-so}
 use Rattle.blk_world.proofs.AddLooks.{holds-file}
 use Rattle.blk_world.proofs.AddMiddle.{middle-of}
-use Rattle.blk_world.proofs.AddQuiet.{quiet-back, quiet-called}
-use Rattle.blk_world.proofs.AddRunsOn.{runs-added, runs-back}
+use Rattle.blk_world.proofs.AddQuiet.{quiet-called}
 use Rattle.blk_world.proofs.AddSeen.{AsFile, AsImage, AsPart}
 use Rattle.blk_world.proofs.AddShown.{shown-file, shown-filter, shown-inline, shown-named, shown-part}
 use Rattle.blk_world.proofs.AddWhole.{fresh-of}
 use Rattle.blk_world.proofs.CountLemmas.{out-same, same-risen}
-use Rattle.blk_world.proofs.Placed.{answer-is}
 
 -- the world with this store, these nodes and this table
 abbrev pub sited : Face → Site → Table → Face

@@ -1,15 +1,13 @@
 -- Why a call of an addition failed: its count rose in this event, and the addition calls it.
-use Rattle.std.proofs.Common.{◌≡◌, ◌≢◌, ◌⊎◌, ℕ, zero, suc, ◌+◌, ◌<◌, ◌≤◌, Bool, true, false, List, [], ◌∷◌, ◌++◌, length, map, drop, inl, inr, refl, sym, ◌∙◌, ap, subst, arith, Option, Some, None}
-use Rattle.std.specs.Prelude.{Contains, if◌then◌else◌, option_and_then, option_map, slice_get}
+use Rattle.std.proofs.Common.{◌≡◌, ◌⊎◌, ℕ, suc, ◌+◌, ◌<◌, ◌≤◌, Bool, true, false, List, [], ◌∷◌, ◌++◌, length, map, drop, inl, inr, refl, sym, ◌∙◌, ap, subst, arith, Option, Some, None}
+use Rattle.std.specs.Prelude.{if◌then◌else◌, option_and_then, option_map, slice_get}
 use Rattle.std.proofs.lemmas.Option.{slice_get-map}
 use Rattle.blk_base.specs.Counts.{Rose}
 use Rattle.blk_base.specs.declared.fault.DevNo.{DevNo}
-use Rattle.blk_base.specs.declared.fault.FaultFrom.TheVariants.{Dev, Store}
+use Rattle.blk_base.specs.declared.fault.FaultFrom.TheVariants.{Dev}
 use Rattle.blk_base.specs.declared.file.Opened.{Opened}
 use Rattle.blk_graph.proofs.Members.{find-Some}
-use Rattle.blk_history.specs.Fold.{With}
 use Rattle.q2_image.specs.Image.{Known}
-use Rattle.q2_image.specs.declared.stop.ImageStop.{ImageStop}
 use Rattle.q2_image.specs.declared.stop.ImageStop.TheVariants as stop
 use Rattle.blk_nodes.specs.Nodes.{DeviceState, Nodes, device_in, is_of}
 use Rattle.blk_nodes.specs.Overlays.{IsUnopenedOn}
@@ -34,11 +32,10 @@ use Rattle.qmp_rules.specs.declared.told.Look.{Look}
 use Rattle.qmp_rules.specs.declared.told.Look.TheVariants as look
 use Rattle.qmp_rules.specs.declared.told.Stopped.{Stopped}
 use Rattle.qmp_rules.specs.declared.told.Told.{Told}
-use Rattle.flat_machine.specs.Licence.{fault_at}
-use Rattle.blk_world.specs.Adding.{Adding, CountFits, HasFailed, IsAbsent, IsTakenOut, Looks, LooksBadly, LooksUnder, Opens, Taken, LooksAtFile, LooksAway, LooksInVain, Tells, TellsInside, TellsLength, TellsRefusal, of_node, opened_sight, put_back, unopened}
+use Rattle.blk_world.specs.Adding.{Adding, CountFits, HasFailed, IsAbsent, IsTakenOut, Looks, LooksBadly, LooksUnder, Opens, Taken, LooksAtFile, LooksInVain, Tells, TellsInside, TellsLength, of_node, opened_sight, put_back, unopened}
 use Rattle.blk_world.specs.Carrying.{IsCaused, is_failed}
 use Rattle.blk_world.specs.Coherent.{IsCoherent}
-use Rattle.blk_world.specs.Counting.{IsReached, RunsOn, counts_within, sources_of}
+use Rattle.blk_world.specs.Counting.{RunsOn, counts_within}
 use Rattle.blk_world.specs.Face.{Face, count_of_opening, counts_from, counts_now, first_counts}
 use Rattle.blk_world.specs.Looking.{AreIn, HasLooked, LooksAtImage, LooksAtPart, LooksBy, LooksIn, LooksOut, Site, site}
 use Rattle.blk_world.specs.Staging.{back_if, opened_name, site_of, store_of}

@@ -1,5 +1,5 @@
 -- What is told of files for an addition says nothing of bitmaps, and is stopped by what files may refuse.
-use Rattle.std.proofs.Common.{◌≡◌, ◌⊎◌, ℕ, Bool, true, false, List, [], inl, inr, refl, sym, ◌∙◌, ap, subst, Option, Some, None}
+use Rattle.std.proofs.Common.{◌≡◌, ◌⊎◌, ℕ, Bool, true, false, List, [], inl, inr, sym, ap, subst, Option, Some, None}
 use Rattle.std.specs.Prelude.{codes, is_none, nat_lt, not, ◌==◌, ◌&&◌, ◌||◌, option_and_then, option_map}
 use Rattle.blk_base.specs.declared.fault.DevNo.{DevNo}
 use Rattle.q2_image.specs.Image.{Known}
@@ -12,20 +12,17 @@ use Rattle.qmp_codec.specs.declared.nodes.Added.TheVariants as added
 use Rattle.qmp_codec.specs.declared.nodes.FileRef.{FileRef}
 use Rattle.qmp_codec.specs.declared.nodes.FileRef.TheVariants as file_ref
 use Rattle.qmp_rules.specs.Asks.{if_there}
-use Rattle.qmp_rules.specs.Looks.{ImageSight, file_stop, image_stop, raw_stop, stop_at, told_as, too_long}
+use Rattle.qmp_rules.specs.Looks.{ImageSight, image_stop, raw_stop, stop_at, told_as, too_long}
 use Rattle.qmp_rules.specs.NodeAsks.{backing_name}
 use Rattle.qmp_rules.specs.Refusals.{refused}
 use Rattle.qmp_rules.specs.Table.{Table, node_named}
 use Rattle.qmp_rules.specs.Values.{begins_within, ends_within, part_fits}
-use Rattle.qmp_rules.specs.declared.refusal.FileFault.TheVariants.{TooLong}
-use Rattle.qmp_rules.specs.declared.refusal.Refusal.{Refusal}
 use Rattle.qmp_rules.specs.declared.refusal.Refusal.TheVariants as refusal
 use Rattle.qmp_rules.specs.declared.rows.NodeRecord.{NodeRecord}
-use Rattle.qmp_rules.specs.declared.told.Look.{Look}
 use Rattle.qmp_rules.specs.declared.told.Look.TheVariants as look
 use Rattle.qmp_rules.specs.declared.told.Stopped.{Stopped}
 use Rattle.qmp_rules.specs.declared.told.Told.{Told}
-use Rattle.blk_world.specs.Adding.{Adding, HasFailed, IsAbsent, Looks, LooksBadly, LooksPast, LooksUnder, Opens, Taken, Tells, TellsInside, opened_sight, unopened}
+use Rattle.blk_world.specs.Adding.{Adding, HasFailed, IsAbsent, Looks, LooksUnder, Opens, Taken, Tells, TellsInside, opened_sight, unopened}
 use Rattle.blk_world.specs.Carrying.{IsOfFiles, StopsByFiles}
 use Rattle.blk_world.specs.Looking.{HasLooked, LooksAtImage, LooksAtPart, LooksBy, Site}
 use Rattle.blk_world.specs.Stores.{StoreInRun}

@@ -1,5 +1,5 @@
 -- The parts of a world belong together behind an addition that nothing refused.
-use Rattle.std.proofs.Common.{◌≡◌, ℕ, Bool, true, false, List, [], ◌∷◌, ◌++◌, refl, sym, ◌∙◌, ap, subst, Option, Some, None}
+use Rattle.std.proofs.Common.{◌≡◌, ℕ, List, refl, sym, ◌∙◌, ap, subst, Option, Some, None}
 use Rattle.blk_base.specs.declared.file.Opened.{Opened}
 use Rattle.q2_image.specs.Image.{Known}
 use Rattle.blk_nodes.specs.Joined.{IsJoined}
@@ -31,7 +31,7 @@ use Rattle.blk_world.proofs.AddImages.{image-inside, image-there}
 use Rattle.blk_world.proofs.AddLooked.{called-alike}
 use Rattle.blk_world.proofs.AddMiddle.{Middle, coherent-of, middle-of}
 use Rattle.blk_world.proofs.AddSeen.{AsFile, AsImage, AsPart}
-use Rattle.blk_world.proofs.AddWhole.{FreshFor, IsFresh, fresh-of, whole-file, whole-filter, whole-image, whole-part}
+use Rattle.blk_world.proofs.AddWhole.{fresh-of, whole-file, whole-filter, whole-image, whole-part}
 use Rattle.blk_world.proofs.CountLemmas.{out-same, same-risen}
 
 module _ (t : Table) (told : Told) (c : Adding) (none : refusal_of t told (command.BlockdevAdd c) ≡ None) (old now new : Site) (out : Option Taken)

@@ -1,12 +1,11 @@
 -- One node of an addition, as the flat machine sees it.
-use Rattle.std.proofs.Common.{◌≡◌, ◌≢◌, ◌⊎◌, ℕ, ◌==◌, Bool, true, false, cond, List, [], ◌∷◌, ◌++◌, map, set, inl, inr, refl, sym, ◌∙◌, ap, subst, Option, Some, None}
-use Rattle.std.specs.Prelude.{Contains, IsSome, bytes_eq, find, option_and_then, option_map, unwrap_or}
-use Rattle.std.proofs.lemmas.Bool.{eqb-true}
+use Rattle.std.proofs.Common.{◌≡◌, ◌⊎◌, ℕ, Bool, true, false, cond, List, [], ◌∷◌, inl, inr, refl, sym, ◌∙◌, ap, Option, Some, None}
+use Rattle.std.specs.Prelude.{Contains, bytes_eq, find, option_map, unwrap_or}
 use Rattle.blk_graph.specs.Graph.{HasNode}
 use Rattle.blk_graph.specs.declared.kind.Kind.{Kind}
-use Rattle.blk_graph.specs.declared.kind.Kind.TheVariants.{Protocol, Raw, Qcow2}
+use Rattle.blk_graph.specs.declared.kind.Kind.TheVariants.{Raw, Qcow2}
 use Rattle.blk_graph.proofs.Members.{Contains-cases, Contains-nil, find-Some}
-use Rattle.q2_format.specs.Contents.{file_disk, image_disk, raw_disk}
+use Rattle.q2_format.specs.Contents.{image_disk, raw_disk}
 use Rattle.blk_nodes.specs.Contents.{below, bytes_of, disk_of}
 use Rattle.blk_nodes.specs.Joined.{IsJoined}
 use Rattle.blk_nodes.specs.Nodes.{Nodes, row_at}
@@ -19,9 +18,9 @@ use Rattle.qmp_rules.specs.Table.{Table, node_at}
 use Rattle.qmp_rules.specs.declared.change.Change.TheVariants.{AddFile, AddFilter, AddFormat}
 use Rattle.qmp_rules.specs.declared.rows.NodeRecord.{NodeRecord}
 use Rattle.flat_machine.specs.Agreement.{Contents}
-use Rattle.flat_machine.specs.Performing.{IsQuiet, Performed, Puts, backing_reads, format_as, held_bytes}
+use Rattle.flat_machine.specs.Performing.{IsQuiet, Performed, backing_reads, format_as, held_bytes}
 use Rattle.flat_machine.specs.State.{State, filename_of}
-use Rattle.flat_machine.specs.Wiring.{AreFileNodes, StandAlone}
+use Rattle.flat_machine.specs.Wiring.{StandAlone}
 use Rattle.flat_machine.proofs.Finds.{bytes_eq-same, same-bytes_eq}
 use Rattle.flat_machine.proofs.Fresh.{found-new}
 use Rattle.blk_world.specs.Adding.{Taken}

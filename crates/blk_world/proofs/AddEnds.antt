@@ -1,30 +1,26 @@
 -- What an addition leaves of the world is what a command has to leave, by why its calls failed and what was seen of files.
-use Rattle.std.proofs.Common.{◌≡◌, ◌⊎◌, ℕ, Bool, true, false, List, [], ◌∷◌, inl, inr, refl, sym, ◌∙◌, ap, subst, Option, Some, None, Ok, Err}
-use Rattle.std.specs.Prelude.{Result, is_some}
-use Rattle.serde_json.specs.Data.{Data}
+use Rattle.std.proofs.Common.{◌≡◌, ℕ, true, false, List, inl, inr, refl, sym, ◌∙◌, ap, subst, Option, Some, None}
+use Rattle.std.specs.Prelude.{is_some}
 use Rattle.blk_base.specs.declared.file.File.{File}
-use Rattle.q2_image.specs.Image.{Known}
 use Rattle.blk_nodes.specs.Joined.{IsJoined}
-use Rattle.blk_nodes.specs.Nodes.{Nodes}
 use Rattle.qmp_codec.specs.Commands.{Cmd}
 use Rattle.qmp_codec.specs.declared.command.Command.TheVariants as command
-use Rattle.qmp_rules.specs.Answers.{Answer, answer, command_edits, refusal_of, returned}
+use Rattle.qmp_rules.specs.Answers.{Answer, answer, refusal_of}
 use Rattle.qmp_rules.specs.Changes.{all_changed}
 use Rattle.qmp_rules.specs.Table.{Table}
-use Rattle.qmp_rules.specs.declared.change.Change.{Change}
 use Rattle.qmp_rules.specs.declared.refusal.Refusal.{Refusal}
 use Rattle.qmp_rules.specs.declared.told.Told.{Told}
-use Rattle.flat_machine.specs.Performing.{AllPerformed, IsQuiet}
+use Rattle.flat_machine.specs.Performing.{AllPerformed}
 use Rattle.flat_machine.specs.State.{State}
 use Rattle.flat_machine.specs.declared.opening.Opening.{Opening}
-use Rattle.blk_world.specs.Adding.{Adding, Taken}
-use Rattle.blk_world.specs.Carrying.{IsCarried, IsCarriedAs, IsCarriedIn, IsCaused, IsPutBack}
+use Rattle.blk_world.specs.Adding.{Adding}
+use Rattle.blk_world.specs.Carrying.{IsCarriedAs, IsCaused}
 use Rattle.blk_world.specs.Coherent.{DevicesTell, IsCoherent}
 use Rattle.blk_world.specs.Comes.{Shows}
 use Rattle.blk_world.specs.Face.{Face, contents_of}
-use Rattle.blk_world.specs.Looking.{AreIn, HasLooked, IsLookedBack, Site, site}
+use Rattle.blk_world.specs.Looking.{AreIn, Site}
 use Rattle.blk_world.specs.Saying.{IsSaid}
-use Rattle.blk_world.specs.Staging.{HasEnded, IsAddedSo, IsAdditionOf, IsNotAdded, IsRefusedSo, IsUnadded, back_if, opened_name, site_of, store_of}
+use Rattle.blk_world.specs.Staging.{HasEnded, IsAddedSo, IsAdditionOf, IsRefusedSo, opened_name, site_of}
 use Rattle.blk_world.specs.Stores.{StoreInRun}
 use Rattle.blk_world.proofs.AddBack.{added-tell, back-both}
 use Rattle.blk_world.proofs.AddCarried.{did-all, sited}

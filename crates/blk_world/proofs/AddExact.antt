@@ -1,6 +1,6 @@
 -- What was seen of the files is what they hold.
-use Rattle.std.proofs.Common.{◌≡◌, ◌≢◌, ◌⊎◌, ℕ, Bool, true, false, List, [], ◌∷◌, map, inl, inr, refl, sym, ◌∙◌, ap, subst, Option, Some, None}
-use Rattle.std.specs.Prelude.{bytes_eq, find, option_and_then, option_map}
+use Rattle.std.proofs.Common.{◌≡◌, ℕ, Bool, true, false, List, map, inl, inr, refl, sym, ◌∙◌, ap, subst, Option, Some, None}
+use Rattle.std.specs.Prelude.{bytes_eq, find, option_map}
 use Rattle.blk_base.specs.declared.file.File.{File}
 use Rattle.blk_history.specs.Fold.{With}
 use Rattle.q2_image.specs.Image.{Known as Image}
@@ -13,11 +13,9 @@ use Rattle.qmp_rules.specs.Looks.{add_told, is_unopened}
 use Rattle.qmp_rules.specs.Table.{Table}
 use Rattle.qmp_rules.specs.declared.told.Stopped.{Stopped}
 use Rattle.qmp_rules.specs.declared.told.Told.{Told}
-use Rattle.flat_machine.specs.Agreement.{Agrees, Contents}
 use Rattle.flat_machine.specs.Final.{bytes_of}
 use Rattle.flat_machine.specs.Performing.{AllPerformed}
-use Rattle.flat_machine.specs.Sights.{Fails, IsTold, told_by}
-use Rattle.flat_machine.specs.Standing.{Stands, StandsAtRest}
+use Rattle.flat_machine.specs.Sights.{Fails, IsTold}
 use Rattle.flat_machine.specs.State.{State, Known, Content, Bytes, content_in}
 use Rattle.flat_machine.specs.declared.opening.Opening.{Opening}
 use Rattle.flat_machine.proofs.Finds.{find-map}
@@ -29,7 +27,7 @@ use Rattle.blk_world.specs.Stores.{StoreInRun}
 use Rattle.blk_world.proofs.AddClosed.{closed-held}
 use Rattle.blk_world.proofs.AddLooks.{seen-looks}
 use Rattle.blk_world.proofs.AddSeen.{AsFile, AsImage, AsPart, OpensAs, expects-closed}
-use Rattle.blk_world.proofs.AddSights.{IsExact, IsSeenAs, expects, known-absent, known-there, seen-whole}
+use Rattle.blk_world.proofs.AddSights.{IsExact, IsSeenAs, expects, known-absent, known-there}
 
 -- ---- what is known as it is held
 

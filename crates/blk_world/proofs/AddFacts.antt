@@ -1,19 +1,17 @@
 -- What belongs together does so after an addition.
-use Rattle.std.proofs.Common.{◌≡◌, ◌≢◌, ℕ, ◌==◌, Bool, true, false, cond, not, List, [], ◌∷◌, ◌++◌, length, map, set, refl, sym, ◌∙◌, ap, subst, Option, Some, None}
-use Rattle.std.specs.Prelude.{Contains, IsSome, find, option_and_then, option_map}
+use Rattle.std.proofs.Common.{◌≡◌, ◌≢◌, ℕ, ◌==◌, Bool, true, false, cond, List, [], ◌∷◌, ◌++◌, map, set, refl, sym, ◌∙◌, ap, subst, Option, Some, None}
+use Rattle.std.specs.Prelude.{Contains, find, option_and_then, option_map}
 use Rattle.std.proofs.lemmas.Bool.{eq-eqb}
 use Rattle.blk_base.specs.declared.file.Opened.{Opened}
 use Rattle.blk_graph.specs.declared.edge.Edge.{Edge}
-use Rattle.blk_graph.specs.declared.edge.Role.TheVariants.{File, Backing}
+use Rattle.blk_graph.specs.declared.edge.Role.TheVariants.{File}
 use Rattle.blk_graph.specs.Edits.{with_edge}
-use Rattle.blk_graph.specs.Graph.{HasNode}
 use Rattle.blk_graph.specs.Permissions.{node_edge}
 use Rattle.blk_graph.specs.Refreshed.{refreshed}
-use Rattle.blk_graph.proofs.Members.{find-Some}
 use Rattle.blk_graph.proofs.StillLemmas.{refreshed-fixed}
 use Rattle.blk_nodes.specs.Joined.{IsJoined}
-use Rattle.blk_nodes.specs.Nodes.{DeviceState, Nodes, node_kind, row_at}
-use Rattle.blk_nodes.specs.Overlays.{format_edges as node_edges, with_children}
+use Rattle.blk_nodes.specs.Nodes.{DeviceState, Nodes, row_at}
+use Rattle.blk_nodes.specs.Overlays.{format_edges as node_edges}
 use Rattle.blk_nodes.specs.declared.row.Row.{Row}
 use Rattle.qmp_rules.specs.Changes.{changed, format_edges, node_changed, unsettled, with_unsettled}
 use Rattle.qmp_rules.specs.Table.{Table, node_at}

@@ -1,12 +1,10 @@
 -- Which call failed, where an addition is refused for a failed call.
-use Rattle.std.proofs.Common.{◌≡◌, ◌≢◌, ◌⊎◌, ℕ, ◌<◌, ◌≤◌, ◌^◌, Bool, true, false, List, [], ◌∷◌, inl, inr, refl, sym, ◌∙◌, ap, subst, Option, Some, None}
+use Rattle.std.proofs.Common.{◌≡◌, ◌⊎◌, ℕ, Bool, true, false, List, [], ◌∷◌, inl, inr, refl, sym, ◌∙◌, ap, Option, Some, None}
 use Rattle.std.specs.Prelude.{codes, is_none, nat_lt, not, ◌==◌, ◌&&◌, ◌||◌, option_and_then, option_map}
-use Rattle.blk_base.specs.Counts.{Rose}
 use Rattle.blk_base.specs.declared.fault.DevNo.{DevNo}
-use Rattle.blk_base.specs.declared.fault.FaultFrom.TheVariants.{Dev, Store}
+use Rattle.blk_base.specs.declared.fault.FaultFrom.TheVariants.{Dev}
 use Rattle.blk_graph.specs.Rule.{first_conflict}
 use Rattle.blk_graph.specs.declared.edge.Conflict.{Conflict}
-use Rattle.q2_image.specs.Image.{Known}
 use Rattle.q2_image.specs.declared.stop.ImageStop.{ImageStop}
 use Rattle.q2_image.specs.declared.stop.ImageStop.TheVariants as stop
 use Rattle.qmp_codec.specs.declared.command.Command.TheVariants as command
@@ -16,14 +14,13 @@ use Rattle.qmp_rules.specs.Answers.{conflict_after, conflict_in, conflict_refusa
 use Rattle.qmp_rules.specs.Asks.{Asking, first, holds, if_there, place, same_look, told_at}
 use Rattle.qmp_rules.specs.Changes.{all_changed}
 use Rattle.qmp_rules.specs.Edits.{edits_of, ids}
-use Rattle.qmp_rules.specs.Looks.{ImageSight, file_stop, image_stop, raw_stop, stop_at, too_long}
+use Rattle.qmp_rules.specs.Looks.{ImageSight, image_stop, raw_stop, stop_at, too_long}
 use Rattle.qmp_rules.specs.NodeAsks.{add_asks, backing_name}
-use Rattle.qmp_rules.specs.Refusals.{or_else, place_of, refused}
+use Rattle.qmp_rules.specs.Refusals.{place_of, refused}
 use Rattle.qmp_rules.specs.Table.{Table, node_named}
 use Rattle.qmp_rules.specs.Values.{begins_within, ends_within, part_fits}
 use Rattle.qmp_rules.specs.declared.ask.Ask.TheVariants as ask
 use Rattle.qmp_rules.specs.declared.change.Change.{Change}
-use Rattle.qmp_rules.specs.declared.refusal.FileFault.TheVariants.{TooLong}
 use Rattle.qmp_rules.specs.declared.refusal.Refusal.{Refusal}
 use Rattle.qmp_rules.specs.declared.refusal.Refusal.TheVariants as refusal
 use Rattle.qmp_rules.specs.declared.rows.NodeRecord.{NodeRecord}
@@ -32,7 +29,7 @@ use Rattle.qmp_rules.specs.declared.told.Look.TheVariants as look
 use Rattle.qmp_rules.specs.declared.told.Stopped.{Stopped}
 use Rattle.qmp_rules.specs.declared.told.Told.{Told}
 use Rattle.qmp_rules.proofs.PlaceLemmas.{has_place}
-use Rattle.blk_world.specs.Adding.{Adding, CountFits, opened_sight, unopened}
+use Rattle.blk_world.specs.Adding.{Adding, unopened}
 use Rattle.blk_world.specs.Carrying.{is_failed}
 use Rattle.blk_world.proofs.AddRefused.{refusal-is}
 use Rattle.blk_world.proofs.CarryNames.{either-of}

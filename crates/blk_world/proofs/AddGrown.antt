@@ -1,5 +1,5 @@
 -- A table that has grown by one node, whose edges are the only new ones: guests' disks are where they were.
-use Rattle.std.proofs.Common.{◌≡◌, ◌≢◌, ◌⊎◌, ℕ, zero, suc, ◌≤◌, Bool, true, false, List, length, inl, inr, refl, sym, ◌∙◌, ap, subst, Option, Some, None}
+use Rattle.std.proofs.Common.{◌≡◌, ◌≢◌, ◌⊎◌, ℕ, zero, suc, ◌≤◌, List, inl, inr, refl, sym, ◌∙◌, ap, subst, Option, Some, None}
 use Rattle.std.specs.Prelude.{IsSome, Contains, option_map, option_and_then, unwrap_or}
 use Rattle.blk_base.specs.Pieces.{end_of}
 use Rattle.blk_graph.specs.declared.edge.Edge.{Edge}
@@ -15,10 +15,8 @@ use Rattle.qmp_rules.specs.Table.{Table, child, device_at, node_at}
 use Rattle.qmp_rules.specs.Chains.{disk_from, disk_node, filter_role, filtered}
 use Rattle.blk_history.specs.Disk.{span_of}
 use Rattle.blk_history.specs.Fold.{With}
-use Rattle.blk_history.specs.Machine.{Flight}
 use Rattle.flat_machine.specs.Agreement.{HasDisk}
 use Rattle.flat_machine.specs.State.{Guest as GuestRow, disk_of_guest, drive_of, filename_of, size_of}
-use Rattle.blk_world.specs.Progress.{flight_at}
 use Rattle.blk_world.specs.Coherent.{AreOnDisks, AreWithin, HaveDrives}
 
 -- what stays of a row that was there

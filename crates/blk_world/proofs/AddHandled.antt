@@ -1,5 +1,5 @@
 -- What the world's call of an addition leaves.
-use Rattle.std.proofs.Common.{◌≡◌, ℕ, ◌≤◌, true, false, List, refl, sym, ap, subst, arith, Ok, Err}
+use Rattle.std.proofs.Common.{◌≡◌, ℕ, true, List, arith, Ok, Err}
 use Rattle.std.specs.Prelude.{Result, IfOk, OnErr}
 use Rattle.blk_nodes.specs.Joined.{IsJoined}
 use Rattle.qmp_codec.specs.Commands.{Cmd}

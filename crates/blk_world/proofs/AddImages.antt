@@ -1,16 +1,14 @@
 -- An image that nothing refuses fits its new node.
-use Rattle.std.proofs.Common.{◌≡◌, ◌≢◌, ◌⊎◌, ℕ, ◌+◌, ◌≤◌, ◌==◌, Bool, true, false, List, [], ◌∷◌, ◌++◌, length, inl, inr, refl, sym, ◌∙◌, ap, subst, arith, Option, Some, None}
-use Rattle.std.specs.Prelude.{bytes_eq, find, is_none, is_some, if◌then◌else◌, not, ◌&&◌, option_and_then, option_map}
+use Rattle.std.proofs.Common.{◌≡◌, ◌≢◌, ◌⊎◌, ℕ, ◌==◌, Bool, true, false, List, [], ◌∷◌, inl, inr, refl, sym, ◌∙◌, ap, subst, Option, Some, None}
+use Rattle.std.specs.Prelude.{bytes_eq, is_none, is_some, if◌then◌else◌, not, ◌&&◌, option_and_then}
 use Rattle.std.proofs.lemmas.Bool.{not-false}
 use Rattle.blk_graph.proofs.Members.{find-Some}
 use Rattle.q2_format.specs.References.{reach_of}
 use Rattle.q2_format.specs.declared.header.Header.{Header}
 use Rattle.q2_image.specs.Image.{Known}
-use Rattle.blk_nodes.specs.Joined.{IsJoined}
 use Rattle.blk_nodes.specs.Nodes.{DeviceState, Nodes, device_in}
-use Rattle.blk_nodes.specs.Overlays.{IsOpened, IsOpenedOn, backing_size, backing_stop}
+use Rattle.blk_nodes.specs.Overlays.{IsOpened, backing_size, backing_stop}
 use Rattle.blk_nodes.specs.Reading.{HasRisen, HaveRisen}
-use Rattle.blk_nodes.specs.declared.stop.AddStop.{AddStop}
 use Rattle.blk_nodes.specs.declared.stop.AddStop.TheVariants as stops
 use Rattle.qmp_codec.specs.declared.command.Command.TheVariants as command
 use Rattle.qmp_codec.specs.declared.nodes.AddQcow2.{AddQcow2}
@@ -19,12 +17,12 @@ use Rattle.qmp_codec.specs.declared.nodes.Backing.{Backing as Said}
 use Rattle.qmp_codec.specs.declared.nodes.Backing.TheVariants as said
 use Rattle.qmp_codec.specs.declared.nodes.FileRef.TheVariants as file_ref
 use Rattle.qmp_codec.specs.declared.nodes.InlineFile.{InlineFile}
-use Rattle.qmp_rules.specs.Answers.{refusal_of, untold}
-use Rattle.qmp_rules.specs.Asks.{file_node, holds, if_there, is_file, takes}
-use Rattle.qmp_rules.specs.Looks.{ImageSight, file_stop, image_stop, is_free_file, stop_at, told_as, too_long}
+use Rattle.qmp_rules.specs.Answers.{refusal_of}
+use Rattle.qmp_rules.specs.Asks.{file_node, holds, if_there}
+use Rattle.qmp_rules.specs.Looks.{image_stop, is_free_file, stop_at, too_long}
 use Rattle.qmp_rules.specs.NodeAsks.{add_asks, backing_name}
 use Rattle.qmp_rules.specs.Refusals.{refused}
-use Rattle.qmp_rules.specs.Table.{Table, first_into, id_named, node_at, node_named}
+use Rattle.qmp_rules.specs.Table.{Table, first_into, node_at, node_named}
 use Rattle.qmp_rules.specs.declared.ask.Ask.TheVariants as ask
 use Rattle.qmp_rules.specs.declared.ask.Drivers.TheVariants as drivers
 use Rattle.qmp_rules.specs.declared.refusal.FileFault.TheVariants.{TooLong}
@@ -36,9 +34,9 @@ use Rattle.qmp_rules.specs.declared.told.Stopped.{Stopped}
 use Rattle.qmp_rules.specs.declared.told.Told.{Told}
 use Rattle.flat_machine.specs.Wiring.{AreApart}
 use Rattle.flat_machine.proofs.Asked.{found-named, lone-node, not-refused, takes-driver}
-use Rattle.blk_world.specs.Adding.{Adding, LooksBadly, LooksPast, LooksUnder, LooksWell, Taken, TellsImage, TellsInside, opened_sight, probe}
+use Rattle.blk_world.specs.Adding.{Adding, LooksUnder, LooksWell, Taken, TellsImage, TellsInside, opened_sight, probe}
 use Rattle.blk_world.specs.Coherent.{AreNodesOf}
-use Rattle.blk_world.specs.Joining.{backing_at, backing_for}
+use Rattle.blk_world.specs.Joining.{backing_for}
 use Rattle.blk_world.proofs.AddAsked.{not-stopped, rest-asked}
 use Rattle.blk_world.proofs.AddReady.{size-alike}
 use Rattle.blk_world.proofs.AddRefused.{has-named, has-opened, looks-named, stop-refused, unreached-refused}

@@ -1,17 +1,12 @@
 -- A node over a `file` node that is made with it can be added behind that.
-use Rattle.std.proofs.Common.{◌≡◌, ◌≢◌, ◌⊎◌, ℕ, ◌+◌, ◌<◌, ◌≤◌, ◌==◌, Bool, true, false, cond, List, [], ◌∷◌, ◌++◌, length, map, set, replicate, inl, inr, refl, sym, ◌∙◌, ap, subst, arith, Option, Some, None}
-use Rattle.std.specs.Prelude.{IfSome, bytes_eq, codes, find, is_some, not, option_and_then, option_map, unwrap_or}
-use Rattle.std.proofs.lemmas.Bool.{eq-eqb, false≢true, not-false}
+use Rattle.std.proofs.Common.{◌≡◌, ℕ, ◌+◌, ◌<◌, ◌≤◌, ◌==◌, Bool, true, false, cond, List, [], ◌∷◌, ◌++◌, length, map, set, refl, sym, ◌∙◌, ap, subst, arith, Option, Some, None}
+use Rattle.std.specs.Prelude.{bytes_eq, codes, find, not, unwrap_or}
+use Rattle.std.proofs.lemmas.Bool.{eq-eqb, false≢true}
 use Rattle.std.proofs.lemmas.List.{length-append, map-append}
-use Rattle.blk_graph.specs.declared.edge.Edge.{Edge}
-use Rattle.blk_graph.specs.declared.kind.Kind.TheVariants as kinds
 use Rattle.blk_graph.specs.declared.kind.NodeKind.{NodeKind}
-use Rattle.blk_graph.specs.Edits.{with_edge}
-use Rattle.blk_graph.specs.Graph.{HasNode, ids as ids_in}
-use Rattle.blk_graph.specs.Ids.{IsLowestFree, lowest_free}
+use Rattle.blk_graph.specs.Graph.{ids as ids_in}
+use Rattle.blk_graph.specs.Ids.{lowest_free}
 use Rattle.blk_graph.specs.Refreshed.{refreshed}
-use Rattle.blk_graph.specs.Rule.{first_conflict}
-use Rattle.blk_nodes.specs.Adding.{file_edge}
 use Rattle.blk_nodes.specs.Joined.{IsFile, IsJoined}
 use Rattle.blk_nodes.specs.Nodes.{Nodes, size_of}
 use Rattle.blk_nodes.specs.Overlays.{HasPlace}
@@ -20,11 +15,10 @@ use Rattle.blk_nodes.specs.declared.row.Row.{Row}
 use Rattle.qmp_codec.specs.declared.nodes.InlineFile.{InlineFile}
 use Rattle.qmp_rules.specs.Asks.{holds}
 use Rattle.qmp_rules.specs.Changes.{changed}
-use Rattle.qmp_rules.specs.Edits.{free_id, ids, inline_row, length_told, next_free_id}
+use Rattle.qmp_rules.specs.Edits.{free_id, inline_row, length_told, next_free_id}
 use Rattle.qmp_rules.specs.Naming.{inline_name}
 use Rattle.qmp_rules.specs.NodeAsks.{is_read_only}
 use Rattle.qmp_rules.specs.Answers.{untold}
-use Rattle.qmp_rules.specs.Refusals.{refused}
 use Rattle.qmp_rules.specs.Table.{Table, kind_in, kinds_from, kinds_of, node_at, node_named}
 use Rattle.qmp_rules.specs.declared.ask.Ask.TheVariants as ask
 use Rattle.qmp_rules.specs.declared.change.Change.TheVariants.{AddFile}
@@ -37,7 +31,7 @@ use Rattle.flat_machine.proofs.Asked.{not-refused}
 use Rattle.flat_machine.proofs.Finds.{bytes_eq-same, same-bytes_eq}
 use Rattle.flat_machine.proofs.Fresh.{found-new}
 use Rattle.blk_world.specs.Adding.{Adding, Taken}
-use Rattle.blk_world.specs.Coherent.{AreNodesOf, IsRowOf}
+use Rattle.blk_world.specs.Coherent.{AreNodesOf}
 use Rattle.blk_world.specs.Joining.{HasInline}
 use Rattle.blk_world.proofs.AddAlike.{apart-of, id_of}
 use Rattle.blk_world.proofs.AddFacts.{alike-filed}

@@ -1,12 +1,12 @@
 -- An addition that nothing refuses can be carried out, by what was looked at.
-use Rattle.std.proofs.Common.{◌≡◌, ◌≢◌, ◌⊎◌, ℕ, ◌+◌, ◌<◌, ◌≤◌, ◌==◌, Bool, true, false, List, [], ◌∷◌, ◌++◌, length, map, inl, inr, refl, sym, ◌∙◌, ap, subst, arith, Option, Some, None}
-use Rattle.std.specs.Prelude.{Contains, IfSome, bytes_eq, codes, find, is_some, nat_lt, not, ◌||◌, slice_index_or, option_and_then, option_map, unwrap_or}
-use Rattle.std.proofs.lemmas.Bool.{eq-eqb, not-false}
+use Rattle.std.proofs.Common.{◌≡◌, ◌≢◌, ℕ, ◌+◌, ◌<◌, ◌≤◌, Bool, true, false, List, [], ◌∷◌, ◌++◌, length, map, refl, sym, ◌∙◌, ap, subst, arith, Option, Some, None}
+use Rattle.std.specs.Prelude.{Contains, IfSome, codes, not, slice_index_or, option_and_then}
+use Rattle.std.proofs.lemmas.Bool.{eq-eqb}
 use Rattle.std.proofs.lemmas.List.{get_or-set_other, map-append}
 use Rattle.blk_graph.specs.declared.edge.Edge.{Edge}
 use Rattle.blk_graph.specs.declared.kind.Kind.TheVariants as kinds
 use Rattle.blk_graph.specs.Edits.{with_edge}
-use Rattle.blk_graph.specs.Graph.{Graph, HasNode, NodeRow, ids, with_node as with_graph_node}
+use Rattle.blk_graph.specs.Graph.{HasNode, NodeRow, ids, with_node as with_graph_node}
 use Rattle.blk_graph.specs.Refreshed.{refreshed}
 use Rattle.blk_graph.specs.Rule.{first_conflict}
 use Rattle.q2_image.specs.Image.{Known}
@@ -20,40 +20,35 @@ use Rattle.blk_nodes.specs.declared.row.Row.{Row}
 use Rattle.qmp_codec.specs.declared.command.Command.TheVariants as command
 use Rattle.qmp_codec.specs.declared.nodes.AddQcow2.{AddQcow2}
 use Rattle.qmp_codec.specs.declared.nodes.AddRaw.{AddRaw}
-use Rattle.qmp_codec.specs.declared.nodes.Added.{Added}
 use Rattle.qmp_codec.specs.declared.nodes.Added.TheVariants as added
-use Rattle.qmp_codec.specs.declared.nodes.FileRef.{FileRef}
 use Rattle.qmp_codec.specs.declared.nodes.FileRef.TheVariants as file_ref
 use Rattle.qmp_codec.specs.declared.nodes.InlineFile.{InlineFile}
 use Rattle.qmp_rules.specs.Answers.{refusal_of, untold}
-use Rattle.qmp_rules.specs.Asks.{holds}
 use Rattle.qmp_rules.specs.Changes.{changed, format_edges, with_unsettled}
-use Rattle.qmp_rules.specs.Edits.{edits_of, free_id, image_row, inline_row, length_told, next_free_id, raw_row}
+use Rattle.qmp_rules.specs.Edits.{edits_of, free_id, image_row, next_free_id, raw_row}
 use Rattle.qmp_rules.specs.Looks.{image_stop, raw_stop, stop_at, too_long}
 use Rattle.qmp_rules.specs.Naming.{inline_name}
 use Rattle.qmp_rules.specs.NodeAsks.{add_asks, backing_name, is_read_only}
 use Rattle.qmp_rules.specs.Refusals.{refused}
-use Rattle.qmp_rules.specs.Table.{Table, id_named, kinds_of, node_at, node_named}
-use Rattle.qmp_rules.specs.Values.{begins_within, ends_within, part_fits}
-use Rattle.qmp_rules.specs.declared.ask.Ask.TheVariants as ask
+use Rattle.qmp_rules.specs.Table.{Table, id_named, kinds_of, node_named}
+use Rattle.qmp_rules.specs.Values.{begins_within, ends_within}
 use Rattle.qmp_rules.specs.declared.ask.Drivers.TheVariants as drivers
-use Rattle.qmp_rules.specs.declared.refusal.Refusal.{Refusal}
 use Rattle.qmp_rules.specs.declared.refusal.Refusal.TheVariants as refusal
 use Rattle.qmp_rules.specs.declared.rows.NodeRecord.{NodeRecord}
 use Rattle.qmp_rules.specs.declared.told.Look.TheVariants as look
 use Rattle.qmp_rules.specs.declared.told.Told.{Told}
 use Rattle.flat_machine.specs.Wiring.{AreApart}
 use Rattle.flat_machine.proofs.Accepted.{is_protocol}
-use Rattle.flat_machine.proofs.Asked.{found-named, room-left, takes-driver}
+use Rattle.flat_machine.proofs.Asked.{room-left, takes-driver}
 use Rattle.flat_machine.proofs.Fresh.{found-new}
 use Rattle.flat_machine.proofs.Tables.{pushed-old}
-use Rattle.blk_world.specs.Adding.{Adding, LooksWell, Taken, Tells, TellsImage, TellsLength, of_node, opened_sight}
+use Rattle.blk_world.specs.Adding.{Adding, Taken, of_node, opened_sight}
 use Rattle.blk_world.specs.Coherent.{AreNodesOf}
 use Rattle.blk_world.specs.Joining.{CanPutImage, CanPutPart, HasInline, asked_for, backing_for, part_in}
 use Rattle.blk_world.proofs.AddAlike.{id_of}
 use Rattle.blk_world.proofs.AddAsked.{fresh-node, keeps-rule, not-stopped, part-within, rest-asked}
-use Rattle.blk_world.proofs.AddImages.{image-fits, image-quiet, image-stays}
-use Rattle.blk_world.proofs.AddInline.{alike-then, apart-then, edges-same, file-then, ids-then, kinds-then, next-then, node-is, place-then, room-then, row-then, size-then, t1, unsized}
+use Rattle.blk_world.proofs.AddImages.{image-fits, image-quiet}
+use Rattle.blk_world.proofs.AddInline.{alike-then, edges-same, file-then, ids-then, kinds-then, next-then, node-is, place-then, room-then, size-then, t1, unsized}
 use Rattle.blk_world.proofs.AddPlaces.{allowed-of, file-of, place-of, unsettled-ids, unsettled-kinds}
 use Rattle.blk_world.proofs.AddReady.{backing-same, backing-there, by-name, same-edges}
 use Rattle.blk_world.proofs.AddTold.{has_look}

@@ -1,9 +1,8 @@
 -- What the looks of an addition leave, whatever is added.
-use Rattle.std.proofs.Common.{◌≡◌, ◌⊎◌, ℕ, ◌≤◌, Bool, true, false, List, [], ◌∷◌, ◌++◌, inl, inr, refl, sym, ◌∙◌, ap, subst, arith, Option, Some, None}
-use Rattle.blk_base.specs.Counts.{Rose}
+use Rattle.std.proofs.Common.{◌≡◌, ◌⊎◌, ℕ, ◌≤◌, false, List, [], ◌∷◌, ◌++◌, inl, inr, refl, sym, ◌∙◌, ap, subst, arith, Option, Some, None}
 use Rattle.blk_base.specs.Files.{is_out}
 use Rattle.q2_image.specs.Image.{Known}
-use Rattle.blk_nodes.specs.Nodes.{DeviceState, Nodes}
+use Rattle.blk_nodes.specs.Nodes.{Nodes}
 use Rattle.qmp_codec.specs.declared.nodes.AddQcow2.{AddQcow2}
 use Rattle.qmp_codec.specs.declared.nodes.AddRaw.{AddRaw}
 use Rattle.qmp_codec.specs.declared.nodes.Added.{Added}
@@ -14,7 +13,7 @@ use Rattle.qmp_rules.specs.Table.{Table}
 use Rattle.qmp_rules.specs.declared.told.Look.TheVariants as look
 use Rattle.qmp_rules.specs.declared.told.Told.{Told}
 use Rattle.blk_world.specs.Adding.{Adding, HasFailed, IsAbsent, IsTakenOut, Looks, Opens, Taken, Tells, TellsInside, of_node}
-use Rattle.blk_world.specs.Joining.{HasAdded, HasAddedBy, HasAddedFile, HasAddedImage, HasAddedPart}
+use Rattle.blk_world.specs.Joining.{HasAdded, HasAddedBy, HasAddedImage, HasAddedPart}
 use Rattle.blk_world.specs.Looking.{AreIn, HasCalled, HasLooked, IsRead, LooksAtImage, LooksAtPart, LooksBy, Site}
 use Rattle.blk_world.specs.Staging.{opened_name}
 use Rattle.blk_world.specs.Stores.{StoreInRun}

@@ -1,8 +1,7 @@
 -- What the looks of an addition leave: its device is out, and the nodes are those of the table.
-use Rattle.std.proofs.Common.{◌≡◌, ◌⊎◌, ℕ, Bool, true, false, List, [], ◌∷◌, ◌++◌, inl, inr, refl, sym, ◌∙◌, ap, subst, arith, Option, Some, None, Ok, Err}
-use Rattle.std.specs.Prelude.{IfOk, IsTrue, OnErr, Result, bytes_eq, if◌then◌else◌, find, option_and_then}
+use Rattle.std.proofs.Common.{◌≡◌, ℕ, Bool, true, false, List, [], ◌∷◌, inl, inr, refl, sym, ◌∙◌, ap, subst, arith, Option, Some, None, Ok, Err}
+use Rattle.std.specs.Prelude.{IfOk, OnErr, Result, bytes_eq, if◌then◌else◌, option_and_then}
 use Rattle.blk_base.specs.Files.{is_out}
-use Rattle.blk_base.specs.declared.file.Opened.{Opened}
 use Rattle.blk_base.proofs.Openings.{out-opened}
 use Rattle.blk_graph.proofs.Members.{find-Some}
 use Rattle.blk_nodes.specs.Joined.{IsFile}
@@ -15,7 +14,7 @@ use Rattle.qmp_codec.specs.declared.nodes.Added.{Added}
 use Rattle.qmp_codec.specs.declared.nodes.Added.TheVariants as added
 use Rattle.qmp_codec.specs.declared.nodes.FileRef.{FileRef}
 use Rattle.qmp_codec.specs.declared.nodes.FileRef.TheVariants as file_ref
-use Rattle.qmp_rules.specs.Asks.{file_node, is_file}
+use Rattle.qmp_rules.specs.Asks.{is_file}
 use Rattle.qmp_rules.specs.Table.{Table, node_at, node_named}
 use Rattle.qmp_rules.specs.declared.rows.NodeRecord.{NodeRecord}
 use Rattle.qmp_rules.specs.declared.told.Look.TheVariants as look

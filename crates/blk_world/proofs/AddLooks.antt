@@ -1,16 +1,16 @@
 -- A look at the store came to what its files may tell.
-use Rattle.std.proofs.Common.{◌≡◌, ◌≢◌, ◌⊎◌, ℕ, ◌<◌, Bool, true, false, List, [], ◌∷◌, length, inl, inr, refl, sym, ◌∙◌, ap, subst, arith, Option, Some, None}
+use Rattle.std.proofs.Common.{◌≡◌, ◌≢◌, ◌⊎◌, ℕ, ◌<◌, Bool, true, false, List, length, inl, inr, refl, sym, ◌∙◌, ap, subst, arith, Option, Some, None}
 use Rattle.std.specs.Prelude.{◌==◌, codes, is_none, is_some, nat_lt, ◌||◌, ◌&&◌, not, option_map, option_and_then}
-use Rattle.blk_base.specs.Answers.{HasFile, LacksFile}
-use Rattle.blk_base.specs.Files.{file_at, IfTold}
+use Rattle.blk_base.specs.Answers.{HasFile}
+use Rattle.blk_base.specs.Files.{file_at}
 use Rattle.blk_base.specs.declared.fault.DevNo.{DevNo}
-use Rattle.blk_base.specs.declared.fault.FaultFrom.TheVariants.{Dev, Store}
+use Rattle.blk_base.specs.declared.fault.FaultFrom.TheVariants.{Dev}
 use Rattle.blk_base.specs.declared.file.File.{File}
 use Rattle.q2_format.specs.Header.{header_of}
 use Rattle.q2_format.specs.Sound.{Refusal as Unsound, image_refusal}
 use Rattle.q2_format.specs.declared.header.Header.{Header}
 use Rattle.q2_image.specs.Image.{Known}
-use Rattle.q2_image.specs.Opening.{Names, refusal_of}
+use Rattle.q2_image.specs.Opening.{Names}
 use Rattle.q2_image.specs.declared.stop.ImageStop.{ImageStop}
 use Rattle.q2_image.specs.declared.stop.ImageStop.TheVariants as stop
 use Rattle.qmp_codec.specs.declared.command.Command.TheVariants as command
@@ -38,9 +38,9 @@ use Rattle.qmp_rules.specs.Answers as rules
 use Rattle.flat_machine.specs.State.{State, Bytes, content_in}
 use Rattle.flat_machine.specs.Agreement.{Agrees, Contents}
 use Rattle.flat_machine.specs.Final.{bytes_of}
-use Rattle.flat_machine.specs.Sights.{Fails, IsReached, MayStop, calls_at, image_sight, is_opened, order_of, stop_for}
+use Rattle.flat_machine.specs.Sights.{IsReached, calls_at, image_sight, is_opened, order_of, stop_for}
 use Rattle.flat_machine.specs.Standing.{Stands}
-use Rattle.blk_world.specs.Adding.{Adding, HasFailed, IsAbsent, IsNotOpenOn, IsTakenOut, Looks, LooksAtFile, LooksInVain, LooksInside, Opens, Taken, Tells, TellsImage, TellsInside, TellsLength, TellsLong, TellsRefusal, of_node, opened_sight, probe, unopened}
+use Rattle.blk_world.specs.Adding.{Adding, HasFailed, IsAbsent, IsTakenOut, Looks, LooksInVain, Opens, Taken, Tells, TellsImage, TellsInside, TellsLength, TellsLong, TellsRefusal, opened_sight, probe, unopened}
 use Rattle.blk_world.specs.Stores.{StoreInRun}
 use Rattle.blk_world.proofs.AddSights.{IsSeenAs, expects, fails, known-absent, known-there, seen-stopped, seen-unreached, seen-whole}
 use Rattle.blk_world.proofs.AddSeen.{AsFile, AsImage, AsPart, OpensAs, expects-absent, expects-closed, expects-file, expects-image, expects-part, has-as, has-at, looks-as}

@@ -1,22 +1,14 @@
 -- One more node leaves together what belongs together, but for what the table keeps at rest.
-use Rattle.std.proofs.Common.{◌≡◌, ◌≢◌, ◌⊎◌, ℕ, ◌==◌, Bool, true, false, cond, List, [], ◌∷◌, ◌++◌, length, set, inl, inr, refl, sym, ◌∙◌, ap, subst, Option, Some, None}
-use Rattle.std.specs.Prelude.{Contains, ◌&&◌, bytes_eq, find, is_none, option_map, slice_get}
+use Rattle.std.proofs.Common.{◌≡◌, ◌≢◌, ◌⊎◌, ℕ, true, false, List, [], ◌∷◌, ◌++◌, length, inl, inr, refl, sym, ◌∙◌, ap, subst, Option, Some, None}
+use Rattle.std.specs.Prelude.{Contains, option_map, slice_get}
 use Rattle.std.proofs.lemmas.Bool.{false≢true}
 use Rattle.blk_base.specs.Files.{is_out, is_out_as}
 use Rattle.blk_base.specs.declared.file.Opened.{Opened}
 use Rattle.blk_graph.specs.declared.edge.Edge.{Edge}
 use Rattle.blk_graph.specs.declared.edge.Parent.TheVariants.{Guest}
-use Rattle.blk_graph.specs.Edits.{with_edge}
-use Rattle.blk_graph.specs.Graph.{HasNode}
-use Rattle.blk_graph.specs.Permissions.{node_edge}
-use Rattle.blk_graph.specs.declared.edge.Role.TheVariants.{File}
-use Rattle.blk_graph.specs.Refreshed.{refreshed}
 use Rattle.blk_history.specs.Fold.{With}
-use Rattle.blk_nodes.specs.Joined.{IsJoined}
 use Rattle.blk_nodes.specs.Nodes.{DeviceState, Nodes}
-use Rattle.qmp_rules.specs.Changes.{changed}
-use Rattle.qmp_rules.specs.Table.{Table, device_at, kinds_of, node_at}
-use Rattle.qmp_rules.specs.declared.change.Change.TheVariants.{AddFile, AddFilter, AddFormat}
+use Rattle.qmp_rules.specs.Table.{Table, device_at, node_at}
 use Rattle.qmp_rules.specs.declared.rows.Device.{Device}
 use Rattle.qmp_rules.specs.declared.rows.NodeRecord.{NodeRecord}
 use Rattle.flat_machine.specs.Legal.{IsForbidden}
@@ -24,9 +16,9 @@ use Rattle.flat_machine.specs.State.{drive_of, filename_of}
 use Rattle.flat_machine.specs.Wiring.{TableAtRest}
 use Rattle.flat_machine.proofs.Finds.{bytes_eq-same}
 use Rattle.blk_world.specs.Adding.{Taken, of_node, opening_of}
-use Rattle.blk_world.specs.Coherent.{AreAllowed, AreNodesOf, AreOnDisks, AreOnWritable, AreOut, AreWithin, AskToWrite, HaveDrives, IsCoherent, IsOut, NamesAreOutOnce}
+use Rattle.blk_world.specs.Coherent.{AreAllowed, AreNodesOf, AreOnDisks, AreOnWritable, AreOut, AreWithin, AskToWrite, HaveDrives, IsCoherent, NamesAreOutOnce}
 use Rattle.blk_world.specs.Progress.{Progress}
-use Rattle.blk_world.proofs.AddGrown.{Grows, device-same, disks-grown, drive-other, drive-same, drives-grown, filename-same, within-grown}
+use Rattle.blk_world.proofs.AddGrown.{Grows, device-same, disks-grown, drive-other, drive-same, drives-grown, within-grown}
 use Rattle.blk_world.proofs.AddOut.{all-out, each-out, get-cases, once-out, order-out}
 use Rattle.blk_world.proofs.DeletedLists.{out_there}
 

@@ -1,27 +1,25 @@
 -- What additions do to nodes and files.
-use Rattle.std.proofs.Common.{◌≡◌, ◌≢◌, ◌⊎◌, ℕ, zero, suc, ◌<◌, ◌==◌, Bool, true, false, cond, List, [], ◌∷◌, ◌++◌, length, map, set, inl, inr, refl, sym, ◌∙◌, ap, subst, arith, Option, Some, None}
-use Rattle.std.specs.Prelude.{Contains, IsSome, bytes_eq, find, option_map, option_and_then, slice_index_or, unwrap_or}
+use Rattle.std.proofs.Common.{◌≡◌, ◌≢◌, ℕ, suc, ◌==◌, Bool, true, false, cond, List, [], ◌∷◌, ◌++◌, set, refl, sym, ◌∙◌, ap, subst, Option, Some, None}
+use Rattle.std.specs.Prelude.{IsSome, find, option_map, option_and_then, slice_index_or, unwrap_or}
 use Rattle.std.proofs.lemmas.Bool.{eq-eqb, false≢true, ne_eqb}
 use Rattle.std.proofs.lemmas.List.{get_or-set_other}
-use Rattle.blk_base.specs.Files.{file_at}
 use Rattle.blk_base.specs.declared.file.File.{File}
 use Rattle.q2_format.specs.Contents.{file_disk, raw_disk, image_disk}
 use Rattle.blk_graph.specs.Graph.{HasNode}
 use Rattle.blk_graph.specs.declared.kind.Kind.{Kind}
 use Rattle.blk_graph.specs.declared.kind.Kind.TheVariants.{Raw, Qcow2}
 use Rattle.blk_nodes.specs.Contents.{below, bytes_by, bytes_of, disk_in, disk_of, told}
-use Rattle.blk_nodes.specs.Joined.{IsFile, IsJoined}
-use Rattle.blk_nodes.specs.Nodes.{DeviceState, Nodes, device_in, is_of, row_at}
+use Rattle.blk_nodes.specs.Joined.{IsJoined}
+use Rattle.blk_nodes.specs.Nodes.{DeviceState, Nodes, device_in, row_at}
 use Rattle.blk_nodes.specs.declared.row.Row.{Row}
 use Rattle.qmp_rules.specs.Asks.{stands_for}
 use Rattle.qmp_rules.specs.Table.{Table, node_at}
 use Rattle.qmp_rules.specs.declared.change.Change.TheVariants.{AddFile, AddFilter, AddFormat}
 use Rattle.qmp_rules.specs.declared.rows.NodeRecord.{NodeRecord}
-use Rattle.flat_machine.specs.Agreement.{Contents}
 use Rattle.flat_machine.specs.Changed.{filename_or}
-use Rattle.flat_machine.specs.Performing.{HeldSame, Nothing, Performed, Puts, ReadSame, backing_reads, format_as, held_bytes}
+use Rattle.flat_machine.specs.Performing.{Performed, Puts, backing_reads, format_as, held_bytes}
 use Rattle.flat_machine.specs.State.{State, filename_of}
-use Rattle.flat_machine.proofs.Finds.{bytes_eq-same, same-bytes_eq}
+use Rattle.flat_machine.proofs.Finds.{same-bytes_eq}
 use Rattle.flat_machine.proofs.Fresh.{found-longer, found-new}
 use Rattle.blk_world.specs.Adding.{Taken, of_node}
 use Rattle.blk_world.specs.Face.{Face, contents_of, held, held_by, node_over, told_bytes}

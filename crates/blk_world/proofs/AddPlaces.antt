@@ -1,14 +1,13 @@
 -- Where the table has a place for a node, the nodes have it, and what keeps the permission rule there keeps it here.
-use Rattle.std.proofs.Common.{◌≡◌, ◌≢◌, ◌⊎◌, ℕ, zero, suc, ◌+◌, ◌<◌, ◌≤◌, ◌==◌, Bool, true, false, cond, List, [], ◌∷◌, ◌++◌, length, map, set, replicate, inl, inr, refl, sym, ◌∙◌, ap, subst, arith, Option, Some, None}
-use Rattle.std.specs.Prelude.{◌||◌, Contains, IsSome, bytes_eq, find, is_some, nat_eq, option_map}
+use Rattle.std.proofs.Common.{◌≡◌, ◌⊎◌, ℕ, zero, suc, ◌+◌, ◌<◌, ◌≤◌, ◌==◌, Bool, true, false, cond, List, [], ◌∷◌, ◌++◌, length, map, set, replicate, inl, inr, refl, sym, ◌∙◌, ap, subst, arith, Option, Some, None}
+use Rattle.std.specs.Prelude.{◌||◌, Contains, IsSome, bytes_eq, find, nat_eq}
 use Rattle.std.specs.List.{list_any}
 use Rattle.std.proofs.lemmas.Bool.{cases_lt, eq-eqb, eqb-true, false≢true}
-use Rattle.std.proofs.lemmas.List.{length-map, map-append, length-append}
-use Rattle.blk_graph.specs.declared.edge.Conflict.{Conflict as Pair}
+use Rattle.std.proofs.lemmas.List.{length-map, map-append}
 use Rattle.blk_graph.specs.declared.edge.Edge.{Edge}
 use Rattle.blk_graph.specs.declared.kind.Kind.TheVariants.{Protocol}
 use Rattle.blk_graph.specs.declared.kind.NodeKind.{NodeKind}
-use Rattle.blk_graph.specs.Graph.{HasName, HasNode, NodeRow, ids}
+use Rattle.blk_graph.specs.Graph.{HasNode, NodeRow, ids}
 use Rattle.blk_graph.specs.Ids.{IsLowestFree, lowest_free, lowest_from}
 use Rattle.blk_graph.specs.Refreshed.{no_kind, refreshed}
 use Rattle.blk_graph.specs.Rule.{first_conflict}
@@ -21,7 +20,7 @@ use Rattle.blk_nodes.specs.Overlays.{HasPlace}
 use Rattle.blk_nodes.specs.declared.row.Driver.{Driver}
 use Rattle.blk_nodes.specs.declared.row.Driver.TheVariants as drivers
 use Rattle.blk_nodes.specs.declared.row.Row.{Row}
-use Rattle.qmp_rules.specs.Changes.{node_changed, unsettled, with_unsettled}
+use Rattle.qmp_rules.specs.Changes.{unsettled, with_unsettled}
 use Rattle.qmp_rules.specs.Edits.{free_id}
 use Rattle.qmp_rules.specs.Table.{Table, kind_in, kinds_from, kinds_of, node_at, node_named}
 use Rattle.qmp_rules.specs.declared.rows.NodeRecord.{NodeRecord}

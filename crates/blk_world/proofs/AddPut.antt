@@ -1,17 +1,16 @@
 -- For want of memory an addition leaves the world as it was, but for openings that are over and counts.
-use Rattle.std.proofs.Common.{◌≡◌, ◌⊎◌, ℕ, ◌≤◌, Bool, true, false, List, [], ◌∷◌, ◌++◌, length, inl, inr, refl, sym, ◌∙◌, ap, subst, arith, Option, Some, None}
+use Rattle.std.proofs.Common.{◌≡◌, ◌⊎◌, ℕ, ◌≤◌, List, [], ◌∷◌, ◌++◌, inl, inr, refl, sym, ◌∙◌, ap, subst, arith, Option, Some, None}
 use Rattle.std.specs.Prelude.{is_some}
 use Rattle.blk_base.specs.declared.file.File.{File}
 use Rattle.blk_base.specs.declared.file.Opened.{Opened}
-use Rattle.blk_nodes.specs.Nodes.{AreTold, Nodes}
 use Rattle.qmp_codec.specs.declared.nodes.Added.{Added}
 use Rattle.qmp_rules.specs.Table.{Table}
-use Rattle.blk_world.specs.Adding.{Adding, IsBack, IsBackAgain, Opens, Taken, opens}
+use Rattle.blk_world.specs.Adding.{Adding, IsBack, Opens, Taken, opens}
 use Rattle.blk_world.specs.Carrying.{IsPutBack}
 use Rattle.blk_world.specs.Coherent.{DevicesTell, IsCoherent}
-use Rattle.blk_world.specs.Counting.{HaveNotFallen, RunsOn}
-use Rattle.blk_world.specs.Face.{Face, counts_from}
-use Rattle.blk_world.specs.Looking.{AreIn, HasCalled, IsLookedBack, Site, StoreIsBack, site}
+use Rattle.blk_world.specs.Counting.{RunsOn}
+use Rattle.blk_world.specs.Face.{Face}
+use Rattle.blk_world.specs.Looking.{HasCalled, IsLookedBack, Site, StoreIsBack, site}
 use Rattle.blk_world.specs.Staging.{IsNotAdded, back_if, opened_name, site_of, store_of}
 use Rattle.blk_world.specs.Stores.{StoreInRun}
 use Rattle.blk_world.proofs.AddBack.{alike-called, coherent-put, out-closed, told-risen}

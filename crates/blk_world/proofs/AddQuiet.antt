@@ -1,25 +1,22 @@
 -- What looks and refusals leave of nodes and files: all reads as before.
-use Rattle.std.proofs.Common.{◌≡◌, ◌≢◌, ◌⊎◌, ℕ, ◌==◌, Bool, true, false, cond, List, [], ◌∷◌, ◌++◌, map, inl, inr, refl, sym, ◌∙◌, ap, subst, Option, Some, None}
-use Rattle.std.specs.Prelude.{Contains, bytes_eq, find, if◌then◌else◌, option_and_then, option_map, unwrap_or}
+use Rattle.std.proofs.Common.{◌≡◌, ℕ, ◌==◌, Bool, true, false, cond, List, [], ◌∷◌, ◌++◌, inl, inr, refl, sym, ◌∙◌, ap, subst, Option, Some, None}
+use Rattle.std.specs.Prelude.{find, if◌then◌else◌, option_and_then, option_map}
 use Rattle.blk_base.specs.declared.file.File.{File}
-use Rattle.blk_nodes.specs.Contents.{disk_of}
-use Rattle.blk_nodes.specs.Nodes.{DeviceState, Nodes, device_in}
+use Rattle.blk_nodes.specs.Nodes.{DeviceState, device_in}
 use Rattle.blk_nodes.specs.Reading.{HaveRisen}
 use Rattle.qmp_codec.specs.declared.nodes.Added.{Added}
 use Rattle.qmp_rules.specs.Asks.{stands_for}
 use Rattle.qmp_rules.specs.Changes.{node_changed, unsettled, with_unsettled}
 use Rattle.qmp_rules.specs.Table.{Table}
 use Rattle.qmp_rules.specs.declared.rows.NodeRecord.{NodeRecord}
-use Rattle.flat_machine.specs.Agreement.{Contents}
-use Rattle.flat_machine.specs.Performing.{IsQuiet, Nothing}
+use Rattle.flat_machine.specs.Performing.{IsQuiet}
 use Rattle.flat_machine.proofs.Finds.{find-map}
-use Rattle.flat_machine.proofs.Fresh.{found-longer}
-use Rattle.blk_world.specs.Adding.{Adding, Taken}
-use Rattle.blk_world.specs.Face.{Face, contents_of, held, held_by, node_over, told_bytes}
+use Rattle.blk_world.specs.Adding.{Taken}
+use Rattle.blk_world.specs.Face.{Face, contents_of, held_by, node_over, told_bytes}
 use Rattle.blk_world.specs.Looking.{HasCalled, Site, site}
 use Rattle.blk_world.specs.Staging.{back_if, opened_name, site_of, store_of}
 use Rattle.blk_world.specs.Stores.{StoreInRun}
-use Rattle.blk_world.proofs.AddKinds.{IsCalled, IsLookedSo, IsOpenedFor}
+use Rattle.blk_world.proofs.AddKinds.{IsLookedSo}
 use Rattle.blk_world.proofs.AddLooked.{called_itself}
 use Rattle.blk_world.proofs.AddRuns.{back-is}
 

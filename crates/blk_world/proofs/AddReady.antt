@@ -1,54 +1,38 @@
 -- The nodes of an addition that nothing refuses can be made.
-use Rattle.std.proofs.Common.{◌≡◌, ◌≢◌, ◌⊎◌, ℕ, ◌+◌, ◌-◌, ◌<◌, ◌≤◌, ◌==◌, Bool, true, false, List, [], ◌∷◌, ◌++◌, length, map, set, inl, inr, refl, sym, ◌∙◌, ap, subst, arith, Option, Some, None}
-use Rattle.std.specs.Prelude.{IfSome, IsSome, bytes_eq, find, is_none, is_some, nat_le, nat_lt, not, ◌||◌, ◌&&◌, option_and_then, option_map, unwrap_or}
-use Rattle.std.proofs.lemmas.Bool.{leb-true, not-false, or_parts, eqb-true, eq-eqb}
-use Rattle.std.proofs.lemmas.List.{length-append, map-append}
+use Rattle.std.proofs.Common.{◌≡◌, ℕ, ◌+◌, ◌<◌, ◌≤◌, List, length, refl, sym, ◌∙◌, ap, arith, Option, Some, None}
+use Rattle.std.specs.Prelude.{IfSome, bytes_eq, option_and_then, option_map}
+use Rattle.std.proofs.lemmas.Bool.{not-false}
 use Rattle.blk_graph.specs.declared.edge.Edge.{Edge}
-use Rattle.blk_graph.specs.declared.edge.Role.TheVariants.{File}
 use Rattle.blk_graph.specs.declared.kind.Kind.TheVariants as kinds
-use Rattle.blk_graph.specs.declared.kind.NodeKind.{NodeKind}
 use Rattle.blk_graph.specs.Edits.{with_edge}
-use Rattle.blk_graph.specs.Graph.{HasNode, ids as ids_in}
-use Rattle.blk_graph.specs.Ids.{IsLowestFree, lowest_free}
-use Rattle.blk_graph.specs.Refreshed.{refreshed}
-use Rattle.blk_graph.specs.Rule.{first_conflict}
+use Rattle.blk_graph.specs.Graph.{HasNode}
 use Rattle.blk_graph.proofs.Members.{find-Some}
-use Rattle.blk_nodes.specs.Adding.{IsAllowed, file_edge, kind_with}
-use Rattle.blk_nodes.specs.Joined.{IsFile, IsJoined}
-use Rattle.blk_nodes.specs.Nodes.{DeviceState, Nodes, device_in, row_at, size_by, size_of}
-use Rattle.blk_nodes.specs.Overlays.{Asked, HasPlace, IsOpened, IsOpenedOn, backing_node, backing_size, backing_stop, edges_for, format_edges as format_edges_in}
-use Rattle.blk_nodes.specs.declared.backing.Backing.{Backing}
-use Rattle.blk_nodes.specs.declared.row.Row.{Row}
+use Rattle.blk_nodes.specs.Adding.{file_edge}
+use Rattle.blk_nodes.specs.Joined.{IsJoined}
+use Rattle.blk_nodes.specs.Nodes.{Nodes, size_by, size_of}
+use Rattle.blk_nodes.specs.Overlays.{Asked, backing_node, edges_for, format_edges as format_edges_in}
 use Rattle.qmp_codec.specs.declared.command.Command.TheVariants as command
-use Rattle.qmp_codec.specs.declared.nodes.AddQcow2.{AddQcow2}
 use Rattle.qmp_codec.specs.declared.nodes.AddRaw.{AddRaw}
-use Rattle.qmp_codec.specs.declared.nodes.Added.{Added}
 use Rattle.qmp_codec.specs.declared.nodes.Added.TheVariants as added
 use Rattle.qmp_codec.specs.declared.nodes.Backing.{Backing as Said}
 use Rattle.qmp_codec.specs.declared.nodes.Backing.TheVariants as said
-use Rattle.qmp_codec.specs.declared.nodes.FileRef.{FileRef}
 use Rattle.qmp_codec.specs.declared.nodes.FileRef.TheVariants as file_ref
-use Rattle.qmp_codec.specs.declared.nodes.InlineFile.{InlineFile}
-use Rattle.qmp_rules.specs.Answers.{is_joined, refusal_of, untold}
-use Rattle.qmp_rules.specs.Asks.{Asking, holds, if_there, takes, file_node, is_file}
-use Rattle.qmp_rules.specs.Changes.{all_changed, changed, format_edges, with_unsettled}
-use Rattle.qmp_rules.specs.Edits.{add_edits, edits_of, file_row, format_row, free_id, ids, image_row, inline_row, next_free_id, raw_row}
-use Rattle.qmp_rules.specs.NodeAsks.{add_asks, backing_name, is_read_only}
-use Rattle.qmp_rules.specs.Refusals.{refused}
-use Rattle.qmp_rules.specs.Table.{Table, id_named, kind_in, kinds_from, kinds_of, node_at, node_named}
-use Rattle.qmp_rules.specs.Values.{part_offset, part_size}
+use Rattle.qmp_rules.specs.Answers.{refusal_of}
+use Rattle.qmp_rules.specs.Asks.{holds}
+use Rattle.qmp_rules.specs.Changes.{changed, format_edges, with_unsettled}
+use Rattle.qmp_rules.specs.Edits.{edits_of, format_row, free_id, raw_row}
+use Rattle.qmp_rules.specs.NodeAsks.{backing_name, is_read_only}
+use Rattle.qmp_rules.specs.Table.{Table, id_named, node_at, node_named}
 use Rattle.qmp_rules.specs.declared.ask.Ask.TheVariants as ask
 use Rattle.qmp_rules.specs.declared.ask.Drivers.TheVariants as drivers
-use Rattle.qmp_rules.specs.declared.change.Change.TheVariants.{AddFile, AddFilter, AddFormat}
 use Rattle.qmp_rules.specs.declared.rows.NodeRecord.{NodeRecord}
 use Rattle.qmp_rules.specs.declared.told.Told.{Told}
 use Rattle.flat_machine.specs.Wiring.{AreApart}
 use Rattle.flat_machine.proofs.Accepted.{is_protocol}
 use Rattle.flat_machine.proofs.Asked.{found-named, not-refused, room-left, takes-driver}
-use Rattle.blk_world.specs.Adding.{Adding, Taken}
+use Rattle.blk_world.specs.Adding.{Adding}
 use Rattle.blk_world.specs.Coherent.{AreNodesOf}
-use Rattle.blk_world.specs.Joining.{CanPutFilter, CanPutImage, CanPutPart, asked_for, backing_at, backing_for, part_in}
-use Rattle.blk_world.proofs.AddAlike.{id_of}
+use Rattle.blk_world.specs.Joining.{CanPutFilter, CanPutPart, backing_at, backing_for, part_in}
 use Rattle.blk_world.proofs.AddAsked.{all-asked, fresh-node, keeps-rule, part-within, rest-asked}
 use Rattle.blk_world.proofs.AddPlaces.{allowed-of, file-of, node-of, place-of, row-of, unsettled-ids, unsettled-kinds}
 

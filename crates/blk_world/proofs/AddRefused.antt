@@ -1,6 +1,5 @@
 -- The refusal of an addition, and its answer, by what the files tell.
-use Rattle.std.proofs.Common.{◌≡◌, ◌≢◌, ◌⊎◌, ℕ, Bool, true, false, List, [], ◌∷◌, ◌++◌, inl, inr, refl, sym, ◌∙◌, ap, arith, Option, Some, None}
-use Rattle.qmp_codec.specs.Commands.{Cmd}
+use Rattle.std.proofs.Common.{◌≡◌, ◌≢◌, ℕ, Bool, true, false, List, refl, sym, ◌∙◌, ap, Option, Some, None}
 use Rattle.qmp_codec.specs.declared.command.Command.TheVariants as command
 use Rattle.qmp_codec.specs.declared.nodes.Added.{Added}
 use Rattle.qmp_codec.specs.declared.nodes.Added.TheVariants as added
@@ -9,7 +8,6 @@ use Rattle.qmp_codec.specs.declared.nodes.AddQcow2.{AddQcow2}
 use Rattle.qmp_codec.specs.declared.nodes.FileRef.{FileRef}
 use Rattle.qmp_codec.specs.declared.nodes.FileRef.TheVariants as file_ref
 use Rattle.qmp_codec.specs.declared.nodes.InlineFile.{InlineFile}
-use Rattle.qmp_rules.specs.declared.change.Change.{Change}
 use Rattle.qmp_rules.specs.declared.refusal.Refusal.{Refusal}
 use Rattle.qmp_rules.specs.declared.refusal.Refusal.TheVariants.{Aborted}
 use Rattle.qmp_rules.specs.declared.told.Look.{Look}
@@ -17,11 +15,11 @@ use Rattle.qmp_rules.specs.declared.told.Look.TheVariants as look
 use Rattle.qmp_rules.specs.declared.told.Told.{Told}
 use Rattle.qmp_rules.specs.Table.{Table}
 use Rattle.qmp_rules.specs.Refusals.{or_else}
-use Rattle.qmp_rules.specs.Asks.{Asking, first}
+use Rattle.qmp_rules.specs.Asks.{first}
 use Rattle.qmp_rules.specs.CommandAsks.{asks_of}
 use Rattle.qmp_rules.specs.NodeAsks.{add_asks, backing_name, is_read_only}
 use Rattle.qmp_rules.specs.Edits.{added_edits, edits_of, qcow2_edits, raw_edits}
-use Rattle.qmp_rules.specs.Answers.{Answer, answer, answer_by, command_edits, conflict_after, is_joined, out_of_turn, refusal_of, untold}
+use Rattle.qmp_rules.specs.Answers.{answer, answer_by, conflict_after, is_joined, out_of_turn, refusal_of, untold}
 use Rattle.blk_world.specs.Adding.{Adding, probe}
 use Rattle.blk_world.proofs.AddTold.{first-told, looks_at, has_look, unreached, stop-refuses}
 

@@ -1,15 +1,15 @@
 -- One more opening: counts run on, be its device with a node or back again.
-use Rattle.std.proofs.Common.{◌≡◌, ◌≢◌, ◌⊎◌, ℕ, zero, suc, ◌+◌, ◌<◌, ◌≤◌, ◌==◌, Bool, true, false, cond, List, [], ◌∷◌, ◌++◌, length, inl, inr, refl, sym, ◌∙◌, ap, subst, arith, IsTrue, Option, Some, None}
-use Rattle.std.specs.Prelude.{is_some, option_map, slice_get, unwrap_or}
+use Rattle.std.proofs.Common.{◌≡◌, ◌≢◌, ℕ, ◌+◌, ◌≤◌, ◌==◌, Bool, true, false, cond, List, [], ◌∷◌, ◌++◌, length, refl, sym, ◌∙◌, ap, subst, arith, IsTrue, Option, Some, None}
+use Rattle.std.specs.Prelude.{is_some, slice_get}
 use Rattle.std.proofs.lemmas.Bool.{false≢true, ne_eqb}
-use Rattle.blk_base.specs.Files.{file_at, given_back, is_out, put_file}
+use Rattle.blk_base.specs.Files.{given_back, is_out}
 use Rattle.blk_base.specs.Stored.{IsDeviceOf, files_with_returned}
 use Rattle.blk_base.specs.declared.file.File.{File}
 use Rattle.blk_base.specs.declared.file.Opened.{Opened}
 use Rattle.blk_base.proofs.Openings.{back-opened, put-same}
 use Rattle.blk_history.specs.Fold.{With}
 use Rattle.blk_nodes.specs.Nodes.{DeviceState}
-use Rattle.blk_world.specs.Adding.{IsBackAgain, IsTakenOut, Taken, put_back}
+use Rattle.blk_world.specs.Adding.{IsTakenOut, Taken, put_back}
 use Rattle.blk_world.specs.Counting.{HaveNotFallen, IsLater, RunsOn}
 use Rattle.blk_world.specs.Face.{Face, count_of_opening, counts_from, counts_now, device_numbered}
 use Rattle.blk_world.specs.Stores.{StoreInRun}

@@ -1,17 +1,13 @@
 -- Counts run on behind an addition, carried out or not.
-use Rattle.std.proofs.Common.{◌≡◌, ◌⊎◌, ℕ, ◌+◌, ◌≤◌, Bool, true, false, List, [], ◌∷◌, ◌++◌, length, inl, inr, refl, sym, ◌∙◌, ap, subst, arith, Option, Some, None}
-use Rattle.std.specs.Prelude.{Contains, is_some, slice_get}
-use Rattle.blk_base.specs.Files.{is_out}
+use Rattle.std.proofs.Common.{◌≡◌, ℕ, ◌≤◌, List, [], ◌∷◌, ◌++◌, length, inl, inr, refl, sym, ◌∙◌, ap, subst, arith, Option}
+use Rattle.std.specs.Prelude.{is_some, slice_get}
 use Rattle.blk_base.specs.declared.fault.DevNo.{DevNo}
-use Rattle.blk_base.specs.declared.file.File.{File}
 use Rattle.blk_base.specs.declared.file.Opened.{Opened}
 use Rattle.blk_history.specs.Fold.{With}
 use Rattle.blk_nodes.specs.Nodes.{AreTold, DeviceState, Nodes}
 use Rattle.q2_image.specs.Image.{Known}
 use Rattle.qmp_codec.specs.declared.nodes.Added.{Added}
 use Rattle.qmp_rules.specs.Table.{Table}
-use Rattle.qmp_rules.specs.declared.told.Told.{Told}
-use Rattle.flat_machine.proofs.Tables.{pushed-cases}
 use Rattle.blk_world.specs.Adding.{Adding, Taken, of_node, opening_of}
 use Rattle.blk_world.specs.Coherent.{DevicesTell}
 use Rattle.blk_world.specs.Counting.{AreSameDevices, HaveNotFallen, IsLater, RunsOn}
@@ -20,9 +16,9 @@ use Rattle.blk_world.specs.Joining.{HasAdded}
 use Rattle.blk_world.specs.Looking.{Site, site}
 use Rattle.blk_world.specs.Staging.{back_if, opened_name, site_of, store_of}
 use Rattle.blk_world.specs.Stores.{StoreInRun}
-use Rattle.blk_world.proofs.AddKinds.{HasDevice, IsCalled, IsLookedSo, IsOpenedFor, has-device, no-device-more}
+use Rattle.blk_world.proofs.AddKinds.{IsLookedSo, has-device, no-device-more}
 use Rattle.blk_world.proofs.AddRuns.{back-is, closed-opening, counts-more, not-fallen-itself, runs-opened}
-use Rattle.blk_world.proofs.CountLemmas.{not-fallen, same-devices, same-risen, with-of}
+use Rattle.blk_world.proofs.CountLemmas.{not-fallen, same-risen, with-of}
 
 -- ---- no opening more
 

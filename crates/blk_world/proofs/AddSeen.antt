@@ -1,20 +1,6 @@
 -- What a look at the store and at an image came to is what the files may tell.
-use Rattle.std.proofs.Common.{◌≡◌, ◌≢◌, ◌⊎◌, ℕ, ◌<◌, Bool, true, false, List, [], ◌∷◌, length, map, inl, inr, refl, sym, ◌∙◌, ap, subst, arith, Option, Some, None}
-use Rattle.std.specs.Prelude.{IfSome, is_some, not, option_map, option_and_then}
-use Rattle.blk_base.specs.Files.{file_at, IfTold}
-use Rattle.blk_base.specs.declared.fault.DevNo.{DevNo}
-use Rattle.blk_base.specs.declared.fault.FaultFrom.TheVariants.{Dev, Store}
-use Rattle.blk_base.specs.declared.file.File.{File}
+use Rattle.std.proofs.Common.{◌≡◌, ℕ, true, false, List, length, refl, sym, ◌∙◌, ap, subst, Some, None}
 use Rattle.q2_format.specs.Header.{header_of}
-use Rattle.q2_format.specs.Sound.{Refusal as Unsound, InHeader, image_refusal}
-use Rattle.q2_format.specs.Sound as sound
-use Rattle.q2_format.specs.declared.header.Header.{Header}
-use Rattle.q2_image.specs.Image.{Known}
-use Rattle.q2_image.specs.Opening.{Names}
-use Rattle.q2_image.specs.Opening as q2_opening
-use Rattle.q2_image.specs.declared.stop.ImageStop.{ImageStop}
-use Rattle.q2_image.specs.declared.stop.ImageStop.TheVariants as stop
-use Rattle.qmp_codec.specs.declared.command.Command.TheVariants as command
 use Rattle.qmp_codec.specs.declared.nodes.AddRaw.{AddRaw}
 use Rattle.qmp_codec.specs.declared.nodes.AddQcow2.{AddQcow2}
 use Rattle.qmp_codec.specs.declared.nodes.Added.{Added}
@@ -22,19 +8,14 @@ use Rattle.qmp_codec.specs.declared.nodes.Added.TheVariants as added
 use Rattle.qmp_codec.specs.declared.nodes.FileRef.{FileRef}
 use Rattle.qmp_codec.specs.declared.nodes.FileRef.TheVariants as file_ref
 use Rattle.qmp_codec.specs.declared.nodes.InlineFile.{InlineFile}
-use Rattle.qmp_rules.specs.declared.refusal.Refusal.{Refusal}
-use Rattle.qmp_rules.specs.declared.refusal.Refusal.TheVariants as refusal
 use Rattle.qmp_rules.specs.declared.told.Look.{Look}
 use Rattle.qmp_rules.specs.declared.told.Look.TheVariants as look
-use Rattle.qmp_rules.specs.declared.told.Stopped.{Stopped}
-use Rattle.qmp_rules.specs.declared.told.Told.{Told}
-use Rattle.qmp_rules.specs.Table.{Table}
 use Rattle.qmp_rules.specs.Looks.{add_told, absent, file_stop, first_stop, image_stop, is_unopened, raw_stop, told_as}
 use Rattle.qmp_rules.specs.NodeAsks.{add_asks}
 use Rattle.qmp_rules.specs.Answers.{untold}
 use Rattle.flat_machine.specs.State.{State, Bytes, content_in}
-use Rattle.flat_machine.specs.Sights.{image_sight, stop_for}
-use Rattle.blk_world.specs.Adding.{Adding, Opens, opens, opened_sight, unopened}
+use Rattle.flat_machine.specs.Sights.{image_sight}
+use Rattle.blk_world.specs.Adding.{Adding, Opens, opens}
 use Rattle.blk_world.proofs.AddTold.{looks_at, has_look}
 use Rattle.blk_world.proofs.AddRefused.{looks-file, looks-part, looks-image, has-file, has-begin, has-part, has-opened}
 use Rattle.blk_world.proofs.AddSights.{expects}

@@ -1,9 +1,7 @@
 -- An addition that nothing refused, as the flat machine sees it.
-use Rattle.std.proofs.Common.{◌≡◌, ◌≢◌, ℕ, ◌+◌, ◌<◌, ◌≤◌, ◌==◌, Bool, true, false, List, [], ◌∷◌, ◌++◌, length, refl, sym, ◌∙◌, ap, subst, arith, Option, Some, None}
-use Rattle.std.specs.Prelude.{Contains, IsSome, bytes_eq, find, is_some, option_and_then, option_map, unwrap_or}
-use Rattle.blk_base.specs.declared.file.File.{File}
+use Rattle.std.proofs.Common.{◌≡◌, ℕ, ◌+◌, ◌≤◌, true, false, List, [], ◌∷◌, length, refl, sym, ◌∙◌, ap, subst, arith, Option, Some, None}
+use Rattle.std.specs.Prelude.{IsSome, bytes_eq, option_and_then, unwrap_or}
 use Rattle.blk_graph.specs.declared.kind.Kind.TheVariants as kinds
-use Rattle.blk_graph.specs.Graph.{ids as ids_in}
 use Rattle.blk_graph.proofs.Members.{find-Some}
 use Rattle.q2_image.specs.Image.{Known}
 use Rattle.q2_format.specs.Contents.{image_disk, raw_disk}
@@ -16,34 +14,30 @@ use Rattle.blk_nodes.specs.declared.row.Row.{Row}
 use Rattle.qmp_codec.specs.declared.command.Command.TheVariants as command
 use Rattle.qmp_codec.specs.declared.nodes.AddQcow2.{AddQcow2}
 use Rattle.qmp_codec.specs.declared.nodes.AddRaw.{AddRaw}
-use Rattle.qmp_codec.specs.declared.nodes.Added.{Added}
 use Rattle.qmp_codec.specs.declared.nodes.Added.TheVariants as added
 use Rattle.qmp_codec.specs.declared.nodes.FileRef.{FileRef}
 use Rattle.qmp_codec.specs.declared.nodes.FileRef.TheVariants as file_ref
 use Rattle.qmp_codec.specs.declared.nodes.InlineFile.{InlineFile}
 use Rattle.qmp_rules.specs.Answers.{refusal_of}
-use Rattle.qmp_rules.specs.Asks.{takes}
 use Rattle.qmp_rules.specs.Changes.{all_changed, changed}
-use Rattle.qmp_rules.specs.Edits.{added_edits, file_row, format_row, free_id, image_row, inline_row, length_told, next_free_id, qcow2_edits, raw_edits, raw_row}
-use Rattle.qmp_rules.specs.Looks.{is_unopened}
+use Rattle.qmp_rules.specs.Edits.{file_row, format_row, free_id, image_row, inline_row, length_told, next_free_id, qcow2_edits, raw_edits, raw_row}
 use Rattle.qmp_rules.specs.NodeAsks.{backing_name, is_read_only}
-use Rattle.qmp_rules.specs.Table.{Table, id_named, node_at, node_named}
+use Rattle.qmp_rules.specs.Table.{Table, id_named, node_named}
 use Rattle.qmp_rules.specs.Values.{part_size}
 use Rattle.qmp_rules.specs.declared.ask.Drivers.TheVariants as drivers
 use Rattle.qmp_rules.specs.declared.change.Change.TheVariants.{AddFile, AddFilter, AddFormat}
 use Rattle.qmp_rules.specs.declared.rows.NodeRecord.{NodeRecord}
 use Rattle.qmp_rules.specs.declared.told.Look.TheVariants as look
 use Rattle.qmp_rules.specs.declared.told.Told.{Told}
-use Rattle.flat_machine.specs.Agreement.{Contents}
 use Rattle.flat_machine.specs.Changed.{stepped}
-use Rattle.flat_machine.specs.Performing.{AllPerformed, IsQuiet, Performed}
+use Rattle.flat_machine.specs.Performing.{AllPerformed}
 use Rattle.flat_machine.specs.State.{State, filename_of}
 use Rattle.flat_machine.specs.Wiring.{TableAtRest}
 use Rattle.flat_machine.proofs.Accepted.{free_fresh, is_protocol}
 use Rattle.flat_machine.proofs.Asked.{room-left, takes-driver}
-use Rattle.blk_world.specs.Adding.{Adding, Opens, Taken}
+use Rattle.blk_world.specs.Adding.{Adding, Taken}
 use Rattle.blk_world.specs.Coherent.{AreOut}
-use Rattle.blk_world.specs.Face.{Face, contents_of, node_over, told_bytes}
+use Rattle.blk_world.specs.Face.{Face, contents_of, told_bytes}
 use Rattle.blk_world.specs.Joining.{HasAddedImage, HasAddedPart, HasFile, HasInline, HasOver, backing_for, part_in}
 use Rattle.blk_world.specs.Stores.{StoreInRun}
 use Rattle.blk_world.proofs.AddAsked.{rest-asked, unopened-not}
@@ -51,7 +45,7 @@ use Rattle.blk_world.proofs.AddClosed.{closed-in}
 use Rattle.blk_world.proofs.AddDid.{did-file, did-filter, did-image, did-part, over-new, over-one}
 use Rattle.blk_world.proofs.AddFacts.{filed-filename}
 use Rattle.blk_world.proofs.AddMiddle.{Middle}
-use Rattle.blk_world.proofs.AddReady.{backing-same, size-alike}
+use Rattle.blk_world.proofs.AddReady.{backing-same}
 use Rattle.blk_world.proofs.AddSeen.{AsFile, AsImage, AsPart}
 use Rattle.blk_world.proofs.AddWhole.{FreshFor, IsFresh, id-is, next1}
 use Rattle.blk_world.proofs.CarryPlain.{quiet-self}

@@ -1,47 +1,29 @@
 -- What was seen for an addition is what the flat machine says of the files.
-use Rattle.std.proofs.Common.{◌≡◌, ◌≢◌, ◌⊎◌, ℕ, Bool, true, false, List, [], ◌∷◌, length, map, inl, inr, refl, sym, ◌∙◌, ap, subst, arith, Option, Some, None}
-use Rattle.std.specs.Prelude.{Contains, IfSome, is_some, option_map, option_and_then}
+use Rattle.std.proofs.Common.{◌≡◌, ◌≢◌, ◌⊎◌, ℕ, true, false, List, map, inl, inr, refl, sym, ◌∙◌, ap, subst, Option, Some, None}
 use Rattle.std.specs.List.{list_any}
 use Rattle.std.proofs.lemmas.Bool.{or_parts}
-use Rattle.blk_base.specs.declared.fault.DevNo.{DevNo}
-use Rattle.blk_base.specs.declared.fault.FaultFrom.TheVariants.{Store}
 use Rattle.blk_graph.proofs.Members.{Contains-nil}
-use Rattle.q2_format.specs.Header.{header_of}
-use Rattle.q2_format.specs.Sound.{Refusal as Unsound, InHeader, image_refusal}
-use Rattle.q2_format.specs.Sound as sound
-use Rattle.q2_format.specs.declared.header.Header.{Header}
-use Rattle.q2_image.specs.Opening.{Names}
-use Rattle.q2_image.specs.Opening as opening
-use Rattle.q2_image.specs.declared.stop.ImageStop.{ImageStop}
-use Rattle.q2_image.specs.declared.stop.ImageStop.TheVariants as stop
 use Rattle.qmp_codec.specs.declared.command.Command.TheVariants as command
-use Rattle.qmp_codec.specs.declared.nodes.AddRaw.{AddRaw}
-use Rattle.qmp_codec.specs.declared.nodes.AddQcow2.{AddQcow2}
-use Rattle.qmp_codec.specs.declared.nodes.Added.TheVariants as added
-use Rattle.qmp_codec.specs.declared.nodes.FileRef.TheVariants as file_ref
-use Rattle.qmp_codec.specs.declared.nodes.InlineFile.{InlineFile}
-use Rattle.qmp_rules.specs.declared.refusal.FileFault.TheVariants.{Absent}
 use Rattle.qmp_rules.specs.declared.refusal.Refusal.{Refusal}
 use Rattle.qmp_rules.specs.declared.refusal.Refusal.TheVariants as refusal
 use Rattle.qmp_rules.specs.declared.rows.FileState.{FileState}
 use Rattle.qmp_rules.specs.declared.rows.FileState.TheVariants.{Made, Formatted, Used}
 use Rattle.qmp_rules.specs.declared.told.Look.{Look}
-use Rattle.qmp_rules.specs.declared.told.Look.TheVariants as look
 use Rattle.qmp_rules.specs.declared.told.Stopped.{Stopped}
 use Rattle.qmp_rules.specs.declared.told.Told.{Told}
-use Rattle.qmp_rules.specs.Table.{Table, file_state}
-use Rattle.qmp_rules.specs.Looks.{add_told, absent, file_stop, first_stop, image_stop, is_unopened, raw_stop, told_as}
+use Rattle.qmp_rules.specs.Table.{file_state}
+use Rattle.qmp_rules.specs.Looks.{is_unopened}
 use Rattle.qmp_rules.specs.Asks.{is_lost, stands_for}
 use Rattle.qmp_rules.specs.NodeAsks.{add_asks}
-use Rattle.qmp_rules.specs.Answers.{answer, refusal_of, untold}
+use Rattle.qmp_rules.specs.Answers.{answer, refusal_of}
 use Rattle.blk_history.specs.Fold.{With}
 use Rattle.flat_machine.specs.State.{State, Content, Bytes, Blank, Unknown, content_in}
 use Rattle.flat_machine.specs.Marking.{dirty_bytes}
-use Rattle.flat_machine.specs.Sights.{IsTold, MayStop, Fails, IsReached, image_sight, sight_for, sight_of, stop_for, told_by}
+use Rattle.flat_machine.specs.Sights.{IsTold, MayStop, Fails, told_by}
 use Rattle.flat_machine.specs.Agreement.{Agrees, Contents}
 use Rattle.flat_machine.specs.Standing.{Stands, IsOfState, IsWhole}
 use Rattle.flat_machine.proofs.Accepted.{none-over}
-use Rattle.blk_world.specs.Adding.{Adding, opened_sight, probe, unopened}
+use Rattle.blk_world.specs.Adding.{Adding, probe}
 use Rattle.blk_world.proofs.AddTold.{looks_at, has_look}
 use Rattle.blk_world.proofs.AddRefused.{answer-dirty, answer-refused, refusal-told, stop-refused, unreached-refused}
 

@@ -1,6 +1,6 @@
 -- The nodes of an addition, one after another: what belongs together does so behind each.
-use Rattle.std.proofs.Common.{◌≡◌, ◌≢◌, ◌⊎◌, ℕ, ◌==◌, Bool, true, false, cond, List, [], ◌∷◌, ◌++◌, length, set, inl, inr, refl, sym, ◌∙◌, ap, subst, Option, Some, None}
-use Rattle.std.specs.Prelude.{Contains, IsSome, option_and_then}
+use Rattle.std.proofs.Common.{◌≡◌, ◌≢◌, ℕ, ◌==◌, Bool, true, false, cond, List, [], ◌∷◌, ◌++◌, length, inl, inr, refl, sym, ◌∙◌, ap, subst, Option, Some, None}
+use Rattle.std.specs.Prelude.{Contains}
 use Rattle.blk_base.specs.Files.{is_out}
 use Rattle.blk_base.specs.declared.file.Opened.{Opened}
 use Rattle.blk_graph.specs.declared.edge.Edge.{Edge}
@@ -8,23 +8,22 @@ use Rattle.blk_graph.specs.declared.edge.Parent.TheVariants.{Guest, Node}
 use Rattle.blk_graph.specs.declared.edge.Role.TheVariants.{Backing, File}
 use Rattle.blk_graph.specs.declared.kind.Kind.TheVariants.{Protocol}
 use Rattle.blk_graph.specs.Edits.{takes_place, with_edge}
-use Rattle.blk_graph.specs.Graph.{HasNode}
 use Rattle.blk_graph.specs.Permissions.{node_edge}
 use Rattle.blk_graph.specs.Refreshed.{refreshed}
 use Rattle.blk_graph.specs.declared.kind.NodeKind.{NodeKind}
-use Rattle.blk_graph.proofs.Members.{Contains-cases, Contains-here, Contains-nil, Contains-there}
+use Rattle.blk_graph.proofs.Members.{Contains-cases, Contains-here, Contains-there}
 use Rattle.blk_nodes.specs.Joined.{IsJoined}
 use Rattle.blk_nodes.specs.Nodes.{DeviceState, Nodes}
 use Rattle.blk_nodes.specs.Overlays.{format_edges as node_edges, with_children}
 use Rattle.blk_nodes.specs.declared.row.Driver.TheVariants as driver
 use Rattle.blk_nodes.specs.declared.row.Row.{Row}
-use Rattle.qmp_rules.specs.Changes.{changed, format_edges, node_changed, unsettled, with_unsettled}
+use Rattle.qmp_rules.specs.Changes.{changed, format_edges, node_changed, unsettled}
 use Rattle.qmp_rules.specs.Table.{Table, kinds_of, node_at}
 use Rattle.qmp_rules.specs.declared.change.Change.TheVariants.{AddFile, AddFilter, AddFormat}
 use Rattle.qmp_rules.specs.declared.rows.NodeRecord.{NodeRecord}
 use Rattle.flat_machine.specs.State.{filename_of}
-use Rattle.blk_world.specs.Adding.{Taken, of_node, opening_of}
-use Rattle.blk_world.specs.Coherent.{AreNodesOf, IsRowOf}
+use Rattle.blk_world.specs.Adding.{Taken, opening_of}
+use Rattle.blk_world.specs.Coherent.{IsRowOf}
 use Rattle.blk_world.specs.Joining.{HasFile, HasOver}
 use Rattle.blk_world.specs.Progress.{Progress}
 use Rattle.blk_world.proofs.AddFacts.{alike-filed, alike-filtered, alike-formatted, filed-filename, held-other}

@@ -1,5 +1,5 @@
 -- Why an addition that the table accepts isn't refused by the nodes.
-use Rattle.std.proofs.Common.{◌≡◌, ◌≢◌, ◌↔◌, ℕ, ◌<◌, List, [], ◌∷◌, ◌++◌, length, set, Option, Some, None, inl, inr, refl, sym, ◌∙◌, ap, subst, arith}
+use Rattle.std.proofs.Common.{◌≡◌, ◌↔◌, ℕ, List, [], ◌∷◌, ◌++◌, length, set, Some, None, inl, inr, sym, ◌∙◌, subst, arith}
 use Rattle.std.specs.Prelude.{Err, IfErr, Result}
 use Rattle.std.proofs.lemmas.Bool.{cases_lt}
 use Rattle.blk_graph.specs.declared.edge.Conflict.{Conflict as Pair}

@@ -1,13 +1,12 @@
 -- What belongs together does so behind an addition that nothing refused.
-use Rattle.std.proofs.Common.{◌≡◌, ◌≢◌, ◌⊎◌, ℕ, ◌+◌, ◌<◌, ◌≤◌, ◌==◌, Bool, true, false, List, [], ◌∷◌, ◌++◌, length, map, inl, inr, refl, sym, ◌∙◌, ap, subst, arith, Option, Some, None}
+use Rattle.std.proofs.Common.{◌≡◌, ◌≢◌, ℕ, ◌+◌, ◌≤◌, ◌==◌, false, List, [], ◌∷◌, ◌++◌, length, map, refl, sym, ◌∙◌, ap, subst, arith, Option, Some, None}
 use Rattle.std.proofs.lemmas.List.{length-append, map-append}
-use Rattle.std.specs.Prelude.{Contains, bytes_eq, find, option_and_then, option_map, unwrap_or}
+use Rattle.std.specs.Prelude.{Contains, bytes_eq, find, option_and_then, unwrap_or}
 use Rattle.blk_base.specs.Files.{is_out}
-use Rattle.blk_base.specs.declared.fault.DevNo.{DevNo}
 use Rattle.blk_base.specs.declared.file.Opened.{Opened}
 use Rattle.blk_graph.specs.declared.edge.Edge.{Edge}
 use Rattle.blk_graph.specs.declared.kind.Kind.TheVariants as kinds
-use Rattle.blk_graph.specs.Graph.{HasNode, ids as ids_in}
+use Rattle.blk_graph.specs.Graph.{ids as ids_in}
 use Rattle.blk_graph.specs.Ids.{IsLowestFree, lowest_free}
 use Rattle.blk_graph.proofs.Members.{find-Some}
 use Rattle.q2_image.specs.Image.{Known}
@@ -21,40 +20,33 @@ use Rattle.q2_format.specs.Contents.{image_disk, raw_disk}
 use Rattle.qmp_codec.specs.declared.command.Command.TheVariants as command
 use Rattle.qmp_codec.specs.declared.nodes.AddQcow2.{AddQcow2}
 use Rattle.qmp_codec.specs.declared.nodes.AddRaw.{AddRaw}
-use Rattle.qmp_codec.specs.declared.nodes.Added.{Added}
 use Rattle.qmp_codec.specs.declared.nodes.Added.TheVariants as added
 use Rattle.qmp_codec.specs.declared.nodes.FileRef.{FileRef}
 use Rattle.qmp_codec.specs.declared.nodes.FileRef.TheVariants as file_ref
 use Rattle.qmp_codec.specs.declared.nodes.InlineFile.{InlineFile}
-use Rattle.qmp_rules.specs.Answers.{command_edits, refusal_of}
-use Rattle.qmp_rules.specs.Asks.{file_node, is_file}
+use Rattle.qmp_rules.specs.Answers.{refusal_of}
 use Rattle.qmp_rules.specs.Changes.{all_changed, changed}
-use Rattle.qmp_rules.specs.Edits.{added_edits, edits_of, file_row, format_row, free_id, image_row, inline_row, length_told, next_free_id, qcow2_edits, raw_edits, raw_row, size_of}
-use Rattle.qmp_rules.specs.Looks.{file_stop, raw_stop}
+use Rattle.qmp_rules.specs.Edits.{file_row, format_row, free_id, image_row, inline_row, length_told, next_free_id, qcow2_edits, raw_edits, raw_row}
 use Rattle.qmp_rules.specs.NodeAsks.{backing_name, is_read_only}
 use Rattle.qmp_rules.specs.Table.{Table, id_named, kinds_of, node_at, node_named}
 use Rattle.qmp_rules.specs.Values.{part_size}
-use Rattle.qmp_rules.specs.declared.ask.Drivers.TheVariants as drivers
 use Rattle.qmp_rules.specs.declared.change.Change.TheVariants.{AddFile, AddFilter, AddFormat}
 use Rattle.qmp_rules.specs.declared.rows.NodeRecord.{NodeRecord}
 use Rattle.qmp_rules.specs.declared.told.Look.TheVariants as look
 use Rattle.qmp_rules.specs.declared.told.Told.{Told}
 use Rattle.flat_machine.specs.Wiring.{AreApart}
 use Rattle.flat_machine.proofs.Accepted.{free_fresh, next_fresh}
-use Rattle.flat_machine.proofs.Asked.{found-named, lone-node, room-left, takes-driver}
-use Rattle.flat_machine.proofs.TableRests.{command_rests}
+use Rattle.flat_machine.proofs.Asked.{lone-node, room-left}
 use Rattle.flat_machine.proofs.Tables.{refreshed-old}
-use Rattle.blk_world.specs.Adding.{Adding, IsTakenOut, Opens, Taken, Tells, TellsInside, TellsLength, opening_of}
-use Rattle.blk_world.specs.Coherent.{AreNodesOf, AreOut, IsCoherent}
-use Rattle.blk_world.specs.Joining.{HasAdded, HasAddedBy, HasAddedFile, HasAddedImage, HasAddedPart, HasFile, HasInline, HasOver, asked_for, backing_for, part_in}
-use Rattle.blk_world.specs.Looking.{HasLooked, LooksAtImage, LooksAtPart, LooksBy, Site}
+use Rattle.blk_world.specs.Adding.{Adding, IsTakenOut, Opens, Taken, opening_of}
+use Rattle.blk_world.specs.Coherent.{AreOut}
+use Rattle.blk_world.specs.Joining.{HasAddedImage, HasAddedPart, HasFile, HasInline, HasOver, backing_for, part_in}
 use Rattle.blk_world.specs.Progress.{Progress}
 use Rattle.blk_world.specs.Stores.{StoreInRun}
 use Rattle.blk_world.proofs.AddAlike.{id_of}
-use Rattle.blk_world.proofs.AddAsked.{known-driver, rest-asked, taken-out, unopened-not}
+use Rattle.blk_world.proofs.AddAsked.{rest-asked, unopened-not}
 use Rattle.blk_world.proofs.AddClosed.{closed-in}
-use Rattle.blk_world.proofs.AddImages.{image-inside, image-there}
-use Rattle.blk_world.proofs.AddMiddle.{Middle, coherent-of, middle-of}
+use Rattle.blk_world.proofs.AddMiddle.{Middle}
 use Rattle.blk_world.proofs.AddPlaces.{free-lowest}
 use Rattle.blk_world.proofs.AddReady.{backing-same, size-alike}
 use Rattle.blk_world.proofs.AddSeen.{AsFile, AsImage, AsPart, OpensAs}

@@ -25,16 +25,19 @@ use Rattle.blk_world.proofs.InStep.{with-at}
 
 module _ (w : Face) (now : Ground) (once : AllPairs DifferInNumber w.nodes.devices) where
   -- the device that was written is the one that is called
-  fits-in : (node dev : ℕ) (q : CreateQcow2 (List ℕ)) → IsFormatAt node w.nodes.devices now.nodes.devices (creation_for q) (Ok tt)
+  fits-in : (node dev : ℕ) (q : CreateQcow2 (List ℕ)) → IsFormatAt node w.nodes.devices now.nodes.devices
+      (creation_for q) (Ok tt)
       → option_map (λ (device : DeviceState). device.number.0) (device_in w.nodes.devices node) ≡ Some dev
       → With (device_numbered w.nodes.devices dev) (λ device. device.capacity < created_length (creation_for q)) → ⊥
   fits-in node dev q made called passes =
       let number : made.before.number.0 ≡ dev = let told = rw made.held at called in cc told in
       let there = (find-Some (is_of node) w.nodes.devices made.before made.held).0 in
       let found : device_numbered w.nodes.devices dev ≡ Some made.before =
-      subst (λ (n : ℕ). device_numbered w.nodes.devices n ≡ Some made.before) number (numbered w.nodes.devices made.before once there) in
+      subst (λ (n : ℕ). device_numbered w.nodes.devices n ≡ Some made.before) number
+      (numbered w.nodes.devices made.before once there) in
       let above : made.before.capacity < created_length (creation_for q) =
-      with-at (device_numbered w.nodes.devices dev) made.before (λ (device : DeviceState). device.capacity < created_length (creation_for q)) found passes in
+      with-at (device_numbered w.nodes.devices dev) made.before
+      (λ (device : DeviceState). device.capacity < created_length (creation_for q)) found passes in
       let room : created_length (creation_for q) ≤ made.before.capacity = made.formatted.cause.0 in
       omega arith
 
@@ -45,12 +48,15 @@ module _ (w : Face) (now : Ground) (once : AllPairs DifferInNumber w.nodes.devic
   fits-of (created.Qcow2 q) made dev called passes = by_name (id_named w.table q.file) refl called
     where
       by_name : (found : Option ℕ) → id_named w.table q.file ≡ found
-          → With found (λ node. option_map (λ (device : DeviceState). device.number.0) (device_in w.nodes.devices node) ≡ Some dev.0) → ⊥
+          → With found (λ node. option_map (λ (device : DeviceState). device.number.0)
+          (device_in w.nodes.devices node) ≡ Some dev.0) → ⊥
       by_name None e is = is
       by_name (Some node) e is =
           let same : id_or 0 w.table (Some q.file) ≡ node = ap (λ (o : Option ℕ). unwrap_or o 0) e in
           fits-in node dev.0 q
-          (subst (λ (n : ℕ). IsFormatAt n w.nodes.devices now.nodes.devices (creation_for q) (Ok tt)) same made.format) is passes
+          (subst (λ (n : ℕ). IsFormatAt n w.nodes.devices now.nodes.devices (creation_for q)
+          (Ok tt)) same made.format) is passes
 
-  pub created_fits : (c : BlockdevCreate (List ℕ)) → HasCreated w.table c.options (ground_of w) now → FitsAll w (command.BlockdevCreate c)
+  pub created_fits : (c : BlockdevCreate (List ℕ)) → HasCreated w.table c.options (ground_of w) now → FitsAll w
+      (command.BlockdevCreate c)
   created_fits c made dev = fits-of c.options made dev

@@ -206,6 +206,7 @@ pub record IsReplied (w v : Face) (line : Given) : Type 0 where
   pub licensed : IsLicensedBy (seen_state w) (sources_of w)
       (counts_now w) (counts_within w v) (counts_now v)
       (would_pass w (command_in (command_at line.text))) (reply_entry w told line)
-  pub fits : HasFitted w (command_in (command_at line.text)) (line_answer w.table told line.text).reply
+  pub fits : HasFitted w (command_in (command_at line.text))
+      (line_answer w.table told line.text).reply
   pub shows : is_some w.files ≡ true → (o : Opening) (s : State) → Shows o s w
       → IsSeenIn s w v told (command_at line.text)

@@ -12,7 +12,6 @@ use Rattle.blk_nodes.specs.Overlays.{IsUnopened}
 use Rattle.blk_nodes.specs.Reading.{HaveRisen}
 use Rattle.qmp_codec.specs.Commands.{Cmd}
 use Rattle.qmp_codec.specs.declared.nodes.AddQcow2.{AddQcow2}
-use Rattle.qmp_codec.specs.declared.nodes.AddRaw.{AddRaw}
 use Rattle.qmp_codec.specs.declared.nodes.Added.{Added}
 use Rattle.qmp_codec.specs.declared.nodes.Added.TheVariants as added
 use Rattle.qmp_codec.specs.declared.nodes.FileRef.{FileRef}

@@ -16,7 +16,7 @@ use Rattle.qmp_rules.specs.declared.told.Told.{Told}
 use Rattle.flat_machine.specs.Wiring.{AreApart}
 use Rattle.blk_world.specs.declared.adding.staging.Staged.{Staged}
 use Rattle.blk_world.specs.declared.adding.staging.Staged.TheVariants as staged
-use Rattle.blk_world.specs.Adding.{Adding, Opens, Taken, opens, put_back}
+use Rattle.blk_world.specs.Adding.{Adding, Taken, opens, put_back}
 use Rattle.blk_world.specs.Coherent.{AreNodesOf}
 use Rattle.blk_world.specs.Face.{Face}
 use Rattle.blk_world.specs.Joining.{HasAdded}

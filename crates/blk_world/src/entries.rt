@@ -80,7 +80,8 @@ pub(crate) fn note_reply(
 )
     requires { 0 < history.old.room }
     ensures { history.new ≡ log_of history.old
-        (Event.Reply line (string_bytes given) (option_map seen_command command) (string_bytes text)) }
+        (Event.Reply line (string_bytes given) (option_map seen_command command)
+        (string_bytes text)) }
 {
     history.push(Entry::Reply {
         line,

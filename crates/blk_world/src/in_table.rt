@@ -18,7 +18,8 @@ use std::alloc::Global;
 
 /// Looks at a command of which files tell nothing, and takes the memory for its changes.
 fn prepare(alloc: Global, names: &mut Names, command: &Command) -> Result<Edits, PrepareStop>
-    ensures accepted { IfOk result (λ _. refusal_of names.old.table untold (seen_command command.now) ≡ None) }
+    ensures accepted { IfOk result
+        (λ _. refusal_of names.old.table untold (seen_command command.now) ≡ None) }
     ensures edits { IfOk result (λ edits. edits
         ≡ command_edits names.old.table untold (seen_command command.now)) }
     ensures room { IfOk result (λ edits. HasRoom (length edits) names.new) }
@@ -73,8 +74,8 @@ pub(crate) fn answer_alone(
     requires { needs_table_alone (seen_command command.now) ≡ true }
     ensures said { IfOk result (λ text. IsSaid given.now
         (answer names.old.table untold (seen_command command.now)).reply (string_bytes text)) }
-    ensures changed { OnOk result (names.new.table
-        ≡ all_changed names.old.table (answer names.old.table untold (seen_command command.now)).changes) }
+    ensures changed { OnOk result (names.new.table ≡ all_changed names.old.table
+        (answer names.old.table untold (seen_command command.now)).changes) }
     ensures kept { OnErr result (names.new.table ≡ names.old.table) }
 {
     match prepare(alloc, names, command) {

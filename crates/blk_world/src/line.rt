@@ -52,8 +52,8 @@ fn or_out_of_turn(
     given: &str,
     later: Option<Refusal>,
 ) -> Result<Option<Refusal>, NoMemory>
-    ensures { IfOk result (λ found. found
-        ≡ or_else (out_of_turn (asks_for_capabilities given.now) names.now.table.negotiated) later) }
+    ensures { IfOk result (λ found. found ≡ or_else
+        (out_of_turn (asks_for_capabilities given.now) names.now.table.negotiated) later) }
 {
     let asks = asks_for_capabilities(alloc, given)?;
     let found = out_of_turn(asks, names.is_negotiated());
@@ -71,7 +71,8 @@ fn line_refusal(
     given: &str,
     stop: CodecStop,
 ) -> Result<Option<Refusal>, NoMemory>
-    ensures { IfOk result (λ found. found ≡ line_refusal names.now.table given.now (seen_stop stop)) }
+    ensures { IfOk result
+        (λ found. found ≡ line_refusal names.now.table given.now (seen_stop stop)) }
 {
     match stop {
         CodecStop::BadJson => Ok(Some(Refusal::BadJson)),

@@ -229,7 +229,8 @@ impl Progress {
     pub(crate) fn reply(&mut self, line: u32, given: String, command: Option<Command>, text: String)
         requires { 0 < self.old.spare.entries }
         ensures { self.new ≡ with_entry
-            (Event.Reply line (string_bytes given) (option_map seen_command command) (string_bytes text)) self.old }
+            (Event.Reply line (string_bytes given) (option_map seen_command command)
+            (string_bytes text)) self.old }
     {
         let spare = less(self.spare, 1, 0);
         entries::note_reply(&mut self.history, line, given, command, text);

@@ -1,5 +1,6 @@
 //! The block layer of QEMU as a program: `qblk io FORMAT IMAGE TRACE` runs a trace of reads and writes on a raw or qcow2
-//! image, and writes the transcript to standard output.
+//! image, `qblk run 1 SCRIPT GUEST=TRACE ..` a script of commands and the traces of its guests, and each writes its transcript
+//! to standard output.
 #![tactic(auto)]
 
 mod report;
@@ -7,7 +8,8 @@ mod report;
 use crate::report::{print_failure, print_status};
 use blk_base::{FaultFrom, Text};
 use blk_files::{Failure, FileStore, OutSink};
-pub use qblk_core::{Format, InputWhy, Status, qblk, run_io};
+pub use qblk_core::{Format, InputWhy, Status, run_io};
+pub use qblk_run::{qblk, run_script};
 use std::alloc::Global;
 use std::fs::File;
 use std::io::{ErrorKind, Write};

@@ -62,7 +62,6 @@ passed-task p a g before after passes was = record {
 
 module _ (p : Progress) (script : ScriptTask) (tasks : List Task) (g : ℕ) (before after : Task)
     (there : slice_get tasks g ≡ Some before) (passes : Passes (answered_in p.log.events) before after) where
-
   still-can : CanGoOn p (record { script = script; guests = tasks }) → CanGoOn p (record { script = script; guests = set tasks g after })
   still-can can =
       let size : length (set tasks g after) ≡ length tasks = length-set tasks g after in
@@ -94,8 +93,8 @@ module _ (p : Progress) (script : ScriptTask) (tasks : List Task) (g : ℕ) (bef
       let c = course_after (course_of orders traces) p.log.events in
       let a : c.answered ≡ answered_in p.log.events = course-answered (course_of orders traces) p.log.events in
       let rest : IsRestOf c g after = with-map (rest_of c g) _ _ (λ wishes same.
-          same ∙ sym (through c.answered c.answered (grows-same c.answered) before.wishes) ∙ ap (past_waits c.answered) (sym (passes.wishes ∙ ap (λ x. past_waits x before.wishes) (sym a))))
-          (keeps.rests.traces g before there) in
+      same ∙ sym (through c.answered c.answered (grows-same c.answered) before.wishes) ∙ ap (past_waits c.answered) (sym (passes.wishes ∙ ap (λ x. past_waits x before.wishes) (sym a))))
+      (keeps.rests.traces g before there) in
       record { order = keeps.order; rests = rests-advance c c script tasks g after (stays c g after rest) keeps.rests }
 
 -- ---- one turn

@@ -29,7 +29,6 @@ no-flight (Some n) row none is = absurd (let bad : ⊥ = cc none in bad)
 
 module _ (w : Face) (tasks : Tasks) (orders : List Order) (traces : List (List Wish))
     (can : CanGoOn w.progress tasks) (keeps : KeepsTo orders traces w.progress.log.events tasks) where
-
   abbrev c : Course
   c = course_after (course_of orders traces) w.progress.log.events
 
@@ -67,10 +66,14 @@ module _ (w : Face) (tasks : Tasks) (orders : List Order) (traces : List (List W
   guest-blocked g task what there is waits =
       let row = with-some (slice_get w.progress.guests g) (λ row. IsTaskOf row task) (can.guests g task there).row in
       let passed : past_waits c.answered task.wishes ≡ task.wishes = ap (λ (a : List ℕ). past_waits a task.wishes) answered-are ∙ is.passed in
-      inr (g, refl, record {
-        idle = at-with (guest_at (seen_state w) g) row.0 (λ r. r.flight ≡ None) row.1 (no-flight task.left row.0 is.idle row.2.flying);
-        next = with-map (rest_of c g) _ _ (λ wishes same. subst (λ (x : List Wish). TraceWaits (seen_state w) g x what) (sym (same ∙ passed)) waits) (keeps.rests.traces g task there);
-      })
+      inr (
+        g,
+        refl,
+        record {
+          idle = at-with (guest_at (seen_state w) g) row.0 (λ r. r.flight ≡ None) row.1 (no-flight task.left row.0 is.idle row.2.flying);
+          next = with-map (rest_of c g) _ _ (λ wishes same. subst (λ (x : List Wish). TraceWaits (seen_state w) g x what) (sym (same ∙ passed)) waits) (keeps.rests.traces g task there);
+        },
+      )
 
   -- each actor that is not done is
   blocked-guest : (g : ℕ) (task : Task) → slice_get tasks.guests g ≡ Some task → task.is_done ≡ false → Rests w g task

@@ -135,7 +135,6 @@ left-next n f outcome left is good bad = by_test (is_good outcome) refl
 -- ---- each event
 
 module _ (w v : Face) (g : ℕ) (before after : Task) (is : IsTaskIn w.progress g before) where
-
   pub retire-move : before.left ≡ Some 0 → v ≡ onward w (with_retirement g)
       → after.wishes ≡ before.wishes → after.left ≡ None → after.is_done ≡ before.is_done → MakesMove w.progress v.progress g before after
   retire-move flying kept wishes left done =
@@ -144,22 +143,24 @@ module _ (w v : Face) (g : ℕ) (before after : Task) (is : IsTaskIn w.progress 
       let e = Retire g (done_at w.progress.guests g) in
       let flown : in_flight before.left ≡ 1 = ap in_flight flying in
       let none : in_flight after.left ≡ 0 = ap in_flight left in
-      let size : length after.wishes ≡ length before.wishes = ap length wishes in
-      (e, rw kept (record {
-        own = (refl, record { wishes = ap (past_waits (answered_in w.progress.log.events)) wishes; is_done = done });
-        events = refl;
-        guests = refl;
-        task = put-row w.progress.guests g finished row.0 (λ r. IsTaskOf r after) row.1 (record {
-          flying = rw left tt;
-          count = omega arith;
-          numbers = rw wishes row.2.numbers;
-          used = λ is_done. (wishes ∙ (row.2.used (sym done ∙ is_done)).0, left);
-        });
-        entries = rw (wishes, done) (omega arith);
-        bytes = rw wishes (omega arith);
-        steps = rw (wishes, done, left, flying) (omega arith);
-        shown = omega arith;
-      }))
+      let size : length after.wishes ≡ length before.wishes = ap length wishes in (
+        e,
+        rw kept (record {
+          own = (refl, record { wishes = ap (past_waits (answered_in w.progress.log.events)) wishes; is_done = done });
+          events = refl;
+          guests = refl;
+          task = put-row w.progress.guests g finished row.0 (λ r. IsTaskOf r after) row.1 (record {
+            flying = rw left tt;
+            count = omega arith;
+            numbers = rw wishes row.2.numbers;
+            used = λ is_done. (wishes ∙ (row.2.used (sym done ∙ is_done)).0, left);
+          });
+          entries = rw (wishes, done) (omega arith);
+          bytes = rw wishes (omega arith);
+          steps = rw (wishes, done, left, flying) (omega arith);
+          shown = omega arith;
+        }),
+      )
 
   pub piece-move : (left now : ℕ) (outcome : Outcome) → before.left ≡ Some left → 0 < left
       → ((f : Flight) → flight_at w.progress.guests g ≡ Some f → (got : List ℕ) × (v.progress ≡ with_piece g f.next outcome got w.progress) × CanShow (length got) f)
@@ -177,22 +178,24 @@ module _ (w v : Face) (g : ℕ) (before after : Task) (is : IsTaskIn w.progress 
       let size : length after.wishes ≡ length before.wishes = ap length wishes in
       let less : now ≤ n = now-less (is_good outcome) refl in
       let e = Piece g (done_at w.progress.guests g) f.0.next outcome got.0 in
-      let flew = f.1 in
-      (e, rw got.1 (record {
-        own = (refl, record { wishes = ap (past_waits (answered_in w.progress.log.events)) wishes; is_done = done });
-        events = refl;
-        guests = refl;
-        task = put-row w.progress.guests g (past_piece outcome) row.0 (λ r. IsTaskOf r after) row.1 (record {
-          flying = rw (left, flew) (left-next n f.0 outcome now f.2 (λ e. let is = good e in omega arith) bad);
-          count = omega arith;
-          numbers = rw wishes row.2.numbers;
-          used = λ is_done. let none = (row.2.used (sym done ∙ is_done)).1 in let bad : ⊥ = cc (none, flying) in absurd bad;
-        });
-        entries = rw (wishes, done) (omega arith);
-        bytes = rw wishes (omega arith);
-        steps = rw (wishes, done, left, flying) (omega arith);
-        shown = shows-short f.0.op f.0.next (length got.0) got.2.shown;
-      }))
+      let flew = f.1 in (
+        e,
+        rw got.1 (record {
+          own = (refl, record { wishes = ap (past_waits (answered_in w.progress.log.events)) wishes; is_done = done });
+          events = refl;
+          guests = refl;
+          task = put-row w.progress.guests g (past_piece outcome) row.0 (λ r. IsTaskOf r after) row.1 (record {
+            flying = rw (left, flew) (left-next n f.0 outcome now f.2 (λ e. let is = good e in omega arith) bad);
+            count = omega arith;
+            numbers = rw wishes row.2.numbers;
+            used = λ is_done. let none = (row.2.used (sym done ∙ is_done)).1 in let bad : ⊥ = cc (none, flying) in absurd bad;
+          });
+          entries = rw (wishes, done) (omega arith);
+          bytes = rw wishes (omega arith);
+          steps = rw (wishes, done, left, flying) (omega arith);
+          shown = shows-short f.0.op f.0.next (length got.0) got.2.shown;
+        }),
+      )
     where
       now-less : (b : Bool) → is_good outcome ≡ b → now ≤ n
       now-less true e = let is = good e in omega arith
@@ -206,22 +209,24 @@ module _ (w v : Face) (g : ℕ) (before after : Task) (is : IsTaskIn w.progress 
       let none : in_flight after.left ≡ 0 = ap in_flight left in
       let was : in_flight before.left ≡ 0 = ap in_flight idle in
       let size : length after.wishes ≡ 0 = ap length wishes in
-      let entries : entries_of before ≡ 1 = rw (used, going) refl in
-      (Done (g + 1), rw kept (record {
-        own = (refl, record { used = ap (past_waits (answered_in w.progress.log.events)) used; wishes = wishes; is_done = done });
-        events = refl;
-        guests = refl;
-        task = at-with (slice_get w.progress.guests g) row.0 (λ r. IsTaskOf r after) row.1 (record {
-          flying = rw (left, rests before.left row.0.flight idle row.2.flying) tt;
-          count = omega arith;
-          numbers = rw wishes tt;
-          used = λ is_done. (wishes, left);
-        });
-        entries = rw (wishes, done, used, going) (omega arith);
-        bytes = rw (wishes, used) (omega arith);
-        steps = rw (wishes, done, left, used, going, idle) (omega arith);
-        shown = omega arith;
-      }))
+      let entries : entries_of before ≡ 1 = rw (used, going) refl in (
+        Done (g + 1),
+        rw kept (record {
+          own = (refl, record { used = ap (past_waits (answered_in w.progress.log.events)) used; wishes = wishes; is_done = done });
+          events = refl;
+          guests = refl;
+          task = at-with (slice_get w.progress.guests g) row.0 (λ r. IsTaskOf r after) row.1 (record {
+            flying = rw (left, rests before.left row.0.flight idle row.2.flying) tt;
+            count = omega arith;
+            numbers = rw wishes tt;
+            used = λ is_done. (wishes, left);
+          });
+          entries = rw (wishes, done, used, going) (omega arith);
+          bytes = rw (wishes, used) (omega arith);
+          steps = rw (wishes, done, left, used, going, idle) (omega arith);
+          shown = omega arith;
+        }),
+      )
 
   -- ---- requests
 
@@ -234,22 +239,24 @@ module _ (w v : Face) (g : ℕ) (before after : Task) (is : IsTaskIn w.progress 
       let some : in_flight after.left ≡ 1 = ap in_flight left in
       let size : length before.wishes ≡ suc (length after.wishes) = ap length next in
       let entries = room.entries in
-      let bytes = room.bytes in
-      (Admit g (done_at w.progress.guests g) op, rw kept (record {
-        own = (refl, record { next = ap (past_waits (answered_in w.progress.log.events)) next; is_done = done });
-        events = refl;
-        guests = refl;
-        task = put-row w.progress.guests g (admitted op) row.0 (λ r. IsTaskOf r after) row.1 (record {
-          flying = rw left (all-left (pieces_of op) refl);
-          count = omega arith;
-          numbers = (rw next at row.2.numbers).1;
-          used = λ is_done. absurd (false≢true (sym going ∙ sym done ∙ is_done));
-        });
-        entries = rw (next, done) (omega arith);
-        bytes = rw next (omega arith);
-        steps = rw (next, done, left, idle) (omega arith);
-        shown = omega arith;
-      }))
+      let bytes = room.bytes in (
+        Admit g (done_at w.progress.guests g) op,
+        rw kept (record {
+          own = (refl, record { next = ap (past_waits (answered_in w.progress.log.events)) next; is_done = done });
+          events = refl;
+          guests = refl;
+          task = put-row w.progress.guests g (admitted op) row.0 (λ r. IsTaskOf r after) row.1 (record {
+            flying = rw left (all-left (pieces_of op) refl);
+            count = omega arith;
+            numbers = (rw next at row.2.numbers).1;
+            used = λ is_done. absurd (false≢true (sym going ∙ sym done ∙ is_done));
+          });
+          entries = rw (next, done) (omega arith);
+          bytes = rw next (omega arith);
+          steps = rw (next, done, left, idle) (omega arith);
+          shown = omega arith;
+        }),
+      )
     where
       all-left : (n : ℕ) → pieces_of op ≡ n → HasLeft n (record { op = op; next = 0; is_stopped = false })
       all-left zero e = inl (sym e)
@@ -263,22 +270,24 @@ module _ (w v : Face) (g : ℕ) (before after : Task) (is : IsTaskIn w.progress 
       let was : in_flight before.left ≡ 0 = ap in_flight idle in
       let none : in_flight after.left ≡ 0 = ap in_flight left in
       let size : length before.wishes ≡ suc (length after.wishes) = ap length next in
-      let entries = room.entries in
-      (Refuse g (done_at w.progress.guests g) op why, rw kept (record {
-        own = (refl, record { next = ap (past_waits (answered_in w.progress.log.events)) next; is_done = done });
-        events = refl;
-        guests = refl;
-        task = put-row w.progress.guests g finished row.0 (λ r. IsTaskOf r after) row.1 (record {
-          flying = rw left tt;
-          count = omega arith;
-          numbers = (rw next at row.2.numbers).1;
-          used = λ is_done. absurd (false≢true (sym going ∙ sym done ∙ is_done));
-        });
-        entries = rw (next, done) (omega arith);
-        bytes = rw next (omega arith);
-        steps = rw (next, done, left, idle) (omega arith);
-        shown = omega arith;
-      }))
+      let entries = room.entries in (
+        Refuse g (done_at w.progress.guests g) op why,
+        rw kept (record {
+          own = (refl, record { next = ap (past_waits (answered_in w.progress.log.events)) next; is_done = done });
+          events = refl;
+          guests = refl;
+          task = put-row w.progress.guests g finished row.0 (λ r. IsTaskOf r after) row.1 (record {
+            flying = rw left tt;
+            count = omega arith;
+            numbers = (rw next at row.2.numbers).1;
+            used = λ is_done. absurd (false≢true (sym going ∙ sym done ∙ is_done));
+          });
+          entries = rw (next, done) (omega arith);
+          bytes = rw next (omega arith);
+          steps = rw (next, done, left, idle) (omega arith);
+          shown = omega arith;
+        }),
+      )
 
 -- ---- waits were passed before
 
@@ -318,17 +327,19 @@ move-passed p q g before mid after passes (e, move) =
     let steps : steps_of mid ≡ steps_of before = rw (passes.wishes, passes.is_done, passes.left, n) refl in
     let had_entries = move.entries in
     let had_bytes = move.bytes in
-    let had_steps = move.steps in
-    (e, record {
-      own = own-passed (answered_in p.log.events) g before mid after e passes move.own;
-      events = move.events;
-      guests = move.guests;
-      task = move.task;
-      entries = omega arith;
-      bytes = omega arith;
-      steps = omega arith;
-      shown = move.shown;
-    })
+    let had_steps = move.steps in (
+      e,
+      record {
+        own = own-passed (answered_in p.log.events) g before mid after e passes move.own;
+        events = move.events;
+        guests = move.guests;
+        task = move.task;
+        entries = omega arith;
+        bytes = omega arith;
+        steps = omega arith;
+        shown = move.shown;
+      },
+    )
 
 -- ---- a guest that asks
 
@@ -336,7 +347,6 @@ passed-twice : (a : List ℕ) (before after : Task) → Passes a before after �
 passed-twice a before after passes = ap (past_waits a) passes.wishes ∙ through a a (grows-same a) before.wishes ∙ sym passes.wishes
 
 module _ (w v : Face) (g : ℕ) (before mid after : Task) (passes : Passes (answered_in w.progress.log.events) before mid) where
-
   pub ask-moves : MakesMove w.progress v.progress g mid after → IsTurn w v g before after true
   ask-moves move = move-passed w.progress v.progress g before mid after passes move
 

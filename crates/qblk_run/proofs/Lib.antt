@@ -12,3 +12,9 @@ pub mod ScriptTurns
 pub mod Lines
 pub mod Ending
 pub mod Firsts
+pub mod Closing
+pub mod Accounts
+pub mod Beginnings
+pub mod Answering
+pub mod Runs
+pub mod Completes

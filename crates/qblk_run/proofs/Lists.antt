@@ -107,3 +107,13 @@ pub at-index : {A : Type 0} (xs : List A) (n : ℕ) (d : A) → n < length xs �
 at-index [] n d below = absurd (omega arith)
 at-index (y ∷ xs) zero d below = refl
 at-index (y ∷ xs) (suc n) d below = at-index xs n d (omega arith)
+
+pub at-get : {A : Type 0} (xs : List A) (n : ℕ) (d : A) → n < length xs → slice_get xs n ≡ Some (get_or xs n d)
+at-get [] n d below = absurd (omega arith)
+at-get (y ∷ xs) zero d below = refl
+at-get (y ∷ xs) (suc n) d below = at-get xs n d (omega arith)
+
+pub is-get : {A : Type 0} (xs : List A) (n : ℕ) (x d : A) → slice_get xs n ≡ Some x → get_or xs n d ≡ x
+is-get [] n x d is = let bad : ⊥ = cc is in absurd bad
+is-get (y ∷ xs) zero x d is = cc is
+is-get (y ∷ xs) (suc n) x d is = is-get xs n x d is

@@ -91,7 +91,6 @@ step-other guests a g k before after (End job outcome offset) own apart = absurd
 
 module _ (p q : Progress) (script : ScriptTask) (tasks : List Task) (g : ℕ) (before after : Task) (e : Event)
     (there : slice_get tasks g ≡ Some before) (move : IsMove p q g before after e) where
-
   tasks-in : AreTasksIn p tasks → AreTasksIn q (set tasks g after)
   tasks-in all k task is = by_place (same_or_not k g)
     where

@@ -130,7 +130,6 @@ rests-advance c d script tasks g after steps rests = record {
 
 module _ (p q : Progress) (script : ScriptTask) (tasks : List Task) (g : ℕ) (before after : Task) (e : Event)
     (there : slice_get tasks g ≡ Some before) (move : IsMove p q g before after e) where
-
   pub move-order : (orders : List Order) (traces : List (List Wish)) → KeepsTo orders traces p.log.events (record { script = script; guests = tasks })
       → KeepsTo orders traces q.log.events (record { script = script; guests = set tasks g after })
   move-order orders traces keeps =

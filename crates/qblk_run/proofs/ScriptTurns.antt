@@ -22,40 +22,47 @@ pub script-room : (p : Progress) (s : ScriptTask) → s.is_done ≡ false → en
 script-room p s going entries = let one : end_of s.is_done ≡ 1 = ap end_of going in omega arith
 
 module _ (w v : Face) (before after : ScriptTask) (going : before.is_done ≡ false) (room : 0 < w.progress.spare.entries) where
-
   pub script-ends : before.orders ≡ [] → v ≡ after_end w 0 → after.orders ≡ [] → after.is_done ≡ true → IsScriptTurn w v before after true
-  script-ends used kept orders done = (Done 0, rw kept (record {
-    runs = going;
-    own = (refl, used, orders, done);
-    events = refl;
-    guests = refl;
-    entries = omega arith;
-    bytes = omega arith;
-  }))
+  script-ends used kept orders done = (
+    Done 0,
+    rw kept (record {
+      runs = going;
+      own = (refl, used, orders, done);
+      events = refl;
+      guests = refl;
+      entries = omega arith;
+      bytes = omega arith;
+    }),
+  )
 
   pub script-replies : (line : ℕ) (text : List ℕ) (given : Given) → given ≡ record { number = line; text = text } → before.orders ≡ Give line text ∷ after.orders
       → IsReplied w v given → after.is_done ≡ false → IsScriptTurn w v before after true
   script-replies line text given same next replied done =
-      let made = replied.progress in
-      (reply_entry w replied.told given, rw made (record {
-        runs = going;
-        own = rw same (next, done);
-        events = refl;
-        guests = refl;
-        entries = omega arith;
-        bytes = omega arith;
-      }))
+      let made = replied.progress in (
+        reply_entry w replied.told given,
+        rw made (record {
+          runs = going;
+          own = rw same (next, done);
+          events = refl;
+          guests = refl;
+          entries = omega arith;
+          bytes = omega arith;
+        }),
+      )
 
   pub script-reaches : (line : ℕ) (what : Await (List ℕ)) → before.orders ≡ Watch line what ∷ after.orders → v ≡ after_wait w line what true
       → after.is_done ≡ false → IsScriptTurn w v before after true
-  script-reaches line what next kept done = (Reached line what, rw kept (record {
-    runs = going;
-    own = (next, done);
-    events = refl;
-    guests = refl;
-    entries = omega arith;
-    bytes = omega arith;
-  }))
+  script-reaches line what next kept done = (
+    Reached line what,
+    rw kept (record {
+      runs = going;
+      own = (next, done);
+      events = refl;
+      guests = refl;
+      entries = omega arith;
+      bytes = omega arith;
+    }),
+  )
 
   pub script-waits : (line : ℕ) (what : Await (List ℕ)) (rest : List _) → after.orders ≡ Watch line what ∷ rest → after.orders ≡ before.orders → after.is_done ≡ before.is_done
       → v ≡ w → (IsMet (seen_state w) what → ⊥) → IsScriptTurn w v before after false

@@ -134,7 +134,6 @@ has-line guests before after (End job outcome offset) own = absurd own
 -- ---- all of it
 
 module _ (p q : Progress) (before after : ScriptTask) (tasks : List Task) (e : Event) (move : IsScriptMove p q before after e) where
-
   pub script-can : CanGoOn p (record { script = before; guests = tasks }) → CanGoOn q (record { script = after; guests = tasks })
   script-can can =
       let less = script-less before after e move.runs move.own in

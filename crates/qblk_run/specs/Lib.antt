@@ -3,3 +3,7 @@ pub mod Tasks
 pub mod Turns
 pub mod Rounds
 pub mod Sending
+pub mod Session
+pub mod Beginning
+pub mod Ending
+pub mod Completeness

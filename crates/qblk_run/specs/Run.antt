@@ -1,5 +1,5 @@
 -- What a run of a script and traces is, seen from outside.
-use Rattle.std.specs.Prelude.{◌≡◌, ◌⊎◌, ℕ, ◌≤◌, Bool, true, false, List, ◌++◌, length, map, take, slice_get, All, Option, Some, IsSome, is_some, option_map, unwrap_or}
+use Rattle.std.specs.Prelude.{◌≡◌, ◌⊎◌, ℕ, ◌<◌, ◌≤◌, Bool, true, false, List, [], ◌++◌, length, map, take, slice_get, All, Option, Some, IsSome, is_some, option_map}
 use Rattle.blk_base.specs.Counts.{Rose}
 use Rattle.blk_base.specs.Files.{IfTold}
 use Rattle.blk_base.specs.Written.{Written}
@@ -20,15 +20,19 @@ use Rattle.flat_machine.specs.Opening.{start}
 use Rattle.flat_machine.specs.Comes.{IsHistoryOf, IsInOrder, HasEnded, guests_after, transcript_of}
 use Rattle.flat_machine.specs.Courses.{Course, course_of, course_after}
 use Rattle.flat_machine.specs.Blocked.{IsStuck}
-use Rattle.flat_machine.specs.Licence.{Counts, AreLicensed, faults_of}
+use Rattle.flat_machine.specs.Licence.{Counts, AreLicensed, count_of, faults_of}
 use Rattle.flat_machine.specs.Final.{AreLeftBy}
 use Rattle.flat_machine.specs.declared.opening.Opening.{Opening}
-use Rattle.blk_world.specs.Closing.{IsFlushedIn}
-use Rattle.blk_world.specs.Steps.{StoreSeen, IsOpeningOf}
+use Rattle.blk_world.specs.Closing.{IsFlushedIn, count_back}
+use Rattle.blk_world.specs.Steps.{StoreSeen, IsOpeningOf, seen_store}
+use Rattle.blk_world.specs.Tabling.{IsTableAfter}
 use Rattle.qblk_inputs.specs.Inputs.{Work, HasWork, IsRefusedInput}
 use Rattle.qblk_inputs.specs.Words.{Cast, guests_of}
 use Rattle.qblk_inputs.specs.declared.stop.InputFlaw.{InputFlaw}
 use Rattle.qblk_inputs.specs.declared.stop.InputFlaw.TheVariants as flaws
+use Rattle.qblk_inputs.specs.declared.stop.InputStop.{InputStop}
+use Rattle.qblk_inputs.specs.declared.stop.InputStop.TheVariants as stops
+use Rattle.qblk_core.specs.Run.{Outside}
 use Rattle.qblk_core.specs.declared.status.InputWhy.{InputWhy}
 use Rattle.qblk_core.specs.declared.status.InputWhy.TheVariants as whys
 use Rattle.qblk_core.specs.declared.status.Status.{Status}
@@ -39,6 +43,15 @@ pub record Setting : Type 0 where
   pub store : StoreSeen
   pub sent : Option (List ℕ)
   pub sink_faults : ℕ
+
+abbrev pub setting : Option (List File) → List Opened → ℕ → ℕ → Option (List ℕ) → ℕ → Setting
+setting files opened room faults sent sink_faults =
+    record { store = seen_store files opened room faults; sent = sent; sink_faults = sink_faults }
+
+-- as `io` sees it
+abbrev pub outside : Option (List File) → List Opened → ℕ → Option (List ℕ) → ℕ → Outside
+outside files opened faults sent sink_faults =
+    record { files = files; opened = opened; store_faults = faults; sent = sent; sink_faults = sink_faults }
 
 -- What a run was: what it began with, the openings of devices in it, and its history.
 pub record Account : Type 0 where
@@ -59,7 +72,12 @@ counts_at_first old a = record { store = old.faults; devices = map (λ o. o.faul
 
 abbrev pub counts_at_last : StoreSeen → Account → Counts
 counts_at_last new a =
-    record { store = new.faults; devices = map (λ o. unwrap_or o.returned 0) a.openings }
+    record { store = new.faults; devices = map count_back a.openings }
+
+-- no count has risen
+abbrev pub HaveStood : Counts → Counts → Type 0
+HaveStood first last = (from : FaultFrom) (n : ℕ) → count_of first from ≡ Some n
+    → (n < 18446744073709551615) × (count_of last from ≡ Some n)
 
 -- ---- files
 
@@ -82,22 +100,25 @@ pub record LeavesFiles (a : Account) (is_flushed : Bool) (files : List File) : T
 -- ---- a run
 
 -- Each guest's requests are its trace's, in order, and so it is with the script; each fault that the history names is a
--- rise of its count in this run, and is named once. The rest speaks of a store that tells its files.
+-- rise of its count in this run, and is named once; where no count has risen, none is named. The rest speaks of a store that
+-- tells its files.
 pub record IsRun (cast : Cast) (work : Work) (is_flushed : Bool) (old new : StoreSeen) (a : Account) : Type 0 where
   pub opening : IsOpeningOf old (guests_of cast) a.opening
   pub openings : HasOpened old.opened new.opened a.openings
   pub order : IsInOrder a.opening work.script work.traces a.events
   pub licensed : AreLicensed (counts_at_first old a) (counts_at_last new a) a.events
+  pub quiet : HaveStood (counts_at_first old a) (counts_at_last new a) → faults_of a.events ≡ []
   pub files : IfTold old.files (λ told. With new.files (LeavesFiles a is_flushed))
 
 -- what is left of script and traces behind the history
 abbrev pub course_in : Work → Account → Course
 course_in work a = course_after (course_of work.script work.traces) a.events
 
--- Some actor is unfinished, and each of those is blocked; the first is named. The state in which that is so is the one that the
--- history comes to, where the store tells its files.
+-- Some actor is unfinished, and each of those is blocked; the first is named. The table in which that is so is one that the
+-- entries make, and the state is the one that the history comes to, where the store tells its files.
 pub record EndsStuck (is_told : Bool) (work : Work) (a : Account) (actor : ℕ) (what : Waits (List ℕ)) : Type 0 where
   pub state : State
+  pub table : IsTableAfter a.opening.guests a.events state.table
   pub told : is_told ≡ true → state ≡ state_after a.opening a.events
   pub guests : state.guests ≡ guests_after a.opening a.events
   pub ended : state.ended ≡ (course_in work a).ended
@@ -191,7 +212,8 @@ IsRefusedFor cast old new name line why = NothingWritten old new
 abbrev pub IsUnsent : Cast → Setting → Setting → Type 0
 IsUnsent cast old new = (new.sent ≡ old.sent) × (new.sink_faults ≡ old.sink_faults)
     × ((new.store.files ≡ old.store.files)
-    ⊎ ((work : Work) × (a : Account) × IsRun cast work false old.store new.store a))
+    ⊎ ((work : Work) × (a : Account) × IfTold old.store.files (HasWork cast work)
+    × IsRun cast work false old.store new.store a))
 
 -- why a run of these words ended so
 abbrev pub Answers : Cast → Setting → Setting → Status → Type 0
@@ -203,3 +225,9 @@ Answers cast old new (Fault from count) = IsFaulty cast old new from count
 Answers cast old new (Stuck actor what) = (work : Work) × (a : Account)
     × WasRunWhole cast work old new a × EndsStuck (is_some old.store.files) work a actor (seen_waits what)
 Answers cast old new NoMemory = IsUnsent cast old new
+
+-- the status of inputs that weren't read
+abbrev pub status_of : InputStop → Status
+status_of (stops.Refused name line why) = Input name line (why_of why)
+status_of (stops.Failed count) = Fault Store count
+status_of stops.NoMemory = NoMemory

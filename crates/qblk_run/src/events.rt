@@ -14,8 +14,8 @@ ghost use Rattle.blk_world.specs.Progress.{IsFree, HasNext, HasRoomFor, CanShow,
 ghost use Rattle.blk_world.specs.Steps.{onward, after_admission, IsAnswered, after_wait, after_end, IsIdle};
 ghost use Rattle.qblk_run.specs.Turns.{StaysIn};
 
-use blk_base::{NoMemory, Outcome};
-use blk_world::Admission;
+use blk_base::{NoMemory, Outcome, Store};
+use blk_world::{Admission, World};
 use std::alloc::Global;
 use trace_codec::{Await, Op};
 
@@ -84,4 +84,36 @@ pub(crate) trait Events {
     /// Whether a line of the script has its reply, or its wait is over.
     fn answered(&self, line: u32) -> bool
         ensures { IsTrue result ↔ Contains (answered_in (face self.now).progress.log.events) line };
+}
+
+impl<S: Store> Events for World<S> {
+    ghost face = { λ w. w };
+
+    fn admit(&mut self, guest: u32, op: Op) -> Admission {
+        World::admit(self, guest, op)
+    }
+
+    fn piece(&mut self, guest: u32) -> Outcome {
+        World::piece(self, guest)
+    }
+
+    fn retire(&mut self, guest: u32) {
+        World::retire(self, guest);
+    }
+
+    fn execute(&mut self, alloc: Global, line: u32, given: String) -> Result<(), NoMemory> {
+        World::execute(self, alloc, line, given)
+    }
+
+    fn reach(&mut self, line: u32, what: Await) -> Option<Await> {
+        World::reach(self, line, what)
+    }
+
+    fn finish(&mut self, actor: u32) {
+        World::finish(self, actor);
+    }
+
+    fn answered(&self, line: u32) -> bool {
+        World::answered(self, line)
+    }
 }

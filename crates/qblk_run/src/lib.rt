@@ -4,8 +4,18 @@
 
 mod events;
 mod guest_turn;
+mod laws;
+mod output;
+mod preparing;
+mod program;
 mod rounds;
+mod run;
 mod script_turn;
+mod session;
 mod stuck;
 mod task;
 mod transcript;
+
+pub use laws::runs_that_await_nothing_are_whole;
+pub use program::qblk;
+pub use run::run_script;

@@ -58,11 +58,7 @@ fn next_script<W: Events>(
 }
 
 /// Gives each actor its turn. Says whether one of them made an entry.
-fn round<W: Events>(
-    alloc: Global,
-    world: &mut W,
-    actors: &mut Actors,
-) -> Result<bool, NoMemory>
+fn round<W: Events>(alloc: Global, world: &mut W, actors: &mut Actors) -> Result<bool, NoMemory>
     requires can { CanGoOn (W.face world.old).progress actors.old }
     ensures goes { OnOk result (Continues (W.face world.old) (W.face world.new) actors.old actors.new) }
     ensures round { IfOk result (Goes (W.face world.old) (W.face world.new) actors.old actors.new

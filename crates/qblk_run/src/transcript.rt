@@ -45,11 +45,7 @@ fn room_of(text: usize, name: usize) -> Option<usize>
 }
 
 /// A text with room for each line of a history.
-pub(crate) fn text_for(
-    alloc: Global,
-    history: &History,
-    names: &Names1,
-) -> Result<Text, NoMemory>
+pub(crate) fn text_for(alloc: Global, history: &History, names: &Names1) -> Result<Text, NoMemory>
     requires lines { HaveLines names.now history.now.events }
     ensures empty { IfOk result (λ text. text.bytes ≡ []) }
     ensures fits { IfOk result (λ text.

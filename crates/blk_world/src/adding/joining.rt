@@ -72,7 +72,8 @@ fn put_image<D: Device>(
 ) -> NodeId
     requires { CanPutImage nodes.old
         (record { name = name.bytes; file = file; backing = backing; is_read_only = read_only }) image }
-    ensures { HasImage (record { name = name.bytes; file = file; backing = backing; is_read_only = read_only }) image
+    ensures { HasImage
+        (record { name = name.bytes; file = file; backing = backing; is_read_only = read_only }) image
         nodes.old nodes.new result }
 {
     match nodes.add_image(name, file, image, backing, read_only) {
@@ -200,10 +201,13 @@ fn add_file_part<D: Device>(
     out: Out<D>,
 ) -> Result<(), Out<D>>
     requires { CanJoin (seen_blockdev_add c.now) (seen_inline_file file.now) out nodes.old
-        (λ now node. CanPutPart now (seen_blockdev_add c.now).node_name (is_read_only (seen_blockdev_add c.now).options) node
+        (λ now node. CanPutPart now (seen_blockdev_add c.now).node_name
+        (is_read_only (seen_blockdev_add c.now).options) node
         (part_in (seen_add_raw raw.now) out.size)) }
-    ensures ok { OnOk result (HasJoined (seen_blockdev_add c.now) (seen_inline_file file.now) out nodes.old nodes.new
-        (λ now under node. HasPart (seen_blockdev_add c.now).node_name (is_read_only (seen_blockdev_add c.now).options) under
+    ensures ok { OnOk result (HasJoined (seen_blockdev_add c.now) (seen_inline_file file.now) out
+        nodes.old nodes.new
+        (λ now under node. HasPart (seen_blockdev_add c.now).node_name
+        (is_read_only (seen_blockdev_add c.now).options) under
         (part_in (seen_add_raw raw.now) out.size) now nodes.new node)) }
     ensures back { IfErr result (λ back. back ≡ out) }
     ensures err { OnErr result (nodes.new ≡ nodes.old) }
@@ -236,9 +240,12 @@ fn add_file_image<D: Device>(
     image: Image,
 ) -> Result<(), Out<D>>
     requires { CanJoin (seen_blockdev_add c.now) (seen_inline_file file.now) out nodes.old
-        (λ now node. CanPutImage now (asked_for names.now.table (seen_blockdev_add c.now) (seen_add_qcow2 added.now) node) image) }
-    ensures ok { OnOk result (HasJoined (seen_blockdev_add c.now) (seen_inline_file file.now) out nodes.old nodes.new
-        (λ now under node. HasImage (asked_for names.now.table (seen_blockdev_add c.now) (seen_add_qcow2 added.now) under)
+        (λ now node. CanPutImage now (asked_for names.now.table (seen_blockdev_add c.now)
+        (seen_add_qcow2 added.now) node) image) }
+    ensures ok { OnOk result (HasJoined (seen_blockdev_add c.now) (seen_inline_file file.now) out
+        nodes.old nodes.new
+        (λ now under node. HasImage (asked_for names.now.table (seen_blockdev_add c.now)
+        (seen_add_qcow2 added.now) under)
         image now nodes.new node)) }
     ensures back { IfErr result (λ back. back ≡ out) }
     ensures err { OnErr result (nodes.new ≡ nodes.old) }
@@ -266,10 +273,12 @@ fn add_part<D: Device>(
     raw: &AddRaw,
     file: &str,
 ) -> Result<(), NoMemory>
-    requires { CanJoinAt names.now.table file.now (λ row. CanPutPart nodes.old (seen_blockdev_add c.now).node_name
-        (is_read_only (seen_blockdev_add c.now).options) row.id (part_in (seen_add_raw raw.now) row.size)) }
-    ensures ok { OnOk result (HasJoinedAt names.now.table file.now (λ row node. HasPart (seen_blockdev_add c.now).node_name
-        (is_read_only (seen_blockdev_add c.now).options) row.id (part_in (seen_add_raw raw.now) row.size) nodes.old nodes.new node)) }
+    requires { CanJoinAt names.now.table file.now (λ row. CanPutPart nodes.old
+        (seen_blockdev_add c.now).node_name (is_read_only (seen_blockdev_add c.now).options) row.id
+        (part_in (seen_add_raw raw.now) row.size)) }
+    ensures ok { OnOk result (HasJoinedAt names.now.table file.now (λ row node. HasPart
+        (seen_blockdev_add c.now).node_name (is_read_only (seen_blockdev_add c.now).options) row.id
+        (part_in (seen_add_raw raw.now) row.size) nodes.old nodes.new node)) }
     ensures err { OnErr result (nodes.new ≡ nodes.old) }
 {
     let Some(row) = names.node_named(file) else {
@@ -294,7 +303,8 @@ fn add_image<D: Device>(
     requires { CanJoinAt names.now.table file.now (λ row. CanPutImage nodes.old
         (asked_for names.now.table (seen_blockdev_add c.now) (seen_add_qcow2 added.now) row.id) image) }
     ensures ok { OnOk result (HasJoinedAt names.now.table file.now (λ row node. HasImage
-        (asked_for names.now.table (seen_blockdev_add c.now) (seen_add_qcow2 added.now) row.id) image nodes.old nodes.new node)) }
+        (asked_for names.now.table (seen_blockdev_add c.now) (seen_add_qcow2 added.now) row.id)
+        image nodes.old nodes.new node)) }
     ensures err { OnErr result (nodes.new ≡ nodes.old) }
 {
     let Some(row) = names.node_named(file) else {
@@ -321,9 +331,11 @@ fn add_filter<D: Device>(
     c: &BlockdevAdd,
     child: &str,
 ) -> Result<(), NoMemory>
-    requires { CanJoinAt names.now.table child.now (λ row. CanPutFilter nodes.old (seen_blockdev_add c.now).node_name
+    requires { CanJoinAt names.now.table child.now (λ row. CanPutFilter nodes.old
+        (seen_blockdev_add c.now).node_name
         (is_read_only (seen_blockdev_add c.now).options) row.id) }
-    ensures ok { OnOk result (HasJoinedAt names.now.table child.now (λ row node. HasFilter (seen_blockdev_add c.now).node_name
+    ensures ok { OnOk result (HasJoinedAt names.now.table child.now (λ row node. HasFilter
+        (seen_blockdev_add c.now).node_name
         (is_read_only (seen_blockdev_add c.now).options) row.id nodes.old nodes.new node)) }
     ensures err { OnErr result (nodes.new ≡ nodes.old) }
 {
@@ -345,7 +357,8 @@ fn add_over_device<D: Device>(
     image: Option<Image>,
 ) -> Result<(), Out<D>>
     requires { CanAdd names.now.table (seen_blockdev_add c.now) (Some out) image nodes.old }
-    ensures ok { OnOk result (HasAdded names.now.table (seen_blockdev_add c.now) (Some out) image nodes.old nodes.new) }
+    ensures ok { OnOk result (HasAdded names.now.table (seen_blockdev_add c.now) (Some out) image
+        nodes.old nodes.new) }
     ensures back { IfErr result (λ back. back ≡ out) }
     ensures err { OnErr result (nodes.new ≡ nodes.old) }
 {
@@ -374,7 +387,8 @@ fn add_over_nodes<D: Device>(
     image: Option<Image>,
 ) -> Result<(), NoMemory>
     requires { CanAdd names.now.table (seen_blockdev_add c.now) None image nodes.old }
-    ensures ok { OnOk result (HasAdded names.now.table (seen_blockdev_add c.now) None image nodes.old nodes.new) }
+    ensures ok { OnOk result (HasAdded names.now.table (seen_blockdev_add c.now) None image
+        nodes.old nodes.new) }
     ensures err { OnErr result (nodes.new ≡ nodes.old) }
 {
     match &c.driver {
@@ -393,8 +407,8 @@ fn add_over_nodes<D: Device>(
     }
 }
 
-/// Adds the nodes of an addition, with the device that was taken out and the image that was opened for it. The memory for
-/// both is taken before the first is added.
+/// Adds the nodes of an addition, with the device that was taken out and the image that was opened for
+/// it. The memory for both is taken before the first is added.
 pub(crate) fn add_nodes<D: Device>(
     alloc: Global,
     nodes: &mut Nodes<D>,
@@ -404,7 +418,8 @@ pub(crate) fn add_nodes<D: Device>(
     image: Option<Image>,
 ) -> Result<(), Option<Out<D>>>
     requires { CanAdd names.now.table (seen_blockdev_add c.now) out image nodes.old }
-    ensures ok { OnOk result (HasAdded names.now.table (seen_blockdev_add c.now) out image nodes.old nodes.new) }
+    ensures ok { OnOk result (HasAdded names.now.table (seen_blockdev_add c.now) out image
+        nodes.old nodes.new) }
     ensures back { IfErr result (λ back. back ≡ out) }
     ensures err { OnErr result (nodes.new ≡ nodes.old) }
 {

@@ -57,7 +57,8 @@ fn number_of<D: Device>(out: &Out<D>) -> DevNo
 
 /// Opens the image on a device that is out.
 fn open_out<D: Device>(alloc: Global, out: &mut Out<D>) -> Result<Result<Image, Refusal>, NoMemory>
-    ensures answer { IfOk result (λ opened. MatchResult opened (IsOpenOn out.old out.new) (IsNotOpenOn out.old out.new)) }
+    ensures answer { IfOk result (λ opened. MatchResult opened (IsOpenOn out.old out.new)
+        (IsNotOpenOn out.old out.new)) }
     ensures err { OnErr result (IsRead out.old out.new) }
 {
     let number = number_of(out);
@@ -92,7 +93,8 @@ fn image_seen(
 /// What is told of an image that isn't opened for that.
 fn refused_seen(alloc: Global, length: Option<u64>, refusal: Refusal) -> Seen
     ensures image { result.image ≡ None }
-    ensures told { result.told ≡ told_as length None (Some (record { look = Look.Image; refusal = refusal })) }
+    ensures told { result.told ≡ told_as length None
+        (Some (record { look = Look.Image; refusal = refusal })) }
 {
     let stopped = Some(Stopped {
         look: Look::Image,
@@ -113,7 +115,8 @@ fn look_inside<D: Device>(
     added: &AddQcow2,
     out: &mut Out<D>,
 ) -> Result<Seen, NoMemory>
-    ensures ok { IfOk result (λ seen. TellsInside names.now.table node.now filename.now (seen_add_qcow2 added.now)
+    ensures ok { IfOk result (λ seen. TellsInside names.now.table node.now filename.now
+        (seen_add_qcow2 added.now)
         out.old out.new seen.image seen.told) }
     ensures err { OnErr result (IsRead out.old out.new) }
 {
@@ -135,7 +138,8 @@ fn look_at<D: Device>(
     filename: &str,
     out: &mut Out<D>,
 ) -> Result<Seen, NoMemory>
-    ensures ok { IfOk result (λ seen. Tells names.now.table (seen_blockdev_add c.now).node_name filename.now
+    ensures ok { IfOk result (λ seen. Tells names.now.table (seen_blockdev_add c.now).node_name
+        filename.now
         (seen_blockdev_add c.now).driver out.old out.new seen.image seen.told) }
     ensures err { OnErr result (IsRead out.old out.new) }
 {
@@ -193,7 +197,8 @@ fn open_and_look<S: Store>(
 /// What is seen of a file that isn't opened for that.
 fn vain<D: Device>(alloc: Global, refusal: Refusal) -> Looked<D>
     ensures none { result.out ≡ None }
-    ensures told { result.seen.told ≡ told_as None None (Some (record { look = Look.File; refusal = refusal })) }
+    ensures told { result.seen.told ≡ told_as None None
+        (Some (record { look = Look.File; refusal = refusal })) }
 {
     let stopped = Some(Stopped {
         look: Look::File,
@@ -278,7 +283,8 @@ fn look_out<S: Store>(
     what: Look,
 ) -> Result<Looked<S::Dev>, NoMemory>
     requires command { seen_command command.now ≡ AddCommand (seen_blockdev_add c.now) }
-    requires closed { is_unopened names.now.table filename.now ≡ false → is_out filename.now store.old.opened ≡ false }
+    requires closed { is_unopened names.now.table filename.now ≡ false
+        → is_out filename.now store.old.opened ≡ false }
     ensures ok { IfOk result (λ looked. Looks names.now.table (seen_blockdev_add c.now)
         (record { filename = filename.now; what = what })
         store.old store.new looked.out looked.seen.image looked.seen.told) }
@@ -339,7 +345,8 @@ fn look_under<D: Device>(
 ) -> Result<Seen, NoMemory>
     requires command { seen_command command.now ≡ AddCommand (seen_blockdev_add c.now) }
     requires files { HaveFiles names.now.table nodes.old }
-    ensures ok { IfOk result (λ seen. LooksUnder names.now.table (seen_blockdev_add c.now) (seen_add_qcow2 added.now)
+    ensures ok { IfOk result (λ seen. LooksUnder names.now.table (seen_blockdev_add c.now)
+        (seen_add_qcow2 added.now)
         file.now nodes.old nodes.new seen.image seen.told) }
     ensures called { HasCalled nodes.old nodes.new }
 {
@@ -368,10 +375,12 @@ fn look_at_part<S: Store>(
 ) -> Result<Looked<S::Dev>, NoMemory>
     requires command { seen_command command.now ≡ AddCommand (seen_blockdev_add c.now) }
     requires closed { AreIn names.now.table store.old.opened }
-    ensures looked { (nodes : SeenNodes) → IfOk result (λ looked. LooksAtPart names.now.table (seen_blockdev_add c.now)
+    ensures looked { (nodes : SeenNodes) → IfOk result (λ looked. LooksAtPart names.now.table
+        (seen_blockdev_add c.now)
         (seen_file_ref file.now) (site store.old nodes) (site store.new nodes)
         looked.out looked.seen.image looked.seen.told) }
-    ensures back { OnErr result (StoreIsBack (opens_by (seen_file_ref file.now) Look.Begin) store.old store.new) }
+    ensures back { OnErr result (StoreIsBack (opens_by (seen_file_ref file.now) Look.Begin)
+        store.old store.new) }
 {
     match file {
         FileRef::Inline(file) => {

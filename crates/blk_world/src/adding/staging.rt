@@ -99,7 +99,8 @@ fn add_accepted<S: Store>(
     requires can { CanAdd names.old.table (seen_blockdev_add c.now) out image nodes.old }
     requires room { HasRoom (length edits) names.old }
     requires fit { AllFit names.old.table edits }
-    ensures added { OnOk result (HasAdded names.old.table (seen_blockdev_add c.now) out image nodes.old nodes.new) }
+    ensures added { OnOk result (HasAdded names.old.table (seen_blockdev_add c.now) out image
+        nodes.old nodes.new) }
     ensures table { OnOk result (names.new.table ≡ all_changed names.old.table edits) }
     ensures kept { OnOk result (store.new ≡ store.old) }
     ensures back { OnErr result (store.new ≡ back_if (seen_blockdev_add c.now).driver out store.old) }
@@ -134,8 +135,10 @@ fn end<S: Store>(
     requires out { IsOutFor (seen_blockdev_add c.now).driver out store.old }
     requires ready { refusal_of names.old.table told.now (AddCommand (seen_blockdev_add c.now)) ≡ None
         → CanAdd names.old.table (seen_blockdev_add c.now) out image nodes.old }
-    requires staged { IsStaged names.old given.now told.now (AddCommand (seen_blockdev_add c.now)) staged }
-    ensures ok { IfOk result (λ text. HasEnded names.old.table given.now (seen_blockdev_add c.now) told.now out image
+    requires staged { IsStaged names.old given.now told.now (AddCommand (seen_blockdev_add c.now))
+        staged }
+    ensures ok { IfOk result (λ text. HasEnded names.old.table given.now (seen_blockdev_add c.now)
+        told.now out image
         (site store.old nodes.old) (site store.new nodes.new) names.new.table (string_bytes text)) }
     ensures back { OnErr result (site store.new nodes.new
         ≡ site (back_if (seen_blockdev_add c.now).driver out store.old) nodes.old) }

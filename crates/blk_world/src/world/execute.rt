@@ -43,7 +43,8 @@ impl<S: Store> World<S> {
         requires read { command_at (string_bytes given) ≡ Ok (seen_command command) }
         requires open { IsNotDone (seen_state self.old) 0 }
         requires room { 0 < self.old.progress.spare.entries }
-        ensures replied { OnOk result (IsReplied self.old self.new (given_line line (string_bytes given))) }
+        ensures replied { OnOk result
+            (IsReplied self.old self.new (given_line line (string_bytes given))) }
         ensures back { OnErr result (IsPutBack self.old self.new) }
         ensures comes { (o : Opening) → Comes o self.old → Comes o self.new }
     {
@@ -63,7 +64,8 @@ impl<S: Store> World<S> {
         requires read { command_at (string_bytes given) ≡ Err (seen_stop stop) }
         requires open { IsNotDone (seen_state self.old) 0 }
         requires room { 0 < self.old.progress.spare.entries }
-        ensures replied { OnOk result (IsReplied self.old self.new (given_line line (string_bytes given))) }
+        ensures replied { OnOk result
+            (IsReplied self.old self.new (given_line line (string_bytes given))) }
         ensures back { OnErr result (IsPutBack self.old self.new) }
         ensures comes { (o : Opening) → Comes o self.old → Comes o self.new }
     {
@@ -77,7 +79,8 @@ impl<S: Store> World<S> {
     pub fn execute(&mut self, alloc: Global, line: u32, given: String) -> Result<(), NoMemory>
         requires open { IsNotDone (seen_state self.old) 0 }
         requires room { 0 < self.old.progress.spare.entries }
-        ensures replied { OnOk result (IsReplied self.old self.new (given_line line (string_bytes given))) }
+        ensures replied { OnOk result
+            (IsReplied self.old self.new (given_line line (string_bytes given))) }
         ensures back { OnErr result (IsPutBack self.old self.new) }
         ensures comes { (o : Opening) → Comes o self.old → Comes o self.new }
     {

@@ -2,8 +2,10 @@ use Rattle.std.proofs.Common.{◌≡◌, ℕ, List, [], ◌∷◌, ◌++◌, ◌
 use Rattle.std.specs.Prelude.{codes, decimal}
 use Rattle.blk_world.proofs.failed_text.push_device.Goals as goal
 
-joined : (out a b : List ℕ) → (out ++ (codes "io dev" ++ a)) ++ (32 ∷ b) ≡ out ++ (codes "io dev" ++ a ++ codes " " ++ b)
-joined out a b = append_assoc out (codes "io dev" ++ a) (32 ∷ b) ∙ ap (λ bytes. out ++ (codes "io dev" ++ bytes)) (sym (append_assoc a (32 ∷ []) b))
+joined : (out a b : List ℕ) → (out ++ (codes "io dev" ++ a)) ++ (32 ∷ b) ≡ out ++
+    (codes "io dev" ++ a ++ codes " " ++ b)
+joined out a b = append_assoc out (codes "io dev" ++ a) (32 ∷ b) ∙ ap (λ bytes. out ++ (codes "io dev" ++ bytes))
+    (sym (append_assoc a (32 ∷ []) b))
 
 pub returns-clause-bytes : goal.returns-clause-bytes
 returns-clause-bytes c =

@@ -14,4 +14,5 @@ returns-in_ok-push_str-in-Some-2 c =
     let some = ap (option_map view) (sym c.in-Some.is) ∙ c.in_ok-read_id.ensures in
     let told = c.in_ok-id-in-Some.ensures in
     rw (c.in_ok-push_str-in-Some-2.ensures.bytes, c.in_ok-push_str-in-Some.ensures.bytes, c.in_ok-back-in-Some.ensures.ok, c.as_str.ensures.value)
-    (ends_some c.args.given.now (string_bytes c.in_ok-id-in-Some.id) (view c.in-Some.id) some told.text told.order told.reads_back)
+    (ends_some c.args.given.now (string_bytes c.in_ok-id-in-Some.id)
+    (view c.in-Some.id) some told.text told.order told.reads_back)

@@ -16,4 +16,5 @@ pub returns : goal.returns
 returns c = λ given ends.
     let closed = rw (← c.self.view_is) at ends in
     rw (c.into_string.ensures, c.push_str.ensures.bytes, c.push_fault.ensures.bytes, c.self.invariant.0, c.as_str.ensures)
-    (says_fault given c.self.inside.back.bytes c.args.from c.args.count c.push_fault.ensures.numbered (omega arith) closed)
+    (says_fault given c.self.inside.back.bytes c.args.from c.args.count c.push_fault.ensures.numbered
+    (omega arith) closed)

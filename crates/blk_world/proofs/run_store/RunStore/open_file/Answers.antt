@@ -1,4 +1,4 @@
-use Rattle.std.proofs.Common.{◌≡◌, ℕ, List, subst, sym}
+use Rattle.std.proofs.Common.{List, subst, sym}
 use Rattle.blk_base.specs.declared.file.Opened.{Opened}
 use Rattle.blk_world.specs.Stores.{StopsOpening, StoreInRun, first_opened, last_opened}
 use Rattle.blk_world.proofs.RunOpenings.{in-last, out-last, stops-last}

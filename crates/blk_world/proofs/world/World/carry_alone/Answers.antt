@@ -8,7 +8,8 @@ pub invariant_of-self : goal.invariant_of-self
 invariant_of-self g c =
     let w : Face = face_of c.self.inside.store c.self.inside.first_faults c.self.inside.nodes c.self.inside.names.table c.self.inside.progress in
     record {
-      coherent = in_table_coherent w c.answer_alone.new.names.table (seen_command c.args.command.now) c.requires c.answer_alone.result
+      coherent = in_table_coherent w c.answer_alone.new.names.table
+          (seen_command c.args.command.now) c.requires c.answer_alone.result
           c.answer_alone.ensures.changed c.answer_alone.ensures.kept c.self.invariant.coherent;
       tell = c.self.invariant.tell;
       counted = c.self.invariant.counted;
@@ -16,9 +17,11 @@ invariant_of-self g c =
 
 pub returns-clause-carried : goal.returns-clause-carried
 returns-clause-carried g c =
-    rw (← c.self.view_is) (in_table_carried _ c.answer_alone.new.names.table (seen_command c.args.command.now) c.requires
+    rw (← c.self.view_is) (in_table_carried _ c.answer_alone.new.names.table
+    (seen_command c.args.command.now) c.requires
     string_bytes c.args.given.now c.answer_alone.result c.answer_alone.ensures.said c.answer_alone.ensures.changed)
 
 pub returns-clause-back : goal.returns-clause-back
 returns-clause-back g c =
-    rw (← c.self.view_is) (in_table_back _ c.answer_alone.new.names.table (seen_command c.args.command.now) c.requires c.answer_alone.result c.answer_alone.ensures.kept)
+    rw (← c.self.view_is) (in_table_back _ c.answer_alone.new.names.table
+    (seen_command c.args.command.now) c.requires c.answer_alone.result c.answer_alone.ensures.kept)

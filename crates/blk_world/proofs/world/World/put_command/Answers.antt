@@ -12,12 +12,14 @@ pub returns-clause-replied : goal.returns-clause-replied
 returns-clause-replied g c =
     let was = c.in_ok-text.ensures.carried in
     let carried = rw (c.as_str.ensures.value, ← c.self.view_is) at was in
-    rw c.reply.ensures (answered_replied c.args.self.now _ (given_line c.args.line (string_bytes c.args.given)) (string_bytes c.in_ok-text.text)
+    rw c.reply.ensures (answered_replied c.args.self.now _ (given_line c.args.line (string_bytes c.args.given))
+    (string_bytes c.in_ok-text.text)
     (seen_command c.args.command) c.requires.read carried)
 
 pub returns-clause-comes : goal.returns-clause-comes
 returns-clause-comes g c =
     let was = c.in_ok-text.ensures.carried in
     let carried = rw (c.as_str.ensures.value, ← c.self.view_is) at was in
-    rw c.reply.ensures (λ o comes. answered_comes c.args.self.now _ (given_line c.args.line (string_bytes c.args.given)) (string_bytes c.in_ok-text.text)
+    rw c.reply.ensures (λ o comes. answered_comes c.args.self.now _
+    (given_line c.args.line (string_bytes c.args.given)) (string_bytes c.in_ok-text.text)
     (seen_command c.args.command) c.requires.read carried o c.requires.open comes)

@@ -8,7 +8,8 @@ pub returns-clause-replied : goal.returns-clause-replied
 returns-clause-replied g c =
     let was = c.in_ok-text.ensures in
     let said = rw c.as_str.ensures.value at was in
-    rw (c.reply.ensures, ← c.self.view_is) (no_command_replied _ (given_line c.args.line (string_bytes c.args.given)) (string_bytes c.in_ok-text.text)
+    rw (c.reply.ensures, ← c.self.view_is) (no_command_replied _
+    (given_line c.args.line (string_bytes c.args.given)) (string_bytes c.in_ok-text.text)
     (seen_stop c.args.stop) c.requires.read said)
 
 pub returns-clause-comes : goal.returns-clause-comes
@@ -17,5 +18,6 @@ returns-clause-comes g c =
     let said = rw c.as_str.ensures.value at was in
     let asked = c.requires.open in
     let idle = rw (← c.self.view_is) at asked in
-    rw (c.reply.ensures, ← c.self.view_is) (λ o comes. no_command_comes _ (given_line c.args.line (string_bytes c.args.given)) (string_bytes c.in_ok-text.text)
+    rw (c.reply.ensures, ← c.self.view_is) (λ o comes. no_command_comes _
+    (given_line c.args.line (string_bytes c.args.given)) (string_bytes c.in_ok-text.text)
     (seen_stop c.args.stop) c.requires.read said o idle comes)

@@ -1,0 +1,196 @@
+-- What a run was, as the program tells it.
+use Rattle.std.proofs.Common.{◌≡◌, ◌⊎◌, ℕ, zero, suc, ◌+◌, ◌≤◌, ◌<◌, Bool, true, false, List, [], ◌∷◌, ◌++◌, length, map, replicate, refl, sym, ◌∙◌, ap, subst, arith, Option, Some, None, inl, inr}
+use Rattle.std.specs.Prelude.{slice_get, get_or, All, IsSome, is_some, MatchOption, unwrap_or}
+use Rattle.std.proofs.lemmas.Bool.{false≢true}
+use Rattle.std.proofs.lemmas.List.{length-map}
+use Rattle.blk_base.specs.Counts.{Rose}
+use Rattle.blk_base.specs.Files.{IfTold, is_out}
+use Rattle.blk_base.specs.Written.{Written}
+use Rattle.blk_base.specs.declared.fault.DevNo.{DevNo}
+use Rattle.blk_base.specs.declared.fault.FaultAt.{FaultAt}
+use Rattle.blk_base.specs.declared.fault.FaultFrom.TheVariants.{Dev}
+use Rattle.blk_base.specs.declared.file.File.{File}
+use Rattle.blk_base.specs.declared.file.Opened.{Opened}
+use Rattle.blk_base.specs.declared.memory.Room.{Room}
+use Rattle.trace_codec.specs.declared.waits.Waits.{Waits}
+use Rattle.trace_codec.specs.declared.wish.Wish.{Wish}
+use Rattle.trace_codec.specs.Script.{Order}
+use Rattle.qmp_rules.specs.Table.{Table}
+use Rattle.blk_history.specs.Fold.{With}
+use Rattle.blk_history.specs.declared.event.Event.{Event}
+use Rattle.flat_machine.specs.State.{State, Guest}
+use Rattle.flat_machine.specs.Final.{AreDisks}
+use Rattle.flat_machine.specs.Machine.{replay}
+use Rattle.flat_machine.specs.Opening.{start}
+use Rattle.flat_machine.specs.Blocked.{IsStuck, ActorWaits, GuestWaits}
+use Rattle.flat_machine.specs.Comes.{HasEnded, IsDone, guests_after}
+use Rattle.flat_machine.specs.Courses.{Course, KeepsOrder, course_of, course_after}
+use Rattle.flat_machine.specs.Licence.{Counts, AreLicensed, faults_of, count_of}
+use Rattle.flat_machine.specs.declared.opening.Opening.{Opening}
+use Rattle.blk_world.specs.Closing.{IsClosed, IsToldBack, count_back}
+use Rattle.blk_world.specs.Comes.{Comes, Shows}
+use Rattle.blk_world.specs.Face.{Face, seen_state, first_counts, counts_now}
+use Rattle.blk_world.specs.Progress.{ended_in}
+use Rattle.blk_world.specs.Steps.{StoreSeen, IsOpeningOf}
+use Rattle.blk_world.specs.Tabling.{IsTableAfter}
+use Rattle.qblk_inputs.specs.Inputs.{Work}
+use Rattle.qblk_inputs.specs.Words.{Cast, guests_of}
+use Rattle.qblk_run.specs.Run.{Account, HasOpened, IsRun, LeavesFiles, EndsDone, EndsStuck, HasStopped, FailsToFlush, counts_at_first, counts_at_last, state_after, course_in, seen_waits}
+use Rattle.qblk_run.specs.Session.{IsEnd, IsPlayed, IsGivenUp}
+use Rattle.qblk_run.specs.Tasks.{Tasks, KeepsTo, CanGoOn}
+use Rattle.qblk_run.specs.Turns.{StaysIn}
+use Rattle.qblk_run.specs.Rounds.{AllRest, AreDone, IsFirst}
+use Rattle.qblk_run.proofs.Closing.{all-back, behind-back, licensed-later, quiet-run, named-below, leaves-files}
+use Rattle.qblk_run.proofs.Ending.{is-stuck, is-whole, idle-at}
+use Rattle.qblk_run.proofs.History.{course-ended}
+use Rattle.qblk_run.proofs.Lists.{with-some, at-with, at-get}
+
+-- ---- the opening
+
+-- what a run over a store begins with
+abbrev pub opening_by : StoreSeen → List (List ℕ) → Opening
+opening_by store guests = record { files = unwrap_or store.files []; room = store.room; guests = guests }
+
+pub opening-of : (store : StoreSeen) (guests : List (List ℕ)) → IsOpeningOf store guests (opening_by store guests)
+opening-of store guests = record { guests_are = refl; files_are = by_files store.files; room_is = λ told. refl }
+  where
+    by_files : (files : Option (List File)) → is_some files ≡ true → files ≡ Some (unwrap_or files [])
+    by_files None told = absurd (false≢true told)
+    by_files (Some files) told = refl
+
+with-none : (P : List File → Type 0) (x : Option (List File)) → With x P → x ≡ None → ⊥
+with-none P None holds none = holds
+with-none P (Some a) holds none = let bad : ⊥ = cc none in bad
+
+-- ---- the account of a world that was closed
+
+module _ (old : StoreSeen) (guests : List (List ℕ)) (w v : Face) (store : StoreSeen) (fault : Option FaultAt)
+    (earlier : w.earlier ≡ old.opened) (first : w.first_faults ≡ old.faults) (telling : is_some w.files ≡ is_some old.files)
+    (counted : v.first_faults ≤ v.faults) (stays : StaysIn w v) (comes : Comes (opening_by old guests) v) (end : IsEnd v store fault) where
+  abbrev pub account : Account
+  account = record { opening = opening_by old guests; openings = end.closed.opened; events = v.progress.log.events }
+
+  opened : HasOpened old.opened store.opened end.closed.opened
+  opened =
+      let behind : store.opened ≡ old.opened ++ end.closed.opened = rw (← earlier, ← stays.earlier) end.closed.behind in
+      record {
+        behind = behind;
+        back = all-back end.closed.opened (behind-back old.opened end.closed.opened (λ name. rw behind at (end.none_out name)));
+      }
+
+  licensed : AreLicensed (counts_at_first old account) (counts_at_last store account) v.progress.log.events
+  licensed =
+      let start-is : first_counts v ≡ counts_at_first old account = rw (end.closed.given.first, stays.first, first) refl in
+      let same : v.faults ≡ store.faults = sym end.faults in
+      subst (λ (a : Counts). AreLicensed a (counts_at_last store account) v.progress.log.events) start-is
+      (licensed-later (first_counts v) (counts_now v) (counts_at_last store account) v.progress.log.events (omega arith) end.closed.given.counts comes.history.licensed)
+
+  pub run-is : (cast : Cast) (work : Work) (is_flushed : Bool) → guests_of cast ≡ guests → length work.traces ≡ length guests
+      → KeepsOrder (course_of work.script work.traces) v.progress.log.events → (is_flushed ≡ true → fault ≡ None) → IsRun cast work is_flushed old store account
+  run-is cast work is_flushed names count order good = record {
+    opening = rw names (opening-of old guests);
+    openings = opened;
+    order = record { guests = count; order = order };
+    licensed = licensed;
+    quiet = quiet-run (counts_at_first old account) (counts_at_last store account) v.progress.log.events licensed;
+    files = by_files old.files refl;
+  }
+    where
+      by_store : is_some v.files ≡ true → (x : Option (List File)) → store.files ≡ x → With x (LeavesFiles account is_flushed)
+      by_store told None is = absurd (with-none (λ fs. AreDisks fs (replay (start (opening_by old guests)) v.progress.log.events)) store.files (end.disks told (replay (start (opening_by old guests)) v.progress.log.events)
+          (comes.shows told).table.table_is (comes.shows told).contents.disks) is)
+      by_store told (Some files) is = leaves-files (opening_by old guests) v account store fault is_flushed files refl refl comes end told is good
+
+      by_files : (x : Option (List File)) → old.files ≡ x → IfTold x (λ told. With store.files (LeavesFiles account is_flushed))
+      by_files None is = tt
+      by_files (Some files) is =
+          let told : is_some v.files ≡ true = stays.told ∙ telling ∙ ap (λ (x : Option (List File)). is_some x) is in
+          by_store told store.files refl
+
+  -- ---- where it stopped
+
+  told-as : is_some old.files ≡ true → is_some v.files ≡ true
+  told-as told = stays.told ∙ telling ∙ told
+
+  module _ (work : Work) (after : Tasks) (can : CanGoOn v.progress after) (keeps : KeepsTo work.script work.traces v.progress.log.events after)
+      (count : length work.traces ≡ length guests) where
+    all-idle : (rows : List Guest) → ((g : ℕ) (row : Guest) → slice_get rows g ≡ Some row → row.flight ≡ None) → All (λ row. row.flight ≡ None) rows
+    all-idle rows each = λ k d below. each k (get_or rows k d) (at-get rows k d below)
+
+    pub ends-done : AreDone after → EndsDone (is_some old.files) work account
+    ends-done done = record {
+      done = record {
+        guests = count;
+        whole = is-whole v after work.script work.traces can keeps done;
+        idle = rw comes.requests at (all-idle v.progress.guests (idle-at v after work.script work.traces can keeps done));
+      };
+      history = λ told. comes.history.history (told-as told);
+      jobs = λ told. ap (λ (t : Table). t.jobs) (comes.shows (told-as told)).table.table_is ∙ comes.coherent.jobs;
+    }
+
+    -- what is asked of a state is asked of its table, its guests and the actors that are done
+    waits-alike : (s t : State) (c : Course) (actor : ℕ) (what : Waits (List ℕ)) → s.table ≡ t.table → s.guests ≡ t.guests → s.ended ≡ t.ended
+        → ActorWaits s c actor what → ActorWaits t c actor what
+    waits-alike s t c actor what table guests' ended (inl waits) = inl (waits.0, rw (← table, ← guests') waits.1)
+    waits-alike s t c actor what table guests' ended (inr (g, is, waits)) = inr (g, is, record { idle = rw (← guests') waits.idle; next = rw (← table) waits.next })
+
+    stuck-alike : (s t : State) (c : Course) (actor : ℕ) (what : Waits (List ℕ)) → s.table ≡ t.table → s.guests ≡ t.guests → s.ended ≡ t.ended
+        → IsStuck s c actor what → IsStuck t c actor what
+    stuck-alike s t c actor what table guests' ended stuck = record {
+      unfinished = stuck.unfinished;
+      waiting = waits-alike s t c actor what table guests' ended stuck.waiting;
+      first = stuck.first;
+      others = λ other un. let it = stuck.others other un in (it.0, waits-alike s t c other it.0 table guests' ended it.1);
+      slots = λ slot below. rw (← table, ← guests', ← ended) (stuck.slots slot below);
+    }
+
+    pub ends-stuck : AllRest v after → (actor : ℕ) (what : Waits (List ℕ)) → IsFirst v after actor what → EndsStuck (is_some old.files) work account actor what
+    ends-stuck rest actor what first' = by_told (is_some old.files) refl
+      where
+        stuck : IsStuck (seen_state v) (course_in work account) actor what
+        stuck = is-stuck v after work.script work.traces can keeps comes.coherent.jobs rest actor what first'
+
+        ended : (course_in work account).ended ≡ ended_in v.progress.log.events
+        ended = course-ended (course_of work.script work.traces) v.progress.log.events
+
+        by_told : (b : Bool) → is_some old.files ≡ b → EndsStuck b work account actor what
+        by_told false none = record {
+          state = seen_state v;
+          table = comes.table;
+          told = λ bad. absurd (false≢true bad);
+          guests = comes.requests;
+          ended = sym ended;
+          stuck = stuck;
+        }
+        by_told true told =
+            let shows = comes.shows (told-as told) in
+            let s = replay (start (opening_by old guests)) v.progress.log.events in
+            record {
+              state = s;
+              table = subst (IsTableAfter guests v.progress.log.events) (sym shows.table.table_is) comes.table;
+              told = λ is. refl;
+              guests = shows.guests.guests_are ∙ comes.requests;
+              ended = shows.guests.ended_are ∙ sym ended;
+              stuck = stuck-alike (seen_state v) s (course_in work account) actor what (sym shows.table.table_is) (sym shows.guests.guests_are) (sym shows.guests.ended_are) stuck;
+            }
+
+    pub has-stopped : AllRest v after → (waiting : Option (ℕ × Waits Written)) → MatchOption waiting (AreDone after) (λ r. IsFirst v after r.0 (seen_waits r.1))
+        → HasStopped (is_some old.files) work account
+    has-stopped rest None done = inl (ends-done done)
+    has-stopped rest (Some r) first' = inr (r.0, seen_waits r.1, ends-stuck rest r.0 (seen_waits r.1) first')
+
+  -- ---- a fault of the last flush
+
+  pub flush-failed : (f : FaultAt) → fault ≡ Some f → (dev : DevNo) × (f.from ≡ Dev dev) × FailsToFlush account dev f.count
+  flush-failed f is =
+      let told : IsToldBack v end.closed.opened f = rw is at end.closed.given.told in
+      let before = with-some (slice_get (counts_now v).devices told.number.0) (λ b. Rose b f.count) told.rose in (
+        told.number,
+        told.from,
+        record {
+          last = told.count;
+          before = before.0;
+          rose = before.2;
+          named = named-below (first_counts v) (counts_now v) (Dev told.number) before.0 before.1 (faults_of v.progress.log.events) comes.history.licensed.rises;
+        },
+      )

@@ -1,0 +1,162 @@
+-- Why a run ended with its status.
+use Rattle.std.proofs.Common.{◌≡◌, ◌⊎◌, ℕ, zero, suc, ◌+◌, ◌≤◌, ◌<◌, Bool, true, false, List, [], ◌∷◌, ◌++◌, length, take, refl, sym, ◌∙◌, ap, subst, arith, Option, Some, None, inl, inr}
+use Rattle.std.specs.Prelude.{slice_get, is_some, MatchOption, option_map}
+use Rattle.std.proofs.lemmas.Bool.{false≢true}
+use Rattle.std.proofs.lemmas.List.{take_all, take-append-le, append-nil, length-append}
+use Rattle.blk_base.specs.Counts.{Rose}
+use Rattle.blk_base.specs.Files.{IfTold}
+use Rattle.blk_base.specs.Written.{Written}
+use Rattle.blk_base.specs.declared.fault.DevNo.{DevNo}
+use Rattle.blk_base.specs.declared.fault.FaultAt.{FaultAt}
+use Rattle.blk_base.specs.declared.fault.FaultFrom.{FaultFrom}
+use Rattle.blk_base.specs.declared.fault.FaultFrom.TheVariants.{Store, Dev, Sink}
+use Rattle.blk_base.specs.declared.memory.Room.{Room}
+use Rattle.trace_codec.specs.declared.waits.Waits.{Waits}
+use Rattle.blk_history.specs.Names.{RowNames}
+use Rattle.blk_history.specs.Recorded.{Recorded}
+use Rattle.blk_history.specs.Transcript.{transcript}
+use Rattle.blk_history.specs.declared.event.Event.{Event}
+use Rattle.blk_history.specs.declared.event.Event.TheVariants.{Admit, Refuse, Piece, Retire, Reply, Reached, Start, Ready, End, Done as Ended}
+use Rattle.flat_machine.specs.State.{State}
+use Rattle.flat_machine.specs.Machine.{after}
+use Rattle.flat_machine.specs.Opening.{start}
+use Rattle.flat_machine.specs.Comes.{jobs_from, names_of, transcript_of}
+use Rattle.flat_machine.specs.declared.opening.Opening.{Opening}
+use Rattle.blk_world.specs.Comes.{Comes}
+use Rattle.blk_world.specs.Face.{Face}
+use Rattle.blk_world.specs.Steps.{StoreSeen, IsOpeningOf, new_world}
+use Rattle.qblk_core.specs.Output.{SendsFront}
+use Rattle.qblk_core.specs.declared.status.Status.{Status}
+use Rattle.qblk_core.specs.declared.status.Status.TheVariants.{Done, Usage, Input, Fault, Stuck, NoMemory}
+use Rattle.qblk_inputs.specs.Inputs.{Work, HasWork}
+use Rattle.qblk_inputs.specs.Room.{IsRoomFor}
+use Rattle.qblk_inputs.specs.Words.{Cast, guests_of}
+use Rattle.qblk_run.specs.Beginning.{new_tasks}
+use Rattle.qblk_run.specs.Ending.{EndsAs, ended_as, failed_as, WentOut}
+use Rattle.qblk_run.specs.Run.{Setting, Account, IsRun, WasRun, WasRunWhole, WasStopped, HasStopped, IsFaulty, IsUnsent, Answers, whole_transcript, seen_waits}
+use Rattle.qblk_run.specs.Session.{IsEnd, IsPlayed, IsGivenUp}
+use Rattle.qblk_run.specs.Tasks.{HaveLines, KeepsTo, guests_only}
+use Rattle.qblk_run.proofs.Accounts.{opening_by, opening-of, account, run-is, ends-done, ends-stuck, has-stopped, flush-failed}
+use Rattle.qblk_run.proofs.Beginnings.{start-keeps}
+
+-- ---- the transcript
+
+-- no job starts
+no-jobs : (guests : List (List ℕ)) (s : State) (h : List Event) → HaveLines guests h → jobs_from s h ≡ []
+no-jobs guests s [] lines = refl
+no-jobs guests s (Start job ∷ h) lines = absurd (let none = lines.0.named.0 in omega arith)
+no-jobs guests s (Admit g r op ∷ h) lines = no-jobs guests (after s (Admit g r op)) h lines.1
+no-jobs guests s (Refuse g r op why ∷ h) lines = no-jobs guests (after s (Refuse g r op why)) h lines.1
+no-jobs guests s (Piece g r k outcome got ∷ h) lines = no-jobs guests (after s (Piece g r k outcome got)) h lines.1
+no-jobs guests s (Retire g r ∷ h) lines = no-jobs guests (after s (Retire g r)) h lines.1
+no-jobs guests s (Reply line given command text ∷ h) lines = no-jobs guests (after s (Reply line given command text)) h lines.1
+no-jobs guests s (Reached line what ∷ h) lines = no-jobs guests s h lines.1
+no-jobs guests s (Ready job ∷ h) lines = absurd (let none = lines.0.named.0 in omega arith)
+no-jobs guests s (End job outcome offset ∷ h) lines = absurd (let none = lines.0.named.0 in omega arith)
+no-jobs guests s (Ended actor ∷ h) lines = no-jobs guests (after s (Ended actor)) h lines.1
+
+pub printed-is : (o : Opening) (h : List Event) → HaveLines o.guests h → transcript_of o h ≡ transcript (guests_only o.guests) h
+printed-is o h lines = ap (λ (jobs : List _). transcript (record { guests = o.guests; jobs = jobs }) h) (no-jobs o.guests (start o) h lines)
+
+-- ---- what went out
+
+whole-out : (old new : Option (List ℕ)) (whole : List ℕ) → new ≡ option_map (λ s. s ++ whole) old → new ≡ option_map (λ s. s ++ take (length whole) whole) old
+whole-out old new whole is = is ∙ ap (λ (x : List ℕ). option_map (λ s. s ++ x) old) (sym (take_all (length whole) whole (omega arith)))
+
+front-is : (front rest whole : List ℕ) → front ++ rest ≡ whole → take (length front) whole ≡ front
+front-is front rest whole is = rw (← is) (take-append-le (length front) front rest (omega arith) ∙ take_all (length front) front (omega arith))
+
+front-out : (old new : Option (List ℕ)) (front rest whole : List ℕ) → front ++ rest ≡ whole → new ≡ option_map (λ s. s ++ front) old → new ≡ option_map (λ s. s ++ take (length front) whole) old
+front-out old new front rest whole is sent = sent ∙ ap (λ (x : List ℕ). option_map (λ s. s ++ x) old) (sym (front-is front rest whole is))
+
+-- ---- the statuses
+
+module _ (cast : Cast) (work : Work) (old new : Setting) (room : Room) (log : Recorded) (fault : Option FaultAt) (waiting : Option (ℕ × Waits Written))
+    (inputs : IfTold old.store.files (HasWork cast work)) (count : length work.traces ≡ length (guests_of cast))
+    (played : IsPlayed (new_world old.store (guests_of cast) room) (new_tasks work.script work.traces) new.store log fault waiting)
+    (begins : (o : Opening) → IsOpeningOf old.store (guests_of cast) o → Comes o (new_world old.store (guests_of cast) room)) where
+  abbrev w : Face
+  w = new_world old.store (guests_of cast) room
+
+  abbrev comes : Comes (opening_by old.store (guests_of cast)) played.now
+  comes = played.comes (opening_by old.store (guests_of cast)) (begins (opening_by old.store (guests_of cast)) (opening-of old.store (guests_of cast)))
+
+  abbrev keeps : KeepsTo work.script work.traces played.now.progress.log.events played.after
+  keeps = played.so.order work.script work.traces (start-keeps work.script work.traces)
+
+  abbrev its : Account
+  its = account old.store (guests_of cast) w played.now new.store fault refl refl refl comes.counted played.stays comes played.end
+
+  run : (is_flushed : Bool) → (is_flushed ≡ true → fault ≡ None) → IsRun cast work is_flushed old.store new.store its
+  run is_flushed good = run-is old.store (guests_of cast) w played.now new.store fault refl refl refl comes.counted played.stays comes played.end cast work is_flushed refl count keeps.order good
+
+  was : (is_flushed : Bool) (n : ℕ) → (is_flushed ≡ true → fault ≡ None) → new.sent ≡ option_map (λ s. s ++ take n (whole_transcript its)) old.sent → WasRun cast work is_flushed old new its n
+  was is_flushed n good sent = record { inputs = inputs; run = run is_flushed good; sent = sent }
+
+  stopped : HasStopped (is_some old.store.files) work its
+  stopped = has-stopped old.store (guests_of cast) w played.now new.store fault refl refl refl comes.counted played.stays comes played.end
+      work played.after played.so.can keeps count played.rest waiting played.named
+
+  -- the flush was good, and all went out
+  done : fault ≡ None → waiting ≡ None → new.sent ≡ option_map (λ s. s ++ whole_transcript its) old.sent → new.sink_faults ≡ old.sink_faults → Answers cast old new Done
+  done good none sent sink =
+      let all : MatchOption waiting _ _ = played.named in (
+        work,
+        its,
+        record { was = was true (length (whole_transcript its)) (λ is. good) (whole-out old.sent new.sent (whole_transcript its) sent); sink = sink },
+        ends-done old.store (guests_of cast) w played.now new.store fault refl refl refl comes.counted played.stays comes played.end
+            work played.after played.so.can keeps count (rw none at played.named),
+      )
+
+  stuck : fault ≡ None → (r : ℕ × Waits Written) → waiting ≡ Some r → new.sent ≡ option_map (λ s. s ++ whole_transcript its) old.sent → new.sink_faults ≡ old.sink_faults
+      → Answers cast old new (Stuck r.0 r.1)
+  stuck good r some sent sink = (
+    work,
+    its,
+    record { was = was true (length (whole_transcript its)) (λ is. good) (whole-out old.sent new.sent (whole_transcript its) sent); sink = sink },
+    ends-stuck old.store (guests_of cast) w played.now new.store fault refl refl refl comes.counted played.stays comes played.end
+        work played.after played.so.can keeps count played.rest r.0 (seen_waits r.1) (rw some at played.named),
+  )
+
+  flush : (f : FaultAt) → fault ≡ Some f → (n : ℕ) → new.sent ≡ option_map (λ s. s ++ take n (whole_transcript its)) old.sent
+      → ((n ≡ length (whole_transcript its)) × (new.sink_faults ≡ old.sink_faults)) ⊎ Rose old.sink_faults new.sink_faults → Answers cast old new (Fault f.from f.count)
+  flush f is n sent out =
+      let failed = flush-failed old.store (guests_of cast) w played.now new.store fault refl refl refl comes.counted played.stays comes played.end f is in
+      subst (λ (from : FaultFrom). IsFaulty cast old new from f.count) (sym failed.1)
+      (work, its, n, record { was = was false n (λ bad. absurd (false≢true bad)) sent; stopped = stopped }, failed.2, out)
+
+  put : fault ≡ None → (n : ℕ) → new.sent ≡ option_map (λ s. s ++ take n (whole_transcript its)) old.sent → Rose old.sink_faults new.sink_faults → Answers cast old new (Fault Sink new.sink_faults)
+  put good n sent rose = (work, its, n, record { was = was true n (λ is. good) sent; stopped = stopped }, rose, refl)
+
+  unsent : new.sent ≡ old.sent → new.sink_faults ≡ old.sink_faults → Answers cast old new NoMemory
+  unsent sent sink = (sent, sink, inr (work, its, inputs, run false (λ bad. absurd (false≢true bad))))
+
+  by-end : (whole : List ℕ) → whole ≡ whole_transcript its → (x : Option FaultAt) → fault ≡ x → (y : Option (ℕ × Waits Written)) → waiting ≡ y → WentOut old.sent new.sent whole old.sink_faults new.sink_faults
+      → Answers cast old new (ended_as x y)
+  by-end whole is None good None none out = done good none (rw is at out.sent) out.sink
+  by-end whole is None good (Some r) some out = stuck good r some (rw is at out.sent) out.sink
+  by-end whole is (Some f) some y waits out =
+      flush f some (length (whole_transcript its)) (whole-out old.sent new.sent (whole_transcript its) (rw is at out.sent)) (inl (refl, out.sink))
+
+  by-failure : (whole : List ℕ) → whole ≡ whole_transcript its → (x : Option FaultAt) → fault ≡ x → SendsFront old.sent new.sent whole old.sink_faults new.sink_faults
+      → Answers cast old new (failed_as x new.sink_faults)
+  by-failure whole is None good front =
+      put good (length front.part.0) (front-out old.sent new.sent front.part.0 front.part.1 (whole_transcript its) (front.part.2 ∙ is) front.part.3) front.rose
+  by-failure whole is (Some f) some front =
+      flush f some (length front.part.0) (front-out old.sent new.sent front.part.0 front.part.1 (whole_transcript its) (front.part.2 ∙ is) front.part.3) (inr front.rose)
+
+  pub run-answers : HaveLines (guests_of cast) log.events → (status : Status)
+      → EndsAs fault waiting old.sent new.sent (transcript (guests_only (guests_of cast)) log.events) old.sink_faults new.sink_faults status → Answers cast old new status
+  run-answers lines status (inl none) = rw none.0 (unsent none.1 none.2)
+  run-answers lines status (inr (inl end)) = rw end.0 (by-end _ (whole-is lines) fault refl waiting refl end.1)
+    where
+      whole-is : HaveLines (guests_of cast) log.events → transcript (guests_only (guests_of cast)) log.events ≡ whole_transcript its
+      whole-is lines =
+          let same : log.events ≡ played.now.progress.log.events = ap (λ (l : Recorded). l.events) played.log_is in
+          ap (transcript (guests_only (guests_of cast))) same ∙ sym (printed-is (opening_by old.store (guests_of cast)) played.now.progress.log.events (rw same at lines))
+  run-answers lines status (inr (inr end)) = rw end.0 (by-failure _ (whole-is lines) fault refl end.1)
+    where
+      whole-is : HaveLines (guests_of cast) log.events → transcript (guests_only (guests_of cast)) log.events ≡ whole_transcript its
+      whole-is lines =
+          let same : log.events ≡ played.now.progress.log.events = ap (λ (l : Recorded). l.events) played.log_is in
+          ap (transcript (guests_only (guests_of cast))) same ∙ sym (printed-is (opening_by old.store (guests_of cast)) played.now.progress.log.events (rw same at lines))

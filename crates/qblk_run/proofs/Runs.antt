@@ -1,0 +1,169 @@
+-- A run from its inputs on.
+use Rattle.std.proofs.Common.{◌≡◌, ◌⊎◌, ℕ, zero, suc, ◌+◌, ◌≤◌, ◌<◌, ◌^◌, Bool, true, false, List, [], ◌∷◌, length, map, refl, sym, ◌∙◌, ap, subst, arith, Option, Some, None, inl, inr}
+use Rattle.std.specs.Prelude.{codes, vec_len, IfSome}
+use Rattle.std.proofs.Common.{Vec, Global}
+use Rattle.std.proofs.lemmas.Bool.{false≢true}
+use Rattle.std.proofs.lemmas.List.{length-map}
+use Rattle.blk_base.specs.Files.{IfTold, is_out}
+use Rattle.blk_base.specs.Written.{Written}
+use Rattle.blk_base.specs.declared.fault.FaultAt.{FaultAt}
+use Rattle.blk_base.specs.declared.file.Opened.{Opened}
+use Rattle.blk_base.specs.declared.memory.Room.{Room}
+use Rattle.trace_codec.specs.declared.waits.Waits.{Waits}
+use Rattle.trace_codec.specs.declared.wish.Wish.{Wish}
+use Rattle.trace_codec.specs.Script.{Order}
+use Rattle.blk_history.specs.Recorded.{Recorded}
+use Rattle.flat_machine.specs.declared.opening.Opening.{Opening}
+use Rattle.blk_world.specs.Comes.{Comes}
+use Rattle.blk_world.specs.Face.{Face}
+use Rattle.blk_world.specs.Progress.{Progress, no_progress}
+use Rattle.blk_world.specs.Steps.{StoreSeen, IsOpeningOf, new_world}
+use Rattle.qblk_core.specs.declared.status.Status.{Status}
+use Rattle.qblk_core.specs.declared.status.Status.TheVariants.{NoMemory}
+use Rattle.qblk_core.specs.declared.words.Format.{Format}
+use Rattle.qblk_core.specs.Words.{IsIo}
+use Rattle.qblk_inputs.specs.Inputs.{Work, HasWork, IsRefusedInput}
+use Rattle.qblk_inputs.specs.Reading.{StopsFor}
+use Rattle.qblk_inputs.specs.Words.{Cast, IsRunOf, Player, guests_of, cast_of, player_of}
+use Rattle.qblk_inputs.specs.declared.stop.InputStop.{InputStop}
+use Rattle.qblk_inputs.specs.declared.stop.InputStop.TheVariants as stops
+use Rattle.qblk_run.specs.Beginning.{new_task, new_tasks, IsReady}
+use Rattle.qblk_run.specs.Run.{Setting, Answers, IsUnsent, NothingWritten, status_of}
+use Rattle.qblk_run.specs.Session.{IsEnd, IsPlayed, IsGivenUp}
+use Rattle.blk_history.specs.Transcript.{transcript}
+use Rattle.qblk_run.specs.Ending.{EndsAs}
+use Rattle.qblk_run.specs.Tasks.{Tasks, CanGoOn, HaveLines, guests_only}
+use Rattle.qblk_run.proofs.Answering.{run-answers}
+use Rattle.qblk_run.proofs.Accounts.{opening_by, opening-of, account, run-is}
+use Rattle.qblk_run.proofs.Beginnings.{start-can, start-keeps}
+
+-- ---- the beginning
+
+pub play-can : (store : StoreSeen) (guests its names : List (List ℕ)) (script : List Order) (traces : List (List Wish)) (actors : Tasks) (room : Room) (world : Face)
+    → IsReady script traces guests actors its names room → length traces ≡ length guests → length guests ≤ 16 → world ≡ new_world store its room
+    → CanGoOn world.progress actors
+play-can store guests its names script traces actors room world ready count few is =
+    let size : length its ≡ length traces = ap length ready.guests_are ∙ sym count in
+    let start : CanGoOn (no_progress (length traces) room) (new_tasks script traces) = start-can script traces room (omega arith) ready.room_is in
+    let placed : CanGoOn (no_progress (length its) room) (new_tasks script traces) = subst (λ (n : ℕ). CanGoOn (no_progress n room) (new_tasks script traces)) (sym size) start in
+    rw (is, ready.actors_are) placed
+
+-- ---- the end
+
+pub played-lines : (w : Face) (script : List Order) (traces : List (List Wish)) (store : StoreSeen) (log : Recorded) (fault : Option FaultAt) (waiting : Option (ℕ × Waits Written))
+    (guests : List (List ℕ)) → w.progress.log.events ≡ [] → length traces ≡ length guests → IsPlayed w (new_tasks script traces) store log fault waiting → HaveLines guests log.events
+played-lines w script traces store log fault waiting guests none count played =
+    let size : length (map new_task traces) ≡ length traces = length-map traces new_task in
+    let lines : HaveLines guests w.progress.log.events = rw none tt in
+    subst (λ (l : Recorded). HaveLines guests l.events) (sym played.log_is) (played.so.lines guests (omega arith) lines)
+
+-- memory wasn't had for a turn
+pub given-up : (cast : Cast) (work : Work) (old new : Setting) (room : Room) → IfTold old.store.files (HasWork cast work) → length work.traces ≡ length (guests_of cast)
+    → ((o : Opening) → IsOpeningOf old.store (guests_of cast) o → Comes o (new_world old.store (guests_of cast) room))
+    → IsGivenUp (new_world old.store (guests_of cast) room) (new_tasks work.script work.traces) new.store
+    → new.sent ≡ old.sent → new.sink_faults ≡ old.sink_faults → Answers cast old new NoMemory
+given-up cast work old new room inputs count begins given sent sink =
+    let o = opening_by old.store (guests_of cast) in
+    let comes = given.comes o (begins o (opening-of old.store (guests_of cast))) in
+    let w = new_world old.store (guests_of cast) room in (
+      sent,
+      sink,
+      inr (
+        work,
+        account old.store (guests_of cast) w given.now new.store given.fault refl refl refl comes.counted given.stays comes given.end,
+        inputs,
+        run-is old.store (guests_of cast) w given.now new.store given.fault refl refl refl comes.counted given.stays comes given.end cast work false refl count
+            (given.order work.script work.traces (start-keeps work.script work.traces)) (λ bad. absurd (false≢true bad)),
+      ),
+    )
+
+-- ---- words
+
+some-cons : {A : Type 0} {x y : A} {xs ys : List A} → x ∷ xs ≡ y ∷ ys → (x ≡ y) × (xs ≡ ys)
+some-cons e = (cc, cc)
+
+-- they name one cast
+pub one-cast : (words : List (List ℕ)) (a b : Cast) → IsRunOf words a → IsRunOf words b → a ≡ b
+one-cast words a b is-a is-b =
+    let one = some-cons (sym is-a.form ∙ is-b.form) in
+    let two = some-cons one.1 in
+    let three = some-cons two.1 in
+    let players : a.players ≡ b.players = is-a.cut ∙ ap (map player_of) three.1 ∙ sym is-b.cut in
+    let first : a ≡ record a { script = b.script } = ap (λ (s : List ℕ). record a { script = s }) three.0 in
+    let second : record a { script = b.script } ≡ b = ap (λ (ps : List Player). record b { players = ps }) players in
+    first ∙ second
+
+-- and none of `io`
+pub not-both : (words : List (List ℕ)) (cast : Cast) (format : Format) (image trace : List ℕ) → IsRunOf words cast → IsIo words format image trace → ⊥
+not-both words cast format image trace run io =
+    let same = (some-cons (sym run.form ∙ io.form)).0 in
+    let bad : ⊥ = cc same in bad
+
+-- ---- inputs that weren't read
+
+pub refused-answers : (cast : Cast) (old new : Setting) (stop : InputStop)
+    → new.store.files ≡ old.store.files → new.store.opened ≡ old.store.opened → new.sent ≡ old.sent → new.sink_faults ≡ old.sink_faults
+    → StopsFor (λ name why line. IfTold old.store.files (IsRefusedInput cast name line why)) old.store.faults new.store.faults stop → Answers cast old new (status_of stop)
+refused-answers cast old new (stops.Refused name line why) files opened sent sink stop =
+    (record { files = files; opened = opened; sent = sent; sink = sink }, (why, refl, stop.0))
+refused-answers cast old new (stops.Failed count) files opened sent sink stop =
+    (record { files = files; opened = opened; sent = sent; sink = sink }, stop.0, stop.1)
+refused-answers cast old new stops.NoMemory files opened sent sink stop = (sent, sink, inl files)
+
+-- ---- what was read
+
+pub traces-count : (traces : Vec (Vec Wish Global) Global) (n : ℕ) → vec_len traces ≡ n → length (map (λ t. t.items) traces.items) ≡ n
+traces-count traces n is = length-map traces.items (λ t. t.items) ∙ sym traces.ok.0 ∙ is
+
+-- ---- as the calls say it
+
+-- the world and the actors that a run began with
+world-is : (store : StoreSeen) (guests its : List (List ℕ)) (room : Room) (world : Face) → its ≡ guests → world ≡ new_world store its room → world ≡ new_world store guests room
+world-is store guests its room world same is = is ∙ ap (λ (names : List (List ℕ)). new_world store names room) same
+
+begins-is : (store : StoreSeen) (guests its : List (List ℕ)) (room : Room) (world : Face) → its ≡ guests → world ≡ new_world store its room
+    → ((o : Opening) → IsOpeningOf store its o → Comes o world) → (o : Opening) → IsOpeningOf store guests o → Comes o (new_world store guests room)
+begins-is store guests its room world same is begins o opening =
+    subst (Comes o) (world-is store guests its room world same is) (begins o (rw same opening))
+
+module _ (cast : Cast) (work : Work) (old new : Setting) (room : Room) (guests its names : List (List ℕ)) (actors : Tasks) (world : Face)
+    (ready : IsReady work.script work.traces guests actors its names room) (called : guests_of cast ≡ guests) (count : length work.traces ≡ length guests)
+    (is : world ≡ new_world old.store its room) (begins : (o : Opening) → IsOpeningOf old.store its o → Comes o world) where
+  same : its ≡ guests_of cast
+  same = ready.guests_are ∙ sym called
+
+  pub given-here : IfTold old.store.files (HasWork cast work) → IsGivenUp world actors new.store → new.sent ≡ old.sent → new.sink_faults ≡ old.sink_faults → Answers cast old new NoMemory
+  given-here inputs given sent sink =
+      given-up cast work old new room inputs (count ∙ ap length (sym called)) (begins-is old.store (guests_of cast) its room world same is begins)
+      (subst (λ (t : Tasks). IsGivenUp (new_world old.store (guests_of cast) room) t new.store) ready.actors_are
+      (subst (λ (w : Face). IsGivenUp w actors new.store) (world-is old.store (guests_of cast) its room world same is) given)) sent sink
+
+  played-as : (log : Recorded) (fault : Option FaultAt) (waiting : Option (ℕ × Waits Written)) → IsPlayed world actors new.store log fault waiting
+      → IsPlayed (new_world old.store (guests_of cast) room) (new_tasks work.script work.traces) new.store log fault waiting
+  played-as log fault waiting played =
+      subst (λ (t : Tasks). IsPlayed (new_world old.store (guests_of cast) room) t new.store log fault waiting) ready.actors_are
+      (subst (λ (w : Face). IsPlayed w actors new.store log fault waiting) (world-is old.store (guests_of cast) its room world same is) played)
+
+  pub played-here : (log : Recorded) (fault : Option FaultAt) (waiting : Option (ℕ × Waits Written)) (status : Status)
+      → IfTold old.store.files (HasWork cast work) → IsPlayed world actors new.store log fault waiting
+      → EndsAs fault waiting old.sent new.sent (transcript (guests_only names) log.events) old.sink_faults new.sink_faults status → Answers cast old new status
+  played-here log fault waiting status inputs played ends =
+      let played' = played-as log fault waiting played in
+      let printed : names ≡ guests_of cast = ready.names_are ∙ sym called in
+      run-answers cast work old new room log fault waiting inputs (count ∙ ap length (sym called)) played' (begins-is old.store (guests_of cast) its room world same is begins)
+      (played-lines (new_world old.store (guests_of cast) room) work.script work.traces new.store log fault waiting (guests_of cast) refl (count ∙ ap length (sym called)) played')
+      status (subst (λ (ns : List (List ℕ)). EndsAs fault waiting old.sent new.sent (transcript (guests_only ns) log.events) old.sink_faults new.sink_faults status) printed ends)
+
+-- the lines of a history that was played have their names
+pub lines-here : (store : StoreSeen) (script : List Order) (traces : List (List Wish)) (guests its names : List (List ℕ)) (actors : Tasks) (room : Room) (world : Face) (after : StoreSeen)
+    (log : Recorded) (fault : Option FaultAt) (waiting : Option (ℕ × Waits Written)) → IsReady script traces guests actors its names room → length traces ≡ length guests
+    → world ≡ new_world store its room → IsPlayed world actors after log fault waiting → HaveLines names log.events
+lines-here store script traces guests its names actors room world after log fault waiting ready count is played =
+    let begun : world.progress.log.events ≡ [] = ap (λ (w : Face). w.progress.log.events) is in
+    let tasks : IsPlayed world (new_tasks script traces) after log fault waiting = subst (λ (t : Tasks). IsPlayed world t after log fault waiting) ready.actors_are played in
+    played-lines world script traces after log fault waiting names begun (count ∙ ap length (sym ready.names_are)) tasks
+
+-- what a call gives, where it gives something
+pub if-some : {A : Type 0} (x : Option A) (a : A) (P : A → Type 0) → x ≡ Some a → IfSome x P → P a
+if-some None a P is holds = let bad : ⊥ = cc is in absurd bad
+if-some (Some b) a P is holds = let same : b ≡ a = cc is in subst P same holds

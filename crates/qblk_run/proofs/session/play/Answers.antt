@@ -1,0 +1,23 @@
+use Rattle.std.proofs.Common.{refl, ap}
+use Rattle.qblk_run.specs.Session.{IsEnd}
+use Rattle.qblk_run.proofs.session.play.Goals as goal
+
+pub returns-in-Ok-clause-made : goal.returns-in-Ok-clause-made
+returns-in-Ok-clause-made g c = record {
+  now = c.run_rounds-went.new.world;
+  after = c.run_rounds-went.new.actors;
+  so = c.in-Ok.ensures.goes;
+  rest = c.in-Ok.ensures.rest;
+  stays = c.in-Ok.ensures.stays;
+  comes = c.in-Ok.ensures.comes;
+  log_is = c.close_world-store.ensures.history;
+  end = record {
+    closed = c.close_world-store.ensures.closed;
+    faults = c.close_world-store.ensures.faults;
+    none_out = c.close_world-store.ensures.none_out;
+    flushed = c.close_world-store.ensures.named;
+    disks = c.close_world-store.ensures.disks;
+    held = c.close_world-store.ensures.held;
+  };
+  named = c.first_waiting-waiting.ensures c.run_rounds-went.new.world c.in-Ok.ensures.rest;
+}

@@ -1,0 +1,121 @@
+//! The calls of the program.
+ghost use Rattle.std.specs.Prelude.{◌≡◌, ◌+◌, ◌^◌, ◌<◌, ◌≤◌, ℕ, List, false, length, map, vec_len};
+ghost use Rattle.blk_base.specs.Files.{IfTold, is_out};
+ghost use Rattle.trace_codec.specs.Script.{seen_order};
+ghost use Rattle.qblk_inputs.specs.Inputs.{HasWork};
+ghost use Rattle.qblk_inputs.specs.Reading.{NoneOut};
+ghost use Rattle.qblk_inputs.specs.Words.{Cast, IsRunOf, texts_of, guests_of};
+ghost use Rattle.qblk_run.specs.Run.{Answers, setting, why_of, status_of};
+
+use crate::output::write_out;
+use crate::preparing::{Ready, make_ready};
+use crate::session::play;
+use blk_base::{FaultFrom, Sink, Store, Text};
+use blk_world::World;
+use qblk_core::{InputWhy, Status};
+use qblk_inputs::{InputFlaw, InputStop, Inputs, read_inputs, run_words};
+use std::alloc::Global;
+
+/// Why an input is refused, as a status says it.
+fn why_of(flaw: InputFlaw) -> InputWhy
+    ensures { result ≡ why_of flaw }
+{
+    match flaw {
+        InputFlaw::Absent => InputWhy::Absent,
+        InputFlaw::NotUtf8 => InputWhy::NotUtf8,
+        InputFlaw::TooLong => InputWhy::TooLong,
+        InputFlaw::BadLine => InputWhy::BadLine,
+        InputFlaw::TooMany => InputWhy::TooMany,
+    }
+}
+
+/// How a run ended whose inputs weren't read.
+fn input_status(stop: InputStop) -> Status
+    ensures { result ≡ status_of stop }
+{
+    match stop {
+        InputStop::Refused { name, line, why } => Status::Input {
+            name,
+            line,
+            why: why_of(why),
+        },
+        InputStop::Failed { count } => Status::Fault {
+            from: FaultFrom::Store,
+            count,
+        },
+        InputStop::NoMemory => Status::NoMemory,
+    }
+}
+
+/// Runs a script and traces that were read.
+fn run_inputs<S: Store, K: Sink>(
+    alloc: Global,
+    inputs: Inputs,
+    store: S,
+    out: &mut K,
+) -> (Status, S)
+    requires none_out { (name : List ℕ) → is_out name (S.opened store) ≡ false }
+    requires few { length inputs.guests ≤ 16 }
+    requires count { vec_len inputs.traces ≡ length inputs.guests }
+    ensures ended { (cast : Cast) → guests_of cast ≡ inputs.guests
+        → IfTold (S.files store) (HasWork cast (record {
+          script = map seen_order inputs.script.items;
+          traces = map (λ t. t.items) inputs.traces.items;
+        }))
+        → Answers cast
+        (setting (S.files store) (S.opened store) (S.room store) (S.faults store)
+        (K.sent out.old) (K.faults out.old))
+        (setting (S.files result.1) (S.opened result.1) (S.room result.1) (S.faults result.1)
+        (K.sent out.new) (K.faults out.new))
+        result.0 }
+    ensures back { (name : List ℕ) → is_out name (S.opened result.1) ≡ false }
+{
+    let Ok(
+        Ready {
+            actors,
+            guests,
+            names,
+            room,
+        },
+    ) = make_ready(alloc, inputs)
+    else {
+        return (Status::NoMemory, store);
+    };
+    match World::new(alloc, store, guests, room) {
+        Err((_, store)) => (Status::NoMemory, store),
+        Ok(world) => {
+            let (made, store) = play(alloc, world, actors);
+            match made {
+                None => (Status::NoMemory, store),
+                Some(made) => (write_out(alloc, made, names, out), store),
+            }
+        }
+    }
+}
+
+/// Runs the script and the traces of `run 1 SCRIPT GUEST=TRACE ..` on the files of a store, and puts the transcript.
+pub fn run_script<S: Store, K: Sink>(
+    alloc: Global,
+    words: &[Text],
+    store: S,
+    out: &mut K,
+) -> (Status, S)
+    requires form { (cast : Cast) × IsRunOf (texts_of words.now) cast }
+    requires none_out { NoneOut (S.opened store) }
+    ensures ended { (cast : Cast) → IsRunOf (texts_of words.now) cast → Answers cast
+        (setting (S.files store) (S.opened store) (S.room store) (S.faults store)
+        (K.sent out.old) (K.faults out.old))
+        (setting (S.files result.1) (S.opened result.1) (S.room result.1) (S.faults result.1)
+        (K.sent out.new) (K.faults out.new))
+        result.0 }
+    ensures back { NoneOut (S.opened result.1) }
+{
+    let Some(run) = run_words(words) else {
+        unreachable!()
+    };
+    let mut store = store;
+    match read_inputs(alloc, &mut store, run.script, run.players) {
+        Ok(inputs) => run_inputs(alloc, inputs, store, out),
+        Err(stop) => (input_status(stop), store),
+    }
+}
