@@ -205,3 +205,8 @@ pub faults-kept : (t : Table) (devices : List DeviceState) (old new : StoreSeen)
 faults-kept t [] old new fault back = ap (λ (s : StoreSeen). s.faults) back.0
 faults-kept t (device ∷ devices) old new fault back =
     faults-kept t devices back.0 new back.2 back.4 ∙ ap (λ (s : StoreSeen). s.faults) back.3.kept
+
+pub room-kept : (t : Table) (devices : List DeviceState) (old new : StoreSeen) (fault : Option FaultAt) → AreBack t devices old new fault → new.room ≡ old.room
+room-kept t [] old new fault back = ap (λ (s : StoreSeen). s.room) back.0
+room-kept t (device ∷ devices) old new fault back =
+    room-kept t devices back.0 new back.2 back.4 ∙ ap (λ (s : StoreSeen). s.room) back.3.kept

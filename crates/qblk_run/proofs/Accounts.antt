@@ -65,7 +65,7 @@ with-none P (Some a) holds none = let bad : ⊥ = cc none in bad
 -- ---- the account of a world that was closed
 
 module _ (old : StoreSeen) (guests : List (List ℕ)) (w v : Face) (store : StoreSeen) (fault : Option FaultAt)
-    (earlier : w.earlier ≡ old.opened) (first : w.first_faults ≡ old.faults) (telling : is_some w.files ≡ is_some old.files)
+    (earlier : w.earlier ≡ old.opened) (first : w.first_faults ≡ old.faults) (telling : is_some w.files ≡ is_some old.files) (roomy : w.room ≡ old.room)
     (counted : v.first_faults ≤ v.faults) (stays : StaysIn w v) (comes : Comes (opening_by old guests) v) (end : IsEnd v store fault) where
   abbrev pub account : Account
   account = record { opening = opening_by old guests; openings = end.closed.opened; events = v.progress.log.events }
@@ -90,6 +90,7 @@ module _ (old : StoreSeen) (guests : List (List ℕ)) (w v : Face) (store : Stor
   run-is cast work is_flushed names count order good = record {
     opening = rw names (opening-of old guests);
     openings = opened;
+    room = end.room ∙ stays.room ∙ roomy;
     order = record { guests = count; order = order };
     licensed = licensed;
     quiet = quiet-run (counts_at_first old account) (counts_at_last store account) v.progress.log.events licensed;

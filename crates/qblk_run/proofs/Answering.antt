@@ -85,16 +85,16 @@ module _ (cast : Cast) (work : Work) (old new : Setting) (room : Room) (log : Re
   keeps = played.so.order work.script work.traces (start-keeps work.script work.traces)
 
   abbrev its : Account
-  its = account old.store (guests_of cast) w played.now new.store fault refl refl refl comes.counted played.stays comes played.end
+  its = account old.store (guests_of cast) w played.now new.store fault refl refl refl refl comes.counted played.stays comes played.end
 
   run : (is_flushed : Bool) → (is_flushed ≡ true → fault ≡ None) → IsRun cast work is_flushed old.store new.store its
-  run is_flushed good = run-is old.store (guests_of cast) w played.now new.store fault refl refl refl comes.counted played.stays comes played.end cast work is_flushed refl count keeps.order good
+  run is_flushed good = run-is old.store (guests_of cast) w played.now new.store fault refl refl refl refl comes.counted played.stays comes played.end cast work is_flushed refl count keeps.order good
 
   was : (is_flushed : Bool) (n : ℕ) → (is_flushed ≡ true → fault ≡ None) → new.sent ≡ option_map (λ s. s ++ take n (whole_transcript its)) old.sent → WasRun cast work is_flushed old new its n
   was is_flushed n good sent = record { inputs = inputs; run = run is_flushed good; sent = sent }
 
   stopped : HasStopped (is_some old.store.files) work its
-  stopped = has-stopped old.store (guests_of cast) w played.now new.store fault refl refl refl comes.counted played.stays comes played.end
+  stopped = has-stopped old.store (guests_of cast) w played.now new.store fault refl refl refl refl comes.counted played.stays comes played.end
       work played.after played.so.can keeps count played.rest waiting played.named
 
   -- the flush was good, and all went out
@@ -104,7 +104,7 @@ module _ (cast : Cast) (work : Work) (old new : Setting) (room : Room) (log : Re
         work,
         its,
         record { was = was true (length (whole_transcript its)) (λ is. good) (whole-out old.sent new.sent (whole_transcript its) sent); sink = sink },
-        ends-done old.store (guests_of cast) w played.now new.store fault refl refl refl comes.counted played.stays comes played.end
+        ends-done old.store (guests_of cast) w played.now new.store fault refl refl refl refl comes.counted played.stays comes played.end
             work played.after played.so.can keeps count (rw none at played.named),
       )
 
@@ -114,14 +114,14 @@ module _ (cast : Cast) (work : Work) (old new : Setting) (room : Room) (log : Re
     work,
     its,
     record { was = was true (length (whole_transcript its)) (λ is. good) (whole-out old.sent new.sent (whole_transcript its) sent); sink = sink },
-    ends-stuck old.store (guests_of cast) w played.now new.store fault refl refl refl comes.counted played.stays comes played.end
+    ends-stuck old.store (guests_of cast) w played.now new.store fault refl refl refl refl comes.counted played.stays comes played.end
         work played.after played.so.can keeps count played.rest r.0 (seen_waits r.1) (rw some at played.named),
   )
 
   flush : (f : FaultAt) → fault ≡ Some f → (n : ℕ) → new.sent ≡ option_map (λ s. s ++ take n (whole_transcript its)) old.sent
       → ((n ≡ length (whole_transcript its)) × (new.sink_faults ≡ old.sink_faults)) ⊎ Rose old.sink_faults new.sink_faults → Answers cast old new (Fault f.from f.count)
   flush f is n sent out =
-      let failed = flush-failed old.store (guests_of cast) w played.now new.store fault refl refl refl comes.counted played.stays comes played.end f is in
+      let failed = flush-failed old.store (guests_of cast) w played.now new.store fault refl refl refl refl comes.counted played.stays comes played.end f is in
       subst (λ (from : FaultFrom). IsFaulty cast old new from f.count) (sym failed.1)
       (work, its, n, record { was = was false n (λ bad. absurd (false≢true bad)) sent; stopped = stopped }, failed.2, out)
 

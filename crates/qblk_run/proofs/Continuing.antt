@@ -242,7 +242,7 @@ turn-length w v old new g moved turn = ap length turn.after_is ∙ length-set ol
 -- ---- the same run
 
 pub stays_same : (w : Face) → StaysIn w w
-stays_same w = record { told = refl; first = refl; earlier = refl }
+stays_same w = record { told = refl; first = refl; earlier = refl; room = refl }
 
 pub stays_then : (w v u : Face) → StaysIn w v → StaysIn v u → StaysIn w u
-stays_then w v u a b = record { told = b.told ∙ a.told; first = b.first ∙ a.first; earlier = b.earlier ∙ a.earlier }
+stays_then w v u a b = record { told = b.told ∙ a.told; first = b.first ∙ a.first; earlier = b.earlier ∙ a.earlier; room = b.room ∙ a.room }

@@ -70,9 +70,9 @@ given-up cast work old new room inputs count begins given sent sink =
       sink,
       inr (
         work,
-        account old.store (guests_of cast) w given.now new.store given.fault refl refl refl comes.counted given.stays comes given.end,
+        account old.store (guests_of cast) w given.now new.store given.fault refl refl refl refl comes.counted given.stays comes given.end,
         inputs,
-        run-is old.store (guests_of cast) w given.now new.store given.fault refl refl refl comes.counted given.stays comes given.end cast work false refl count
+        run-is old.store (guests_of cast) w given.now new.store given.fault refl refl refl refl comes.counted given.stays comes given.end cast work false refl count
             (given.order work.script work.traces (start-keeps work.script work.traces)) (λ bad. absurd (false≢true bad)),
       ),
     )

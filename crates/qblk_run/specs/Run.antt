@@ -105,6 +105,7 @@ pub record LeavesFiles (a : Account) (is_flushed : Bool) (files : List File) : T
 pub record IsRun (cast : Cast) (work : Work) (is_flushed : Bool) (old new : StoreSeen) (a : Account) : Type 0 where
   pub opening : IsOpeningOf old (guests_of cast) a.opening
   pub openings : HasOpened old.opened new.opened a.openings
+  pub room : new.room ≡ old.room
   pub order : IsInOrder a.opening work.script work.traces a.events
   pub licensed : AreLicensed (counts_at_first old a) (counts_at_last new a) a.events
   pub quiet : HaveStood (counts_at_first old a) (counts_at_last new a) → faults_of a.events ≡ []

@@ -26,6 +26,7 @@ use Rattle.qblk_run.specs.Rounds.{Continues, AllRest, AreDone, IsFirst}
 pub record IsEnd (v : Face) (store : StoreSeen) (fault : Option FaultAt) : Type 0 where
   pub closed : IsClosed v store fault
   pub faults : store.faults ≡ v.faults
+  pub room : store.room ≡ v.room
   pub none_out : (name : List ℕ) → is_out name store.opened ≡ false
   pub flushed : is_some v.files ≡ true → fault ≡ None → AreNodesFlushed v.table store.files
   pub disks : is_some v.files ≡ true → (s : State) → s.table ≡ v.table

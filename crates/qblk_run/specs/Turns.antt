@@ -19,6 +19,7 @@ pub record StaysIn (w v : Face) : Type 0 where
   pub told : is_some v.files ≡ is_some w.files
   pub first : v.first_faults ≡ w.first_faults
   pub earlier : v.earlier ≡ w.earlier
+  pub room : v.room ≡ w.room
 
 -- ---- guests
 

@@ -22,6 +22,7 @@ impl<S: Store> World<S> {
         ensures closed { IsClosed self
             (seen_store (S.files result.0) (S.opened result.0) (S.room result.0) (S.faults result.0)) result.2 }
         ensures faults { S.faults result.0 ≡ self.faults }
+        ensures room { S.room result.0 ≡ self.room }
         ensures none_out { (name : List ℕ) → is_out name (S.opened result.0) ≡ false }
         ensures flushed { is_some self.files ≡ true → result.2 ≡ None → AreFlushed self (S.files result.0) }
         ensures named { is_some self.files ≡ true → result.2 ≡ None

@@ -14,6 +14,7 @@ returns-in-Ok-clause-made g c = record {
   end = record {
     closed = c.close_world-store.ensures.closed;
     faults = c.close_world-store.ensures.faults;
+    room = c.close_world-store.ensures.room;
     none_out = c.close_world-store.ensures.none_out;
     flushed = c.close_world-store.ensures.named;
     disks = c.close_world-store.ensures.disks;

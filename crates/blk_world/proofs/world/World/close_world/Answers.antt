@@ -8,7 +8,7 @@ use Rattle.blk_world.specs.Face.{Face}
 use Rattle.blk_world.specs.Steps.{StoreSeen, seen_store, seen_in_run}
 use Rattle.blk_world.specs.Stores.{StoreInRun}
 use Rattle.blk_world.proofs.CloseLemmas.{closed-by, back-held, none-out, none-behind, flushed-then}
-use Rattle.blk_world.proofs.CloseCounts.{given-back, faults-kept}
+use Rattle.blk_world.proofs.CloseCounts.{given-back, faults-kept, room-kept}
 use Rattle.blk_world.proofs.CloseFiles.{held-then, told-then, nodes-flushed}
 use Rattle.blk_world.proofs.CloseDisks.{all-disks}
 use Rattle.blk_world.proofs.world.World.close_world.Goals as goal
@@ -28,6 +28,12 @@ returns-clause-faults g c =
     c.into_store.ensures.faults
     ∙ faults-kept c.self.inside.names.table _ _ _ c.give_all_back-fault.result c.give_all_back-fault.ensures.back
     ∙ ap (λ (w : Face). w.faults) c.self.view_is
+
+pub returns-clause-room : goal.returns-clause-room
+returns-clause-room g c =
+    c.into_store.ensures.room
+    ∙ room-kept c.self.inside.names.table _ _ _ c.give_all_back-fault.result c.give_all_back-fault.ensures.back
+    ∙ ap (λ (w : Face). w.room) c.self.view_is
 
 pub returns-clause-none_out : goal.returns-clause-none_out
 returns-clause-none_out g c =
