@@ -28,6 +28,7 @@ use Rattle.blk_world.proofs.AddClean.{told-clean}
 use Rattle.blk_world.proofs.AddClosed.{closed-in}
 use Rattle.blk_world.proofs.AddCoherent.{whole}
 use Rattle.blk_world.proofs.AddExact.{IsSeenHeld, carried-in}
+use Rattle.blk_world.proofs.AddOpens.{opens-added, opens-back}
 use Rattle.blk_world.proofs.AddKinds.{IsLookedSo, looked-so}
 use Rattle.blk_world.proofs.AddQuiet.{quiet-back}
 use Rattle.blk_world.proofs.AddRunsOn.{runs-added, runs-back}
@@ -77,6 +78,7 @@ module _ (w : Face) (coherent : IsCoherent w.table w.nodes w.opened w.progress) 
           table = ends.table ∙ sym unchanged;
           progress = refl;
           runs = runs-back w v refl is.between c.driver is.out (so is) ends.is;
+          opens = opens-back w.table c (site_of w) is.between is.out is.image is.told is.looked x.store (ap (λ (y : Site). y.store) ends.is) (so is);
           cause = account.causes ends.staged.cause ends.staged.is;
           coherent = λ was. subst (λ (t : Table). IsCoherent t x.nodes x.store.opened w.progress) (sym ends.table) both.0;
           shows = λ told o s shows.
@@ -105,6 +107,7 @@ module _ (w : Face) (coherent : IsCoherent w.table w.nodes w.opened w.progress) 
           table = table;
           progress = refl;
           runs = runs;
+          opens = opens-added w.table c (site_of w) is.between is.out is.image is.told is.looked x.store ends.store (so is);
           cause = λ dev called passes. passes;
           coherent = λ was.
               subst (λ (t : Table). IsCoherent t x.nodes x.store.opened w.progress) (sym ends.table)

@@ -322,7 +322,7 @@ module _ (w : Face) (whole : IsWhole w) (joined : IsJoined w.nodes)
 
       attached_carried : CarriedUntold w v (command.DeviceAdd c) None
       attached_carried =
-          carried_by w v (command.DeviceAdd c) refl none table_so refl
+          carried_by w v (command.DeviceAdd c) refl none table_so refl refl
           (runs-devices w v refl refl refl refl refl refl (same-devices w.nodes.devices)) (λ before. attached_coherent)
           (λ o s told shows. subst (λ (changes : List Change). AllPerformed s changes (contents_of w) (contents_of v)) (sym changes_so)
           (performed_used w s (file_used w.table h c none) (AddDevice device node ∷ []) (contents_of v)

@@ -141,6 +141,7 @@ module _ (w : Face) (line : Given) (text : List ℕ) (why : Stop) (bad : command
         runs = runs-devices w (onward w (with_entry entry)) refl refl refl refl refl refl (same-devices w.nodes.devices);
         licensed = licensed-of w (onward w (with_entry entry)) line untold text (line_answer w.table untold line.text).reply said mild.can (text_is w.table untold line.text text said) (rw mild.fault tt) (rw mild.fault tt) (rw mild.full tt);
         fits = rw no-command tt;
+        opens = rw bad refl;
         shows = λ told o s shows. rw bad (quiet-self (contents_of w));
       }
 
@@ -246,6 +247,7 @@ module _ (w u : Face) (c : Cmd) (refusal' : Option Refusal) (is : IsCarried w u 
         runs = runs-onward w u (with_entry reply) is.runs;
         licensed = licensed-of w (onward u (with_entry reply)) line is.told text (answer w.table is.told c).reply said (can_tell w u c refusal' is) (text_is w.table is.told line.text text line-said) (rw is-command (called-by (refusal_of w.table is.told c) cause-first)) (rose-by (refusal_of w.table is.told c) cause-first) (rw is-command (full-by (refusal_of w.table is.told c) cause-first));
         fits = rw (is-command, line_command w.table is.told line.text c good) (fits-by (refusal_of w.table is.told c) cause-first);
+        opens = rw good is.opens;
         shows = λ told o s shows. rw good (seen-onward w u c is.told s (with_entry reply) (is.shows told o s shows));
       }
 

@@ -42,7 +42,7 @@ use Rattle.blk_world.specs.Progress.{Progress}
 use Rattle.blk_world.specs.Coherent.{IsCoherent, AreAlike, node_row}
 use Rattle.blk_world.specs.Comes.{Shows}
 use Rattle.blk_world.specs.Saying.{IsSaid}
-use Rattle.blk_world.specs.Carrying.{IsCarried, IsCarriedIn, IsCarriedAs, IsCaused, HasCause, FitsAll, IsPutBack, as_held, needs_table_alone, is_failed}
+use Rattle.blk_world.specs.Carrying.{IsCarried, IsCarriedIn, IsCarriedAs, IsCaused, HasCause, FitsAll, OpensFor, opened_names, IsPutBack, as_held, needs_table_alone, is_failed}
 use Rattle.blk_world.specs.Face.{Face, contents_of}
 use Rattle.blk_world.proofs.CarryNames.{either-of}
 use Rattle.blk_world.proofs.CarryComes.{built_accepted}
@@ -118,6 +118,11 @@ opens_nothing c = true
 pub fits_all : (w : Face) (c : Cmd) → opens_nothing c ≡ true → FitsAll w c
 fits_all w (command.BlockdevCreate c) opens = absurd cc
 fits_all w _ opens = λ dev called passes. passes
+
+-- only an addition opens a file
+pub plain_opens : (c : Cmd) → opens_nothing c ≡ true → (old new : List Opened) → opened_names new ≡ opened_names old → OpensFor c old new
+plain_opens (command.BlockdevAdd c) opens old new same = absurd cc
+plain_opens _ opens old new same = same
 
 pub quiet_cause : (w v : Face) (c : Cmd) (refusal' : Option Refusal) → opens_nothing c ≡ true
     → ((cause : Refusal) → refusal' ≡ Some cause → is_failed cause ≡ false) → HasCause w v c refusal'
@@ -398,6 +403,7 @@ module _ (w : Face) (u : Table) (c : Cmd) (alone : needs_table_alone c ≡ true)
         table = is;
         progress = refl;
         runs = runs-devices w (record w { table = u }) refl refl refl refl refl refl (same-devices w.nodes.devices);
+        opens = plain_opens c (alone-opens c alone) w.opened w.opened refl;
         cause = quiet_cause w (record w { table = u }) c refusal' (alone-opens c alone) (λ cause some. table_quiet w.table c cause (judged ∙ some));
         coherent = coherent-shape w.table u shape w.nodes w.opened w.progress (rests-by (refusal_of w.table untold c) refl is);
         shows = λ told o s shows. told_nothing o s w (record w { table = u }) c (alone-opens c alone) shows (performed-by s (refusal_of w.table untold c) refl shape);

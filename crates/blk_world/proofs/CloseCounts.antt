@@ -24,7 +24,7 @@ use Rattle.blk_world.proofs.DeletedRuns.{counted-at}
 -- ---- what giving back leaves of openings
 
 module _ {A : Type 0} (of : Opened → A) (kept : (o : Opened) (count : ℕ) → of (record o { returned = Some count }) ≡ of o) where
-  same-back : (name : List ℕ) (count : ℕ) (opened : List Opened) → map of (given_back name count opened) ≡ map of opened
+  pub same-back : (name : List ℕ) (count : ℕ) (opened : List Opened) → map of (given_back name count opened) ≡ map of opened
   same-back name count [] = refl
   same-back name count (o ∷ opened) = by_test (is_out_as name o) refl (same-back name count opened)
     where

@@ -2,6 +2,7 @@
 use Rattle.std.proofs.Common.{◌≡◌, ℕ, ◌==◌, true, not, List, [], ◌∷◌, ◌++◌, length, map, Option, Some, None, refl, sym, ◌∙◌, ap, subst}
 use Rattle.std.specs.Prelude.{is_some, Contains, find, option_map, unwrap_or}
 use Rattle.blk_base.specs.declared.file.File.{File as StoreFile}
+use Rattle.blk_base.specs.declared.file.Opened.{Opened}
 use Rattle.blk_graph.proofs.Members.{Contains-filter}
 use Rattle.qmp_codec.specs.Commands.{Cmd}
 use Rattle.qmp_codec.specs.declared.command.Command.TheVariants as command
@@ -22,10 +23,12 @@ use Rattle.blk_nodes.specs.Joined.{IsJoined}
 use Rattle.blk_nodes.specs.Nodes.{DeviceState, device_in}
 use Rattle.blk_world.specs.Coherent.{IsWhole}
 use Rattle.blk_world.specs.Counting.{RunsOn}
-use Rattle.blk_world.specs.Deleting.{name_under, with_back, Ground, ground_of, left, all_left, CanLeave, HasLeft, HaveLeft, without_node, made_with, with_made, Belong, IsDeleted}
+use Rattle.blk_world.specs.Carrying.{opened_names}
+use Rattle.blk_world.specs.Deleting.{name_under, with_back, Ground, ground_of, left, all_left, going, CanLeave, HasLeft, HaveLeft, without_node, made_with, with_made, Belong, IsDeleted}
 use Rattle.blk_world.specs.Face.{Face, contents_of}
 use Rattle.blk_world.proofs.Belonging.{belong_of}
 use Rattle.blk_world.proofs.CarryPlain.{quiet-self}
+use Rattle.blk_world.proofs.CloseCounts.{same-back}
 use Rattle.blk_world.proofs.CountLemmas.{runs-devices, runs-then, same-devices}
 use Rattle.blk_world.proofs.CreatedAsked.{del_asked}
 use Rattle.blk_world.proofs.DeletedParts.{nodes_left, filename_stays}
@@ -153,6 +156,19 @@ two_gone w t node file goes can has named can_file has_file named_file =
       );
     }
 
+-- ---- names of openings
+
+left_names : (t : Table) (node : ℕ) (x : Ground) → opened_names (left t node x).store.opened ≡ opened_names x.store.opened
+left_names t node x = by_device (device_in x.nodes.devices node)
+  where
+    by_device : (found : Option DeviceState) → opened_names (with_back (name_under t node) found x.store).opened ≡ opened_names x.store.opened
+    by_device None = refl
+    by_device (Some d) = same-back (λ (o : Opened). o.name) (λ o count. refl) (name_under t node) d.faults x.store.opened
+
+all_left_names : (t : Table) (nodes : List ℕ) (x : Ground) → opened_names (all_left t nodes x).store.opened ≡ opened_names x.store.opened
+all_left_names t [] x = refl
+all_left_names t (node ∷ nodes) x = all_left_names t nodes (left t node x) ∙ left_names t node x
+
 -- ---- a deletion
 
 module _ (w : Face) (whole : IsWhole w) (joined : IsJoined w.nodes) (unfolds : Unfolds w.nodes)
@@ -274,9 +290,15 @@ module _ (w : Face) (whole : IsWhole w) (joined : IsJoined w.nodes) (unfolds : U
   rest : TableAtRest final.table
   rest = rests_by w final.table c none final_table whole.coherent.table
 
+  -- the openings keep their names
+  final_names : opened_names final.opened ≡ opened_names w.opened
+  final_names =
+      ap (λ (y : Ground). opened_names y.store.opened) (sym end.ground_is ∙ deleted.left_are)
+      ∙ all_left_names w.table (going w.table row.id) (ground_of w)
+
   final_carried : CarriedUntold w final c None
   final_carried =
-      carried_by w final c refl none final_table (last_progress (made_with w.table node)) end.runs (λ was. coherent_of final end.goes rest)
+      carried_by w final c refl none final_table (last_progress (made_with w.table node)) final_names end.runs (λ was. coherent_of final end.goes rest)
       (λ o s told shows. subst (λ (changes : List Change). AllPerformed s changes (contents_of w) (contents_of final)) (sym edits)
       (end.performed s told shows.table.table_is))
 

@@ -102,3 +102,4 @@ pub mod AddCause
 pub mod AddUnder
 pub mod AddAccount
 pub mod AddHandled
+pub mod AddOpens

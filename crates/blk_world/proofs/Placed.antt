@@ -26,13 +26,13 @@ use Rattle.flat_machine.specs.declared.opening.Opening.{Opening}
 use Rattle.flat_machine.proofs.TableRests.{command_rests}
 use Rattle.blk_nodes.specs.Contents.{Unfolds}
 use Rattle.blk_nodes.specs.Joined.{IsJoined}
-use Rattle.blk_world.specs.Carrying.{IsCarried, IsPutBack}
+use Rattle.blk_world.specs.Carrying.{IsCarried, IsPutBack, opened_names}
 use Rattle.blk_world.specs.Coherent.{HaveDrives, AreOnDisks, AskToWrite, AreOnWritable, AreWithin, AreAllowed, DevicesTell, IsCoherent, IsWhole}
 use Rattle.blk_world.specs.Comes.{Shows}
 use Rattle.blk_world.specs.Counting.{RunsOn}
 use Rattle.blk_world.specs.Deleting.{Ground, ground_of}
 use Rattle.blk_world.specs.Face.{Face, contents_of}
-use Rattle.blk_world.proofs.CarryPlain.{HasShape, fits_all, opens_nothing, quiet_cause, quiet-self, table_quiet, told_nothing}
+use Rattle.blk_world.proofs.CarryPlain.{HasShape, fits_all, opens_nothing, plain_opens, quiet_cause, quiet-self, table_quiet, told_nothing}
 use Rattle.blk_world.proofs.CountLemmas.{runs-devices, same-devices}
 use Rattle.blk_world.proofs.DeletedSteps.{Parts}
 use Rattle.blk_world.proofs.EasedTables.{IsEased, nodes_of_eased, out_eased}
@@ -71,11 +71,11 @@ abbrev pub CarriedUntold : Face → Face → Cmd → Option Refusal → Type 0
 CarriedUntold w v c refusal = (carried : IsCarried w v c refusal) × (carried.told ≡ untold)
 
 pub carried_by : (w v : Face) (c : Cmd) → opens_nothing c ≡ true → refusal_of w.table untold c ≡ None
-    → v.table ≡ all_changed w.table (answer w.table untold c).changes → v.progress ≡ w.progress → RunsOn w v
+    → v.table ≡ all_changed w.table (answer w.table untold c).changes → v.progress ≡ w.progress → opened_names v.opened ≡ opened_names w.opened → RunsOn w v
     → (IsCoherent w.table w.nodes w.opened w.progress → IsCoherent v.table v.nodes v.opened v.progress)
     → ((o : Opening) (s : State) → is_some w.files ≡ true → Shows o s w → AllPerformed s (answer w.table untold c).changes (contents_of w) (contents_of v))
     → CarriedUntold w v c None
-carried_by w v c opens none table progress runs coherent performed =
+carried_by w v c opens none table progress names runs coherent performed =
     let carried : IsCarried w v c None = record {
       told = untold;
       clean = refl;
@@ -84,6 +84,7 @@ carried_by w v c opens none table progress runs coherent performed =
       table = table;
       progress = progress;
       runs = runs;
+      opens = plain_opens c opens w.opened v.opened names;
       cause = fits_all w c opens;
       coherent = coherent;
       shows = λ told o s shows. told_nothing o s w v c opens shows (performed o s told shows);
@@ -103,6 +104,7 @@ refused_by w c cause opens some nothing =
       table = sym (ap (all_changed w.table) changes);
       progress = refl;
       runs = runs-devices w w refl refl refl refl refl refl (same-devices w.nodes.devices);
+      opens = plain_opens c opens w.opened w.opened refl;
       cause = quiet_cause w w c (Some cause) opens (λ other is. table_quiet w.table c other (some ∙ is));
       coherent = λ was. was;
       shows = λ told o s shows. told_nothing o s w w c opens shows

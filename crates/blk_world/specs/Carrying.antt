@@ -1,5 +1,5 @@
 -- What a command leaves of the world, before its reply stands in the history.
-use Rattle.std.specs.Prelude.{◌≡◌, ◌⊎◌, ℕ, ◌<◌, ◌^◌, Bool, true, false, [], Result, Ok, Err, Option, Some, None, is_some, map, option_map, List}
+use Rattle.std.specs.Prelude.{◌≡◌, ◌⊎◌, ℕ, ◌<◌, ◌^◌, Bool, true, false, [], ◌∷◌, ◌++◌, Result, Ok, Err, Option, Some, None, is_some, map, option_map, List}
 use Rattle.serde_json.specs.Data.{Data}
 use Rattle.blk_base.specs.declared.fault.DevNo.{DevNo}
 use Rattle.blk_base.specs.declared.fault.FaultFrom.{FaultFrom}
@@ -29,6 +29,8 @@ use Rattle.flat_machine.specs.EventLicence.{IsCalledBy, IsLicensedBy}
 use Rattle.flat_machine.specs.Replies.{command_in}
 use Rattle.flat_machine.specs.Performing.{AllPerformed, IsQuiet}
 use Rattle.flat_machine.specs.declared.opening.Opening.{Opening}
+use Rattle.blk_base.specs.declared.file.Opened.{Opened}
+use Rattle.blk_world.specs.Adding.{Opens, opens}
 use Rattle.blk_world.specs.Coherent.{IsCoherent}
 use Rattle.blk_world.specs.Comes.{Shows}
 use Rattle.blk_world.specs.Counting.{RunsOn, IsReached, sources_of, counts_within}
@@ -128,6 +130,25 @@ abbrev pub HasCause : Face → Face → Cmd → Option Refusal → Type 0
 HasCause w v c None = FitsAll w c
 HasCause w v c (Some cause) = IsCaused w v c cause
 
+-- ---- files that are opened
+
+abbrev pub opened_names : List Opened → List (List ℕ)
+opened_names opened = map (λ o. o.name) opened
+
+abbrev pub AreOpenedBy : Option Opens → (old new : List (List ℕ)) → Type 0
+AreOpenedBy None old new = new ≡ old
+AreOpenedBy (Some at) old new = (new ≡ old) ⊎ (new ≡ old ++ at.filename ∷ [])
+
+-- An addition opens at most the file that it names, behind the others; no other command opens any.
+abbrev pub OpensFor : Cmd → (old new : List Opened) → Type 0
+OpensFor (BlockdevAdd c) old new = AreOpenedBy (opens c.driver) (opened_names old) (opened_names new)
+OpensFor c old new = opened_names new ≡ opened_names old
+
+-- nor does a line that is no command
+abbrev pub OpensIn : Result Cmd Stop → (old new : List Opened) → Type 0
+OpensIn (Ok c) old new = OpensFor c old new
+OpensIn (Err why) old new = opened_names new ≡ opened_names old
+
 -- ---- the whole
 
 -- a command is accepted, or refused for this
@@ -139,6 +160,7 @@ pub record IsCarried (w v : Face) (c : Cmd) (refusal : Option Refusal) : Type 0 
   pub table : v.table ≡ all_changed w.table (answer w.table told c).changes
   pub progress : v.progress ≡ w.progress
   pub runs : RunsOn w v
+  pub opens : OpensFor c w.opened v.opened
   pub cause : HasCause w v c refusal
   pub coherent : IsCoherent w.table w.nodes w.opened w.progress
       → IsCoherent v.table v.nodes v.opened v.progress
@@ -208,5 +230,6 @@ pub record IsReplied (w v : Face) (line : Given) : Type 0 where
       (would_pass w (command_in (command_at line.text))) (reply_entry w told line)
   pub fits : HasFitted w (command_in (command_at line.text))
       (line_answer w.table told line.text).reply
+  pub opens : OpensIn (command_at line.text) w.opened v.opened
   pub shows : is_some w.files ≡ true → (o : Opening) (s : State) → Shows o s w
       → IsSeenIn s w v told (command_at line.text)
