@@ -48,6 +48,7 @@ pub mod CreatedAsked
 pub mod CreatedReady
 pub mod CreatedKept
 pub mod CreatedFits
+pub mod CreatedCauses
 pub mod RunOpenings
 pub mod AddStops
 pub mod AddTold
