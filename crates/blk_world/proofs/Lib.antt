@@ -48,6 +48,7 @@ pub mod CreatedAsked
 pub mod CreatedReady
 pub mod CreatedKept
 pub mod CreatedFits
+pub mod CreatedCauses
 pub mod RunOpenings
 pub mod AddStops
 pub mod AddTold
@@ -102,3 +103,10 @@ pub mod AddCause
 pub mod AddUnder
 pub mod AddAccount
 pub mod AddHandled
+pub mod MadeMoves
+pub mod MadeCarried
+pub mod MadeHandled
+pub mod MadeTold
+pub mod MadePerformed
+pub mod MadeWorld
+pub mod MadeEnd
