@@ -50,7 +50,7 @@ use Rattle.blk_world.proofs.CountLemmas.{same-devices, runs-devices}
 
 -- ---- the table refuses for what it has, and names no failed call
 
-placed-quiet : (cause : Refusal) (p : ℕ) → place_of cause ≡ Some p → is_failed cause ≡ false
+pub placed-quiet : (cause : Refusal) (p : ℕ) → place_of cause ≡ Some p → is_failed cause ≡ false
 placed-quiet (refusal.Io source count) p placed = absurd cc
 placed-quiet (refusal.NoSpace dev) p placed = absurd cc
 placed-quiet _ p placed = refl
@@ -83,7 +83,7 @@ unbuilt-quiet c cause is = at (is_built c) is
     at true h = absurd cc
     at false h = let same : refusal.UnknownCommand (command_name c) ≡ cause = cc h in rw (← same) refl
 
-turn-quiet : (a b : Bool) (cause : Refusal) → out_of_turn a b ≡ Some cause → is_failed cause ≡ false
+pub turn-quiet : (a b : Bool) (cause : Refusal) → out_of_turn a b ≡ Some cause → is_failed cause ≡ false
 turn-quiet true true cause is = let same : refusal.Negotiation true ≡ cause = cc is in rw (← same) refl
 turn-quiet true false cause is = absurd cc
 turn-quiet false true cause is = absurd cc

@@ -1,6 +1,6 @@
 -- Tables in which rows may have lost their flat disks, and nothing else that nodes, devices and guests are asked of has changed.
 use Rattle.std.proofs.Common.{◌≡◌, ◌⊎◌, ℕ, ◌==◌, Bool, true, false, cond, List, [], ◌∷◌, map, Option, Some, None, refl, sym, ◌∙◌, ap, subst, inl, inr}
-use Rattle.std.specs.Prelude.{find, option_map, option_and_then}
+use Rattle.std.specs.Prelude.{Contains, find, option_map, option_and_then}
 use Rattle.std.proofs.lemmas.Bool.{eqb-true}
 use Rattle.blk_base.specs.declared.file.Opened.{Opened}
 use Rattle.blk_graph.specs.Graph.{NodeRow}
@@ -99,7 +99,7 @@ module _ (t now : Table) (e : IsEased t now) where
   }
 
   -- guests' disks are as they were where the rows that edges lead to are
-  pub entered_eased : ((row : NodeRecord) → IsEntered t row.id → e.f row ≡ row) → KeepsEntered t now
+  pub entered_eased : ((row : NodeRecord) → Contains t.nodes row → IsEntered t row.id → e.f row ≡ row) → KeepsEntered t now
   entered_eased fixed = record {
     devices = λ g. ap (find (λ device. device.number == g)) e.devices;
     drives = λ g. ap (child_of (GuestOf g) Drive) e.edges;
@@ -110,8 +110,9 @@ module _ (t now : Table) (e : IsEased t now) where
       by_row : (node : ℕ) → IsEntered t node → (row : Option NodeRecord) → node_at t node ≡ row → option_map e.f row ≡ row
       by_row node here None at = refl
       by_row node here (Some row) at =
-          let is : row.id ≡ node = eqb-true row.id node (find-Some (λ (r : NodeRecord). r.id == node) t.nodes row at).1 in
-          ap (λ (r : NodeRecord). Some r) (fixed row (subst (IsEntered t) (sym is) here))
+          let found = find-Some (λ (r : NodeRecord). r.id == node) t.nodes row at in
+          let is : row.id ≡ node = eqb-true row.id node found.1 in
+          ap (λ (r : NodeRecord). Some r) (fixed row found.0 (subst (IsEntered t) (sym is) here))
 
 -- ---- the changes that do no more
 

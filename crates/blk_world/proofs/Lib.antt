@@ -104,3 +104,10 @@ pub mod AddUnder
 pub mod AddAccount
 pub mod AddHandled
 pub mod AddOpens
+pub mod MadeMoves
+pub mod MadeCarried
+pub mod MadeHandled
+pub mod MadeTold
+pub mod MadePerformed
+pub mod MadeWorld
+pub mod MadeEnd

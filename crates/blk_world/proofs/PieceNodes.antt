@@ -39,7 +39,7 @@ pub record AreAfter (old new : Nodes) : Type 0 where
 rows_kept : (old new : Nodes) → new.rows ≡ old.rows → (n : ℕ) → AreRowsAfter (row_at old n) (row_at new n)
 rows_kept old new same n = subst (λ (rs : List (Option Row)). AreRowsAfter (row_at old n) (get_or rs n None)) (sym same) (row_refl (row_at old n))
 
-after_devices : (old new : Nodes) → new ≡ record old { devices = new.devices } → AreSameDevices old.devices new.devices → AreAfter old new
+pub after_devices : (old new : Nodes) → new ≡ record old { devices = new.devices } → AreSameDevices old.devices new.devices → AreAfter old new
 after_devices old new kept devices = record {
   graph = ap (λ (n : Nodes). n.graph) kept;
   rows = rows_kept old new (ap (λ (n : Nodes). n.rows) kept);

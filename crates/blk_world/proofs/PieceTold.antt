@@ -23,7 +23,7 @@ use Rattle.blk_world.proofs.PieceContents.{content_in, risen_content, only_conte
 use Rattle.blk_world.proofs.PieceNodes.{nodes_after}
 
 -- a device stands at its node
-noded : (devices : List DeviceState) (x : DeviceState) → AllPairs DifferInNode devices → Contains devices x → device_in devices x.node ≡ Some x
+pub noded : (devices : List DeviceState) (x : DeviceState) → AllPairs DifferInNode devices → Contains devices x → device_in devices x.node ≡ Some x
 noded [] x once there = absurd (Contains-nil x there)
 noded (d ∷ devices) x once there = elim (Contains-cases d devices x there) [
   | inl here ↦ let at : (d.node == x.node) ≡ true = eq-eqb d.node x.node (ap (λ (y : DeviceState). y.node) (sym here)) in rw at (ap Some (sym here))
@@ -33,10 +33,10 @@ noded (d ∷ devices) x once there = elim (Contains-cases d devices x there) [
 ]
 
 -- whether a node's device tells its bytes
-abbrev is_told : List DeviceState → ℕ → Bool
+abbrev pub is_told : List DeviceState → ℕ → Bool
 is_told devices n = is_some (content_in devices n)
 
-only_told : (file : ℕ) (old new : List DeviceState) (before after : DeviceState) → OnlyAt file old new → device_in old file ≡ Some before → device_in new file ≡ Some after
+pub only_told : (file : ℕ) (old new : List DeviceState) (before after : DeviceState) → OnlyAt file old new → device_in old file ≡ Some before → device_in new file ≡ Some after
     → is_some after.content ≡ is_some before.content → (n : ℕ) → is_told new n ≡ is_told old n
 only_told file old new before after only held left same n = by_node (cases_eq n file)
   where

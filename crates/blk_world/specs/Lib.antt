@@ -16,5 +16,6 @@ pub mod Deleting
 pub mod Creating
 pub mod Adding
 pub mod Handling
+pub mod Making
 pub mod Piecing
 pub mod Tabling

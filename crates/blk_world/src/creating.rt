@@ -103,6 +103,7 @@ fn make_file<S: Store>(store: &mut RunStore<S>, name: &str, size: u64) -> Result
         (seen_in_run store.new ≡ with_made name.now size (seen_in_run store.old)) }
     ensures stop { IfErr result (IsUnmade name.now (seen_in_run store.old) (seen_in_run store.new)) }
     ensures earlier { store.new.earlier ≡ store.old.earlier }
+    ensures faults { store.old.faults ≤ store.new.faults }
 {
     match store.create_file(name, size) {
         Ok(()) => Ok(()),
@@ -184,6 +185,7 @@ pub(crate) fn create<S: Store>(
     ensures stop { IfErr result (IsUncreated names.now.table (seen_created options.now)
         (ground_in store.old nodes.old) (ground_in store.new nodes.new)) }
     ensures earlier { store.new.earlier ≡ store.old.earlier }
+    ensures faults { store.old.faults ≤ store.new.faults }
 {
     match options {
         Created::File(c) => make_file(store, c.filename.as_str(), bytes_of(c.size)),

@@ -15,6 +15,7 @@ mod failed_text;
 mod handling;
 mod in_table;
 mod line;
+mod making;
 mod progress;
 mod row;
 mod run_store;

@@ -10,6 +10,7 @@ mod attaching;
 mod closing;
 mod deleting;
 mod execute;
+mod making;
 mod piece;
 
 use crate::admission::{Admission, refusal_of, seat_of};

@@ -25,7 +25,7 @@ impl<S: Store> World<S> {
     {
         match command {
             Command::BlockdevAdd(_) => self.carry_addition(alloc, given, command),
-            Command::BlockdevCreate(_) => Err(NoMemory),
+            Command::BlockdevCreate(_) => self.carry_creation(alloc, given, command),
             Command::BlockdevDel(_) => self.carry_deletion(alloc, given, command),
             Command::DeviceAdd(_) => self.carry_attachment(alloc, given, command),
             _ => self.carry_alone(alloc, given, command),
