@@ -59,6 +59,7 @@ refused_first w c cause some =
       table = sym (ap (all_changed w.table) changes);
       progress = refl;
       runs = runs-devices w w refl refl refl refl refl refl (same-devices w.nodes.devices);
+      opens = refl;
       cause = quiet_one w c cause quiet;
       coherent = λ was. was;
       shows = λ told_files o s shows. told_by_room o s w w c shows

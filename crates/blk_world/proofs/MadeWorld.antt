@@ -25,7 +25,7 @@ use Rattle.flat_machine.specs.Wiring.{TableAtRest}
 use Rattle.flat_machine.specs.declared.opening.Opening.{Opening}
 use Rattle.flat_machine.proofs.TableRests.{command_rests, spoiled_rests}
 use Rattle.blk_nodes.specs.Joined.{IsJoined}
-use Rattle.blk_world.specs.Carrying.{IsCarried, IsOfFiles, StopsByFiles}
+use Rattle.blk_world.specs.Carrying.{IsCarried, IsOfFiles, StopsByFiles, opened_names}
 use Rattle.blk_world.specs.Coherent.{IsWhole}
 use Rattle.blk_world.specs.Comes.{Shows}
 use Rattle.blk_world.specs.Creating.{HasCreated, HasFormatted, creation_for}
@@ -81,6 +81,7 @@ module _ (w : Face) (whole : IsWhole w) (c : BlockdevCreate (List ℕ)) (none : 
         table = ap (all_changed w.table) (sym changes);
         progress = refl;
         runs = moved_runs w v moves;
+        opens = ap opened_names moves.opened;
         cause = created_fits w x whole.coherent.out.once c created_is;
         coherent = moved_coherent w v moves rest;
         shows = λ told_files o s shows. told_by_room o s w v c shows
@@ -123,6 +124,7 @@ module _ (w : Face) (whole : IsWhole w) (c : BlockdevCreate (List ℕ)) (none : 
         table = ap (all_changed w.table) (sym changes);
         progress = refl;
         runs = moved_runs w failed_then moves;
+        opens = ap opened_names moves.opened;
         cause = created_causes w failed_then c (moved_runs w failed_then moves) whole.counted moves.opened whole.coherent.out
             (out-same w.table w.nodes x.nodes w.opened moves.nodes.devices whole.coherent.out) cause can ended.failed (FitsSo-of cause ended.fits);
         coherent = moved_coherent w failed_then moves rest;
