@@ -3,6 +3,8 @@
 #![tactic(auto)]
 
 #[cfg(test)]
+mod creating;
+#[cfg(test)]
 mod files;
 #[cfg(test)]
 mod refused;
