@@ -74,15 +74,21 @@ const STORAGE: Line = (
     r#""driver":"file","node-name":"storage","filename":"a.img""#,
 );
 
-/// Whether an image isn't made, for this cause, and its node is then unsettled.
-fn stops(rt: &HostRuntime, given: Given, cause: &str) -> Result<bool, Fail> {
+/// Whether an image isn't made on a device of that capacity whose calls of these numbers fail, for this cause, and its node is
+/// then unsettled.
+fn stops(rt: &HostRuntime, capacity: u64, fails: &[FailAt], cause: &str) -> Result<bool, Fail> {
     let guest = (
         "device_add",
         r#""driver":"virtio-blk","id":"vda","drive":"storage""#,
     );
     let script = script_of(rt, &[START, STORAGE, FORMAT, guest])?;
-    let mut given = given;
-    given.script = script.as_str().as_bytes();
+    let given = Given {
+        script: script.as_str().as_bytes(),
+        traces: [b"", b""],
+        images: [b"", b""],
+        capacity,
+        fails: [fails, &[], &[]],
+    };
     let ran = run(rt, "run 1 s", given)?;
     let mut transcript = replies(rt, &["", "", cause, "node storage is not settled"])?;
     transcript.push_str("done script\n")?;
@@ -91,14 +97,9 @@ fn stops(rt: &HostRuntime, given: Given, cause: &str) -> Result<bool, Fail> {
 
 #[test]
 fn an_image_is_not_made(rt: HostRuntime) -> Result<(), Fail> {
-    let mut given = Given::of("", [b"", b""]);
-    given.capacity = 196_608;
-    assert!(rt; stops(&rt, given, "nospace dev0")?);
-
+    assert!(rt; stops(&rt, 196_608, &[], "nospace dev0")?);
     let fails = [FailAt { call: 0, done: 0 }];
-    let mut given = Given::of("", [b"", b""]);
-    given.fails[0] = &fails;
-    assert!(rt; stops(&rt, given, "io dev0 1")?);
+    assert!(rt; stops(&rt, 1_048_576, &fails, "io dev0 1")?);
     Ok(())
 }
 
