@@ -1,5 +1,7 @@
 //! Files in memory for a run: the script `s`, the traces `t` and `u`, and the images `a.img` and `b.img`.
 
+ghost use Rattle.std.specs.Prelude.{◌≡◌, [], IfOk};
+
 use blk_base::Text;
 use blk_fakes::{FailAt, MemDevice, MemSink, MemStore};
 use qblk_core::Status;
@@ -70,8 +72,10 @@ fn device(
     Ok(dev)
 }
 
-/// The store of these files.
-fn store_of(rt: &HostRuntime, given: Given) -> Result<MemStore, Fail> {
+/// The store of these files, of which none is out.
+fn store_of(rt: &HostRuntime, given: Given) -> Result<MemStore, Fail>
+    ensures { IfOk result (λ store. store.opened ≡ []) }
+{
     let [fails, store_fails, _] = given.fails;
     let [first, second] = given.traces;
     let [a, b] = given.images;
