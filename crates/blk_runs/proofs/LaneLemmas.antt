@@ -1,16 +1,18 @@
 -- Lanes that are 0, or one byte.
-use Rattle.std.proofs.Common.{◌≡◌, ℕ, suc, ◌+◌, ◌-◌, ◌<◌, ◌≤◌, Bool, true, false, not, cond, eqb, List, [], ◌∷◌, length, map, get_or, drop, refl, sym, ◌∙◌, ap, arith, inl, inr}
+use Rattle.std.proofs.Common.{◌≡◌, ℕ, suc, ◌+◌, ◌-◌, ◌<◌, ◌≤◌, Bool, true, false, not, cond, eqb, List, [], ◌∷◌, length, map, get_or, drop, refl, sym, ◌∙◌, ap, subst, arith, inl, inr, zero, ⊎_elim}
 use Rattle.std.specs.Int.{bit_at}
 use Rattle.std.specs.Int.Bits.{bit_or}
 use Rattle.std.specs.Simd.Lanes.{zip2, mask_l, chunk}
-use Rattle.std.proofs.lemmas.Bool.{cases_lt}
+use lib.Count.{count_trailing_zeros}
+use Rattle.std.specs.List.{prefix_len}
+use Rattle.std.proofs.lemmas.Bool.{cases_lt, cases_Bool, eqb-true, eqb-false}
 use Rattle.std.proofs.lemmas.Bool.Decides.{nat_tests}
 use Rattle.std.proofs.lemmas.List.{get_or_past, get_or-map, get_or-drop, length-drop}
 use Rattle.std.proofs.lemmas.List.Elements.{All-from_get_or, All-get_or}
 use Rattle.std.specs.Prelude.{All}
 use Rattle.blk_runs.specs.Runs.{IsFront}
 use Rattle.std.proofs.lemmas.Nat.Bits.{bit_at_or, bit_at-zero, same_from_bits}
-use Rattle.std.proofs.lemmas.Simd.{get_or-zip2, length-zip2, bit_mask_l, get_or-chunk, length-chunk}
+use Rattle.std.proofs.lemmas.Simd.{get_or-zip2, length-zip2, bit_mask_l, get_or-chunk, length-chunk, leading_from_mask_l, trailing_mask_l}
 
 or_zero : (a b : ℕ) → bit_or a b ≡ 0 → (a ≡ 0) × (b ≡ 0)
 or_zero a b none = (
@@ -122,17 +124,50 @@ all-zero bytes at within front back = All-from_get_or (λ b. b ≡ 0) bytes 0 (�
       ∙ All-get_or (λ b. b ≡ 0) (drop at bytes) (k - at) 0 (omega (arith, length-drop at bytes)) back
 ])
 
--- an empty mask of lanes that differ from a byte
-pub same_mask : (xs : List ℕ) (y : ℕ) → mask_l (map (λ x. not (eqb x y)) xs) ≡ 0 → (k : ℕ) → k < length xs → get_or xs k 0 ≡ y
-same_mask xs y none k below =
-    let bit = bit_mask_l (map (λ x. not (eqb x y)) xs) k in
-    let clear : bit_at (mask_l (map (λ x. not (eqb x y)) xs)) k ≡ 0 = ap (λ n. bit_at n k) none ∙ bit_at-zero k in
-    let lane = get_or-map (λ x. not (eqb x y)) xs k 0 false below in
-    is_same (get_or xs k 0) (bit_at (mask_l (map (λ x. not (eqb x y)) xs)) k) (get_or (map (λ x. not (eqb x y)) xs) k false) lane bit clear
+-- how many lanes at the front are a byte: those before the first that differs
+front-of-lanes : (b : ℕ) (xs : List ℕ) → IsFront b (prefix_len (λ x. not (not (eqb x b))) xs) xs
+front-of-lanes b [] = record { within = omega arith; same = λ k below. absurd (omega arith); ends = λ below. absurd (omega arith) }
+front-of-lanes b (x ∷ xs) = ⊎_elim
+    (λ same.
+    let more = front-of-lanes b xs in
+    let is : x ≡ b = eqb-true x b same in
+    rw same (record {
+      within = omega (arith, more.within);
+      same = λ k below. before (prefix_len (λ x. not (not (eqb x b))) xs) k is more.same below;
+      ends = λ below is. more.ends (omega arith) (ap (λ i. get_or (x ∷ xs) i 0) (let e : suc (prefix_len (λ x. not (not (eqb x b))) xs) ≡ 1 + prefix_len (λ x. not (not (eqb x b))) xs = omega arith in e) ∙ is);
+    }))
+    (λ other. rw other (record { within = omega arith; same = λ k below. absurd (omega arith); ends = λ below. eqb-false x b other }))
+    (cases_Bool (eqb x b))
   where
-    is_same : (x bit : ℕ) (b : Bool) → b ≡ not (eqb x y) → bit ≡ cond b 1 0 → bit ≡ 0 → x ≡ y
-    is_same x bit true lane is none = absurd (omega (arith, is, none))
-    is_same x bit false lane is none = grind (arith, nat_tests)
+    before : (n k : ℕ) → x ≡ b → ((k : ℕ) → k < n → get_or xs k 0 ≡ b) → k < 1 + n → get_or (x ∷ xs) k 0 ≡ b
+    before n zero is rest below = is
+    before n (suc k) is rest below = rest k (omega arith)
+
+-- by the mask of those that differ
+pub front-all : (b : ℕ) (xs : List ℕ) → length xs ≡ 32 → mask_l (map (λ x. not (eqb x b)) xs) ≡ 0 → IsFront b 32 xs
+front-all b xs long none =
+    let is = leading_from_mask_l (λ x. not (eqb x b)) xs none ∙ long in
+    subst (λ (n : ℕ). IsFront b n xs) is (front-of-lanes b xs)
+
+pub front-some : (b n : ℕ) (xs : List ℕ) → length xs ≡ 32 → 0 < mask_l (map (λ x. not (eqb x b)) xs) → n ≡ count_trailing_zeros 64 (mask_l (map (λ x. not (eqb x b)) xs)) → IsFront b n xs
+front-some b n xs long some counted =
+    let is = counted ∙ trailing_mask_l (λ x. not (eqb x b)) 64 xs (omega arith) some in
+    subst (λ (n : ℕ). IsFront b n xs) (sym is) (front-of-lanes b xs)
+
+-- where the front ends in the first vector
+pub front-ends : (b n : ℕ) (bytes : List ℕ) → 32 ≤ length bytes → n < 32 → IsFront b n (chunk 0 32 bytes) → IsFront b n bytes
+front-ends b n bytes room few front = record {
+  within = omega arith;
+  same = λ k below. here k (omega arith) ∙ front.same k below;
+  ends = λ below is. front.ends (omega (arith, length-chunk 0 32 bytes room)) (sym (here n few) ∙ is);
+}
+  where
+    here : (k : ℕ) → k < 32 → get_or bytes k 0 ≡ get_or (chunk 0 32 bytes) k 0
+    here k below = ap (λ i. get_or bytes i 0) (let e : k ≡ 0 + k = omega arith in e) ∙ sym (get_or-chunk 0 32 bytes k 0 below)
+
+-- an empty mask of lanes that differ from a byte
+pub same_mask : (xs : List ℕ) (y : ℕ) → length xs ≡ 32 → mask_l (map (λ x. not (eqb x y)) xs) ≡ 0 → (k : ℕ) → k < length xs → get_or xs k 0 ≡ y
+same_mask xs y long none k below = (front-all y xs long none).same k (omega arith)
 
 -- one more vector of a byte
 pub same-further : (bytes : List ℕ) (y at : ℕ) → at + 32 ≤ length bytes → ((k : ℕ) → k < at → get_or bytes k 0 ≡ y)

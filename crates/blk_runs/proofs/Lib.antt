@@ -2,3 +2,5 @@ pub mod FirstRun
 pub mod Longest
 pub mod LaneLemmas
 pub mod ReadBack
+pub mod SingleRuns
+pub mod SixteenLanes

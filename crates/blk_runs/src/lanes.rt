@@ -60,10 +60,10 @@ pub(crate) fn front_count(bytes: &[u8], byte: u8) -> usize
     ensures { IsFront byte result bytes.now }
 {
     let at = whole_lanes(bytes, byte);
-    at + front_bytes(&bytes[at..], byte)
+    at + front_rest(&bytes[at..], byte)
 }
 
-/// How many bytes at the front, in lanes of which all are this one.
+/// How many bytes at the front are this one, in lanes of which all are.
 fn whole_lanes(bytes: &[u8], byte: u8) -> usize
     ensures within { result ≤ length bytes.now }
     ensures same { (k : ℕ) → k < result → slice_index bytes.now k ≡ byte }
@@ -78,16 +78,41 @@ fn whole_lanes(bytes: &[u8], byte: u8) -> usize
     at
 }
 
-/// The same as `front_count`, byte by byte.
-fn front_bytes(bytes: &[u8], byte: u8) -> usize
-    ensures { IsFront byte result bytes.now }
-{
-    bytes.iter().position(|b| *b != byte).unwrap_or(bytes.len())
-}
-
 /// Whether it may be taken that every lane is this byte.
 fn are_all(lanes: u8x32, byte: u8) -> bool
     ensures { IsTrue result → (k : ℕ) → k < 32 → slice_index lanes k ≡ byte }
 {
     lanes.simd_ne(u8x32::splat(byte)).to_bitmask() == 0
+}
+
+/// The same as `front_count`, for a front that is short.
+fn front_rest(bytes: &[u8], byte: u8) -> usize
+    ensures { IsFront byte result bytes.now }
+{
+    if 32 <= bytes.len() {
+        let same = front_lanes(load(bytes, 0), byte);
+        if same < 32 {
+            return same;
+        }
+    }
+    front_bytes(bytes, byte)
+}
+
+/// How many lanes at the front are this byte.
+fn front_lanes(lanes: u8x32, byte: u8) -> usize
+    ensures { IsFront byte result lanes }
+{
+    let others = lanes.simd_ne(u8x32::splat(byte)).to_bitmask();
+    if others == 0 {
+        32
+    } else {
+        others.trailing_zeros() as usize
+    }
+}
+
+/// The same as `front_count`, byte by byte.
+fn front_bytes(bytes: &[u8], byte: u8) -> usize
+    ensures { IsFront byte result bytes.now }
+{
+    bytes.iter().position(|b| *b != byte).unwrap_or(bytes.len())
 }

@@ -8,13 +8,17 @@ ghost use Rattle.blk_runs.specs.Runs.{Run, AreLongest, runs_of, bytes_of, run_te
 
 mod lanes;
 mod reading;
+mod singles;
 #[cfg(test)]
 mod tests;
+mod vectors;
 
 use blk_base::{NoMemory, Text};
 use lanes::front_count;
 pub use lanes::is_zero;
 pub use reading::{RunsStop, read_runs};
+use singles::push_singles;
+use vectors::ROOM;
 
 /// Appends the runs of some bytes: two lower-case hexadecimal digits, `*` and a decimal count for each, longest
 /// possible, parted by single spaces. It can't be refused where `out` has 5 bytes to spare for each byte.
@@ -29,9 +33,11 @@ pub fn push_runs(out: &mut Text, bytes: &[u8]) -> Result<(), NoMemory>
         let room = bytes.len().checked_mul(5).ok_or(NoMemory)?;
         out.reserve(room)?;
     }
+    let mut words = [0; ROOM];
     let mut rest = bytes;
     while let Some((byte, after)) = rest.split_first() {
-        rest = push_first(out, *byte, after);
+        let more = push_first(out, *byte, after);
+        rest = push_singles(out, more, &mut words);
     }
     Ok(())
 }

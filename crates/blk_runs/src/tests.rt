@@ -12,13 +12,17 @@ fn zeros(rt: HostRuntime) {
 
 #[test]
 fn runs(rt: HostRuntime) -> Result<(), Fail> {
-    let table: [(&[u8], &str); 6] = [
+    let table: [(&[u8], &str); 7] = [
         (&[], ""),
         (&[7], "07*1"),
         (&[0, 0, 85, 85, 85, 85, 85, 85], "00*2 55*6"),
         (&[255, 0, 255], "ff*1 00*1 ff*1"),
         (&[0xa9; 12], "a9*12"),
         (&[0x9a, 0x9a, 0x10], "9a*2 10*1"),
+        (
+            b"\x00\x1f\x9a\xa9\xff the dirty bitmap..",
+            "00*1 1f*1 9a*1 a9*1 ff*1 20*1 74*1 68*1 65*1 20*1 64*1 69*1 72*1 74*1 79*1 20*1 62*1 69*1 74*1 6d*1 61*1 70*1 2e*2",
+        ),
     ];
     for (bytes, want) in table {
         let mut out = Text::new(rt.alloc());
