@@ -1,5 +1,5 @@
 -- The calls that change the table of bitmaps, as plain data: the rows after any list of calls that were not refused.
-use Rattle.std.specs.Prelude.{ℕ, Bool, true, false, if◌then◌else◌, List, [], ◌∷◌, ◌++◌, map, Option, Some, None}
+use Rattle.std.specs.Prelude.{ℕ, ◌==◌, Bool, true, false, not, if◌then◌else◌, List, [], ◌∷◌, ◌++◌, filter, map, Option, Some, None}
 use Rattle.blk_base.specs.Pieces.{Extent}
 use Rattle.blk_base.specs.Written.{Written}
 use Rattle.blk_bitmaps.specs.declared.row.Bitmap.{Bitmap}
@@ -10,6 +10,7 @@ use Rattle.blk_bitmaps.specs.Refusals.{source_of}
 pub data Call : Type 0 where
   Add : ℕ → Written → ℕ → ℕ → Bool → Call
   Remove : ℕ → List ℕ → Call
+  RemoveAll : ℕ → Call
   Enable : ℕ → List ℕ → Call
   Disable : ℕ → List ℕ → Call
   Clear : ℕ → List ℕ → Call
@@ -44,6 +45,7 @@ with_sources rows node name (source ∷ sources) = with_sources (with_source row
 abbrev pub after : List Bitmap → Call → List Bitmap
 after rows (Add node name size granularity on) = rows ++ added node name size granularity on ∷ []
 after rows (Remove node name) = without_first (is_named node name) rows
+after rows (RemoveAll node) = filter (λ row. not (row.node == node)) rows
 after rows (Enable node name) = with_first (is_named node name) (turned true) rows
 after rows (Disable node name) = with_first (is_named node name) (turned false) rows
 after rows (Clear node name) = with_first (is_named node name) emptied rows

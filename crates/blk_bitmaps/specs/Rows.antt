@@ -1,6 +1,7 @@
 -- Rows of the table of bitmaps, and what the calls make of one row.
-use Rattle.std.specs.Prelude.{ℕ, zero, suc, ◌+◌, ◌-◌, ◌*◌, ◌/◌, ◌==◌, nat_lt, nat_le, Bool, true, false, ◌&&◌, ◌||◌, if◌then◌else◌, List, length, replicate, bytes_eq, Option, Some, None}
+use Rattle.std.specs.Prelude.{◌≡◌, ◌<◌, ◌^◌, ℕ, zero, suc, ◌+◌, ◌-◌, ◌*◌, ◌/◌, ◌==◌, nat_lt, nat_le, Bool, true, false, ◌&&◌, ◌||◌, if◌then◌else◌, List, [], ◌∷◌, length, replicate, bytes_eq, Option, Some, None}
 use Rattle.std.specs.Int.{is_power_of_two}
+use Rattle.std.specs.List.{list_any}
 use Rattle.blk_base.specs.Pieces.{Extent}
 use Rattle.blk_base.specs.Written.{Written}
 use Rattle.blk_bits.specs.Granules.{contains, those_below, merged}
@@ -87,3 +88,14 @@ is_dirty row k = contains row.dirty k || is_aside row.frozen k
 abbrev pub dirty_below : Bitmap → ℕ → ℕ
 dirty_below row zero = 0
 dirty_below row (suc k) = dirty_below row k + (if is_dirty row k then 1 else 0)
+
+-- ---- tables of rows
+
+-- no two have one node and name
+abbrev pub AreSingle : List Bitmap → Type 0
+AreSingle [] = Unit {0}
+AreSingle (row ∷ rows) = (list_any (is_named row.node row.name.bytes) rows ≡ false) × AreSingle rows
+
+-- the bytes of its granules are counted in 64 bits
+abbrev pub IsCountable : Bitmap → Type 0
+IsCountable row = length row.dirty * row.granularity < 2 ^ 64

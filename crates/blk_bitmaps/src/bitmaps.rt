@@ -1,8 +1,8 @@
 //! The table and its calls.
-ghost use Rattle.std.specs.Prelude.{◌≡◌, [], ◌∷◌, ◌++◌, IfOk, IsOk, IfErr, OnOk, OnErr, Err, MatchOption, option_copied, length, nat_le, not, Some, None, if◌then◌else◌, is_some};
-ghost use Rattle.blk_bitmaps.specs.Rows.{added, is_named, is_granularity, granule_count};
+ghost use Rattle.std.specs.Prelude.{◌≡◌, ◌<◌, ◌==◌, [], ◌∷◌, ◌++◌, filter, vec_capacity, IfOk, IsOk, IfErr, OnOk, OnErr, Err, MatchOption, option_copied, length, nat_le, not, Some, None, if◌then◌else◌, is_some};
+ghost use Rattle.blk_bitmaps.specs.Rows.{added, is_named, is_granularity, granule_count, IsCountable};
 ghost use Rattle.blk_bitmaps.specs.Refusals.{find, add_refusal, use_refusal, merge_refusal};
-ghost use Rattle.blk_bitmaps.specs.Calls.{after, Add, Remove, Enable, Disable, Clear, Merge, NoteWrite, NoteAll, Freeze, Release};
+ghost use Rattle.blk_bitmaps.specs.Calls.{after, with_source, Add, Remove, RemoveAll, Enable, Disable, Clear, Merge, NoteWrite, NoteAll, Freeze, Release};
 
 use crate::find::{find, free_place};
 use crate::granularity::Granularity;
@@ -28,12 +28,15 @@ pub struct Bitmaps {
 }
 
 impl Model for Bitmaps {
-    ghost use Rattle.std.specs.Prelude.{List};
+    ghost use Rattle.std.specs.Prelude.{List, ◌≤◌, vec_capacity};
     ghost use Rattle.blk_bitmaps.specs.declared.row.Bitmap.{Bitmap};
 
     ghost Value = { List Bitmap };
 
     ghost view = { λ bitmaps. bitmaps.rows.items };
+
+    // as many rows as may be, whose room is taken at the beginning
+    ghost invariant = { λ bitmaps. 64 ≤ vec_capacity bitmaps.rows };
 }
 
 impl Bitmaps {
@@ -59,6 +62,33 @@ impl Bitmaps {
         find(self.rows.as_slice(), node, name)
     }
 
+    /// A bitmap that may be added, with nothing dirty and all the memory that it takes, for a disk of `size` bytes.
+    /// `granularity` is in bytes.
+    pub fn prepare(
+        &self,
+        node: NodeId,
+        name: Text,
+        size: u64,
+        granularity: u64,
+        enabled: bool,
+    ) -> Result<Bitmap, BitmapStop>
+        ensures answer { MatchOption (add_refusal self.now node name.bytes granularity) (IfErr result (λ stop. stop ≡ BitmapStop.NoMemory)) (λ stop. result ≡ Err stop) }
+        ensures row { IfOk result (λ row. row ≡ added node name size granularity enabled) }
+        ensures countable { IfOk result IsCountable }
+        ensures room { OnOk result (length self.now < 64) }
+    {
+        let granularity = judge_new(self.rows.as_slice(), node, name.as_str(), granularity)?;
+        Ok(new_row(self.alloc, node, name, size, granularity, enabled)?)
+    }
+
+    /// Adds a bitmap that was prepared. Takes no memory.
+    pub fn push(&mut self, row: Bitmap)
+        requires { length self.old < 64 }
+        ensures { self.new ≡ self.old ++ row ∷ [] }
+    {
+        self.rows.push_reserved(row);
+    }
+
     /// Adds a bitmap with nothing dirty, for a disk of `size` bytes. `granularity` is in bytes.
     pub fn add(
         &mut self,
@@ -72,12 +102,9 @@ impl Bitmaps {
         ensures done { OnOk result (self.new ≡ after self.old (Add node name size granularity enabled)) }
         ensures refused { OnErr result (self.new ≡ self.old) }
     {
-        let granularity = judge_new(self.rows.as_slice(), node, name.as_str(), granularity)?;
-        let row = new_row(self.alloc, node, name, size, granularity, enabled)?;
-        match self.rows.push(row) {
-            Ok(()) => Ok(()),
-            Err(_) => Err(BitmapStop::NoMemory),
-        }
+        let row = self.prepare(node, name, size, granularity, enabled)?;
+        self.push(row);
+        Ok(())
     }
 
     /// Removes a bitmap that no job uses.
@@ -89,6 +116,13 @@ impl Bitmaps {
         let place = free_place(self.rows.as_slice(), node, name)?;
         self.rows.remove(place);
         Ok(())
+    }
+
+    /// Removes all bitmaps of a node, as the node goes, whether or not a job uses them.
+    pub fn remove_all(&mut self, node: NodeId)
+        ensures { self.new ≡ after self.old (RemoveAll node) }
+    {
+        drop_all(&mut self.rows, node);
     }
 
     /// From now on the bitmap records writes.
@@ -131,6 +165,13 @@ impl Bitmaps {
         Ok(())
     }
 
+    /// Merges one bitmap into another, where both are there, whatever their use and sizes.
+    pub fn merge_one(&mut self, node: NodeId, target: &str, source_node: NodeId, source: &str)
+        ensures { self.new ≡ with_source self.old node target.now (find self.old source_node source.now) }
+    {
+        merge::merge_named(self.rows.as_mut_slice(), node, target, source_node, source);
+    }
+
     /// A write to the node was made: each enabled bitmap of it has the span's granules dirty.
     pub fn note_write(&mut self, node: NodeId, span: Span)
         ensures { self.new ≡ after self.old (NoteWrite node span) }
@@ -163,6 +204,14 @@ impl Bitmaps {
     }
 }
 
+/// No row is of the node any more.
+fn drop_all(rows: &mut Vec<Bitmap>, node: NodeId)
+    ensures rows { rows.new.items ≡ filter (λ row. not (row.node == node)) rows.old.items }
+    ensures room { vec_capacity rows.new ≡ vec_capacity rows.old }
+{
+    rows.retain(|row| row.node != node);
+}
+
 /// The granularity of a new bitmap, where it may be added.
 fn judge_new(
     rows: &[Bitmap],
@@ -171,6 +220,7 @@ fn judge_new(
     granularity: u64,
 ) -> Result<Granularity, BitmapStop>
     ensures answer { MatchOption (add_refusal rows.now node name.now granularity) (result ≡ Ok granularity) (λ stop. result ≡ Err stop) }
+    ensures room { OnOk result (length rows.now < 64) }
 {
     if find(rows, node, name).is_some() {
         return Err(BitmapStop::NameTaken);
@@ -192,9 +242,15 @@ fn new_row(
     granularity: Granularity,
     enabled: bool,
 ) -> Result<Bitmap, NoMemory>
-    ensures { IfOk result (λ row. row ≡ added node name size granularity enabled) }
+    ensures row { IfOk result (λ row. row ≡ added node name size granularity enabled) }
+    ensures countable { IfOk result IsCountable }
 {
-    let dirty = DirtySet::new(alloc, granules_of(size, granularity))?;
+    let granules = granules_of(size, granularity);
+    // a set for so large a disk has more memory than there is
+    if granules.checked_mul(granularity.bytes()).is_none() {
+        return Err(NoMemory);
+    }
+    let dirty = DirtySet::new(alloc, granules)?;
     Ok(Bitmap {
         node,
         name,

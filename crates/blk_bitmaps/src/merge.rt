@@ -106,7 +106,20 @@ pub(crate) fn merge(rows: &mut [Bitmap], node: NodeId, target: &str, sources: &[
 fn merge_source(rows: &mut [Bitmap], node: NodeId, target: &str, source: &Source)
     ensures { rows.new ≡ with_source rows.old node target.now (source_of rows.old source.now) }
 {
-    let Some(from) = place_of(rows, source.node, source.name.as_str()) else {
+    merge_named(rows, node, target, source.node, source.name.as_str());
+}
+
+/// Merges the bitmap of one name into that of another, where both are there.
+pub(crate) fn merge_named(
+    rows: &mut [Bitmap],
+    node: NodeId,
+    target: &str,
+    source_node: NodeId,
+    source: &str,
+)
+    ensures { rows.new ≡ with_source rows.old node target.now (find rows.old source_node source.now) }
+{
+    let Some(from) = place_of(rows, source_node, source) else {
         return;
     };
     let Some(to) = place_of(rows, node, target) else {
