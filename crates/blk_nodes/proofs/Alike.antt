@@ -25,7 +25,7 @@ size_stays old new same = ap (λ (h : Header). h.size) same
 driver_refl : (driver : Driver) → IsDriverAfter driver driver
 driver_refl File = refl
 driver_refl (Raw part) = refl
-driver_refl (Qcow2 image) = (image, refl, refl, λ n taken. taken)
+driver_refl (Qcow2 image) = (image, refl, refl, (λ n taken. taken), λ cluster mapped. mapped)
 driver_refl CopyOnRead = refl
 
 pub row_refl : (found : Option Row) → AreRowsAfter found found

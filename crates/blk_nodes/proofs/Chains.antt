@@ -33,7 +33,7 @@ use Rattle.blk_nodes.specs.declared.source.Step.TheVariants.{Found, Below}
 use Rattle.blk_nodes.proofs.HeldDevices.{told_held}
 use Rattle.blk_nodes.proofs.Joints.{held_by}
 
-get_or-image_disk : (file backing : List ℕ) (i : ℕ) → i < (header_of file).size → get_or (image_disk file backing) i 0 ≡ guest_byte file backing i
+pub get_or-image_disk : (file backing : List ℕ) (i : ℕ) → i < (header_of file).size → get_or (image_disk file backing) i 0 ≡ guest_byte file backing i
 unfolding image_disk
 get_or-image_disk file backing i below = get_or-map-range_with_len (guest_byte file backing) 0 (header_of file).size i i 0 below (omega arith)
 

@@ -19,7 +19,7 @@ use Rattle.blk_graph.proofs.DraftLemmas.{children_put, child_put, children_repla
 use Rattle.blk_graph.proofs.RefreshLemmas.{child_of-refreshed}
 use Rattle.q2_image.specs.Image.{Known}
 use Rattle.blk_nodes.specs.Covering.{moved_child, IsCover}
-use Rattle.blk_nodes.specs.Joined.{IsFile, HasSize, IsPart, IsOverlay, IsCopying, HasBelow, IsJoined}
+use Rattle.blk_nodes.specs.Joined.{IsFile, HasSize, HasBelow, IsJoined}
 use Rattle.blk_nodes.specs.Nodes.{Nodes, row_at, file_of, backing_of, kind_of}
 use Rattle.blk_nodes.specs.declared.row.Driver.{Driver}
 use Rattle.blk_nodes.specs.declared.row.Driver.TheVariants.{File, Raw, Qcow2, CopyOnRead}
@@ -82,13 +82,13 @@ module _ (node overlay : ℕ) where
 
 module _ (nodes : Nodes) (edges : List Edge) (node overlay : ℕ) (joined : IsJoined nodes) (cover : IsCover nodes node overlay)
     (moved : AreMoved nodes.graph.edges edges node overlay) where
-  abbrev over : Nodes
+  abbrev pub over : Nodes
   over = record nodes { graph = record nodes.graph { edges = edges } }
 
-  moved-other : (c : ℕ) → c ≢ node → moved_child node overlay c ≡ c
+  pub moved-other : (c : ℕ) → c ≢ node → moved_child node overlay c ≡ c
   moved-other c apart = rw (ne_eqb c node apart) refl
 
-  moved-node : moved_child node overlay node ≡ overlay
+  pub moved-node : moved_child node overlay node ≡ overlay
   moved-node = rw (eq-eqb node node refl) refl
 
   file_over : (n : ℕ) → IsFile nodes n → IsFile over n
@@ -117,7 +117,7 @@ module _ (nodes : Nodes) (edges : List Edge) (node overlay : ℕ) (joined : IsJo
   ]
 
   -- a format node's file stays
-  format_file : (n : ℕ) (row : Row) (file : ℕ) → row_at nodes n ≡ Some row → (row.driver ≡ CopyOnRead → ⊥) → file_of nodes n ≡ Some file → file_of over n ≡ Some file
+  pub format_file : (n : ℕ) (row : Row) (file : ℕ) → row_at nodes n ≡ Some row → (row.driver ≡ CopyOnRead → ⊥) → file_of nodes n ≡ Some file → file_of over n ≡ Some file
   format_file n row file there format edge = elim (cases_eq n overlay) [
     | inl same ↦ ap (file_of over) same ∙ moved.file ∙ ap (file_of nodes) (sym same) ∙ edge
     | inr apart ↦

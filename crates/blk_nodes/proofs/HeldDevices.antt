@@ -1,6 +1,6 @@
 -- The devices of the nodes in their list, and one that was used.
 use Rattle.std.proofs.Common.{◌≡◌, ◌≢◌, ℕ, zero, suc, ◌<◌, ◌≤◌, ◌==◌, nat_lt, Bool, true, false, cond, List, [], ◌∷◌, length, map, get_or, set, refl, sym, ◌∙◌, ap, subst, arith, Option, Some, None, Result, Ok, Err, ◌⊎◌, inl, inr}
-use Rattle.std.specs.Prelude.{IsSome, is_some, Contains, IfOk, IfErr, option_map, ◌&&◌}
+use Rattle.std.specs.Prelude.{IsSome, is_some, Contains, IfOk, IfErr, OnOk, option_map, ◌&&◌}
 use Rattle.blk_base.specs.Content.{Write}
 use Rattle.blk_base.specs.Writes.{are_none}
 use Rattle.std.specs.List.{position, position_or_len}
@@ -18,8 +18,10 @@ use Rattle.blk_nodes.specs.Nodes.{DeviceState, AreTold, is_of, device_in}
 use Rattle.blk_nodes.specs.Writing.{IsDeviceAfter, IsWriteOf, IsWriteAt, IsImageCall, IsImageCallAt, HasImageCause, HasRoomBy, HasRoomAt}
 use Rattle.blk_nodes.specs.Flushing.{IsFlushOf, IsFlushAt}
 use Rattle.q2_image.specs.Image.{Known}
+use Rattle.q2_image.specs.Opening.{HasCause}
 use Rattle.q2_image.specs.declared.stop.ImageStop.{ImageStop}
-use Rattle.blk_nodes.specs.Overlays.{IsOpenedOn, IsOpened, IsUnopenedOn, IsUnopened}
+use Rattle.q2_image.specs.declared.stop.ImageStop.TheVariants as images
+use Rattle.blk_nodes.specs.Overlays.{IsOpenedOn, IsOpened, IsUnopenedOn, IsUnopened, KeptBy}
 use Rattle.blk_nodes.specs.Reading.{OnlyAt, HasRisen, HaveRisen, IsReadOf, IsReadAt}
 
 -- that is the first place at which the test passes
@@ -239,6 +241,20 @@ pub opened_over : {E : Type 0} (file : ℕ) (devices : List DeviceState) (at : �
 opened_over file devices at d (Ok image) place is = record { device = get_or devices at d; held = at_place file devices at d place; on = is }
 opened_over file devices at d (Err stop) place is = tt
 
+-- a call that no failed read stopped has changed nothing
+kept_over : (devices : List DeviceState) (at : ℕ) (d y : DeviceState) (stop : ImageStop) → HasRisen (get_or devices at d) y
+    → HasCause (get_or devices at d).faults y.faults stop → KeptBy stop devices (set devices at y)
+kept_over devices at d y (images.Io count) risen cause = tt
+kept_over devices at d y _ risen cause =
+    let same : y ≡ get_or devices at d =
+    risen.same ∙ ap (λ (n : ℕ). let x : DeviceState = record (get_or devices at d) { faults = n } in x) cause in
+    ap (set devices at) same ∙ set-get_or devices at d
+
+pub quiet_over : {A E : Type 0} (devices : List DeviceState) (at : ℕ) (d y : DeviceState) (result : Result A E)
+    → OnOk result (y ≡ get_or devices at d) → OnOk result (set devices at y ≡ devices)
+quiet_over devices at d y (Ok a) same = ap (set devices at) same ∙ set-get_or devices at d
+quiet_over devices at d y (Err e) same = tt
+
 pub unopened_over : {A : Type 0} (file : ℕ) (devices : List DeviceState) (at : ℕ) (d y : DeviceState) (result : Result A ImageStop) → position (is_of file) devices ≡ Some at
     → HasRisen (get_or devices at d) y → IfErr result (IsUnopenedOn (get_or devices at d) y) → IfErr result (IsUnopened devices (set devices at y) file)
 unopened_over file devices at d y (Ok image) place risen is = tt
@@ -248,6 +264,8 @@ unopened_over file devices at d y (Err stop) place risen is = record {
   held = at_place file devices at d place;
   left = put_held file devices at d y place (ap (λ (x : DeviceState). x.node) risen.same);
   on = is;
+  only = only_at file devices at d y place (ap (λ (x : DeviceState). x.node) risen.same);
+  kept = kept_over devices at d y stop risen is.cause;
 }
 
 -- a call of the image on one of the devices

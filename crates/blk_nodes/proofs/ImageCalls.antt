@@ -15,13 +15,17 @@ use Rattle.blk_base.specs.declared.fault.DevStop.{DevStop}
 use Rattle.blk_base.specs.declared.fault.DevStop.TheVariants as stops
 use Rattle.q2_format.specs.Sizes.{cluster_size, clusters_for}
 use Rattle.q2_format.specs.declared.header.Header.{Header}
-use Rattle.q2_image.specs.Image.{Known, clusters_in}
+use Rattle.q2_format.specs.Entry.{l2_entry}
+use Rattle.q2_format.specs.declared.entries.L2Entry.{L2Entry}
+use Rattle.q2_format.specs.declared.entries.L2Entry.TheVariants.{Unallocated, Zero, Host, Compressed, Reserved}
+use Rattle.q2_image.specs.Image.{Known, clusters_in, word_in, entry_in}
+use Rattle.q2_image.specs.Reading.{IsHost}
 use Rattle.q2_image.specs.Made.{WriteStep, WroteOwn, ChangesImage, own_writes}
 use Rattle.q2_image.specs.Writing.{IsDiskWith, IsSameDisk, HasHeaderOf, HasEntriesBut, CanTake, AreClusterZeros, ZeroFits, IsOwnStop, autocleared, autoclear_end, needs_table, table_for}
 use Rattle.q2_tables.specs.Linking.{link_end}
 use Rattle.blk_nodes.specs.Nodes.{DeviceState}
 use Rattle.blk_nodes.specs.Reading.{StoppedBy}
-use Rattle.blk_nodes.specs.Writing.{taken_by, write_outcome, cluster_outcome, HasImageCause}
+use Rattle.blk_nodes.specs.Writing.{taken_by, write_outcome, cluster_outcome, StaysMapped, HasImageCause}
 use Rattle.blk_nodes.proofs.HeldDevices.{flushed_after}
 
 -- it is flushed no more than it was
@@ -140,6 +144,34 @@ own_header old new (inr same) = ap (λ (k : Known). (autocleared k).header) same
 pub own_entries : (old new : Known) (but : ℕ) → (new ≡ old) ⊎ (new ≡ autocleared old) → HasEntriesBut old new but
 own_entries old new but (inl same) cluster apart = ap (λ (k : Known). get_or k.tables.words cluster 0) same
 own_entries old new but (inr same) cluster apart = ap (λ (k : Known). get_or k.tables.words cluster 0) same
+
+-- clusters that have entries keep some
+pub own_mapped : (old new : Known) → (new ≡ old) ⊎ (new ≡ autocleared old) → StaysMapped old new
+own_mapped old new is cluster mapped none =
+    mapped (sym (ap l2_entry (own_entries old new (cluster + 1) is cluster (λ same. omega arith))) ∙ none)
+
+pub host_mapped : (entry : L2Entry) → IsHost entry → entry ≢ Unallocated
+host_mapped Unallocated is = absurd is
+host_mapped (Zero host) is = absurd is
+host_mapped (Host host) is = λ same. cc
+host_mapped Compressed is = absurd is
+host_mapped Reserved is = absurd is
+
+pub zero_mapped : (entry : L2Entry) (host : ℕ) → entry ≡ Zero host → entry ≢ Unallocated
+zero_mapped entry host is same = cc
+
+-- one cluster alone got another entry, where that was written
+pub cluster_mapped : (r : Result (Unit {0}) DevStop) (old new : Known) (cluster : ℕ) → HasEntriesBut old new cluster
+    → OnOk r (entry_in new cluster ≢ Unallocated) → OnErr r (word_in new cluster ≡ word_in old cluster) → StaysMapped old new
+cluster_mapped r old new cluster others made kept other mapped none = elim (cases_eq other cluster) [
+  | inl same ↦ at_cluster r made kept (subst (λ k. entry_in old k ≢ Unallocated) same mapped) (subst (λ k. entry_in new k ≡ Unallocated) same none)
+  | inr apart ↦ mapped (sym (ap l2_entry (others other apart)) ∙ none)
+]
+  where
+    at_cluster : (r : Result (Unit {0}) DevStop) → OnOk r (entry_in new cluster ≢ Unallocated) → OnErr r (word_in new cluster ≡ word_in old cluster)
+        → entry_in old cluster ≢ Unallocated → entry_in new cluster ≡ Unallocated → ⊥
+    at_cluster (Ok done) made kept was gone = made gone
+    at_cluster (Err stop) made kept was gone = was (sym (ap l2_entry kept) ∙ gone)
 
 pub stop_flushed : {D : Type 0} (g : Ghosts D) (old new : Known) (span : Extent) (bytes : List ℕ) (before now : D) (w : Stop)
     → (w ≡ why.Failed → WroteOwn g old new span bytes before now) → (w ≡ why.NoSpace → g.is_flushed now ≡ g.is_flushed before)

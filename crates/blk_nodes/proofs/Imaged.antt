@@ -129,7 +129,7 @@ module _ (nodes : Nodes) (joined : IsJoined nodes) (part : Part) (may : MayWrite
     own_now : AreRowsAfter (row_at nodes node) (row_in rows node)
     own_now =
         let after : IsDriverAfter w.row.driver (Qcow2 c.now)
-        = subst (λ (d : Driver). IsDriverAfter d (Qcow2 c.now)) (sym w.driver) (c.now, refl, c.header, c.taken) in
+        = subst (λ (d : Driver). IsDriverAfter d (Qcow2 c.now)) (sym w.driver) (c.now, refl, c.header, c.taken, c.mapped) in
         subst (λ (f : Option Row). AreRowsAfter f (row_in rows node)) (sym w.there)
         (row_after, row_now, record { size = refl; is_read_only = refl; driver = after })
 

@@ -19,4 +19,5 @@ mod PartFits
 mod Imaged
 mod Pieces
 mod Covered
+mod CoveredDisks
 mod Formatted

@@ -148,6 +148,7 @@ module _ (rows left : List (Option Row)) (old new : List DeviceState) (part : Pa
       opened = call.opened;
       header = call.call.call.wrote.header;
       taken = call.call.call.wrote.taken;
+      mapped = call.call.call.wrote.mapped;
       row_now = row_now;
       before = call.call.before;
       after = call.call.after;
@@ -274,6 +275,7 @@ left_wrote rows old part fits own row image host device there driver is below en
     opened = is.opened;
     header = refl;
     taken = λ n taken. taken;
+    mapped = λ cluster mapped. mapped;
     row_now = sym (ap (set rows part.node) (ap (λ (r : Row). Some r) (same_row row image driver)) ∙ set_same rows part.node (Some row) below there);
     before = device;
     after = device;
@@ -347,6 +349,7 @@ module _ (rows left : List (Option Row)) (old new : List DeviceState) (part : Pa
           opened = c.opened;
           header = c.header;
           taken = c.taken;
+          mapped = c.mapped;
           row_now = c.row_now;
           before = c.before;
           after = c.after;

@@ -18,6 +18,7 @@ use Rattle.q2_image.specs.declared.stop.ImageStop.{ImageStop}
 use Rattle.q2_image.specs.declared.stop.ImageStop.TheVariants as images
 use Rattle.blk_nodes.specs.Adding.{with_node, file_edge, kind_with, IsDenied, IsAllowed}
 use Rattle.blk_nodes.specs.Nodes.{Nodes, DeviceState, row_at, device_in, size_of}
+use Rattle.blk_nodes.specs.Reading.{OnlyAt}
 use Rattle.blk_nodes.specs.declared.backing.Backing.{Backing}
 use Rattle.blk_nodes.specs.declared.backing.Backing.TheVariants.{Unsaid, Null, Node}
 use Rattle.blk_nodes.specs.declared.row.Driver.TheVariants.{Qcow2, CopyOnRead}
@@ -82,6 +83,11 @@ pub record IsUnopenedOn (old new : DeviceState) (stop : ImageStop) : Type 0 wher
   pub named : (bytes : List ℕ) → old.content ≡ Some bytes → Names (image_refusal bytes) stop
   pub cause : HasCause old.faults new.faults stop
 
+-- Only a failed read raises a count: behind any other stop all devices are as before.
+abbrev pub KeptBy : ImageStop → List DeviceState → List DeviceState → Type 0
+KeptBy (images.Io count) old new = Unit {0}
+KeptBy stop old new = new ≡ old
+
 -- the same of the device of a `file` node
 pub record IsOpened (devices : List DeviceState) (file : ℕ) (image : Known) : Type 0 where
   pub device : DeviceState
@@ -94,6 +100,8 @@ pub record IsUnopened (old new : List DeviceState) (file : ℕ) (stop : ImageSto
   pub held : device_in old file ≡ Some before
   pub left : device_in new file ≡ Some after
   pub on : IsUnopenedOn before after stop
+  pub only : OnlyAt file old new
+  pub kept : KeptBy stop old new
 
 -- what was said of a backing node doesn't fit the image
 abbrev pub backing_stop : Known → Backing → ℕ → Option AddStop

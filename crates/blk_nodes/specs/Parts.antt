@@ -13,7 +13,7 @@ use Rattle.blk_nodes.specs.Found.{found_bytes, IsReadFrom}
 use Rattle.blk_nodes.specs.Nodes.{Nodes, DeviceState, AreTold, device_in, row_at}
 use Rattle.blk_nodes.specs.Reading.{HaveRisen, OnlyAt}
 use Rattle.blk_nodes.specs.Walk.{IsKnownAt, CanBeRead}
-use Rattle.blk_nodes.specs.Writing.{taken_by, IsDeviceAfter, IsImageCallAt, HasImageCause}
+use Rattle.blk_nodes.specs.Writing.{taken_by, StaysMapped, IsDeviceAfter, IsImageCallAt, HasImageCause}
 use Rattle.blk_nodes.specs.declared.part.Part.{Part}
 use Rattle.blk_nodes.specs.declared.row.Driver.{Driver}
 use Rattle.blk_nodes.specs.declared.row.Driver.TheVariants.{File, Raw, Qcow2, CopyOnRead}
@@ -119,6 +119,7 @@ pub record CallsPiece (part : Part) (fits : ℕ → Type 0) (own : Option ℕ) (
   pub opened : IsOpen now
   pub header : HasHeaderOf image now
   pub taken : StaysTaken image now
+  pub mapped : StaysMapped image now
   pub row_now : left ≡ slice_set rows part.node (Some (record row { driver = Qcow2 now }))
   pub before : DeviceState
   pub after : DeviceState

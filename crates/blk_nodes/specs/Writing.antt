@@ -12,7 +12,7 @@ use Rattle.blk_base.specs.declared.fault.Outcome.{Outcome}
 use Rattle.blk_base.specs.declared.fault.Outcome.TheVariants.{Good, Torn, Io, NoSpace}
 use Rattle.q2_format.specs.declared.entries.L2Entry.{L2Entry}
 use Rattle.q2_format.specs.declared.entries.L2Entry.TheVariants as entries
-use Rattle.q2_image.specs.Image.{Known, IsImageOf}
+use Rattle.q2_image.specs.Image.{Known, IsImageOf, entry_in}
 use Rattle.q2_image.specs.Room.{WriteFits, ZerosFit, entry_for, is_whole}
 use Rattle.q2_image.specs.Writing.{IsDiskWith, HasHeaderOf, HasEntriesBut, StaysTaken, own_place}
 use Rattle.blk_nodes.specs.Nodes.{Nodes, DeviceState, row_at, device_in, file_of, backing_of}
@@ -86,6 +86,11 @@ pub record IsDeviceAfter (old new : DeviceState) : Type 0 where
   pub capacity : new.capacity ≡ old.capacity
   pub faults : old.faults ≤ new.faults
 
+-- a guest cluster that has an entry keeps one
+abbrev pub StaysMapped : Known → Known → Type 0
+StaysMapped before after = (cluster : ℕ) → entry_in before cluster ≢ entries.Unallocated
+    → entry_in after cluster ≢ entries.Unallocated
+
 -- what a call leaves of an image and of its device that writes these bytes from a place of the image's disk on
 pub record IsImageWrite (old new : DeviceState) (before after : Known) (place : ℕ)
     (bytes : List ℕ) : Type 0 where
@@ -97,6 +102,7 @@ pub record IsImageWrite (old new : DeviceState) (before after : Known) (place : 
   pub header : HasHeaderOf before after
   pub taken : StaysTaken before after
   pub entries : HasEntriesBut before after (place / 65536)
+  pub mapped : StaysMapped before after
 
 -- n bytes were torn that are written in place there; none are where they aren't
 abbrev pub IsTornAt : Option ℕ → ℕ → ℕ → Type 0
@@ -249,6 +255,7 @@ IsDriverAfter drivers.File new = new ≡ drivers.File
 IsDriverAfter (drivers.Raw part) new = new ≡ drivers.Raw part
 IsDriverAfter (drivers.Qcow2 image) new =
     (now : Known) × (new ≡ drivers.Qcow2 now) × HasHeaderOf image now × StaysTaken image now
+    × StaysMapped image now
 IsDriverAfter drivers.CopyOnRead new = new ≡ drivers.CopyOnRead
 
 pub record IsRowAfter (old new : Row) : Type 0 where

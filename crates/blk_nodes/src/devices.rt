@@ -1,5 +1,5 @@
 //! The devices that the nodes hold.
-ghost use Rattle.std.specs.Prelude.{◌≡◌, ◌<◌, ◌/◌, ℕ, ◌≤◌, List, [], length, AllPairs, MatchOption, None, Some, IsSome, IfSome, IfOk, IfErr};
+ghost use Rattle.std.specs.Prelude.{◌≡◌, ◌<◌, ◌/◌, ℕ, ◌≤◌, List, [], length, AllPairs, MatchOption, None, Some, IsSome, IfSome, IfOk, IfErr, OnOk};
 ghost use Rattle.std.specs.List.{position};
 ghost use Rattle.std.specs.Option.{ForSome, option_copied};
 ghost use Rattle.blk_base.specs.Content.{bytes_at};
@@ -148,6 +148,7 @@ impl<D: Device> Held<D> {
     fn open_image(&mut self, alloc: Global) -> Result<Image, ImageStop>
         ensures opened { IfOk result (IsOpenedOn self.old) }
         ensures stop { IfErr result (IsUnopenedOn self.old self.new) }
+        ensures quiet { OnOk result (self.new ≡ self.old) }
         ensures kept { HasRisen self.old self.new }
     {
         open_image(alloc, &mut self.device)
@@ -335,6 +336,7 @@ impl<D: Device> Devices<D> {
         requires { IsSome (device_in self.old file) }
         ensures opened { IfOk result (IsOpened self.old file) }
         ensures stop { IfErr result (IsUnopened self.old self.new file) }
+        ensures quiet { OnOk result (self.new ≡ self.old) }
         ensures risen { HaveRisen self.old self.new }
     {
         match self.place_of(file) {

@@ -2,8 +2,8 @@
 ghost use Rattle.std.specs.Prelude.{◌≡◌, ◌≢◌, Err, OnOk, OnErr};
 ghost use Rattle.blk_graph.specs.Edits.{with_over};
 ghost use Rattle.blk_graph.specs.Graph.{ids, HasNode};
-ghost use Rattle.blk_graph.specs.Judged.{IsJudged};
-ghost use Rattle.blk_nodes.specs.Covering.{covered, IsCover};
+ghost use Rattle.blk_graph.specs.Judged.{IsApart, IsJudged};
+ghost use Rattle.blk_nodes.specs.Covering.{covered, IsClear, IsCover, ReadCovered};
 
 use crate::nodes::Nodes;
 use blk_base::Device;
@@ -12,13 +12,17 @@ use blk_graph::{GraphStop, NodeId};
 impl<D: Device> Nodes<D> {
     /// Puts an overlay over a node: all parents of the node but jobs have the overlay as child, and the overlay has the node as
     /// backing node, both or neither. Refused are a cycle and a list of edges that breaks the permission rule. A format node's
-    /// edge to its file never moves.
+    /// edge to its file never moves. No device is called: an overlay that maps no cluster reads as the node did from then on,
+    /// and each other node as before.
     pub fn put_over(&mut self, node: NodeId, overlay: NodeId) -> Result<(), GraphStop>
         requires node { HasNode self.old.graph node }
         requires overlay { IsCover self.old node overlay }
         ensures judged { IsJudged (ids self.old.graph) self.old.graph.kinds
             (with_over node overlay self.old.graph.edges) result }
+        ensures no_cycle { IsApart self.old.graph.edges node overlay → result ≢ Err GraphStop.Cycle }
         ensures ok { OnOk result (self.new ≡ covered node overlay self.old) }
+        ensures disks { OnOk result (IsClear self.old overlay
+            → ReadCovered self.old self.new node overlay) }
         ensures err { OnErr result (self.new ≡ self.old) }
     {
         self.graph.put_over(node, overlay)

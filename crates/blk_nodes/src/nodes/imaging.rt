@@ -36,6 +36,7 @@ impl<D: Device> Nodes<D> {
         requires { IsFile self.old file }
         ensures opened { IfOk result (IsOpened self.old.devices file) }
         ensures stop { IfErr result (IsUnopened self.old.devices self.new.devices file) }
+        ensures quiet { OnOk result (self.new ≡ self.old) }
         ensures kept { self.new ≡ record self.old { devices = self.new.devices } }
         ensures devices { HaveRisen self.old.devices self.new.devices }
         ensures disks { (other : ℕ) → disk_of self.new other ≡ disk_of self.old other }

@@ -1,9 +1,9 @@
 use Rattle.std.proofs.Common.{List, get_or, sym, ◌∙◌, subst}
-use Rattle.std.specs.Prelude.{IfOk, IfErr}
+use Rattle.std.specs.Prelude.{◌≡◌, IfOk, IfErr, OnOk}
 use Rattle.blk_nodes.specs.Nodes.{DeviceState}
 use Rattle.blk_nodes.specs.Overlays.{IsOpenedOn, IsUnopenedOn}
 use Rattle.blk_nodes.specs.Reading.{HasRisen}
-use Rattle.blk_nodes.proofs.HeldDevices.{is_placed, HaveRisen-set, opened_over, unopened_over}
+use Rattle.blk_nodes.proofs.HeldDevices.{is_placed, HaveRisen-set, opened_over, quiet_over, unopened_over}
 use Rattle.blk_nodes.proofs.devices.Devices.open_image.Goals as goal
 
 pub unreachable-requires : goal.unreachable-requires
@@ -28,6 +28,15 @@ returns-clause-stop g c =
     (unopened_over c.args.file items c.in-Some.at x y c.open_image.result place
     (subst (λ (d : DeviceState). HasRisen d y) c.index_mut-held.ensures.value c.open_image.ensures.kept)
     (subst (λ (d : DeviceState). IfErr c.open_image.result (IsUnopenedOn d y)) c.index_mut-held.ensures.value c.open_image.ensures.stop))
+
+pub returns-clause-quiet : goal.returns-clause-quiet
+returns-clause-quiet g c =
+    let items : List DeviceState = c.self.inside.list.items in
+    let x : DeviceState = c.index_mut-held.result.now in
+    let y : DeviceState = c.open_image.new.self in
+    rw (sym c.self.view_is)
+    (quiet_over items c.in-Some.at x y c.open_image.result
+    (subst (λ (d : DeviceState). OnOk c.open_image.result (y ≡ d)) c.index_mut-held.ensures.value c.open_image.ensures.quiet))
 
 pub returns-clause-risen : goal.returns-clause-risen
 returns-clause-risen g c =

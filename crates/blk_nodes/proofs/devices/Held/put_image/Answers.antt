@@ -1,9 +1,11 @@
 use Rattle.std.proofs.Common.{◌≡◌, ◌*◌, ◌/◌, ℕ, List, None, length, replicate, refl, sym, ◌∙◌, ap, subst, arith}
+use Rattle.std.proofs.lemmas.Result.{on_ok_weaker}
 use Rattle.blk_base.specs.declared.fault.Outcome.{Outcome}
+use Rattle.q2_image.specs.Image.{entry_in}
 use Rattle.q2_image.specs.Writing.{IsDiskWith, HasEntriesBut, PutFits}
 use Rattle.blk_nodes.specs.Nodes.{DeviceState}
 use Rattle.blk_nodes.specs.Writing.{HasImageCause, taken_by}
-use Rattle.blk_nodes.proofs.ImageCalls.{cluster_cause, cluster_disk, cluster_flushed, same_state}
+use Rattle.blk_nodes.proofs.ImageCalls.{host_mapped, cluster_mapped, cluster_cause, cluster_disk, cluster_flushed, same_state}
 use Rattle.blk_nodes.proofs.devices.Held.put_image.Goals as goal
 
 pub put_cluster-written-requires-clause-image : goal.put_cluster-written-requires-clause-image
@@ -57,6 +59,7 @@ returns-clause-call g c =
         header = e.header;
         taken = e.taken;
         entries = subst (HasEntriesBut image left) (sym place) e.others;
+        mapped = cluster_mapped written image left c.args.cluster e.others (on_ok_weaker written (host_mapped (entry_in left c.args.cluster)) e.mapped) e.unmapped;
       };
       cause = subst (HasImageCause (PutFits image c.args.cluster old.capacity) None (length bytes) old new image left) (sym c.cluster_outcome.ensures)
           (cluster_cause g.D.Device (PutFits image c.args.cluster old.capacity) None (length bytes) image _ written left c.self.inside.device c.put_cluster-written.new.dev old new refl refl refl e.changes

@@ -4,7 +4,7 @@ use Rattle.blk_base.specs.declared.fault.Outcome.{Outcome}
 use Rattle.q2_image.specs.Writing.{IsDiskWith, own_end, own_place}
 use Rattle.blk_nodes.specs.Nodes.{DeviceState}
 use Rattle.blk_nodes.specs.Writing.{HasImageCause, taken_by}
-use Rattle.blk_nodes.proofs.ImageCalls.{own_cause, own_entries, own_header, own_taken, same_state, stop_flushed}
+use Rattle.blk_nodes.proofs.ImageCalls.{own_cause, own_entries, own_header, own_mapped, own_taken, same_state, stop_flushed}
 use Rattle.blk_nodes.proofs.devices.Held.write_image.Goals as goal
 
 pub write_own-requires-clause-image : goal.write_own-requires-clause-image
@@ -52,6 +52,7 @@ returns-in-Err g c =
         header = own_header c.args.image.now c.write_own.new.self e.known;
         taken = e.taken;
         entries = own_entries c.args.image.now c.write_own.new.self _ e.known;
+        mapped = own_mapped c.args.image.now c.write_own.new.self e.known;
       };
       cause = subst (HasImageCause (own_end c.args.image.now c.args.span ≤ old.capacity) (Some (own_place c.args.image.now c.args.span)) (length bytes) old new c.args.image.now c.write_own.new.self)
           (sym c.stopped.ensures)

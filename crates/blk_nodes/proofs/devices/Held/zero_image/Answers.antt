@@ -1,9 +1,12 @@
 use Rattle.std.proofs.Common.{◌≡◌, ◌*◌, ◌/◌, ℕ, List, None, length, replicate, refl, sym, ◌∙◌, ap, subst, arith}
+use Rattle.std.proofs.lemmas.Result.{on_ok_weaker}
 use Rattle.blk_base.specs.declared.fault.Outcome.{Outcome}
+use Rattle.q2_format.specs.Entry.{host_of}
+use Rattle.q2_image.specs.Image.{entry_in}
 use Rattle.q2_image.specs.Writing.{IsDiskWith, HasEntriesBut, ZeroFits}
 use Rattle.blk_nodes.specs.Nodes.{DeviceState}
 use Rattle.blk_nodes.specs.Writing.{HasImageCause, taken_by}
-use Rattle.blk_nodes.proofs.ImageCalls.{stable_zero, zeros_disk, cluster_cause, cluster_disk, cluster_flushed, same_state}
+use Rattle.blk_nodes.proofs.ImageCalls.{zero_mapped, cluster_mapped, stable_zero, zeros_disk, cluster_cause, cluster_disk, cluster_flushed, same_state}
 use Rattle.blk_nodes.proofs.devices.Held.zero_image.Goals as goal
 
 pub zero_cluster-written-requires-clause-image : goal.zero_cluster-written-requires-clause-image
@@ -56,6 +59,7 @@ returns g c =
         header = e.header;
         taken = e.taken;
         entries = subst (HasEntriesBut image left) (sym place) e.others;
+        mapped = cluster_mapped written image left c.args.cluster e.others (on_ok_weaker written (zero_mapped (entry_in left c.args.cluster) (host_of (entry_in image c.args.cluster))) e.mapped) e.unmapped;
       };
       cause = subst (HasImageCause (ZeroFits image c.args.cluster old.capacity) None (length bytes) old new image left) (sym c.cluster_outcome.ensures)
           (cluster_cause g.D.Device (ZeroFits image c.args.cluster old.capacity) None (length bytes) image _ written left c.self.inside.device c.zero_cluster-written.new.dev old new refl refl refl e.changes

@@ -1,10 +1,9 @@
-use Rattle.std.proofs.Common.{◌≡◌, refl, sym, ◌∙◌, ap}
-use Rattle.blk_graph.specs.Edits.{with_over}
-use Rattle.blk_graph.specs.Graph.{HasNode}
-use Rattle.blk_graph.specs.Refreshed.{refreshed, kind_at}
-use Rattle.blk_nodes.specs.Covering.{IsCover}
+use Rattle.std.proofs.Common.{sym, subst}
+use Rattle.std.specs.Prelude.{OnOk}
+use Rattle.blk_nodes.specs.Covering.{IsClear, IsCover, ReadCovered}
 use Rattle.blk_nodes.specs.Nodes.{Nodes}
-use Rattle.blk_nodes.proofs.Covered.{joined_over, moved_edges, overlay_there, overlay_role, when_taken}
+use Rattle.blk_nodes.proofs.Covered.{overlay_there, overlay_role, when_taken}
+use Rattle.blk_nodes.proofs.CoveredDisks.{when_covered}
 use Rattle.blk_nodes.proofs.nodes.Nodes.put_over.Goals as goal
 
 pub put_over-requires-clause-overlay : goal.put_over-requires-clause-overlay
@@ -25,3 +24,13 @@ invariant_of-self g c =
     let cover : IsCover nodes c.args.node c.args.overlay = rw (sym c.self.view_is) at c.requires.overlay in
     when_taken nodes c.put_over.new.self c.args.node c.args.overlay c.put_over.result c.self.invariant cover c.put_over.ensures.ok c.put_over.ensures.err
     c.put_over.ensures.sound
+
+pub returns-clause-disks : goal.returns-clause-disks
+returns-clause-disks g c =
+    let nodes : Nodes = record { graph = c.self.inside.graph; rows = c.self.inside.rows.items; devices = c.self.inside.devices } in
+    let now : Nodes = record nodes { graph = c.put_over.new.self } in
+    let cover : IsCover nodes c.args.node c.args.overlay = rw (sym c.self.view_is) at c.requires.overlay in
+    let after = when_taken nodes c.put_over.new.self c.args.node c.args.overlay c.put_over.result c.self.invariant cover c.put_over.ensures.ok c.put_over.ensures.err
+    c.put_over.ensures.sound in
+    subst (λ (old : Nodes). OnOk c.put_over.result (IsClear old c.args.overlay → ReadCovered old now c.args.node c.args.overlay)) c.self.view_is
+    (when_covered nodes c.put_over.new.self c.args.node c.args.overlay c.put_over.result c.self.invariant cover c.put_over.ensures.ok after)
