@@ -1,12 +1,12 @@
--- Lists that are gone through while the asks of each part are put.
+-- Lists that are gone through while what each part makes is put.
 use Rattle.std.proofs.Common.{◌≡◌, ℕ, ◌+◌, ◌<◌, ◌≤◌, List, [], ◌∷◌, ◌++◌, length, get_or, drop, refl, sym, ap, subst, ◌∙◌, append_assoc, append-nil, Result}
 use Rattle.std.specs.Prelude.{OnOk}
 use Rattle.std.proofs.lemmas.List.{at_drop_more, at_drop_all}
 use Rattle.qmp_rules.specs.Asks.{Asking}
 
-module _ {X : Type 0} where
-  -- the asks of one more part are put
-  pub put_step : (f : List X → List Asking) (one : List Asking) (xs : List X) (i : ℕ) (x : X) (old new whole : List Asking)
+module _ {X Y : Type 0} where
+  -- what one more part makes is put
+  pub put_step : (f : List X → List Y) (one : List Y) (xs : List X) (i : ℕ) (x : X) (old new whole : List Y)
       → i < length xs → x ≡ get_or xs i x → f (x ∷ drop (i + 1) xs) ≡ one ++ f (drop (i + 1) xs)
       → new ≡ old ++ one → old ++ f (drop i xs) ≡ whole → new ++ f (drop (i + 1) xs) ≡ whole
   put_step f one xs i x old new whole within is splits put before =
@@ -16,7 +16,7 @@ module _ {X : Type 0} where
       ∙ before
 
   -- all are
-  pub put_end : (f : List X → List Asking) (xs : List X) (i : ℕ) (old whole : List Asking)
+  pub put_end : (f : List X → List Y) (xs : List X) (i : ℕ) (old whole : List Y)
       → length xs ≤ i → f [] ≡ [] → old ++ f (drop i xs) ≡ whole → old ≡ whole
   put_end f xs i old whole past none before =
       sym (append-nil old) ∙ ap (λ a. old ++ a) (sym none ∙ sym (at_drop_all f xs i past)) ∙ before

@@ -131,8 +131,16 @@ is_built (command.JobDismiss id) = true
 is_built (command.BlockdevAdd c) = true
 is_built (command.BlockdevDel name) = true
 is_built (command.DeviceAdd c) = true
+is_built (command.DeviceDel id) = true
+is_built (command.BlockdevSnapshot c) = true
 is_built command.QueryBlockJobs = true
 is_built (command.QueryNamedBlockNodes flat) = true
+is_built (command.BitmapAdd c) = true
+is_built (command.BitmapRemove c) = true
+is_built (command.BitmapClear c) = true
+is_built (command.BitmapEnable c) = true
+is_built (command.BitmapDisable c) = true
+is_built (command.BitmapMerge c) = true
 is_built _ = false
 
 abbrev pub negotiates : Cmd → Bool

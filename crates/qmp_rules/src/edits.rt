@@ -5,9 +5,9 @@ ghost use Rattle.blk_graph.specs.Ids.{lowest_free};
 ghost use Rattle.qmp_rules.specs.Table.{id_named};
 ghost use Rattle.std.specs.Option.{option_copied};
 ghost use Rattle.qmp_codec.specs.Commands.{seen_command};
-ghost use Rattle.qmp_codec.specs.Nodes.{seen_add_qcow2, seen_add_raw, seen_blockdev_add, seen_blockdev_create, seen_created, seen_device_add, seen_inline_file};
+ghost use Rattle.qmp_codec.specs.Nodes.{seen_add_qcow2, seen_add_raw, seen_blockdev_add, seen_blockdev_create, seen_created, seen_device_add, seen_inline_file, seen_snapshot};
 ghost use Rattle.qmp_rules.specs.CommandAsks.{is_built};
-ghost use Rattle.qmp_rules.specs.Edits.{add_edits, create_edits, created_change, del_edits, device_add_edits, device_number, device_uses, edits_of, file_of_node, file_row, file_under, format_row, free_id, goes_with, goes_with_node, ids, image_row, inline_row, length_told, name_of_file_at, new_device, next_free_id, place_from, qcow2_edits, raw_edits, raw_row, row_gone, size_of, spoiled, unused_from, uses, with_inline};
+ghost use Rattle.qmp_rules.specs.Edits.{add_edits, create_edits, created_change, del_edits, device_add_edits, device_del_edits, device_number, device_uses, edits_of, file_of_node, file_row, file_under, format_row, free_id, goes_with, goes_with_node, ids, image_row, inline_row, length_told, name_of_file_at, new_device, next_free_id, place_from, qcow2_edits, raw_edits, raw_row, row_gone, size_of, snapshot_edits, spoiled, unused_from, uses, with_inline};
 ghost use Rattle.qmp_rules.specs.NodeAsks.{backing_name};
 ghost use Rattle.qmp_rules.specs.Seen.{seen_text};
 
@@ -26,7 +26,7 @@ use blk_base::NoMemory;
 use blk_graph::{Kind, MOST_NODES, NodeId, Role};
 use qmp_codec::{
     AddQcow2, AddRaw, Added, BlockdevAdd, BlockdevCreate, Command, Created, DeviceAdd, FileRef,
-    InlineFile,
+    InlineFile, Snapshot,
 };
 use std::alloc::Global;
 
@@ -184,7 +184,7 @@ fn goes_with_node(row: &NodeRecord, id: NodeId) -> bool
     }
 }
 
-fn put(edits: &mut Vec<Change>, edit: Change) -> Result<(), NoMemory>
+pub(crate) fn put(edits: &mut Vec<Change>, edit: Change) -> Result<(), NoMemory>
     ensures { OnOk result (edits.new.items ≡ edits.old.items ++ edit ∷ []) }
 {
     edits.push(edit)?;
@@ -663,6 +663,33 @@ impl Names {
         }
     }
 
+    fn plan_device_del(&self, edits: &mut Vec<Change>, id: &str) -> Result<(), NoMemory>
+        ensures { OnOk result (edits.new.items ≡ edits.old.items ++ device_del_edits self.now.table id.now) }
+    {
+        match self.device_named(id) {
+            Some(device) => put(edits, Change::RemoveDevice(device.number)),
+            None => Ok(()),
+        }
+    }
+
+    #[tactic(auto, using(std::proofs::lemmas::List::append_assoc))]
+    fn plan_snapshot(&self, edits: &mut Vec<Change>, c: &Snapshot) -> Result<(), NoMemory>
+        ensures { OnOk result (edits.new.items
+            ≡ edits.old.items ++ snapshot_edits self.now.table (seen_snapshot c.now)) }
+    {
+        let node = self.id_of(c.node.as_str());
+        let overlay = self.id_of(c.overlay.as_str());
+        put(edits, Change::Attach { overlay, node })?;
+        put(
+            edits,
+            Change::Move {
+                from: node,
+                to: overlay,
+                but: overlay,
+            },
+        )
+    }
+
     /// What a command that is carried out makes of the table, once it is accepted.
     #[tactic(auto, unfolding(crate::specs::Edits::edits_of))]
     fn plan_edits(
@@ -686,7 +713,15 @@ impl Names {
             Command::BlockdevAdd(c) => self.plan_add(alloc, edits, told, c),
             Command::BlockdevDel(name) => self.plan_del(alloc, edits, name.as_str()),
             Command::DeviceAdd(c) => self.plan_device_add(alloc, edits, c),
+            Command::DeviceDel(id) => self.plan_device_del(edits, id.as_str()),
+            Command::BlockdevSnapshot(c) => self.plan_snapshot(edits, c),
             Command::QueryBlockJobs | Command::QueryNamedBlockNodes(_) => Ok(()),
+            Command::BitmapAdd(c) => self.plan_bitmap_add(alloc, edits, c),
+            Command::BitmapRemove(c) => self.plan_bitmap_remove(alloc, edits, c),
+            Command::BitmapClear(c) => self.plan_bitmap_clear(alloc, edits, c),
+            Command::BitmapEnable(c) => self.plan_bitmap_turn(alloc, edits, true, c),
+            Command::BitmapDisable(c) => self.plan_bitmap_turn(alloc, edits, false, c),
+            Command::BitmapMerge(c) => self.plan_merge(alloc, edits, c),
             _ => unreachable!(),
         }
     }

@@ -55,8 +55,16 @@ fn is_built(command: &Command) -> bool
             | Command::BlockdevAdd(_)
             | Command::BlockdevDel(_)
             | Command::DeviceAdd(_)
+            | Command::DeviceDel(_)
+            | Command::BlockdevSnapshot(_)
             | Command::QueryBlockJobs
             | Command::QueryNamedBlockNodes(_)
+            | Command::BitmapAdd(_)
+            | Command::BitmapRemove(_)
+            | Command::BitmapClear(_)
+            | Command::BitmapEnable(_)
+            | Command::BitmapDisable(_)
+            | Command::BitmapMerge(_)
     )
 }
 

@@ -5,6 +5,7 @@ mod apply;
 mod ask;
 mod asks;
 mod bitmap_asks;
+mod bitmap_edits;
 mod chains;
 mod change;
 mod command_asks;

@@ -1,5 +1,5 @@
 //! Lines that a table judges one after another.
-use blk_base::{Names1, NoMemory};
+use blk_base::{Names1, NoMemory, Text};
 use qmp_codec::read_command;
 use qmp_rules::{Amounts, Names, PrepareStop, Told};
 use std::alloc::Global;
@@ -13,21 +13,23 @@ pub struct Row {
     pub answer: &'static str,
 }
 
-/// Every file that is opened has 1 MiB, and so has every image.
-fn told(alloc: Global) -> Told {
-    Told {
+/// Every file that is opened has 1 MiB, and so has every image. That of the node `full` maps a cluster.
+fn told(alloc: Global) -> Result<Told, NoMemory> {
+    let mut mapped = Vec::new(alloc);
+    mapped.push(Text::copied(alloc, "full")?)?;
+    Ok(Told {
         length: Some(1048576),
         size: Some(1048576),
         stopped: None,
-        mapped: Names1::from_vec(Vec::new(alloc)),
+        mapped: Names1::from_vec(mapped),
         dirty: Amounts::new(Vec::new(alloc)),
-    }
+    })
 }
 
 /// Carries out a line. The words of its refusal are given, or none.
 pub fn answer(alloc: Global, names: &mut Names, line: &str) -> Result<String, Fail> {
     let command = read_command(alloc, line)?;
-    match names.prepare(alloc, &command, &told(alloc)) {
+    match names.prepare(alloc, &command, &told(alloc)?) {
         Ok(edits) => {
             names.apply(edits);
             Ok(String::new(alloc))

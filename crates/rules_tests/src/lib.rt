@@ -4,4 +4,6 @@
 #[cfg(test)]
 mod judged;
 #[cfg(test)]
+mod live;
+#[cfg(test)]
 mod refusals;
