@@ -8,7 +8,7 @@ use Rattle.blk_graph.specs.declared.edge.Edge.{Edge}
 use Rattle.blk_graph.specs.declared.kind.Kind.{Kind}
 use Rattle.blk_graph.specs.declared.kind.Kind.TheVariants.{Protocol, Raw, Qcow2, CopyOnRead, BeforeWrite, Mirror, Commit}
 use Rattle.blk_graph.proofs.Members.{find-Some, Contains-nil, Contains-cases}
-use Rattle.qmp_codec.specs.Commands.{Cmd}
+use Rattle.qmp_codec.specs.Commands.{Cmd, SeenSources}
 use Rattle.qmp_codec.specs.declared.command.Command.TheVariants as command
 use Rattle.qmp_codec.specs.declared.nodes.FileRef.{FileRef}
 use Rattle.qmp_codec.specs.declared.nodes.FileRef.TheVariants as file_ref
@@ -21,6 +21,7 @@ use Rattle.qmp_codec.specs.declared.nodes.BlockdevAdd.{BlockdevAdd}
 use Rattle.qmp_codec.specs.declared.nodes.Created.{Created}
 use Rattle.qmp_codec.specs.declared.nodes.Created.TheVariants as created
 use Rattle.qmp_codec.specs.declared.nodes.DeviceAdd.{DeviceAdd}
+use Rattle.qmp_codec.specs.declared.nodes.Snapshot.{Snapshot}
 use Rattle.qmp_rules.specs.declared.ask.Ask.TheVariants as ask
 use Rattle.qmp_rules.specs.declared.ask.Drivers.TheVariants as drivers
 use Rattle.qmp_rules.specs.declared.change.Change.{Change}
@@ -28,26 +29,27 @@ use Rattle.qmp_rules.specs.declared.change.Change.TheVariants as change
 use Rattle.qmp_rules.specs.declared.refusal.FileFault.TheVariants.{Absent}
 use Rattle.qmp_rules.specs.declared.refusal.Refusal.TheVariants as refusal
 use Rattle.qmp_rules.specs.declared.rows.NodeRecord.{NodeRecord}
+use Rattle.qmp_rules.specs.declared.rows.Device.{Device}
 use Rattle.qmp_rules.specs.declared.rows.FileState.{FileState}
 use Rattle.qmp_rules.specs.declared.rows.FileState.TheVariants.{Made, Formatted, Used}
 use Rattle.qmp_rules.specs.declared.told.Look.{Look}
 use Rattle.qmp_rules.specs.declared.told.Look.TheVariants as look
 use Rattle.qmp_rules.specs.declared.told.Stopped.{Stopped}
 use Rattle.qmp_rules.specs.declared.told.Told.{Told}
-use Rattle.qmp_rules.specs.Table.{Table, node_at, node_named, id_named, file_state, first_into}
+use Rattle.qmp_rules.specs.Table.{Table, device_named, node_at, node_named, id_named, file_state, first_into}
 use Rattle.qmp_rules.specs.Chains.{filter_role, is_settled, disk_node}
 use Rattle.qmp_rules.specs.Changes.{changed}
-use Rattle.qmp_rules.specs.Edits.{ids, free_id, next_free_id, file_row, inline_row, raw_edits, qcow2_edits, added_edits, add_edits, length_told, edits_of, uses, with_inline, goes_with_node, of_row, row_gone, file_under, created_change, create_edits, del_edits, device_uses, new_device, device_add_edits}
-use Rattle.qmp_rules.specs.NodeAsks.{add_asks, option_values, added_values, added_names, is_read_only, added_rest, raw_rest, qcow2_rest, copy_on_read_rest, is_added, backing_name}
+use Rattle.qmp_rules.specs.Edits.{snapshot_edits, ids, free_id, next_free_id, file_row, inline_row, raw_edits, qcow2_edits, added_edits, add_edits, length_told, edits_of, uses, with_inline, goes_with_node, of_row, row_gone, file_under, created_change, create_edits, del_edits, device_uses, new_device, device_add_edits, device_del_edits, merges, merge_edits}
+use Rattle.qmp_rules.specs.NodeAsks.{snapshot_values, snapshot_names, snapshot_rest, add_asks, option_values, added_values, added_names, is_read_only, added_rest, raw_rest, qcow2_rest, copy_on_read_rest, is_added, backing_name}
 use Rattle.qmp_rules.specs.Looks.{absent, add_told, is_unopened}
-use Rattle.qmp_rules.specs.Asks.{Asking, holds, first, takes, stands_for, is_lost, is_file, name_of_file, told_at}
+use Rattle.qmp_rules.specs.Asks.{id_or, Asking, holds, first, takes, stands_for, is_lost, is_file, name_of_file, told_at}
 use Rattle.qmp_rules.specs.CommandAsks.{asks_of, negotiates}
 use Rattle.qmp_rules.specs.Answers.{unbuilt, out_of_turn, refusal_of, command_edits}
 use Rattle.blk_history.specs.Fold.{With}
 use Rattle.flat_machine.specs.State.{State, Content, Bytes, Blank, Unknown, content_in}
 use Rattle.flat_machine.specs.Contents.{file_bytes}
 use Rattle.flat_machine.specs.Changed.{stepped, put, name_file, add_file, filename_or}
-use Rattle.flat_machine.specs.Sights.{told_by, MayStop, IsReached, calls_at, may_be_large, is_opened}
+use Rattle.flat_machine.specs.Sights.{told_by, MayStop, may_be_large, is_opened}
 use Rattle.flat_machine.specs.Agreement.{HasDisk}
 use Rattle.flat_machine.specs.Performing.{IsWholly, IsReadable, IsBacking, CanAddFile, Can, AllCan}
 use Rattle.flat_machine.specs.Wiring.{StandsFor}
@@ -79,24 +81,12 @@ next_fresh t row is room =
 
 -- a file that is not there is told as absent, whatever call fails
 told_absent : (s : State) (c : Cmd) (filename : List ℕ) (stopped : Option Stopped) → MayStop s c (absent filename) stopped
-    → calls_at s.table look.Begin c ≡ false → calls_at s.table look.End c ≡ false → may_be_large s c ≡ false
-    → is_opened c (refusal.File filename Absent) ≡ false → told_at look.File stopped ≡ Some (refusal.File filename Absent)
-told_absent s c filename stopped (inl same) begin end large opened = rw same refl
-told_absent s c filename None (inr (inl fails)) begin end large opened = absurd fails
-told_absent s c filename (Some stopped) (inr (inl fails)) begin end large opened =
-    by_order stopped.look fails.call fails.reached
-  where
-    by_order : (what : Look) → calls_at s.table what c ≡ true → IsReached c what (absent filename)
-        → told_at look.File (Some stopped) ≡ Some (refusal.File filename Absent)
-    by_order what call (inr late) = let never = late.1 in absurd cc
-    by_order look.Begin call (inl early) = absurd cc
-    by_order look.End call (inl early) = absurd cc
-    by_order look.File call (inl early) = absurd (omega arith)
-    by_order look.Image call (inl early) = absurd (omega arith)
-    by_order look.Backing call (inl early) = absurd (omega arith)
-    by_order look.Size call (inl early) = absurd (omega arith)
-    by_order look.Format call (inl early) = absurd (omega arith)
-told_absent s c filename stopped (inr (inr too_large)) begin end large opened = let is = too_large.0 in absurd cc
+    → may_be_large s c ≡ false → is_opened c (refusal.File filename Absent) ≡ false
+    → told_at look.File stopped ≡ Some (refusal.File filename Absent)
+told_absent s c filename stopped (inl same) large opened = rw same refl
+told_absent s c filename None (inr (inl fails)) large opened = absurd fails
+told_absent s c filename (Some stopped) (inr (inl fails)) large opened = let never = fails.reached.1 in absurd cc
+told_absent s c filename stopped (inr (inr too_large)) large opened = let is = too_large.0 in absurd cc
 
 -- ---- files that are known
 
@@ -245,7 +235,7 @@ opened_there s c told filename may tells large quiet = by_content (content_in s.
     by_content (Some content) e = refl
     by_content None e =
         let is_absent = subst (λ stop. MayStop s (command.BlockdevAdd c) stop told.stopped) (tells e) may in
-        let told_so = told_absent s (command.BlockdevAdd c) filename told.stopped is_absent refl refl (large e) refl in
+        let told_so = told_absent s (command.BlockdevAdd c) filename told.stopped is_absent (large e) refl in
         absurd cc
 
 -- ---- what is asked of a backing node
@@ -578,6 +568,26 @@ free_device t c None = tt
 free_device t c (Some row) = free_append (device_uses row) (change.AddDevice (new_device t c row) row.id ∷ [])
     (free_device_uses row (is_file row)) (λ s. tt, tt)
 
+-- the node of a snapshot has a flat disk of its own
+snapshot_can : (s : State) (told : Told) (c : Snapshot (List ℕ)) → Stands s
+    → NoneHolds s.table told (snapshot_values c ++ snapshot_names c ++ snapshot_rest c) → AllCan s (snapshot_edits s.table c)
+snapshot_can s told c stands asks =
+    (by_node (found-named s.table told c.node asks.1.1.1.0), (tt, tt))
+  where
+    backed : IsBacking s (id_named s.table c.node)
+    backed = backing_can s told (Some c.node) stands asks.1.1.1.0 asks.1.1.1.1.1.0 asks.1.1.1.1.1.1.1.0
+
+    by_node : ((row : NodeRecord) × (node_named s.table c.node ≡ Some row)) → With (node_at s.table (id_or 0 s.table (Some c.node))) HasDisk
+    by_node named = rw named.1 (rw named.1 at backed)
+
+free_gone : (found : Option Device) → AreFree (elim found as (λ _. List Change) [ None ↦ [] | Some device ↦ change.RemoveDevice device.number ∷ [] ])
+free_gone None = tt
+free_gone (Some device) = (λ s. tt, tt)
+
+free_merges : (t : Table) (node target : List ℕ) (sources : SeenSources) → AreFree (merges t node target sources)
+free_merges t node target [] = tt
+free_merges t node target (source ∷ sources) = (λ s. tt, free_merges t node target sources)
+
 -- Where nothing refuses a command that is carried out, each of its changes can be made, whatever sizes are told of files.
 pub accepted_can : (s : State) (told exp : Told) (c : Cmd) → Stands s → MayStop s c (told_by s c).stopped told.stopped
     → refusal_of s.table told c ≡ None → AllCan s (command_edits s.table exp c)
@@ -599,6 +609,16 @@ accepted_can s told exp c stands may h =
         free_can (del_edits s.table name) (free_del s.table (node_named s.table name)) s
     by_command (command.DeviceAdd c) stands may is asks =
         free_can (device_add_edits s.table c) (free_device s.table c (node_named s.table c.drive)) s
+    by_command (command.BlockdevSnapshot c) stands may is asks = snapshot_can s told c stands asks
+    by_command (command.DeviceDel id) stands may is asks =
+        free_can (device_del_edits s.table id) (free_gone (device_named s.table id)) s
     by_command command.QueryBlockJobs stands may is asks = tt
     by_command (command.QueryNamedBlockNodes flat) stands may is asks = tt
+    by_command (command.BitmapAdd c) stands may is asks = (tt, tt)
+    by_command (command.BitmapRemove c) stands may is asks = (tt, tt)
+    by_command (command.BitmapClear c) stands may is asks = (tt, tt)
+    by_command (command.BitmapEnable c) stands may is asks = (tt, tt)
+    by_command (command.BitmapDisable c) stands may is asks = (tt, tt)
+    by_command (command.BitmapMerge c) stands may is asks =
+        free_can (merge_edits s.table c) (free_merges s.table c.node c.target c.bitmaps) s
     by_command _ stands may is asks = absurd cc

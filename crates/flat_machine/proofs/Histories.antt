@@ -7,7 +7,7 @@ use Rattle.blk_base.specs.declared.fault.Outcome.{Outcome}
 use Rattle.trace_codec.specs.declared.op.Op.{Op}
 use Rattle.trace_codec.specs.declared.op.Op.TheVariants.{Read, Write, Zero, Flush, Discard}
 use Rattle.serde_json.specs.Written.{compact_text}
-use Rattle.qmp_codec.specs.Commands.{Cmd}
+use Rattle.qmp_codec.specs.Commands.{Cmd, SeenSources}
 use Rattle.qmp_codec.specs.Lines.{Stop, command_at, id_at}
 use Rattle.qmp_codec.specs.declared.command.Command.TheVariants as command
 use Rattle.qmp_codec.specs.declared.nodes.FileRef.{FileRef}
@@ -22,13 +22,14 @@ use Rattle.qmp_rules.specs.declared.change.Change.{Change}
 use Rattle.qmp_rules.specs.declared.change.Change.TheVariants as change
 use Rattle.qmp_rules.specs.declared.refusal.Refusal.{Refusal}
 use Rattle.qmp_rules.specs.declared.rows.NodeRecord.{NodeRecord}
+use Rattle.qmp_rules.specs.declared.rows.Device.{Device}
 use Rattle.qmp_rules.specs.declared.told.Told.{Told}
-use Rattle.qmp_rules.specs.Table.{Table, node_named, job_at}
+use Rattle.qmp_rules.specs.Table.{Table, device_named, node_named, job_at}
 use Rattle.qmp_rules.specs.Chains.{disk_node, written_under}
 use Rattle.qmp_rules.specs.Changes.{changed, all_changed}
 use Rattle.qmp_rules.specs.Refusals.{refusal_text, refusal_class}
 use Rattle.qmp_rules.specs.NodeAsks.{is_read_only, backing_name}
-use Rattle.qmp_rules.specs.Edits.{edits_of, uses, file_under, with_inline, goes_with_node, row_gone, of_row, created_change, spoiled, raw_edits, qcow2_edits, added_edits, new_device, device_uses}
+use Rattle.qmp_rules.specs.Edits.{edits_of, uses, file_under, with_inline, goes_with_node, row_gone, of_row, created_change, spoiled, raw_edits, qcow2_edits, added_edits, new_device, device_uses, merges}
 use Rattle.qmp_rules.specs.Asks.{is_file}
 use Rattle.qmp_rules.specs.Answers.{unbuilt, refusal_of, command_edits, answer, answer_by, answer_for, line_answer, line_text, reply_data}
 use Rattle.blk_history.specs.Fold.{With}
@@ -141,6 +142,10 @@ plain_device t c None = tt
 plain_device t c (Some row) = plain_append (device_uses row) (change.AddDevice (new_device t c row) row.id ∷ [])
     (plain_device_uses row (is_file row)) (tt, tt)
 
+plain_gone : (found : Option Device) → ArePlain (elim found as (λ _. List Change) [ None ↦ [] | Some device ↦ change.RemoveDevice device.number ∷ [] ])
+plain_gone None = tt
+plain_gone (Some device) = (tt, tt)
+
 plain_raw : (t : Table) (exp : Told) (name : List ℕ) (read_only : Bool) (raw : AddRaw (List ℕ)) (file : FileRef (List ℕ))
     → ArePlain (raw_edits t exp name read_only raw file)
 plain_raw t exp name read_only raw (file_ref.Name file) = (tt, tt)
@@ -159,6 +164,10 @@ plain_added t exp name read_only (added.Qcow2 image) = plain_qcow2 t exp name re
 plain_added t exp name read_only (added.CopyOnRead file) = (tt, tt)
 plain_added t exp name read_only added.Unknown = tt
 
+plain_merges : (t : Table) (node target : List ℕ) (sources : SeenSources) → ArePlain (merges t node target sources)
+plain_merges t node target [] = tt
+plain_merges t node target (source ∷ sources) = (tt, plain_merges t node target sources)
+
 plain_command : (t : Table) (exp : Told) (c : Cmd) → unbuilt c ≡ None → ArePlain (command_edits t exp c)
 unfolding edits_of
 plain_command t exp (command.Capabilities enable) is = (tt, tt)
@@ -167,8 +176,16 @@ plain_command t exp (command.JobDismiss id) is = (tt, tt)
 plain_command t exp (command.BlockdevAdd c) is = plain_added t exp c.node_name (is_read_only c.options) c.driver
 plain_command t exp (command.BlockdevDel name) is = plain_del t (node_named t name)
 plain_command t exp (command.DeviceAdd c) is = plain_device t c (node_named t c.drive)
+plain_command t exp (command.BlockdevSnapshot c) is = (tt, (tt, tt))
+plain_command t exp (command.DeviceDel id) is = plain_gone (device_named t id)
 plain_command t exp command.QueryBlockJobs is = tt
 plain_command t exp (command.QueryNamedBlockNodes flat) is = tt
+plain_command t exp (command.BitmapAdd c) is = (tt, tt)
+plain_command t exp (command.BitmapRemove c) is = (tt, tt)
+plain_command t exp (command.BitmapClear c) is = (tt, tt)
+plain_command t exp (command.BitmapEnable c) is = (tt, tt)
+plain_command t exp (command.BitmapDisable c) is = (tt, tt)
+plain_command t exp (command.BitmapMerge c) is = plain_merges t c.node c.target c.bitmaps
 plain_command t exp _ is = absurd cc
 
 plain_failed : (t : Table) (c : Cmd) → ArePlain (failed_edits t c)

@@ -10,16 +10,29 @@ pub mod Wired
 pub mod TablesKept
 pub mod WritingKept
 pub mod WritingAdded
+pub mod DevicesGone
 pub mod FilesStand
 pub mod StandingKept
 pub mod TableSuited
+pub mod Redirected
+pub mod RedirectedStates
+pub mod Covered
+pub mod Snapshots
 pub mod TableRests
+pub mod DriveWrites
+pub mod SnapshotStates
 pub mod Suited
 pub mod Openings
 pub mod Written
 pub mod Answered
 pub mod ReadBack
 pub mod Resting
+pub mod Mapping
+pub mod ImagesKept
+pub mod ImagesChanged
+pub mod ImagesWritten
 pub mod Histories
 mod Lines
 mod OneHistory
+pub mod Recorded
+pub mod BitmapRows

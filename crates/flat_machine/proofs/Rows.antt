@@ -187,11 +187,11 @@ stays-at t now rows node some = by_row (node_at t node) refl some
 
 -- ---- what a node reads as
 
-from-child : (more : ℕ) (t : Table) (node : ℕ) (below : Option ℕ) → filtered t node ≡ below
+pub from-child : (more : ℕ) (t : Table) (node : ℕ) (below : Option ℕ) → filtered t node ≡ below
     → disk_from (suc more) t node ≡ elim below as (λ _. ℕ) [ None ↦ node | Some child ↦ disk_from more t child ]
 from-child more t node below e = ap (λ b. elim b as (λ _. ℕ) [ None ↦ node | Some child ↦ disk_from more t child ]) e
 
-path-child : (more : ℕ) (t : Table) (node : ℕ) (p : ℕ → Bool) (below : Option ℕ) → filtered t node ≡ below
+pub path-child : (more : ℕ) (t : Table) (node : ℕ) (p : ℕ → Bool) (below : Option ℕ) → filtered t node ≡ below
     → list_any p (path_from (suc more) t node)
     ≡ (p node || elim below as (λ _. Bool) [ None ↦ false | Some child ↦ list_any p (path_from more t child) ])
 path-child more t node p None e = rw (e, path_from) refl

@@ -38,6 +38,7 @@ use Rattle.flat_machine.proofs.TablesKept.{new_parent, rows_table, file_table, f
 use Rattle.flat_machine.proofs.Wired.{Grows, NoRow, NoEdge}
 use Rattle.flat_machine.proofs.WritingKept.{grown_writing, left_still}
 use Rattle.flat_machine.proofs.WritingAdded.{drive_there, same_devices, file_writing, format_writing, filter_writing, remove_writing, device_writing}
+use Rattle.flat_machine.proofs.DevicesGone.{gone_table, gone_writing}
 use Rattle.flat_machine.proofs.FilesStand.{use_stands, spoil_stands, make_stands, format_stands}
 
 -- ---- one node more
@@ -362,6 +363,26 @@ device_stands s device node suits h =
           (apart-parents (device_edge device node) e (λ same. (let from = same ∙ of.1.0 in cc))) there;
     }
 
+device_gone_stands : (s : State) (number : ℕ) → Stands s → Stands (stepped s (change.RemoveDevice number))
+unfolding changed
+device_gone_stands s number h =
+    table_stands s now refl (λ file under. under-kept s now es file under) refl refl
+    (gone_table s.table now.table number refl es.kinds refl h.table refl refl) (gone_writing s number h) h
+  where
+    now : State
+    now = stepped s (change.RemoveDevice number)
+
+    es : HasEdges s now
+    es = record {
+      kinds = kinds_of s.table.nodes;
+      before = without_parent (Guest number) s.table.edges;
+      derived = refl;
+      keeps = λ e there over.
+          let of = h.table.single e there over in
+          let apart : same_parent e.parent (Guest number) ≡ false = rw of.1.0 refl in
+          filter-keeps (λ x. not (same_parent x.parent (Guest number))) s.table.edges e (ap not apart) there;
+    }
+
 -- neither rows nor edges nor devices nor files change
 still_stands : (s now : State) → now.table.nodes ≡ s.table.nodes → now.table.edges ≡ s.table.edges → now.table.guests ≡ s.table.guests
     → now.table.devices ≡ s.table.devices → now.table.files ≡ s.table.files → now.files ≡ s.files → now.disks ≡ s.disks
@@ -501,14 +522,19 @@ stands_keep s (change.PutFilter row node) suits h = suits
 stands_keep s (change.UseNode slot what node) suits h = suits
 stands_keep s (change.StartJob row) suits h = suits
 stands_keep s (change.AskJob number asked) suits h = suits
-stands_keep s (change.RemoveDevice number) suits h = suits
+stands_keep s (change.RemoveDevice number) suits h = device_gone_stands s number h
 stands_keep s (change.Attach overlay node) suits h = suits
 stands_keep s (change.Move from to but) suits h = suits
-stands_keep s (change.AddBitmap row) suits h = suits
-stands_keep s (change.RemoveBitmap node name) suits h = suits
-stands_keep s (change.TurnBitmap node name on) suits h = suits
-stands_keep s (change.ClearBitmap node name) suits h = suits
-stands_keep s (change.MergeBitmap node name source_node source) suits h = suits
+stands_keep s (change.AddBitmap row) suits h =
+    still_stands s (stepped s (change.AddBitmap row)) refl refl refl refl refl refl refl refl refl h
+stands_keep s (change.RemoveBitmap node name) suits h =
+    still_stands s (stepped s (change.RemoveBitmap node name)) refl refl refl refl refl refl refl refl refl h
+stands_keep s (change.TurnBitmap node name on) suits h =
+    still_stands s (stepped s (change.TurnBitmap node name on)) refl refl refl refl refl refl refl refl refl h
+stands_keep s (change.ClearBitmap node name) suits h =
+    still_stands s (stepped s (change.ClearBitmap node name)) refl refl refl refl refl refl refl refl refl h
+stands_keep s (change.MergeBitmap node name source_node source) suits h =
+    still_stands s (stepped s (change.MergeBitmap node name source_node source)) refl refl refl refl refl refl refl refl refl h
 
 -- changes in turn
 pub all_stand : (changes : List Change) (s : State) → AllSuit s changes → Stands s → Stands (all_stepped s changes)

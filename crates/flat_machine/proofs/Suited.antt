@@ -1,10 +1,9 @@
 -- The changes of an accepted command leave what holds of all states.
-use Rattle.std.proofs.Common.{◌≡◌, ◌≢◌, ◌⊎◌, ℕ, zero, suc, ◌+◌, ◌-◌, ◌<◌, ◌≤◌, Bool, true, false, cond, List, [], ◌∷◌, ◌++◌, map, length, refl, sym, ap, subst, ◌∙◌, inl, inr, arith, Option, Some, None}
+use Rattle.std.proofs.Common.{◌≡◌, ◌⊎◌, ℕ, zero, suc, ◌+◌, ◌-◌, ◌<◌, ◌≤◌, Bool, true, false, cond, List, [], ◌∷◌, ◌++◌, map, length, refl, sym, ap, subst, ◌∙◌, inl, inr, arith, Option, Some, None}
 use Rattle.std.specs.Prelude.{◌==◌, ◌||◌, if◌then◌else◌, not, nat_eq, nat_le, option_and_then, unwrap_or, IsSome, is_some, bytes_eq, codes}
 use Rattle.std.specs.List.{find, list_any, Contains}
 use Rattle.std.proofs.lemmas.Bool.{and_right, eqb-true, eq-eqb, ne_eqb, leb-false}
 use Rattle.std.proofs.lemmas.List.{length-map}
-use Rattle.std.proofs.lemmas.List.Elements.{All-weaker}
 use Rattle.blk_graph.specs.declared.edge.Edge.{Edge}
 use Rattle.blk_graph.specs.declared.edge.Parent.TheVariants.{Node}
 use Rattle.blk_graph.specs.declared.edge.Role.TheVariants.{File}
@@ -14,7 +13,7 @@ use Rattle.blk_graph.specs.Permissions.{has_role}
 use Rattle.blk_graph.specs.Ids.{lowest_from}
 use Rattle.blk_graph.proofs.Members.{find-Some, map-Contains, list_any-there}
 use Rattle.blk_graph.proofs.IdLemmas.{length-taken}
-use Rattle.qmp_codec.specs.Commands.{Cmd}
+use Rattle.qmp_codec.specs.Commands.{Cmd, SeenSources}
 use Rattle.qmp_codec.specs.declared.command.Command.TheVariants as command
 use Rattle.qmp_codec.specs.declared.nodes.FileRef.{FileRef}
 use Rattle.qmp_codec.specs.declared.nodes.FileRef.TheVariants as file_ref
@@ -29,30 +28,30 @@ use Rattle.qmp_codec.specs.declared.nodes.Created.TheVariants as created
 use Rattle.qmp_codec.specs.declared.nodes.DeviceAdd.{DeviceAdd}
 use Rattle.qmp_rules.specs.declared.ask.Ask.TheVariants as ask
 use Rattle.qmp_rules.specs.declared.ask.Drivers.TheVariants as drivers
+use Rattle.qmp_rules.specs.declared.change.Change.{Change}
 use Rattle.qmp_rules.specs.declared.change.Change.TheVariants as change
 use Rattle.qmp_rules.specs.declared.rows.NodeRecord.{NodeRecord}
 use Rattle.qmp_rules.specs.declared.rows.Device.{Device}
 use Rattle.qmp_rules.specs.declared.rows.FileState.{FileState}
 use Rattle.qmp_rules.specs.declared.rows.FileState.TheVariants.{Used}
 use Rattle.qmp_rules.specs.declared.told.Told.{Told}
-use Rattle.qmp_rules.specs.Table.{Table, node_at, node_named, device_at, device_named, file_state, child, has_name, kinds_of}
-use Rattle.qmp_rules.specs.Chains.{filter_role, disk_node}
+use Rattle.qmp_rules.specs.Table.{Table, node_at, node_named, device_at, device_named, file_state, child, kinds_of}
+use Rattle.qmp_rules.specs.Chains.{filter_role}
 use Rattle.qmp_rules.specs.Changes.{changed, without_row}
-use Rattle.qmp_rules.specs.Edits.{place_from, unused_from, device_number, inline_row, raw_edits, qcow2_edits, added_edits, add_edits, length_told, edits_of, uses, file_under, name_of_file_at, goes_with_node, with_inline, created_change, file_of_node, del_edits, new_device, device_add_edits}
+use Rattle.qmp_rules.specs.Edits.{place_from, unused_from, device_number, inline_row, raw_edits, qcow2_edits, added_edits, add_edits, length_told, edits_of, uses, file_under, name_of_file_at, goes_with_node, with_inline, created_change, file_of_node, del_edits, new_device, device_add_edits, merges}
 use Rattle.qmp_rules.specs.NodeAsks.{create_values, create_names, create_rest, del_asks, device_add_asks, add_asks, option_values, added_values, added_names, is_read_only, added_rest, raw_rest, qcow2_rest, is_added, backing_name}
 use Rattle.qmp_rules.specs.Looks.{is_unopened}
 use Rattle.qmp_rules.specs.Asks.{id_or, Asking, holds, first, takes, is_file, is_lost, name_of_file}
+use Rattle.qmp_rules.specs.BitmapAsks.{source_name, source_node}
 use Rattle.qmp_rules.specs.CommandAsks.{asks_of, negotiates}
 use Rattle.qmp_rules.specs.Answers.{unbuilt, out_of_turn, refusal_of, command_edits}
 use Rattle.blk_history.specs.Fold.{With}
-use Rattle.flat_machine.specs.State.{State, Unknown, Left, content_in}
+use Rattle.flat_machine.specs.State.{State, Unknown, content_in}
 use Rattle.flat_machine.specs.Changed.{stepped}
 use Rattle.flat_machine.specs.Sights.{told_by, MayStop}
-use Rattle.flat_machine.specs.Agreement.{HasDisk}
 use Rattle.flat_machine.specs.Performing.{IsWholly}
-use Rattle.flat_machine.specs.Writing.{IsWritable}
-use Rattle.flat_machine.specs.Wiring.{StandsFor, HasFile, IsNumberBy, IsInline, InlineAreUnder, TableStands, writes_through, IsDiskOf}
-use Rattle.flat_machine.specs.Standing.{IsUsedUp, MayWrite, Stands, StandsAtRest}
+use Rattle.flat_machine.specs.Wiring.{HasFile, IsNumberBy, IsInline, InlineAreUnder, TableStands}
+use Rattle.flat_machine.specs.Standing.{Stands, StandsAtRest}
 use Rattle.flat_machine.specs.Suiting.{IsAlone, AllTableSuit, RemovalSuits, FormattingSuits, AllSuit}
 use Rattle.flat_machine.proofs.Finds.{bytes_eq-same, same-bytes_eq, content_in-with}
 use Rattle.flat_machine.proofs.Fresh.{any-Contains, lowest_from-cases}
@@ -61,9 +60,10 @@ use Rattle.flat_machine.proofs.Accepted.{none-over, row_at, is_protocol, file_ca
 use Rattle.flat_machine.proofs.Tables.{file_state-with}
 use Rattle.flat_machine.proofs.Wired.{OldEdge, NoEdge}
 use Rattle.flat_machine.proofs.TablesKept.{IsOther, kept_row}
-use Rattle.flat_machine.proofs.WritingKept.{role_edge, WritesFile, writes_file}
 use Rattle.flat_machine.proofs.FilesStand.{use_stands}
 use Rattle.flat_machine.proofs.TableSuited.{named-row, own-settled, file-own, inline-found, add-table, NamedDrive, named-drive, device-suits}
+use Rattle.flat_machine.proofs.DriveWrites.{drive_may}
+use Rattle.flat_machine.proofs.SnapshotStates.{snapshot_suits}
 use Rattle.flat_machine.proofs.TableRests.{no-found, inline_change, inline-file, inline-left, made-goes_with, without_grow}
 
 with_some : {A : Type 0} (P : A → Type 0) (o : Option A) → With o P → IsSome o
@@ -398,114 +398,7 @@ fresh_number t told id h fresh room = by_place (place_from 0 id t.guests) refl
             (eq-eqb d.number (unused_from 64 (length t.guests) t.devices) is) in
             cc
 
--- ---- device_add: the disk
-
--- A guest on a node writes what may be written, where a `file` node has its flat disk and was used.
-drive_may : (s : State) (device : Device) (row : NodeRecord) → Stands s → Contains s.table.nodes row → device.read_only ≡ row.read_only
-    → (IsSome row.filename → row.is_settled ≡ true) → ((name : List ℕ) → row.filename ≡ Some name → content_in s.files name ≡ Some Unknown)
-    → MayWrite s device row.id
-drive_may s device row h there same settled known writes = by_disk (node_at s.table disk) refl (h.table.reads row.id row (h.table.apart row there))
-  where
-    disk : ℕ
-    disk = disk_node s.table row.id
-
-    did : writes_through s.table row.read_only row.id ≡ true
-    did = subst (λ b. writes_through s.table b row.id ≡ true) same writes
-
-    by_disk : (found : Option NodeRecord) → node_at s.table disk ≡ found → With found (IsDiskOf s.table row) → IsWritable s disk
-    by_disk None e of = absurd of
-    by_disk (Some d) e of = record {
-      disk = subst (λ n. IsSome (find (λ x. x.node == n) s.disks)) id_is (h.writing.disks d here of.own);
-      under = λ file r is found has. no_disk file r is found has;
-      known = λ name is. is_known name (writes_file s.table disk name is);
-      left = λ name is. All-weaker (IsUsedUp s) (λ l. l.file ≢ name) (λ l used same_file. not_left name (writes_file s.table disk name is) l used same_file)
-          s.left h.writing.left;
-      named = λ name is. is_named name (writes_file s.table disk name is);
-    }
-      where
-        here : Contains s.table.nodes d
-        here = (find-Some (λ r. r.id == disk) s.table.nodes d e).0
-
-        id_is : d.id ≡ disk
-        id_is = eqb-true d.id disk (find-Some (λ r. r.id == disk) s.table.nodes d e).1
-
-        same_row : (a b : NodeRecord) → Contains s.table.nodes a → Contains s.table.nodes b → a.id ≡ b.id → a ≡ b
-        same_row a b there_a there_b ids =
-            let at_a = h.table.apart a there_a in
-            let at_b = subst (λ n. node_at s.table n ≡ Some b) (sym ids) (h.table.apart b there_b) in
-            cc
-
-        -- the file under it
-        has_file : (under : NodeRecord) → Contains s.table.nodes under → child s.table disk File ≡ Some under.id → HasFile s.table d under
-        has_file under under_there is =
-            let to = role_edge (Node disk) File s.table.edges under.id is in
-            record {
-              over_there = here;
-              under_there = under_there;
-              edge = to.edge;
-              there = to.there;
-              parent = to.from ∙ ap Node (sym id_is);
-              role = to.role_is;
-              child = to.to;
-            }
-
-        -- it is the drive itself, where it is a `file` node
-        is_drive : (r : NodeRecord) → Contains s.table.nodes r → r.id ≡ disk → IsSome r.filename → r ≡ row
-        is_drive r r_there is some =
-            let as_disk : d ≡ r = same_row d r here r_there (id_is ∙ sym is) in
-            let itself = of.itself (subst (λ x. IsSome x.filename) (sym as_disk) some) in
-            same_row r row r_there there (is ∙ sym id_is ∙ itself)
-
-        no_disk : (file : ℕ) (r : NodeRecord) → child s.table disk File ≡ Some file → node_at s.table file ≡ Some r → HasDisk r → ⊥
-        no_disk file r is found has =
-            let r_here = find-Some (λ x. x.id == file) s.table.nodes r found in
-            let f = has_file r r_here.0 (is ∙ ap Some (sym (eqb-true r.id file r_here.1))) in
-            by_name r f r.filename refl has
-          where
-            by_name : (r : NodeRecord) → HasFile s.table d r → (name : Option (List ℕ)) → r.filename ≡ name → HasDisk r → ⊥
-            by_name r f None k has = let filter = h.table.filtered d r f k in let own = of.own in let none = subst IsSome own filter in cc
-            by_name r f (Some name) k has =
-                let gone = (h.table.taken d r f (subst IsSome (sym k) refl)).gone in
-                let kept = has.settled in
-                cc
-
-        is_known : (name : List ℕ) → WritesFile s.table disk name → content_in s.files name ≡ Some Unknown
-        is_known name w = by_from w.from
-          where
-            by_from : ((w.row.id ≡ disk) ⊎ (child s.table disk File ≡ Some w.row.id)) → content_in s.files name ≡ Some Unknown
-            by_from (inl is) =
-                let drive = is_drive w.row w.stands.there is (subst IsSome (sym w.stands.filename) refl) in
-                known name (ap (λ r. r.filename) (sym drive) ∙ w.stands.filename)
-            by_from (inr is) = h.writing.unknown name d w.row (has_file w.row w.stands.there is) w.stands.filename
-
-        not_left : (name : List ℕ) → WritesFile s.table disk name → (l : Left) → IsUsedUp s l → l.file ≡ name → ⊥
-        not_left name w l used same_file = by_from w.from
-          where
-            over : StandsFor s.table l.file w.row
-            over = subst (λ n. StandsFor s.table n w.row) (sym same_file) w.stands
-
-            by_from : ((w.row.id ≡ disk) ⊎ (child s.table disk File ≡ Some w.row.id)) → ⊥
-            by_from (inl is) =
-                let some = subst IsSome (sym w.stands.filename) refl in
-                let drive = is_drive w.row w.stands.there is some in
-                let kept = settled (subst (λ r. IsSome r.filename) drive some) in
-                let gone = subst (λ r. r.is_settled ≡ false) drive (used.gone w.row over) in
-                cc
-            by_from (inr is) =
-                let f = has_file w.row w.stands.there is in
-                used.is_open w.row over (record { edge = f.edge; there = f.there; over = f.role; child = f.child })
-
-        is_named : (name : List ℕ) → WritesFile s.table disk name → has_name name s.named ≡ true
-        is_named name w = by_from w.from
-          where
-            by_from : ((w.row.id ≡ disk) ⊎ (child s.table disk File ≡ Some w.row.id)) → has_name name s.named ≡ true
-            by_from (inl is) =
-                let as_disk : d ≡ w.row = same_row d w.row here w.stands.there (id_is ∙ sym is) in
-                h.writing.named name w.row w.stands (subst (λ r. r.read_only ≡ false) as_disk (of.writable did))
-            by_from (inr is) =
-                let f = has_file w.row w.stands.there is in
-                let taken = h.table.taken d w.row f (subst IsSome (sym w.stands.filename) refl) in
-                h.writing.named name w.row w.stands (taken.writable (of.writable did))
+-- ---- device_add
 
 device_suits : (s : State) (told : Told) (c : DeviceAdd (List ℕ)) → Stands s → NoneHolds s.table told (device_add_asks c)
     → AllSuit s (device_add_edits s.table c)
@@ -705,6 +598,17 @@ del_suits s told name h asks = by_row (found-named s.table told name asks.1.0)
         let there = (named-row s.table told h.stands.table name row named.1).0 in
         rw named.1 (by_use row there (no_edge row.id s.table.edges (lone-node s.table told name row named.1 asks.1.1.1.0)) (file_under s.table row) refl)
 
+device_gone_suits : (s : State) (found : Option Device)
+    → AllSuit s (elim found as (λ _. List Change) [ None ↦ [] | Some device ↦ change.RemoveDevice device.number ∷ [] ])
+device_gone_suits s None = tt
+device_gone_suits s (Some device) = (tt, tt)
+
+merges-suit : (t : Table) (node target : List ℕ) (sources : SeenSources) (s : State) → AllSuit s (merges t node target sources)
+merges-suit t node target [] s = tt
+merges-suit t node target (source ∷ sources) s =
+    let one : Change = change.MergeBitmap (id_or 0 t (Some node)) target (id_or 0 t (Some (source_node node source))) (source_name source) in
+    (tt, merges-suit t node target sources (stepped s one))
+
 -- ---- every command
 
 -- Where nothing refuses a command that is carried out, its changes leave what holds of all states.
@@ -728,6 +632,14 @@ accepted_suits s told exp c rests may h =
     by_command (command.BlockdevAdd c) may is asks = add_suits s told exp c rests.stands may asks
     by_command (command.BlockdevDel name) may is asks = del_suits s told name rests asks
     by_command (command.DeviceAdd c) may is asks = device_suits s told c rests.stands asks
+    by_command (command.BlockdevSnapshot c) may is asks = snapshot_suits s told c rests.stands asks
+    by_command (command.DeviceDel id) may is asks = device_gone_suits s (device_named s.table id)
     by_command command.QueryBlockJobs may is asks = tt
     by_command (command.QueryNamedBlockNodes flat) may is asks = tt
+    by_command (command.BitmapAdd c) may is asks = (tt, tt)
+    by_command (command.BitmapRemove c) may is asks = (tt, tt)
+    by_command (command.BitmapClear c) may is asks = (tt, tt)
+    by_command (command.BitmapEnable c) may is asks = (tt, tt)
+    by_command (command.BitmapDisable c) may is asks = (tt, tt)
+    by_command (command.BitmapMerge c) may is asks = merges-suit s.table c.node c.target c.bitmaps s
     by_command _ may is asks = absurd cc

@@ -13,7 +13,7 @@ use Rattle.blk_graph.specs.Edits.{with_edge}
 use Rattle.blk_graph.specs.Permissions.{node_edge, has_role}
 use Rattle.blk_graph.proofs.Members.{find-Some, Contains-nil, Contains-cases}
 use Rattle.blk_graph.proofs.EditLemmas.{Contains-with_edge_new}
-use Rattle.qmp_codec.specs.Commands.{Cmd}
+use Rattle.qmp_codec.specs.Commands.{Cmd, SeenSources}
 use Rattle.qmp_codec.specs.declared.command.Command.TheVariants as command
 use Rattle.qmp_codec.specs.declared.nodes.FileRef.{FileRef}
 use Rattle.qmp_codec.specs.declared.nodes.FileRef.TheVariants as file_ref
@@ -27,10 +27,11 @@ use Rattle.qmp_codec.specs.declared.nodes.DeviceAdd.{DeviceAdd}
 use Rattle.qmp_rules.specs.declared.change.Change.{Change}
 use Rattle.qmp_rules.specs.declared.change.Change.TheVariants as change
 use Rattle.qmp_rules.specs.declared.rows.NodeRecord.{NodeRecord}
+use Rattle.qmp_rules.specs.declared.rows.Device.{Device}
 use Rattle.qmp_rules.specs.declared.told.Told.{Told}
-use Rattle.qmp_rules.specs.Table.{Table, node_at, node_named, id_named, child, kinds_of}
+use Rattle.qmp_rules.specs.Table.{Table, device_named, node_at, node_named, id_named, child, kinds_of}
 use Rattle.qmp_rules.specs.Changes.{changed, all_changed, node_changed, unsettled, lost_with, with_unsettled, without_row, format_edges}
-use Rattle.qmp_rules.specs.Edits.{file_of_node, next_free_id, raw_row, image_row, length_told, goes_with, goes_with_node, with_inline, uses, file_under, del_edits, added_edits, raw_edits, qcow2_edits, add_edits, inline_row, edits_of, created_change, spoiled, device_add_edits, new_device, device_uses, of_row}
+use Rattle.qmp_rules.specs.Edits.{file_of_node, next_free_id, raw_row, image_row, length_told, goes_with, goes_with_node, with_inline, uses, file_under, del_edits, added_edits, raw_edits, qcow2_edits, add_edits, inline_row, edits_of, created_change, spoiled, device_add_edits, new_device, device_uses, of_row, bitmap_add_edits, bitmap_remove_edits, bitmap_clear_edits, bitmap_turn_edits, merges, merge_edits}
 use Rattle.qmp_rules.specs.NodeAsks.{add_asks, del_asks, device_add_asks, is_read_only, backing_name}
 use Rattle.qmp_rules.specs.Asks.{first, is_file}
 use Rattle.qmp_rules.specs.CommandAsks.{asks_of, negotiates}
@@ -42,9 +43,11 @@ use Rattle.flat_machine.proofs.Tables.{HasLike, pushed-new, refreshed-new, with_
 use Rattle.flat_machine.proofs.Rows.{SameRows, rows-same, rows-mapped, like_lost, like_unsettled, like_over}
 use Rattle.flat_machine.proofs.Wired.{OldRow, Grows, NoRow, NoEdge}
 use Rattle.flat_machine.proofs.TablesKept.{IsOther, rows_grow, rows_table, file_grow, file_table, IsNewEdge, format_grow, format_table, is_under, IsFilterEdge, filter_grow, filter_table, removed_grow, removed_table, IsDriveEdge, device_grow, device_table}
+use Rattle.flat_machine.proofs.DevicesGone.{gone_grow, gone_table}
 use Rattle.flat_machine.proofs.Asked.{none-both, NoneHolds, none-holds, found-named, lone-node}
 use Rattle.flat_machine.proofs.Accepted.{no_edge}
 use Rattle.flat_machine.proofs.TableSuited.{named-row, add-table, device-table}
+use Rattle.flat_machine.proofs.Snapshots.{snapshot_rests}
 
 -- ---- each change
 
@@ -78,14 +81,18 @@ table_keeps t (change.PutFilter row node) suits h = suits
 table_keeps t (change.UseNode slot what node) suits h = suits
 table_keeps t (change.StartJob row) suits h = suits
 table_keeps t (change.AskJob number asked) suits h = suits
-table_keeps t (change.RemoveDevice number) suits h = suits
+table_keeps t (change.RemoveDevice number) suits h =
+    gone_table t (changed t (change.RemoveDevice number)) number refl (kinds_of t.nodes) refl h refl refl
 table_keeps t (change.Attach overlay node) suits h = suits
 table_keeps t (change.Move from to but) suits h = suits
-table_keeps t (change.AddBitmap row) suits h = suits
-table_keeps t (change.RemoveBitmap node name) suits h = suits
-table_keeps t (change.TurnBitmap node name on) suits h = suits
-table_keeps t (change.ClearBitmap node name) suits h = suits
-table_keeps t (change.MergeBitmap node name source_node source) suits h = suits
+table_keeps t (change.AddBitmap row) suits h =
+    rows_table t (changed t (change.AddBitmap row)) (rows-same t (changed t (change.AddBitmap row)) refl h.apart) refl refl refl h
+table_keeps t (change.RemoveBitmap node name) suits h =
+    rows_table t (changed t (change.RemoveBitmap node name)) (rows-same t (changed t (change.RemoveBitmap node name)) refl h.apart) refl refl refl h
+table_keeps t (change.TurnBitmap node name on) suits h =
+    rows_table t (changed t (change.TurnBitmap node name on)) (rows-same t (changed t (change.TurnBitmap node name on)) refl h.apart) refl refl refl h
+table_keeps t (change.ClearBitmap node name) suits h = h
+table_keeps t (change.MergeBitmap node name source_node source) suits h = h
 
 pub all_keep : (changes : List Change) (t : Table) → AllTableSuit t changes → TableStands t → TableStands (all_changed t changes)
 all_keep [] t suits h = h
@@ -147,6 +154,12 @@ MakesNone Q (change.FormatFile node name size backing_file backing_fmt) = Unit {
 MakesNone Q (change.SpoilFile name) = Unit {0}
 MakesNone Q (change.UseFile name) = Unit {0}
 MakesNone Q (change.AddDevice device node) = Unit {0}
+MakesNone Q (change.RemoveDevice number) = Unit {0}
+MakesNone Q (change.AddBitmap row) = Unit {0}
+MakesNone Q (change.RemoveBitmap node name) = Unit {0}
+MakesNone Q (change.TurnBitmap node name on) = Unit {0}
+MakesNone Q (change.ClearBitmap node name) = Unit {0}
+MakesNone Q (change.MergeBitmap node name source_node source) = Unit {0}
 MakesNone Q c = ⊥
 
 inline_rows : (Q : ℕ → Type 0) (t now : Table) → SameRows t now → now.edges ≡ t.edges → TableStands t → InlineBut t Q → InlineBut now Q
@@ -189,6 +202,17 @@ inline_keeps Q t (change.AddDevice device node) made suits h inline =
     inline_stays t now NoRow (IsDriveEdge t now device node suits refl (kinds_of t.nodes) refl h)
     (device_grow t now device node suits refl (kinds_of t.nodes) refl h) Q h
     (λ r over never. absurd never) inline
+inline_keeps Q t (change.RemoveDevice number) made suits h inline =
+    let now : Table = changed t (change.RemoveDevice number) in
+    inline_stays t now NoRow NoEdge (gone_grow t now number refl (kinds_of t.nodes) refl h) Q h (λ r over never. absurd never) inline
+inline_keeps Q t (change.AddBitmap row) made suits h inline =
+    inline_rows Q t (changed t (change.AddBitmap row)) (rows-same t (changed t (change.AddBitmap row)) refl h.apart) refl h inline
+inline_keeps Q t (change.RemoveBitmap node name) made suits h inline =
+    inline_rows Q t (changed t (change.RemoveBitmap node name)) (rows-same t (changed t (change.RemoveBitmap node name)) refl h.apart) refl h inline
+inline_keeps Q t (change.TurnBitmap node name on) made suits h inline =
+    inline_rows Q t (changed t (change.TurnBitmap node name on)) (rows-same t (changed t (change.TurnBitmap node name on)) refl h.apart) refl h inline
+inline_keeps Q t (change.ClearBitmap node name) made suits h inline = inline
+inline_keeps Q t (change.MergeBitmap node name source_node source) made suits h inline = inline
 inline_keeps Q t c made suits h inline = absurd made
 
 abbrev AllMakeNone : List Change → Type 0
@@ -495,10 +519,23 @@ device_rests t told c asks h =
     made None = tt
     made (Some row) = made-append (device_uses row) (change.AddDevice (new_device t c row) row.id ∷ []) (made_if row (is_file row)) (tt, tt)
 
+device_gone_rests : (t : Table) (found : Option Device) → TableAtRest t
+    → BothRest t (elim found as (λ _. List Change) [ None ↦ [] | Some device ↦ change.RemoveDevice device.number ∷ [] ])
+device_gone_rests t None h = (tt, h)
+device_gone_rests t (Some device) h = both_rest t (change.RemoveDevice device.number ∷ []) (tt, tt) (tt, tt) h
+
 create_rests : (t : Table) (id : List ℕ) (options : Created (List ℕ)) → TableAtRest t → BothRest t (change.KeepId id ∷ created_change t options)
 create_rests t id (created.File c) h = both_rest t (change.KeepId id ∷ created_change t (created.File c)) (tt, (tt, tt)) (tt, (tt, tt)) h
 create_rests t id (created.Qcow2 c) h = both_rest t (change.KeepId id ∷ created_change t (created.Qcow2 c)) (tt, (tt, tt)) (tt, (tt, tt)) h
 create_rests t id created.Unknown h = both_rest t (change.KeepId id ∷ []) (tt, tt) (tt, tt) h
+
+merges-made : (t : Table) (node target : List ℕ) (sources : SeenSources) → AllMakeNone (merges t node target sources)
+merges-made t node target [] = tt
+merges-made t node target (s ∷ sources) = (tt, merges-made t node target sources)
+
+merges-table : (t : Table) (node target : List ℕ) (sources : SeenSources) (now : Table) → AllTableSuit now (merges t node target sources)
+merges-table t node target [] now = tt
+merges-table t node target (s ∷ sources) now = (tt, merges-table t node target sources (changed now _))
 
 -- An accepted command leaves the table as it is to be between events, whatever was told.
 pub command_rests : (t : Table) (told exp : Told) (c : Cmd) → TableAtRest t → refusal_of t told c ≡ None
@@ -517,8 +554,17 @@ command_rests t told exp c rests h =
     by_command (command.BlockdevAdd c) h is asks = add_rests t told exp c asks h
     by_command (command.BlockdevDel name) h is asks = del_rests t told name asks h
     by_command (command.DeviceAdd c) h is asks = device_rests t told c asks h
+    by_command (command.BlockdevSnapshot c) h is asks = snapshot_rests t told c asks h
+    by_command (command.DeviceDel id) h is asks = device_gone_rests t (device_named t id) h
     by_command command.QueryBlockJobs h is asks = (tt, h)
     by_command (command.QueryNamedBlockNodes flat) h is asks = (tt, h)
+    by_command (command.BitmapAdd c) h is asks = both_rest t (bitmap_add_edits t c) (tt, tt) (tt, tt) h
+    by_command (command.BitmapRemove c) h is asks = both_rest t (bitmap_remove_edits t c) (tt, tt) (tt, tt) h
+    by_command (command.BitmapClear c) h is asks = both_rest t (bitmap_clear_edits t c) (tt, tt) (tt, tt) h
+    by_command (command.BitmapEnable c) h is asks = both_rest t (bitmap_turn_edits t true c) (tt, tt) (tt, tt) h
+    by_command (command.BitmapDisable c) h is asks = both_rest t (bitmap_turn_edits t false c) (tt, tt) (tt, tt) h
+    by_command (command.BitmapMerge c) h is asks =
+        both_rest t (merge_edits t c) (merges-made t c.node c.target c.bitmaps) (merges-table t c.node c.target c.bitmaps t) h
     by_command _ h is asks = absurd cc
 
 -- so does a creation of which a call failed

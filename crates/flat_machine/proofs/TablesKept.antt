@@ -50,7 +50,7 @@ there-row t apart row there = subst IsSome (sym (apart row there)) refl
 pub not-there : (t : Table) (node : ℕ) → node_at t node ≡ None → IsThere t node → ⊥
 not-there t node none there = let some = subst IsSome none there in cc
 
-old_edge : (t : Table) → EdgesHaveEnds t → (edge e : Edge) → Contains t.edges edge → IsSameEdge edge e → OldEdge t (IsThere t) e
+pub old_edge : (t : Table) → EdgesHaveEnds t → (edge e : Edge) → Contains t.edges edge → IsSameEdge edge e → OldEdge t (IsThere t) e
 old_edge t ends edge e there same = record {
   edge = edge;
   there = there;
@@ -88,7 +88,7 @@ rows_table t now rows edges guests devices h =
 
 -- ---- nodes that are no filters
 
-no_copies : (kind : Kind) → filter_role kind ≡ None → is_copying kind ≡ false
+pub no_copies : (kind : Kind) → filter_role kind ≡ None → is_copying kind ≡ false
 no_copies Protocol h = refl
 no_copies Raw h = refl
 no_copies Qcow2 h = refl
@@ -265,7 +265,7 @@ module _ (t now : Table) (row : NodeRecord) (suits : SuitsFile t row) (nodes : n
 -- ---- a format node
 
 -- an edge of another role leaves a parent's child
-child-role : (parent : Parent) (role : Role) (new : Edge) (edges : List Edge) → same_role new.role role ≡ false
+pub child-role : (parent : Parent) (role : Role) (new : Edge) (edges : List Edge) → same_role new.role role ≡ false
     → child_of parent role (with_edge new edges) ≡ child_of parent role edges
 child-role parent role new edges differ = ap (option_map (λ (e : Edge). e.child)) (kept edges)
   where
@@ -371,8 +371,13 @@ module _ (t now : Table) (row : NodeRecord) (file : ℕ) (backing : Option ℕ) 
   pub format_grow : Grows t now (IsThere t) (λ r. r ≡ row) IsNewEdge
   format_grow = adds_grow t between now row IsNewEdge format_adds h
 
-  found_row : node_at now row.id ≡ Some row
+  pub found_row : node_at now row.id ≡ Some row
   found_row = new_found t between now row IsNewEdge format_adds h
+
+  -- the new node is over the file
+  pub format_child : child now row.id File ≡ Some file
+  format_child = (one_file t between now row IsNewEdge format_adds h [] own_edge
+      (backed-file row.id backing (with_edge own_edge t.edges) ∙ child-new own_edge t.edges apart_parents) refl).1
 
   there_row : Contains now.nodes row
   there_row = (find-Some (λ r. r.id == row.id) now.nodes row found_row).0

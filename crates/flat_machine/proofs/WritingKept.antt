@@ -150,7 +150,7 @@ module _ (s now : State) (P : ℕ → Type 0) (IsNewRow : NodeRecord → Type 0)
     (g : Grows s.table now.table P IsNewRow IsNewEdge) where
   -- ---- a node that may be written
 
-  file_same : (node : ℕ) → P node → written_file now.table node ≡ written_file s.table node
+  pub file_same : (node : ℕ) → P node → written_file now.table node ≡ written_file s.table node
   file_same node here =
       let both = g.stays node here in
       ap (option_and_then (λ row. file_of now.table row row.kind)) both.found_later

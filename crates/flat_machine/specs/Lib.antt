@@ -23,3 +23,6 @@ pub mod Writing
 pub mod Wiring
 pub mod Standing
 pub mod Suiting
+pub mod Imaging
+pub mod Recording
+pub mod Bitmaps

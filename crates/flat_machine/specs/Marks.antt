@@ -68,9 +68,13 @@ marks_of s e = []
 abbrev pub IsCalm : State → ℕ → Type 0
 IsCalm s node = (g : ℕ) (row : Guest) → guest_at s g ≡ Some row → disk_of_guest s.table g ≡ Some (disk_node s.table node) → row.flight ≡ None
 
+-- nor on any of these
+abbrev pub AreCalm : State → List ℕ → Type 0
+AreCalm s disks = All (IsCalm s) disks
+
 -- no mark splits a request
 abbrev pub NoneSplits : State → List Event → Type 0
-NoneSplits = Each after (λ s e. All (IsCalm s) (marks_of s e))
+NoneSplits = Each after (λ s e. AreCalm s (marks_of s e))
 
 -- ---- what must be drained
 
@@ -107,25 +111,25 @@ must_drain row = can_be_ready row row.kind && ends_by row.asked
 
 -- The disks that are held: of the last command, where it has to come again, and of the jobs that are about to end. No entry
 -- tells of them.
-pub record Drains : Type 0 where
+pub record Drained : Type 0 where
   pub command : List ℕ
   pub jobs : List ℕ
 
-abbrev pub no_drains : Drains
-no_drains = record { command = []; jobs = [] }
+abbrev pub none_drained : Drained
+none_drained = record { command = []; jobs = [] }
 
 -- a command has to come again, or was answered
-abbrev pub after_later : List ℕ → Drains → Drains
+abbrev pub after_later : List ℕ → Drained → Drained
 after_later disks drains = record drains { command = disks }
 
-abbrev pub after_reply : Drains → Drains
+abbrev pub after_reply : Drained → Drained
 after_reply drains = record drains { command = [] }
 
 -- a turn of a job that is asked to end, and its end
-abbrev pub after_turn : ℕ → Drains → Drains
+abbrev pub after_turn : ℕ → Drained → Drained
 after_turn job drains = if has_id job drains.jobs then drains else record drains { jobs = drains.jobs ++ job ∷ [] }
 
-abbrev pub after_end : ℕ → Drains → Drains
+abbrev pub after_end : ℕ → Drained → Drained
 after_end job drains = record drains { jobs = filter (λ other. not (other == job)) drains.jobs }
 
 -- the disks that jobs hold
@@ -137,11 +141,11 @@ job_disks t (job ∷ jobs) = of_job (job_at t job) (λ row. row.source ∷ []) +
 abbrev pub is_on : Table → ℕ → ℕ → Bool
 is_on t node disk = disk_node t disk == node
 
-abbrev pub holds : Table → Drains → Option ℕ → Bool
+abbrev pub holds : Table → Drained → Option ℕ → Bool
 holds t drains None = false
 holds t drains (Some node) = list_any (is_on t node) (drains.command ++ job_disks t drains.jobs)
 
-abbrev pub is_held : State → Drains → ℕ → Bool
+abbrev pub is_held : State → Drained → ℕ → Bool
 is_held s drains g = holds s.table drains (disk_of_guest s.table g)
 
 -- ---- what has to come again

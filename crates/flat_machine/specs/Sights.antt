@@ -1,5 +1,5 @@
 -- What the store's files and the images of nodes tell for a command, by what is known of them.
-use Rattle.std.specs.Prelude.{◌≡◌, ◌⊎◌, ℕ, ◌<◌, nat_lt, ◌==◌, Bool, true, false, not, ◌&&◌, if◌then◌else◌, List, [], ◌∷◌, map, length, Contains, Option, Some, None, is_some, option_map, option_and_then}
+use Rattle.std.specs.Prelude.{◌≡◌, ◌⊎◌, ℕ, ◌≤◌, nat_lt, ◌==◌, Bool, true, false, not, ◌&&◌, if◌then◌else◌, List, [], ◌∷◌, map, length, Contains, Option, Some, None, is_some, option_map, option_and_then}
 use Rattle.blk_base.specs.declared.fault.FaultFrom.TheVariants as from
 use Rattle.q2_format.specs.Sizes.{clusters_for}
 use Rattle.q2_format.specs.Header.{header_of}
@@ -113,10 +113,10 @@ abbrev pub reads_image : Table → FileRef (List ℕ) → Bool
 reads_image t (file_ref.Name name) = is_free_file t name
 reads_image t (file_ref.Inline file) = not (is_unopened t file.filename)
 
--- the calls of an addition: a file is opened, an image is read
+-- the calls of an addition: a file is opened, that of a part to see where it may begin, and an image is read
 abbrev pub adds_at : Table → Look → Added (List ℕ) → Bool
 adds_at t look.File (added.File filename) = not (is_unopened t filename)
-adds_at t look.File (added.Raw raw) = opens_file t raw.file
+adds_at t look.Begin (added.Raw raw) = opens_file t raw.file
 adds_at t look.File (added.Qcow2 image) = opens_file t image.file
 adds_at t look.Image (added.Qcow2 image) = reads_image t image.file
 adds_at t what driver = false
@@ -135,6 +135,7 @@ calls_at t what c = false
 -- The store failed to open or to make a file, a device to read an image, or to take a created one; or that would have passed
 -- its capacity.
 abbrev pub IsFailure : Look → Refusal → Type 0
+IsFailure look.Begin (refusal.Io from.Store count) = Unit {0}
 IsFailure look.File (refusal.Io from.Store count) = Unit {0}
 IsFailure look.Image (refusal.Io (from.Dev dev) count) = Unit {0}
 IsFailure look.Format (refusal.Io (from.Dev dev) count) = Unit {0}
@@ -152,8 +153,7 @@ is_opened c cause = false
 abbrev pub IsReached : Cmd → Look → Option Stopped → Type 0
 IsReached c what None = Unit {0}
 IsReached c what (Some expected) =
-    (order_of what < order_of expected.look)
-    ⊎ (((what ≡ look.File) ⊎ (what ≡ expected.look)) × (is_opened c expected.refusal ≡ true))
+    (order_of what ≤ order_of expected.look) × (is_opened c expected.refusal ≡ true)
 
 pub record Fails (t : Table) (c : Cmd) (expected : Option Stopped) (stopped : Stopped) : Type 0 where
   pub call : calls_at t stopped.look c ≡ true

@@ -94,6 +94,12 @@ TableSuits t (change.AddFormat row file backing) = SuitsFormat t row file backin
 TableSuits t (change.AddFilter row child) = SuitsFilter t row child
 TableSuits t (change.RemoveNode node) = IsAlone t node
 TableSuits t (change.AddDevice device node) = SuitsDevice t device node
+TableSuits t (change.RemoveDevice number) = Unit {0}
+TableSuits t (change.AddBitmap row) = Unit {0}
+TableSuits t (change.RemoveBitmap node name) = Unit {0}
+TableSuits t (change.TurnBitmap node name on) = Unit {0}
+TableSuits t (change.ClearBitmap node name) = Unit {0}
+TableSuits t (change.MergeBitmap node name source_node source) = Unit {0}
 TableSuits t c = TableStands (changed t c)
 
 abbrev pub AllTableSuit : Table → List Change → Type 0
@@ -150,6 +156,12 @@ Suits s (change.AddFormat row file backing) = FormatSuits s row file backing
 Suits s (change.AddFilter row child) = SuitsFilter s.table row child
 Suits s (change.RemoveNode node) = RemovalSuits s.table node
 Suits s (change.AddDevice device node) = DeviceSuits s device node
+Suits s (change.RemoveDevice number) = Unit {0}
+Suits s (change.AddBitmap row) = Unit {0}
+Suits s (change.RemoveBitmap node name) = Unit {0}
+Suits s (change.TurnBitmap node name on) = Unit {0}
+Suits s (change.ClearBitmap node name) = Unit {0}
+Suits s (change.MergeBitmap node name source_node source) = Unit {0}
 Suits s c = Stands (stepped s c)
 
 abbrev pub AllSuit : State → List Change → Type 0

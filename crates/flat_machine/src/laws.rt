@@ -17,7 +17,7 @@ ghost use Rattle.qmp_codec.specs.declared.nodes.Created.{Created};
 ghost use Rattle.qmp_rules.specs.declared.told.Told.{Told};
 ghost use Rattle.qmp_rules.specs.declared.rows.Device.{Device};
 ghost use Rattle.qmp_rules.specs.Table.{Table, device_at};
-ghost use Rattle.qmp_rules.specs.Chains.{written_under};
+ghost use Rattle.qmp_rules.specs.Chains.{disk_node, written_under};
 ghost use Rattle.qmp_rules.specs.Changes.{all_changed};
 ghost use Rattle.qmp_rules.specs.Edits.{spoiled};
 ghost use Rattle.qmp_rules.specs.Answers.{refusal_of, command_edits};
@@ -38,6 +38,7 @@ ghost use Rattle.flat_machine.specs.Wiring.{TableAtRest};
 ghost use Rattle.flat_machine.specs.Standing.{Stands, StandsAtRest};
 ghost use Rattle.flat_machine.specs.Agreement.{Contents, Agrees};
 ghost use Rattle.flat_machine.specs.Performing.{Can, Performed, AllCan, AllPerformed};
+ghost use Rattle.flat_machine.specs.Imaging.{ShowsImages, AllKeepImages, KeepsMapping};
 
 /// Where nodes and files are what the flat machine says, they are so after a change that can be made and was performed,
 /// whatever its kind, and after changes in turn.
@@ -139,4 +140,19 @@ pub fn replies_keep_disks()
         (class : Class) (desc : List ℕ) → read text ≡ Some (refused_data id class desc)
         → is_failed_call desc ≡ true
         → edits_by s text (Ok c) ≡ failed_edits s.table c }
+{}
+
+/// Where the flat machine says of images what is so of their files, it does so at the beginning, after changes in turn
+/// that suit the state and were performed, and after a piece of a guest's request, which leaves mapped what was.
+pub fn images_stay_as_said()
+    ensures beginning { (o : Opening) (c : Contents) → ShowsImages (start o) c }
+    ensures changes { (opening : List ℕ → Option (List ℕ)) (changes : List Change) (s : State)
+        (old new : Contents) → AllSuit s changes → AllCan s changes → AllKeepImages s changes
+        → Stands s → Agrees opening s old → AllPerformed s changes old new
+        → ShowsImages s old → ShowsImages (all_stepped s changes) new }
+    ensures pieces { (s : State) (g drive : ℕ) (op : Op) (outcome : Outcome) (part : Extent)
+        (old new : Contents) → Stands s → drive_of s.table g ≡ Some drive
+        → PieceDone s drive op outcome part old new
+        → KeepsMapping s.table (disk_node s.table drive) old new
+        → ShowsImages s old → ShowsImages (with_part drive op outcome part s) new }
 {}

@@ -1,0 +1,411 @@
+-- What holds of tables stays where the edges into a node lead on to it, or to an overlay of it.
+use Rattle.std.proofs.Common.{◌≡◌, ◌≢◌, ◌⊎◌, ℕ, zero, suc, Bool, true, false, List, refl, sym, ap, subst, ◌∙◌, inl, inr, Option, Some, None, option_map}
+use Rattle.std.specs.Prelude.{◌==◌, ◌||◌, not, IsSome, option_and_then}
+use Rattle.std.specs.List.{list_any, Contains}
+use Rattle.std.proofs.lemmas.Bool.{eqb-true, cases_eq}
+use Rattle.blk_graph.specs.declared.edge.Edge.{Edge}
+use Rattle.blk_graph.specs.declared.edge.Parent.TheVariants.{Node, Guest}
+use Rattle.blk_graph.specs.declared.edge.Role.{Role}
+use Rattle.blk_graph.specs.declared.edge.Role.TheVariants.{Drive, File, Backing}
+use Rattle.blk_graph.specs.declared.kind.Kind.{Kind}
+use Rattle.blk_graph.specs.declared.kind.Kind.TheVariants.{Protocol, Raw, Qcow2, CopyOnRead, BeforeWrite, Mirror, Commit}
+use Rattle.blk_graph.specs.Edits.{child_of}
+use Rattle.blk_graph.specs.Permissions.{node_edge, has_role}
+use Rattle.blk_graph.proofs.Members.{find-Some}
+use Rattle.blk_graph.proofs.EditLemmas.{IsSameEdge}
+use Rattle.qmp_rules.specs.declared.rows.NodeRecord.{NodeRecord}
+use Rattle.qmp_rules.specs.Table.{Table, node_at, child}
+use Rattle.qmp_rules.specs.Chains.{filter_role, filtered, disk_from, disk_node}
+use Rattle.qmp_rules.specs.Answers.{untold}
+use Rattle.blk_history.specs.Fold.{With}
+use Rattle.flat_machine.specs.State.{drive_of}
+use Rattle.flat_machine.specs.Machine.{copies_at, copies_through, path, path_from}
+use Rattle.flat_machine.specs.Agreement.{HasDisk}
+use Rattle.flat_machine.specs.Wiring.{HasEnds, StandsFor, HasFile, IsDiskOf, InlineAreUnder, TableStands, writes_through}
+use Rattle.flat_machine.proofs.Tables.{HasLike}
+use Rattle.flat_machine.proofs.Rows.{same_row, from-child, path-child, copies-at}
+use Rattle.flat_machine.proofs.Wired.{with_at}
+use Rattle.flat_machine.proofs.TablesKept.{no_copies, own_reads}
+use Rattle.flat_machine.proofs.TableSuited.{settled-free}
+
+-- ---- an overlay, and the node that it is put over
+
+pub record LiesOver (t : Table) (node overlay : NodeRecord) : Type 0 where
+  pub node_there : Contains t.nodes node
+  pub overlay_there : Contains t.nodes overlay
+  pub disk : HasDisk node
+  pub driver : overlay.kind ≡ Qcow2
+  pub writable : overlay.read_only ≡ false
+  pub other : overlay.id ≢ node.id
+
+-- ---- edges that lead elsewhere
+
+-- an edge of the table, which leads where it led or to the other place; a file edge does that
+pub record LedEdge (t : Table) (to : ℕ → ℕ) (e : Edge) : Type 0 where
+  pub edge : Edge
+  pub there : Contains t.edges edge
+  pub parent : edge.parent ≡ e.parent
+  pub role : edge.role ≡ e.role
+  pub leads : (e.child ≡ edge.child) ⊎ (e.child ≡ to edge.child)
+  pub file : edge.role ≡ File → e.child ≡ to edge.child
+
+-- Edges into other nodes stay, those into the node lead on or to the overlay, and the overlay may have the node as backing
+-- node.
+pub record Redirects (t : Table) (edges : List Edge) (node overlay : ℕ) (to : ℕ → ℕ) : Type 0 where
+  pub others : (c : ℕ) → c ≢ node → to c ≡ c
+  pub at_node : (to node ≡ node) ⊎ (to node ≡ overlay)
+  pub old : (e : Edge) → Contains edges e → LedEdge t to e ⊎ IsSameEdge (node_edge overlay Backing node) e
+  pub keeps : (e : Edge) → Contains t.edges e → e.child ≢ node → HasLike edges e
+  pub children : (n : ℕ) (role : Role) → role ≢ Backing → child_of (Node n) role edges ≡ option_map to (child t n role)
+  pub drives : (g : ℕ) → child_of (Guest g) Drive edges ≡ option_map to (drive_of t g)
+
+-- ---- nodes that are no filters
+
+filter-other : (kind : Kind) (role : Role) → filter_role kind ≡ Some role → role ≢ Backing
+filter-other Protocol role is same = absurd cc
+filter-other Raw role is same = absurd cc
+filter-other Qcow2 role is same = absurd cc
+filter-other CopyOnRead role is same = absurd cc
+filter-other BeforeWrite role is same = absurd cc
+filter-other Mirror role is same = absurd cc
+filter-other Commit role is same = absurd cc
+
+unfiltered : (t : Table) (row : NodeRecord) → node_at t row.id ≡ Some row → filter_role row.kind ≡ None → filtered t row.id ≡ None
+unfiltered t row found own = rw (found, own) refl
+
+disk-alone : (more : ℕ) (t : Table) (n : ℕ) → filtered t n ≡ None → disk_from more t n ≡ n
+disk-alone zero t n none = refl
+disk-alone (suc more) t n none = from-child more t n None none
+
+path-alone : (more : ℕ) (t : Table) (n : ℕ) (p : ℕ → Bool) → filtered t n ≡ None → list_any p (path_from more t n) ≡ (p n || false)
+path-alone zero t n p none = refl
+path-alone (suc more) t n p none = path-child more t n p None none
+
+-- ---- it stays
+
+module _ (t : Table) (es : List Edge) (node overlay : NodeRecord) (to : ℕ → ℕ) (over : LiesOver t node overlay)
+    (r : Redirects t es node.id overlay.id to) (h : TableStands t) where
+  abbrev pub led : Table
+  led = record t { edges = es }
+
+  pub node_found : node_at t node.id ≡ Some node
+  node_found = h.apart node over.node_there
+
+  pub overlay_found : node_at t overlay.id ≡ Some overlay
+  overlay_found = h.apart overlay over.overlay_there
+
+  pub overlay_named : overlay.filename ≡ None
+  overlay_named = by_name overlay.filename refl
+    where
+      by_name : (name : Option (List ℕ)) → overlay.filename ≡ name → name ≡ None
+      by_name None e = refl
+      by_name (Some name) e =
+          let file = h.drivers name overlay (record { there = over.overlay_there; filename = e }) in
+          let image = over.driver in
+          absurd cc
+
+  pub overlay_own : filter_role overlay.kind ≡ None
+  overlay_own = ap filter_role over.driver
+
+  -- the overlay is no `file` node
+  no_file : (row : NodeRecord) → Contains t.nodes row → IsSome row.filename → row.id ≡ overlay.id → ⊥
+  no_file row there some is =
+      let same : row ≡ overlay = same_row t h.apart overlay row over.overlay_there there is in
+      let bad = subst IsSome overlay_named (subst (λ x. IsSome x.filename) same some) in
+      cc
+
+  -- an edge that leads to a `file` node led to it
+  pub into_file : (e : Edge) (l : LedEdge t to e) (row : NodeRecord) → Contains t.nodes row → IsSome row.filename → e.child ≡ row.id
+      → l.edge.child ≡ row.id
+  into_file e l row there some is = elim l.leads [
+    | inl same ↦ sym same ∙ is
+    | inr moved ↦ elim (cases_eq l.edge.child node.id) [
+      | inr differ ↦ sym (r.others l.edge.child differ) ∙ sym moved ∙ is
+      | inl at_it ↦ elim r.at_node [
+        | inl on ↦ at_it ∙ sym on ∙ ap to (sym at_it) ∙ sym moved ∙ is
+        | inr over_it ↦ absurd (no_file row there some (sym is ∙ moved ∙ ap to at_it ∙ over_it))
+      ]
+    ]
+  ]
+
+  pub was_under : (over_row under : NodeRecord) → HasFile led over_row under → IsSome under.filename → HasFile t over_row under
+  was_under over_row under f some = elim (r.old f.edge f.there) [
+    | inl l ↦ record {
+      over_there = f.over_there;
+      under_there = f.under_there;
+      edge = l.edge;
+      there = l.there;
+      parent = l.parent ∙ f.parent;
+      role = l.role ∙ f.role;
+      child = into_file f.edge l under f.under_there some f.child;
+    }
+    | inr own ↦ absurd (let bad = own.role ∙ f.role in cc)
+  ]
+
+  -- no format node is over the node, which has a flat disk
+  pub node_free : IsSome node.filename → (e : Edge) → Contains t.edges e → e.role ≡ File → e.child ≡ node.id → ⊥
+  node_free some e there role is =
+      settled-free t untold h node over.node_there over.disk.settled node node_found some
+      (record { edge = e; there = there; over = role; child = is })
+
+  still_filtered : (over_row under : NodeRecord) → HasFile led over_row under → under.filename ≡ None → IsSome (filter_role over_row.kind)
+  still_filtered over_row under f none = elim (r.old f.edge f.there) [
+    | inr own ↦ absurd (let bad = own.role ∙ f.role in cc)
+    | inl l ↦ elim l.leads [
+      | inl same ↦ into l under f.under_there (sym same ∙ f.child) none
+      | inr moved ↦ elim (cases_eq l.edge.child node.id) [
+        | inr differ ↦ into l under f.under_there (sym (r.others l.edge.child differ) ∙ sym moved ∙ f.child) none
+        | inl at_it ↦ by_name l at_it node.filename refl
+      ]
+    ]
+  ]
+    where
+      into : (l : LedEdge t to f.edge) (row : NodeRecord) → Contains t.nodes row → l.edge.child ≡ row.id → row.filename ≡ None
+          → IsSome (filter_role over_row.kind)
+      into l row there is unnamed = h.filtered over_row row
+          (record {
+            over_there = f.over_there;
+            under_there = there;
+            edge = l.edge;
+            there = l.there;
+            parent = l.parent ∙ f.parent;
+            role = l.role ∙ f.role;
+            child = is;
+          })
+          unnamed
+
+      by_name : (l : LedEdge t to f.edge) → l.edge.child ≡ node.id → (name : Option (List ℕ)) → node.filename ≡ name
+          → IsSome (filter_role over_row.kind)
+      by_name l at_it None e = into l node over.node_there at_it e
+      by_name l at_it (Some name) e = absurd (node_free (subst IsSome (sym e) refl) l.edge l.there (l.role ∙ f.role) at_it)
+
+  -- ---- what nodes read as
+
+  filtered-led : (n : ℕ) → filtered led n ≡ option_map to (filtered t n)
+  filtered-led n = by_row (node_at t n)
+    where
+      by_role : (kind : Kind) (role : Option Role) → filter_role kind ≡ role
+          → option_and_then (child led n) role ≡ option_map to (option_and_then (child t n) role)
+      by_role kind None e = refl
+      by_role kind (Some role) e = r.children n role (filter-other kind role e)
+
+      by_row : (found : Option NodeRecord) → option_and_then (child led n) (option_and_then (λ row. filter_role row.kind) found)
+          ≡ option_map to (option_and_then (child t n) (option_and_then (λ row. filter_role row.kind) found))
+      by_row None = refl
+      by_row (Some row) = by_role row.kind (filter_role row.kind) refl
+
+  node_alone : filtered t node.id ≡ None
+  node_alone = unfiltered t node node_found over.disk.own
+
+  -- the place to which edges into the node lead is no filter
+  to_alone : filtered led (to node.id) ≡ None
+  to_alone = elim r.at_node [
+    | inl on ↦ subst (λ n. filtered led n ≡ None) (sym on) (filtered-led node.id ∙ ap (option_map to) node_alone)
+    | inr over_it ↦ subst (λ n. filtered led n ≡ None) (sym over_it)
+        (filtered-led overlay.id ∙ ap (option_map to) (unfiltered t overlay overlay_found overlay_own))
+  ]
+
+  disk_from-led : (more n : ℕ) → n ≢ node.id → disk_from more led n ≡ to (disk_from more t n)
+  disk_from-led zero n differ = sym (r.others n differ)
+  disk_from-led (suc more) n differ = by_child (filtered t n) refl (disk_from-led more)
+    where
+      by_child : (below : Option ℕ) → filtered t n ≡ below → ((c : ℕ) → c ≢ node.id → disk_from more led c ≡ to (disk_from more t c))
+          → disk_from (suc more) led n ≡ to (disk_from (suc more) t n)
+      by_child None e rest =
+          from-child more led n None (filtered-led n ∙ ap (option_map to) e) ∙ sym (r.others n differ)
+          ∙ ap to (sym (from-child more t n None e))
+      by_child (Some c) e rest =
+          from-child more led n (Some (to c)) (filtered-led n ∙ ap (option_map to) e) ∙ below
+          ∙ ap to (sym (from-child more t n (Some c) e))
+        where
+          below : disk_from more led (to c) ≡ to (disk_from more t c)
+          below = elim (cases_eq c node.id) [
+            | inr other ↦ ap (disk_from more led) (r.others c other) ∙ rest c other
+            | inl at_it ↦
+                ap (λ m. disk_from more led (to m)) at_it ∙ disk-alone more led (to node.id) to_alone
+                ∙ ap to (sym (disk-alone more t node.id node_alone)) ∙ ap (λ m. to (disk_from more t m)) (sym at_it)
+          ]
+
+  pub disk_led : (n : ℕ) → n ≢ node.id → disk_node led n ≡ to (disk_node t n)
+  unfolding disk_node
+  disk_led n differ = disk_from-led 64 n differ
+
+  node_still : copies_at t node.id ≡ false
+  node_still = copies-at t node.id node node_found ∙ no_copies node.kind over.disk.own
+
+  to_still : copies_at t (to node.id) ≡ false
+  to_still = elim r.at_node [
+    | inl on ↦ ap (copies_at t) on ∙ node_still
+    | inr over_it ↦ ap (copies_at t) over_it ∙ copies-at t overlay.id overlay overlay_found ∙ no_copies overlay.kind overlay_own
+  ]
+
+  path_from-led : (more n : ℕ) → n ≢ node.id → list_any (copies_at t) (path_from more led n) ≡ list_any (copies_at t) (path_from more t n)
+  path_from-led zero n differ = refl
+  path_from-led (suc more) n differ = by_child (filtered t n) refl (path_from-led more)
+    where
+      by_child : (below : Option ℕ) → filtered t n ≡ below
+          → ((c : ℕ) → c ≢ node.id → list_any (copies_at t) (path_from more led c) ≡ list_any (copies_at t) (path_from more t c))
+          → list_any (copies_at t) (path_from (suc more) led n) ≡ list_any (copies_at t) (path_from (suc more) t n)
+      by_child None e rest =
+          path-child more led n (copies_at t) None (filtered-led n ∙ ap (option_map to) e)
+          ∙ sym (path-child more t n (copies_at t) None e)
+      by_child (Some c) e rest =
+          path-child more led n (copies_at t) (Some (to c)) (filtered-led n ∙ ap (option_map to) e)
+          ∙ ap (λ b. copies_at t n || b) below
+          ∙ sym (path-child more t n (copies_at t) (Some c) e)
+        where
+          below : list_any (copies_at t) (path_from more led (to c)) ≡ list_any (copies_at t) (path_from more t c)
+          below = elim (cases_eq c node.id) [
+            | inr other ↦ ap (λ m. list_any (copies_at t) (path_from more led m)) (r.others c other) ∙ rest c other
+            | inl at_it ↦
+                ap (λ m. list_any (copies_at t) (path_from more led (to m))) at_it
+                ∙ path-alone more led (to node.id) (copies_at t) to_alone ∙ ap (λ b. b || false) (to_still ∙ sym node_still)
+                ∙ sym (path-alone more t node.id (copies_at t) node_alone)
+                ∙ ap (λ m. list_any (copies_at t) (path_from more t m)) (sym at_it)
+          ]
+
+  pub copies_led : (n : ℕ) → n ≢ node.id → copies_through led n ≡ copies_through t n
+  unfolding path
+  copies_led n differ = path_from-led 64 n differ
+
+  pub writes_led : (read_only : Bool) (n : ℕ) → n ≢ node.id → writes_through led read_only n ≡ writes_through t read_only n
+  writes_led read_only n differ = ap (λ b. not read_only || b) (copies_led n differ)
+
+  reads_led : (n : ℕ) (row : NodeRecord) → node_at t n ≡ Some row → With (node_at t (disk_node led n)) (IsDiskOf led row)
+  reads_led n row found = elim (cases_eq n node.id) [
+    | inl is ↦
+        let row_is : row ≡ node = (let at_it = subst (λ m. node_at t m ≡ Some row) is found in let at_node = node_found in cc) in
+        subst (λ m. With (node_at t (disk_node led m)) (IsDiskOf led row)) (sym is)
+        (subst (λ x. With (node_at t (disk_node led node.id)) (IsDiskOf led x)) (sym row_is) (own_reads led node node_found over.disk.own))
+    | inr differ ↦ by_disk differ (node_at t (disk_node t n)) refl (h.reads n row found)
+  ]
+    where
+      still : n ≢ node.id → (d : NodeRecord) → IsDiskOf t row d → IsDiskOf led row d
+      still differ d k =
+          let here = find-Some (λ x. x.id == n) t.nodes row found in
+          let is : row.id ≡ n = eqb-true row.id n here.1 in
+          record {
+            own = k.own;
+            itself = k.itself;
+            writable = λ w. k.writable (sym (writes_led row.read_only row.id (λ same. differ (sym is ∙ same))) ∙ w);
+          }
+
+      by_disk : n ≢ node.id → (d : Option NodeRecord) → node_at t (disk_node t n) ≡ d → With d (IsDiskOf t row)
+          → With (node_at t (disk_node led n)) (IsDiskOf led row)
+      by_disk differ None e k = absurd k
+      by_disk differ (Some d) e k = elim (cases_eq (disk_node t n) node.id) [
+        | inr other ↦
+            subst (λ m. With (node_at t m) (IsDiskOf led row)) (sym (disk_led n differ ∙ r.others (disk_node t n) other))
+            (with_at (IsDiskOf led row) (node_at t (disk_node t n)) d e (still differ d k))
+        | inl at_it ↦ elim r.at_node [
+          | inl on ↦
+              subst (λ m. With (node_at t m) (IsDiskOf led row)) (sym (disk_led n differ ∙ ap to at_it ∙ on ∙ sym at_it))
+              (with_at (IsDiskOf led row) (node_at t (disk_node t n)) d e (still differ d k))
+          | inr over_it ↦
+              subst (λ m. With (node_at t m) (IsDiskOf led row)) (sym (disk_led n differ ∙ ap to at_it ∙ over_it))
+              (with_at (IsDiskOf led row) (node_at t overlay.id) overlay overlay_found
+              (record {
+                own = overlay_own;
+                itself = λ some. absurd (let bad = subst IsSome overlay_named some in cc);
+                writable = λ w. over.writable;
+              }))
+        ]
+      ]
+
+  -- ---- all that holds of the table
+
+  pub was_standing : (name : List ℕ) (row : NodeRecord) → StandsFor led name row → StandsFor t name row
+  was_standing name row over_file = record { there = over_file.there; filename = over_file.filename }
+
+  ends_led : (e : Edge) → Contains es e → HasEnds led e
+  ends_led e there = elim (r.old e there) [
+    | inl l ↦ record {
+      parent = λ n is. (h.edges l.edge l.there).parent n (l.parent ∙ is);
+      child = elim l.leads [
+        | inl same ↦ subst (λ n. IsSome (node_at t n)) (sym same) (h.edges l.edge l.there).child
+        | inr moved ↦ subst (λ n. IsSome (node_at t n)) (sym moved) (to_there l.edge l.there)
+      ];
+    }
+    | inr own ↦ record {
+      parent = λ n is.
+          let same : overlay.id ≡ n = (let both = own.parent ∙ is in cc) in
+          subst (λ m. IsSome (node_at t m)) same (subst IsSome (sym overlay_found) refl);
+      child = subst (λ m. IsSome (node_at t m)) own.child (subst IsSome (sym node_found) refl);
+    }
+  ]
+    where
+      to_there : (edge : Edge) → Contains t.edges edge → IsSome (node_at t (to edge.child))
+      to_there edge there = elim (cases_eq edge.child node.id) [
+        | inr other ↦ subst (λ n. IsSome (node_at t n)) (sym (r.others edge.child other)) (h.edges edge there).child
+        | inl at_it ↦ subst (λ n. IsSome (node_at t (to n))) (sym at_it) (elim r.at_node [
+          | inl on ↦ subst (λ n. IsSome (node_at t n)) (sym on) (subst IsSome (sym node_found) refl)
+          | inr over_it ↦ subst (λ n. IsSome (node_at t n)) (sym over_it) (subst IsSome (sym overlay_found) refl)
+        ])
+      ]
+
+  pub led_stands : TableStands led
+  led_stands = record {
+    apart = h.apart;
+    drivers = λ name row f. h.drivers name row (was_standing name row f);
+    names = h.names;
+    alone = λ name a b fa fb. h.alone name a b (was_standing name a fa) (was_standing name b fb);
+    edges = ends_led;
+    roles = λ e row there row_there is. elim (r.old e there) [
+      | inl l ↦ subst (λ role. has_role row.kind role ≡ true) l.role (h.roles l.edge row l.there row_there (l.parent ∙ is))
+      | inr own ↦
+          let ids : row.id ≡ overlay.id = (let both = own.parent ∙ is in cc) in
+          let same : row ≡ overlay = same_row t h.apart overlay row over.overlay_there row_there ids in
+          let kind : row.kind ≡ Qcow2 = ap (λ x. x.kind) same ∙ over.driver in
+          rw (kind, sym own.role) refl
+    ];
+    single = λ e there role. elim (r.old e there) [
+      | inl l ↦
+          let was = l.role ∙ role in
+          let o = h.single l.edge l.there was in (
+            o.0,
+            (
+              sym l.parent ∙ o.1.0,
+              r.children o.0 File (λ same. absurd cc) ∙ ap (option_map to) o.1.1 ∙ ap (λ (c : ℕ). Some c) (sym (l.file was)),
+            ),
+          )
+      | inr own ↦ absurd (let bad = own.role ∙ role in cc)
+    ];
+    taken = λ over_row under f some.
+        let k = h.taken over_row under (was_under over_row under f some) some in
+        record {
+          format = k.format;
+          gone = k.gone;
+          sole = λ e there is. elim (r.old e there) [
+            | inl l ↦
+                let s = k.sole l.edge l.there (into_file e l under f.under_there some is) in
+                (sym l.parent ∙ s.0, sym l.role ∙ s.1)
+            | inr own ↦ absurd (not_node under f.under_there k.gone (sym is ∙ sym own.child))
+          ];
+          writable = k.writable;
+        };
+    filtered = still_filtered;
+    reads = reads_led;
+    numbers = h.numbers;
+  }
+    where
+      not_node : (under : NodeRecord) → Contains t.nodes under → under.is_settled ≡ false → under.id ≡ node.id → ⊥
+      not_node under there gone is =
+          let same : under ≡ node = same_row t h.apart node under over.node_there there is in
+          let settled = ap (λ x. x.is_settled) same ∙ over.disk.settled in
+          cc
+
+  -- a `file` node that was made with another one is under that
+  pub led_inline : InlineAreUnder t → InlineAreUnder led
+  led_inline inline row above there made =
+      let k = inline row above there made in
+      let like = r.keeps k.edge k.there (λ is.
+      let same : row ≡ node = same_row t h.apart node row over.node_there there (sym k.child ∙ is) in
+      node_free (subst (λ x. IsSome x.filename) same k.file) k.edge k.there k.role is) in
+      record {
+        file = k.file;
+        edge = like.edge;
+        there = like.there;
+        parent = like.same.parent ∙ k.parent;
+        role = like.same.role ∙ k.role;
+        child = like.same.child ∙ k.child;
+      }
