@@ -1,7 +1,8 @@
 -- What was seen of files for an addition is what they hold, whatever it looked at; and why its calls failed.
-use Rattle.std.proofs.Common.{◌≡◌, ℕ, List, inl, inr, refl, sym, ◌∙◌, Option, Some, None}
+use Rattle.std.proofs.Common.{◌≡◌, ℕ, List, inl, inr, refl, sym, ◌∙◌, subst, Option, Some, None}
 use Rattle.blk_base.specs.declared.file.File.{File}
 use Rattle.q2_image.specs.Image.{Known}
+use Rattle.blk_nodes.specs.Joined.{IsJoined}
 use Rattle.qmp_codec.specs.declared.command.Command.TheVariants as command
 use Rattle.qmp_codec.specs.declared.nodes.AddQcow2.{AddQcow2}
 use Rattle.qmp_codec.specs.declared.nodes.AddRaw.{AddRaw}
@@ -17,16 +18,17 @@ use Rattle.qmp_rules.specs.declared.told.Told.{Told}
 use Rattle.flat_machine.specs.State.{State}
 use Rattle.flat_machine.specs.declared.opening.Opening.{Opening}
 use Rattle.blk_world.specs.Adding.{Adding, Opens, Taken}
-use Rattle.blk_world.specs.Carrying.{IsCaused, as_held}
+use Rattle.blk_world.specs.Carrying.{IsCaused, as_held, fault_told}
 use Rattle.blk_world.specs.Coherent.{DevicesTell, IsCoherent, IsWhole}
 use Rattle.blk_world.specs.Comes.{Shows}
-use Rattle.blk_world.specs.Counting.{RunsOn}
+use Rattle.blk_world.specs.Counting.{HidesNoFault, RunsOn}
 use Rattle.blk_world.specs.Face.{Face}
 use Rattle.blk_world.specs.Looking.{AreIn, LooksAtImage, LooksAtPart, LooksBy, LooksOut, Site}
 use Rattle.blk_world.specs.Staging.{HasEnded, IsAdditionOf, opened_name, site_of, store_of}
 use Rattle.blk_world.proofs.AddCarried.{sited}
 use Rattle.blk_world.proofs.AddCause.{causes}
 use Rattle.blk_world.proofs.AddClosed.{closed-in}
+use Rattle.blk_world.proofs.AddCounts.{IsLookedOver, hides-added, hides-refused, looked-over}
 use Rattle.blk_world.proofs.AddEnds.{IsAccounted, some-files}
 use Rattle.blk_world.proofs.AddExact.{IsSeenHeld, expects-filter, expects-held, expects-nothing, expects-unknown, held-of, seen-store}
 use Rattle.blk_world.proofs.AddKinds.{IsLookedSo, looked-so}
@@ -71,7 +73,7 @@ module _ (o : Opening) (s : State) (w : Face) (shows : Shows o s w) (coherent : 
 
 -- ---- all of it
 
-module _ (w : Face) (whole : IsWhole w) (given : List ℕ) (c : Adding) (x : Site) (u : Table) (text : List ℕ)
+module _ (w : Face) (whole : IsWhole w) (joined : IsJoined w.nodes) (given : List ℕ) (c : Adding) (x : Site) (u : Table) (text : List ℕ)
     (is : IsAdditionOf w.table given c (site_of w) x u text) where
   closed : AreIn w.table w.opened
   closed name unopened = closed-in w.table w.nodes w.opened name whole.coherent.out unopened
@@ -89,6 +91,7 @@ module _ (w : Face) (whole : IsWhole w) (given : List ℕ) (c : Adding) (x : Sit
   pub accounted : IsAccounted w (sited w x u) c is.told
   accounted = record {
     causes = λ cause refused. by_end is.ends cause refused;
+    hides = hides_end is.ends;
     seen = λ told o s shows.
         let files = some-files w.files told in
         seen-by o s w shows whole.coherent whole.tell files.0 files.1 c is.between is.out is.image is.told c.driver refl is.looked;
@@ -99,3 +102,15 @@ module _ (w : Face) (whole : IsWhole w) (given : List ℕ) (c : Adding) (x : Sit
       by_end (inl refused) cause some =
           causes w (sited w x u) c refl whole.counted whole.coherent runs-so is.between is.out is.image is.told closed is.looked refused.is cause some
       by_end (inr ends) cause some = absurd (let bad : None ≡ Some cause = sym ends.accepted.none ∙ some in cc bad)
+
+      over : IsLookedOver w c is.told is.between is.out
+      over = looked-over w whole joined c is.told is.between is.out closed is.image is.looked
+
+      hides_end : HasEnded w.table given c is.told is.out is.image is.between x u text
+          → HidesNoFault w (sited w x u) (fault_told (refusal_of w.table is.told (command.BlockdevAdd c)))
+      hides_end (inl refused) =
+          subst (λ (r : Option Refusal). HidesNoFault w (sited w x u) (fault_told r)) (sym refused.staged.is)
+          (hides-refused w (sited w x u) whole c is.told is.between is.out is.image over refused.is refused.staged.cause refused.staged.is)
+      hides_end (inr ends) =
+          subst (λ (r : Option Refusal). HidesNoFault w (sited w x u) (fault_told r)) (sym ends.accepted.none)
+          (hides-added w (sited w x u) whole c is.told is.between is.out is.image over ends.store ends.added ends.accepted.none)

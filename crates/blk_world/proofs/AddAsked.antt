@@ -23,12 +23,12 @@ use Rattle.qmp_rules.specs.declared.told.Look.TheVariants as look
 use Rattle.qmp_rules.specs.declared.told.Told.{Told}
 use Rattle.flat_machine.proofs.Accepted.{less_lost, opened}
 use Rattle.flat_machine.proofs.Asked.{NoneHolds, good-value, known-file, none-behind, none-both, none-holds, none-stands, not-refused}
-use Rattle.blk_world.specs.Adding.{Adding, Opens, Taken, LooksInside, Looks, probe}
+use Rattle.blk_world.specs.Adding.{Adding, Opens, Taken, LooksInside, Looks, probe, look_in_vain}
 use Rattle.blk_world.specs.Stores.{StoreInRun}
 use Rattle.q2_image.specs.Image.{Known}
 use Rattle.blk_world.proofs.AddTold.{has_look}
 use Rattle.blk_world.proofs.AddRefused.{refusal-is, stop-refused, unreached-refused}
-use Rattle.blk_world.proofs.AddSeen.{AsFile, AsImage, AsPart, OpensAs, has-as, has-at, looks-as}
+use Rattle.blk_world.proofs.AddSeen.{AsFile, AsImage, AsPart, OpensAs, has-at, has-vain, looks-as}
 
 -- ---- single asks
 
@@ -123,5 +123,5 @@ module _ (t : Table) (told : Told) (c : Adding) (none : refusal_of t told (comma
       by_away (inr closed) = let bad : true ≡ false = sym closed ∙ unopened-not at opener in absurd (cc bad)
   taken-out at opener old new None image (inr looks) =
       let vain = looks.0 in
-      absurd (not-stopped look.File vain.why (ap (λ (a : Told). a.stopped) vain.is) (has-as c at opener))
+      absurd (not-stopped (look_in_vain at.what vain.why) vain.why (ap (λ (a : Told). a.stopped) vain.is) (has-vain c at opener vain.why))
   taken-out at opener old new (Some device) image (inr looks) = record { device = device; is = refl; inside = looks.0 }

@@ -1,5 +1,5 @@
 -- Why a call of an addition failed: its count rose in this event, and the addition calls it.
-use Rattle.std.proofs.Common.{◌≡◌, ◌⊎◌, ℕ, suc, ◌+◌, ◌<◌, ◌≤◌, Bool, true, false, List, [], ◌∷◌, ◌++◌, length, map, drop, inl, inr, refl, sym, ◌∙◌, ap, subst, arith, Option, Some, None}
+use Rattle.std.proofs.Common.{◌≡◌, ◌⊎◌, ℕ, ◌+◌, ◌<◌, ◌≤◌, Bool, true, false, List, [], ◌∷◌, ◌++◌, length, map, drop, inl, inr, refl, sym, ◌∙◌, ap, subst, arith, Option, Some, None}
 use Rattle.std.specs.Prelude.{if◌then◌else◌, option_and_then, option_map, slice_get}
 use Rattle.std.proofs.lemmas.Option.{slice_get-map}
 use Rattle.blk_base.specs.Counts.{Rose}
@@ -32,7 +32,7 @@ use Rattle.qmp_rules.specs.declared.told.Look.{Look}
 use Rattle.qmp_rules.specs.declared.told.Look.TheVariants as look
 use Rattle.qmp_rules.specs.declared.told.Stopped.{Stopped}
 use Rattle.qmp_rules.specs.declared.told.Told.{Told}
-use Rattle.blk_world.specs.Adding.{Adding, CountFits, HasFailed, IsAbsent, IsTakenOut, Looks, LooksBadly, LooksUnder, Opens, Taken, LooksAtFile, LooksInVain, Tells, TellsInside, TellsLength, of_node, opened_sight, put_back, unopened}
+use Rattle.blk_world.specs.Adding.{Adding, CountFits, HasFailed, IsAbsent, IsTakenOut, Looks, LooksBadly, LooksUnder, Opens, Taken, LooksAtFile, LooksInVain, Tells, TellsInside, TellsLength, look_in_vain, of_node, opened_sight, put_back, unopened}
 use Rattle.blk_world.specs.Carrying.{IsCaused, is_failed}
 use Rattle.blk_world.specs.Coherent.{IsCoherent}
 use Rattle.blk_world.specs.Counting.{RunsOn, counts_within}
@@ -44,17 +44,10 @@ use Rattle.blk_world.proofs.AddFailed.{calm-inside, calm-long, calm-not, calm-pa
 use Rattle.blk_world.proofs.AddImages.{opened-risen}
 use Rattle.blk_world.proofs.AddOut.{get-last}
 use Rattle.blk_world.proofs.AddRuns.{back-is, closed-opening}
+use Rattle.blk_world.proofs.CountsKept.{length-counts, one-behind}
 use Rattle.blk_world.proofs.CountLemmas.{counts-at, out-same, reached-held, same-risen, with-of}
 
 -- ---- counts of an opening that is over
-
-length-counts : (ds : List DeviceState) (k : ℕ) (xs : List Opened) → length (counts_from ds k xs) ≡ length xs
-length-counts ds k [] = refl
-length-counts ds k (x ∷ xs) = ap suc (length-counts ds (k + 1) xs)
-
-drop-behind : (xs : List Opened) (y : Opened) → drop (length xs) (map (λ (o : Opened). o.faults) (xs ++ y ∷ [])) ≡ y.faults ∷ []
-drop-behind [] y = refl
-drop-behind (x ∷ xs) y = drop-behind xs y
 
 file-named : (t : Table) (name : List ℕ) (row : NodeRecord) → file_node t name ≡ Some row → node_named t name ≡ Some row
 file-named t name row is = by_row (node_named t name) refl is
@@ -122,7 +115,7 @@ module _ (w v : Face) (c : Adding) (first_same : v.first_faults ≡ w.first_faul
     within =
         let long : number.0 ≡ length (counts_now w).devices = at ∙ sym (length-counts w.nodes.devices 0 w.opened) in
         let behind : drop (length w.opened) (first_counts v).devices ≡ opening.faults ∷ [] =
-        ap (λ (l : List Opened). drop (length w.opened) (map (λ (o : Opened). o.faults) l)) opened ∙ drop-behind w.opened opening in
+        ap (λ (l : List Opened). drop (length w.opened) (map (λ (o : Opened). o.faults) l)) opened ∙ one-behind w.opened opening in
         ap (slice_get (counts_within w v).devices) long ∙ ap (λ (l : List ℕ). slice_get ((counts_now w).devices ++ l) (length (counts_now w).devices)) behind
         ∙ get-last (counts_now w).devices opening.faults
 
@@ -146,7 +139,7 @@ module _ (w v : Face) (c : Adding) (first_same : v.first_faults ≡ w.first_faul
   -- ---- the device of a `file` node
 
   module _ (q : AddQcow2 (List ℕ)) (name : List ℕ) (e : c.driver ≡ added.Qcow2 q) (f : q.file ≡ file_ref.Name name) (told : Told) (y : Nodes)
-      (same_nodes : v.nodes ≡ y) (badly : LooksBadly w.table name w.nodes y told) (opened : v.opened ≡ w.opened) (risen : HaveRisen w.nodes.devices y.devices) (n : ℕ)
+      (same_nodes : v.nodes ≡ y) (badly : LooksBadly w.table c name w.nodes y told) (opened : v.opened ≡ w.opened) (risen : HaveRisen w.nodes.devices y.devices) (n : ℕ)
       (io : badly.cause ≡ stop.Io n) where
     same : badly.stopped.before ≡ badly.device
     same = let both : Some badly.stopped.before ≡ Some badly.device = sym badly.stopped.held ∙ badly.held in cc both
@@ -230,18 +223,18 @@ module _ (w v : Face) (c : Adding) (first_same : v.first_faults ≡ w.first_faul
             (out-failed q file e f (closed-opening (store_of w) now.store file.filename begun device taken why.on.kept inside) opened begun.number taken.number io.0
             back on.cause.0 (subst CountFits io.1 why.on.fits) why.on.numbered)
 
-    by-vain : (filename : List ℕ) → out ≡ None → LooksInVain filename (store_of w) now.store told → IsCaused w v cmd cause
-    by-vain filename none vain = by_why vain.cause
+    by-vain : (at : Opens) → out ≡ None → LooksInVain at (store_of w) now.store told → IsCaused w v cmd cause
+    by-vain at none vain = by_why vain.cause
       where
         here : vain.why ≡ cause
-        here = cause-is look.File vain.why (ap (λ (a : Told). a.stopped) vain.is)
+        here = cause-is (look_in_vain at.what vain.why) vain.why (ap (λ (a : Told). a.stopped) vain.is)
 
         same : v.faults ≡ now.store.faults
         same = ap (λ (y : Site). y.store.faults) put ∙ ap (λ (o : Option Taken). (back_if c.driver o now.store).faults) none
 
-        by_why : IsAbsent (store_of w) now.store filename vain.why ⊎ HasFailed (store_of w) now.store filename vain.why → IsCaused w v cmd cause
+        by_why : IsAbsent (store_of w) now.store at.filename vain.why ⊎ HasFailed (store_of w) now.store at.filename vain.why → IsCaused w v cmd cause
         by_why (inl absent) = calm cause (ap is_failed (sym here ∙ absent.is))
-        by_why (inr failed) = subst (IsCaused w v cmd) here (store-failed now.store filename vain.why failed same)
+        by_why (inr failed) = subst (IsCaused w v cmd) here (store-failed now.store at.filename vain.why failed same)
 
     by-store : (at : Opens)
         → ((first device : Taken) → out ≡ Some device → IsTakenOut (store_of w) now.store at.filename first → is_unopened w.table at.filename ≡ false
@@ -249,10 +242,10 @@ module _ (w v : Face) (c : Adding) (first_same : v.first_faults ≡ w.first_faul
         → LooksOut w.table c at (site_of w) now out image told → IsCaused w v cmd cause
     by-store at inside looks = by_looks looks.looks
       where
-        by_out : (found : Option Taken) → out ≡ found → LooksAtFile w.table c at.filename (store_of w) now.store found image told
+        by_out : (found : Option Taken) → out ≡ found → LooksAtFile w.table c at (store_of w) now.store found image told
             → is_unopened w.table at.filename ≡ false → IsCaused w v cmd cause
         by_out (Some device) is its free = inside its.first device is its.out free its.tells
-        by_out None is vain free = by-vain at.filename is vain
+        by_out None is vain free = by-vain at is vain
 
         by_looks : Looks w.table c at (store_of w) now.store out image told → IsCaused w v cmd cause
         by_looks (inl away) = no-stop (ap (λ (a : Told). a.stopped) away.0.is)
@@ -270,7 +263,7 @@ module _ (w v : Face) (c : Adding) (first_same : v.first_faults ≡ w.first_faul
             ap (λ (y : Site). y.store.opened) put ∙ ap (λ (o : Option Taken). (back_if c.driver o now.store).opened) looks.none
             ∙ ap (λ (s : StoreInRun). s.opened) looks.kept
 
-        by_badly : LooksBadly w.table name w.nodes now.nodes told → IsCaused w v cmd cause
+        by_badly : LooksBadly w.table c name w.nodes now.nodes told → IsCaused w v cmd cause
         by_badly badly = by_stop (unopened-of badly.device.number badly.cause)
           where
             here : unopened badly.device.number badly.cause ≡ cause

@@ -1,6 +1,8 @@
 -- What an addition leaves of the world is what a command has to leave, by why its calls failed and what was seen of files.
 use Rattle.std.proofs.Common.{◌≡◌, ℕ, true, false, List, inl, inr, refl, sym, ◌∙◌, ap, subst, Option, Some, None}
 use Rattle.std.specs.Prelude.{is_some}
+use Rattle.std.proofs.lemmas.List.Elements.{All-nil}
+use Rattle.flat_machine.specs.Marks.{IsCalm}
 use Rattle.blk_base.specs.declared.file.File.{File}
 use Rattle.blk_nodes.specs.Joined.{IsJoined}
 use Rattle.qmp_codec.specs.Commands.{Cmd}
@@ -14,10 +16,11 @@ use Rattle.flat_machine.specs.Performing.{AllPerformed}
 use Rattle.flat_machine.specs.State.{State}
 use Rattle.flat_machine.specs.declared.opening.Opening.{Opening}
 use Rattle.blk_world.specs.Adding.{Adding}
-use Rattle.blk_world.specs.Carrying.{IsCarriedAs, IsCaused}
+use Rattle.blk_world.specs.Carrying.{IsCarriedAs, IsCaused, fault_told}
 use Rattle.blk_world.specs.Coherent.{DevicesTell, IsCoherent}
 use Rattle.blk_world.specs.Comes.{Shows}
-use Rattle.blk_world.specs.Face.{Face, contents_of}
+use Rattle.blk_world.specs.Face.{Face, contents_of, seen_state}
+use Rattle.blk_world.specs.Counting.{HidesNoFault}
 use Rattle.blk_world.specs.Looking.{AreIn, Site}
 use Rattle.blk_world.specs.Saying.{IsSaid}
 use Rattle.blk_world.specs.Staging.{HasEnded, IsAddedSo, IsAdditionOf, IsRefusedSo, opened_name, site_of}
@@ -32,11 +35,14 @@ use Rattle.blk_world.proofs.AddOpens.{opens-added, opens-back}
 use Rattle.blk_world.proofs.AddKinds.{IsLookedSo, looked-so}
 use Rattle.blk_world.proofs.AddQuiet.{quiet-back}
 use Rattle.blk_world.proofs.AddRunsOn.{runs-added, runs-back}
+use Rattle.flat_machine.specs.Bitmaps.{AreBitmapsOf}
+use Rattle.blk_world.proofs.BitmapsLeft.{left-dirty}
 use Rattle.blk_world.proofs.Placed.{answer-is}
 
--- why the failed calls of an addition failed, and that what was told is what files hold
+-- why the failed calls of an addition failed, that none is hidden, and that what was told is what files hold
 pub record IsAccounted (w v : Face) (c : Adding) (told : Told) : Type 0 where
   pub causes : (cause : Refusal) → refusal_of w.table told (command.BlockdevAdd c) ≡ Some cause → IsCaused w v (command.BlockdevAdd c) cause
+  pub hides : HidesNoFault w v (fault_told (refusal_of w.table told (command.BlockdevAdd c)))
   pub seen : is_some w.files ≡ true → (o : Opening) (s : State) → Shows o s w → IsSeenHeld s w c told
 
 pub some-files : (f : Option (List File)) → is_some f ≡ true → (files : List File) × (f ≡ Some files)
@@ -44,7 +50,7 @@ some-files None bad = absurd (let e : false ≡ true = bad in cc e)
 some-files (Some files) some = (files, refl)
 
 module _ (w : Face) (coherent : IsCoherent w.table w.nodes w.opened w.progress) (tell : DevicesTell w.files w.nodes.devices) (joined : IsJoined w.nodes)
-    (given : List ℕ) (c : Adding) (x : Site) (u : Table) (text : List ℕ) where
+    (bitmaps : AreBitmapsOf w.table.bitmaps w.bitmaps) (given : List ℕ) (c : Adding) (x : Site) (u : Table) (text : List ℕ) where
   abbrev v : Face
   v = sited w x u
 
@@ -72,12 +78,16 @@ module _ (w : Face) (coherent : IsCoherent w.table w.nodes w.opened w.progress) 
         refusal = Some ends.staged.cause;
         carried = record {
           told = is.told;
-          clean = clean.0;
+          counts = λ prints. absurd (let bad : ⊥ = cc prints in bad);
           by_files = clean.1;
+          maps = tt;
           answered = ends.staged.is;
           table = ends.table ∙ sym unchanged;
           progress = refl;
+          drains = refl;
+          calm = λ is. All-nil (IsCalm (seen_state w));
           runs = runs-back w v refl is.between c.driver is.out (so is) ends.is;
+          hides = subst (λ (r : Option Refusal). HidesNoFault w v (fault_told r)) ends.staged.is account.hides;
           opens = opens-back w.table c (site_of w) is.between is.out is.image is.told is.looked x.store (ap (λ (y : Site). y.store) ends.is) (so is);
           cause = account.causes ends.staged.cause ends.staged.is;
           coherent = λ was. subst (λ (t : Table). IsCoherent t x.nodes x.store.opened w.progress) (sym ends.table) both.0;
@@ -86,6 +96,7 @@ module _ (w : Face) (coherent : IsCoherent w.table w.nodes w.opened w.progress) 
               (subst (λ (a : Answer). AllPerformed s a.changes (contents_of w) (contents_of v)) (sym answered) quiet);
         };
         said = subst (λ (a : Answer). IsSaid given a.reply text) (sym answered) ends.staged.said;
+        dirty = left-dirty w v is.told cmd refl refl bitmaps;
       }
 
   -- ---- carried out
@@ -101,12 +112,16 @@ module _ (w : Face) (coherent : IsCoherent w.table w.nodes w.opened w.progress) 
         refusal = None;
         carried = record {
           told = is.told;
-          clean = clean.0;
+          counts = λ prints. absurd (let bad : ⊥ = cc prints in bad);
           by_files = clean.1;
+          maps = tt;
           answered = ends.accepted.none;
           table = table;
           progress = refl;
+          drains = refl;
+          calm = λ is. All-nil (IsCalm (seen_state w));
           runs = runs;
+          hides = subst (λ (r : Option Refusal). HidesNoFault w v (fault_told r)) ends.accepted.none account.hides;
           opens = opens-added w.table c (site_of w) is.between is.out is.image is.told is.looked x.store ends.store (so is);
           cause = λ dev called passes. passes;
           coherent = λ was.
@@ -120,6 +135,7 @@ module _ (w : Face) (coherent : IsCoherent w.table w.nodes w.opened w.progress) 
               is.looked ends.added ends.table));
         };
         said = subst (λ (a : Answer). IsSaid given a.reply text) (sym answered) ends.accepted.said;
+        dirty = left-dirty w v is.told cmd refl refl bitmaps;
       }
     where
       same-files : (is : IsAdditionOf w.table given c (site_of w) x u text) → IsAddedSo w.table given c is.told is.out is.image is.between x u text → x.store.files ≡ w.files

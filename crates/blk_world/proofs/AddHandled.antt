@@ -1,10 +1,11 @@
 -- What the world's call of an addition leaves.
-use Rattle.std.proofs.Common.{◌≡◌, ℕ, true, List, arith, Ok, Err}
+use Rattle.std.proofs.Common.{◌≡◌, ℕ, true, List, refl, sym, subst, arith, Ok, Err}
 use Rattle.std.specs.Prelude.{Result, IfOk, OnErr}
 use Rattle.blk_nodes.specs.Joined.{IsJoined}
 use Rattle.qmp_codec.specs.Commands.{Cmd}
 use Rattle.qmp_codec.specs.declared.command.Command.TheVariants as command
 use Rattle.qmp_rules.specs.Table.{Table}
+use Rattle.flat_machine.specs.Bitmaps.{AreBitmapsOf}
 use Rattle.blk_world.specs.Carrying.{IsCarriedAs, IsPutBack}
 use Rattle.blk_world.specs.Coherent.{IsWhole}
 use Rattle.blk_world.specs.Face.{Face}
@@ -13,8 +14,10 @@ use Rattle.blk_world.specs.Staging.{CanLook, IsAdditionBy, IsNotAddedBy, is_addi
 use Rattle.blk_world.proofs.AddAccount.{accounted, runs-so}
 use Rattle.blk_world.proofs.AddCarried.{sited}
 use Rattle.blk_world.proofs.AddClosed.{closed-in}
+use Rattle.blk_world.proofs.AddCounts.{put-hides}
 use Rattle.blk_world.proofs.AddEnds.{carried-as, carried-both}
 use Rattle.blk_world.proofs.AddPut.{put-back, put-both, put-so}
+use Rattle.blk_world.proofs.BitmapsLeft.{left-listed}
 
 pub can-look : (w : Face) → IsWhole w → CanLook w.table (site_of w)
 can-look w whole = record {
@@ -27,26 +30,29 @@ module _ (w : Face) (whole : IsWhole w) (joined : IsJoined w.nodes) (given : Lis
   carried-by : (text : List ℕ) (c : Cmd) → is_addition c ≡ true → IsAdditionBy w.table given c (site_of w) x u text
       → IsCarriedAs w (sited w x u) given c text
   carried-by text (command.BlockdevAdd c) sure is =
-      carried-as w whole.coherent whole.tell joined given c x u text is (accounted w whole given c x u text is)
+      carried-as w whole.coherent whole.tell joined whole.bitmaps given c x u text is (accounted w whole joined given c x u text is)
   carried-by text c sure is = absurd (let bad : ⊥ = cc sure in bad)
 
   whole-by : (text : List ℕ) (c : Cmd) → is_addition c ≡ true → IsAdditionBy w.table given c (site_of w) x u text → IsWhole (sited w x u)
   whole-by text (command.BlockdevAdd c) sure is =
-      let both = carried-both w whole.coherent whole.tell joined given c x u text is in
-      let runs = runs-so w whole given c x u text is in
+      let both = carried-both w whole.coherent whole.tell joined whole.bitmaps given c x u text is in
+      let carried = carried-as w whole.coherent whole.tell joined whole.bitmaps given c x u text is (accounted w whole joined given c x u text is) in
+      let runs = runs-so w whole joined given c x u text is in
       let store = runs.store in
       let counted = whole.counted in
       record {
         coherent = both.0;
         tell = both.1;
         counted = omega (arith, store, counted);
+        bitmaps = left-listed w.table carried.carried.told (command.BlockdevAdd c) w.bitmaps u refl carried.carried.table whole.bitmaps;
       }
   whole-by text c sure is = absurd (let bad : ⊥ = cc sure in bad)
 
   put-by : (c : Cmd) → is_addition c ≡ true → IsNotAddedBy w.table c (site_of w) x → u ≡ w.table → IsPutBack w (sited w x u) × IsWhole (sited w x u)
   put-by (command.BlockdevAdd c) sure is table =
       let put = put-so w whole.coherent whole.tell x c is in
-      let back = put-back w whole.coherent whole.tell x put u table in
+      let hides = put-hides w whole joined c x u is in
+      let back = put-back w whole.coherent whole.tell x put u table hides.0 hides.1 in
       let both = put-both w whole.coherent whole.tell x put in
       let store = back.runs.store in
       let counted = whole.counted in (
@@ -55,6 +61,7 @@ module _ (w : Face) (whole : IsWhole w) (joined : IsJoined w.nodes) (given : Lis
           coherent = back.coherent whole.coherent;
           tell = both.1;
           counted = omega (arith, store, counted);
+          bitmaps = subst (λ (t : Table). AreBitmapsOf t.bitmaps w.bitmaps) (sym table) whole.bitmaps;
         },
       )
   put-by c sure is table = absurd (let bad : ⊥ = cc sure in bad)

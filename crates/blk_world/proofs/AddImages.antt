@@ -136,12 +136,12 @@ module _ (t : Table) (told : Told) (c : Adding) (none : refusal_of t told (comma
       ap (λ (o : Option NodeRecord). elim o as (λ _. Bool) [ None ↦ false | Some r ↦ is_none (first_into r.id t.edges) ]) named ∙ ap is_none lone
 
   pub image-there : (old new : Nodes) (image : Option Known) → LooksUnder t c qcow2 file old new image told
-      → (open_image : Known) × (image ≡ Some open_image) × LooksWell t c.node_name file qcow2 old open_image told
+      → (open_image : Known) × (image ≡ Some open_image) × LooksWell t c.node_name file qcow2 old new open_image told
   image-there old new (Some open_image) looks = (open_image, refl, looks)
   image-there old new None (inl past) = by_away past.away
     where
       by_away : (refusal_of t (probe look.Image) (command.BlockdevAdd c) ≢ Some refusal.Aborted) ⊎ (is_free_file t file ≡ false)
-          → (open_image : Known) × (None ≡ Some open_image) × LooksWell t c.node_name file qcow2 old open_image told
+          → (open_image : Known) × (None ≡ Some open_image) × LooksWell t c.node_name file qcow2 old new open_image told
       by_away (inl not) =
           let same : refusal_of t told (command.BlockdevAdd c) ≡ refusal_of t (probe look.Image) (command.BlockdevAdd c) =
           unreached-refused t look.Image c (looks-named c qcow2 file e f) not told in

@@ -1,10 +1,10 @@
 -- A look at the store came to what its files may tell.
-use Rattle.std.proofs.Common.{◌≡◌, ◌≢◌, ◌⊎◌, ℕ, ◌<◌, Bool, true, false, List, length, inl, inr, refl, sym, ◌∙◌, ap, subst, arith, Option, Some, None}
+use Rattle.std.proofs.Common.{◌≡◌, ◌≢◌, ◌⊎◌, ℕ, ◌≤◌, Bool, true, false, List, length, inl, inr, refl, sym, ◌∙◌, ap, subst, arith, Option, Some, None}
 use Rattle.std.specs.Prelude.{◌==◌, codes, is_none, is_some, nat_lt, ◌||◌, ◌&&◌, not, option_map, option_and_then}
 use Rattle.blk_base.specs.Answers.{HasFile}
 use Rattle.blk_base.specs.Files.{file_at}
 use Rattle.blk_base.specs.declared.fault.DevNo.{DevNo}
-use Rattle.blk_base.specs.declared.fault.FaultFrom.TheVariants.{Dev}
+use Rattle.blk_base.specs.declared.fault.FaultFrom.TheVariants.{Store, Dev}
 use Rattle.blk_base.specs.declared.file.File.{File}
 use Rattle.q2_format.specs.Header.{header_of}
 use Rattle.q2_format.specs.Sound.{Refusal as Unsound, image_refusal}
@@ -38,12 +38,12 @@ use Rattle.qmp_rules.specs.Answers as rules
 use Rattle.flat_machine.specs.State.{State, Bytes, content_in}
 use Rattle.flat_machine.specs.Agreement.{Agrees, Contents}
 use Rattle.flat_machine.specs.Final.{bytes_of}
-use Rattle.flat_machine.specs.Sights.{IsReached, calls_at, image_sight, is_opened, order_of, stop_for}
+use Rattle.flat_machine.specs.Sights.{IsFailure, IsReached, calls_at, image_sight, is_opened, order_of, stop_for}
 use Rattle.flat_machine.specs.Standing.{Stands}
-use Rattle.blk_world.specs.Adding.{Adding, HasFailed, IsAbsent, IsTakenOut, Looks, LooksInVain, Opens, Taken, Tells, TellsImage, TellsInside, TellsLength, TellsLong, TellsRefusal, opened_sight, probe, unopened}
+use Rattle.blk_world.specs.Adding.{Adding, HasFailed, IsAbsent, IsTakenOut, Looks, LooksInVain, Opens, Taken, Tells, TellsImage, TellsInside, TellsLength, TellsLong, TellsRefusal, look_in_vain, opened_sight, probe, unopened}
 use Rattle.blk_world.specs.Stores.{StoreInRun}
 use Rattle.blk_world.proofs.AddSights.{IsSeenAs, expects, fails, known-absent, known-there, seen-stopped, seen-unreached, seen-whole}
-use Rattle.blk_world.proofs.AddSeen.{AsFile, AsImage, AsPart, OpensAs, expects-absent, expects-closed, expects-file, expects-image, expects-part, has-as, has-at, looks-as}
+use Rattle.blk_world.proofs.AddSeen.{AsFile, AsImage, AsPart, OpensAs, expects-absent, expects-closed, expects-file, expects-image, expects-part, has-at, looks-as}
 use Rattle.blk_world.proofs.AddRefused.{has-opened}
 use Rattle.blk_world.proofs.AddTold.{has_look}
 
@@ -86,9 +86,12 @@ there-part name raw n =
     (nat_lt 549755813888 n || not (part_fits raw.offset raw.size n))
 
 -- a stop of the image says nothing of the kind, and stands at the image or behind it
+abbrev pub IsFrom : ℕ → Option Stopped → Type 0
+IsFrom n None = Unit {0}
+IsFrom n (Some stopped) = n ≤ order_of stopped.look
+
 abbrev pub IsBehind : Option Stopped → Type 0
-IsBehind None = Unit {0}
-IsBehind (Some stopped) = (stopped.look ≡ look.Image) ⊎ (3 < order_of stopped.look)
+IsBehind stopped = IsFrom 3 stopped
 
 there-sizes : (name : List ℕ) (cause : Option ImageStop) (b : Bool) (sizes : Option Refusal) → IsThere sizes
     → AreThere (stop_at look.Image (option_map refusal.Image cause) (stop_at look.Backing (refused b (refusal.BackingNeeded name)) (stop_at look.Size sizes None)))
@@ -99,9 +102,9 @@ there-sizes name None false None is = tt
 
 behind-sizes : (name : List ℕ) (cause : Option ImageStop) (b : Bool) (sizes : Option Refusal)
     → IsBehind (stop_at look.Image (option_map refusal.Image cause) (stop_at look.Backing (refused b (refusal.BackingNeeded name)) (stop_at look.Size sizes None)))
-behind-sizes name (Some cause) b sizes = inl refl
-behind-sizes name None true sizes = let far : 3 < 4 = omega arith in inr far
-behind-sizes name None false (Some size) = let far : 3 < 5 = omega arith in inr far
+behind-sizes name (Some cause) b sizes = omega arith
+behind-sizes name None true sizes = omega arith
+behind-sizes name None false (Some size) = omega arith
 behind-sizes name None false None = tt
 
 abbrev sizes_of : Table → List ℕ → AddQcow2 (List ℕ) → ℕ → Option Refusal
@@ -121,6 +124,22 @@ there-inside t name added sight =
 pub behind-inside : (t : Table) (name : List ℕ) (added : AddQcow2 (List ℕ)) (sight : ImageSight) → IsBehind (image_stop t name added sight)
 behind-inside t name added sight =
     behind-sizes name sight.stop (sight.names_backing && is_none added.backing) (sizes_of t name added sight.size)
+
+from-file : (name : List ℕ) (n : ℕ) → IsFrom 2 (file_stop name n)
+from-file name n = by_test (nat_lt 549755813888 n)
+  where
+    by_test : (b : Bool) → IsFrom 2 (stop_at look.File (too_long name b) None)
+    by_test true = omega arith
+    by_test false = tt
+
+from-first : (a b : Option Stopped) → IsFrom 2 a → IsBehind b → IsFrom 2 (first_stop a b)
+from-first None None here rest = tt
+from-first None (Some stopped) here rest = omega (arith, rest)
+from-first (Some stopped) b here rest = here
+
+from-none : (stopped : Option Stopped) → IsFrom 0 stopped
+from-none None = tt
+from-none (Some stopped) = omega arith
 
 -- ---- a file that is too long stops at the look at files
 
@@ -168,14 +187,13 @@ not-io number stop.NoMemory io = refl
 
 -- ---- failed calls
 
-reach-file : (c : Adding) (expected : Option Stopped) → AreThere expected → IsReached (command.BlockdevAdd c) look.File expected
-reach-file c None there = tt
-reach-file c (Some stopped) there = inr (inl refl, there c)
+reach-from : (c : Adding) (what : Look) (expected : Option Stopped) → AreThere expected → IsFrom (order_of what) expected
+    → IsReached (command.BlockdevAdd c) what expected
+reach-from c what None there from = tt
+reach-from c what (Some stopped) there from = (from, there c)
 
 pub reach-image : (c : Adding) (expected : Option Stopped) → AreThere expected → IsBehind expected → IsReached (command.BlockdevAdd c) look.Image expected
-reach-image c None there behind = tt
-reach-image c (Some stopped) there (inl at) = inr (inr (sym at), there c)
-reach-image c (Some stopped) there (inr later) = inl later
+reach-image c expected there behind = reach-from c look.Image expected there behind
 
 -- ---- a device that was taken out holds the file's bytes
 
@@ -220,10 +238,15 @@ told-open t node filename image bytes header size long fits is sight =
 module _ (opening : List ℕ → Option (List ℕ)) (s : State) (held : Contents) (agrees : Agrees opening s held) (stands : Stands s) (c : Adding) (at : Opens)
     (opener : OpensAs c at) (old new : StoreInRun) (files : List File) (told-files : old.files ≡ Some files)
     (own : is_unopened s.table at.filename ≡ false → held.held at.filename ≡ bytes_of files at.filename) where
-  calls-file : OpensAs c at → is_unopened s.table at.filename ≡ false → calls_at s.table look.File (command.BlockdevAdd c) ≡ true
-  calls-file (AsFile e what) free = rw (e, free) refl
-  calls-file (AsPart raw file e f name what) free = rw (e, f, name, free) refl
-  calls-file (AsImage image file e f name what) free = rw (e, f, name, free) refl
+  calls-file : OpensAs c at → is_unopened s.table at.filename ≡ false → calls_at s.table at.what (command.BlockdevAdd c) ≡ true
+  calls-file (AsFile e what) free = rw (what, e, free) refl
+  calls-file (AsPart raw file e f name what) free = rw (what, e, f, name, free) refl
+  calls-file (AsImage image file e f name what) free = rw (what, e, f, name, free) refl
+
+  failed-file : (count : ℕ) → OpensAs c at → IsFailure at.what (refusal.Io Store count)
+  failed-file count (AsFile e what) = subst (λ (l : Look). IsFailure l (refusal.Io Store count)) (sym what) tt
+  failed-file count (AsPart raw file e f name what) = subst (λ (l : Look). IsFailure l (refusal.Io Store count)) (sym what) tt
+  failed-file count (AsImage image file e f name what) = subst (λ (l : Look). IsFailure l (refusal.Io Store count)) (sym what) tt
 
   -- what is expected of a file that is there
   expects-there : (bytes : List ℕ) → content_in s.files at.filename ≡ Some (Bytes bytes) → is_unopened s.table at.filename ≡ false → OpensAs c at
@@ -238,30 +261,45 @@ module _ (opening : List ℕ → Option (List ℕ)) (s : State) (held : Contents
       (there-first (file_stop at.filename (length bytes)) (image_stop s.table c.node_name image (image_sight (Bytes bytes)))
       (there-file at.filename (length bytes)) (there-inside s.table c.node_name image (image_sight (Bytes bytes))))
 
-  in-vain : (told : Told) → is_unopened s.table at.filename ≡ false → LooksInVain at.filename old new told → IsSeenAs s c told
+  -- which stands at that look or behind it
+  expects-from : (bytes : List ℕ) → content_in s.files at.filename ≡ Some (Bytes bytes) → is_unopened s.table at.filename ≡ false → OpensAs c at
+      → IsFrom (order_of at.what) (expects s c).stopped
+  expects-from bytes known free (AsFile e what) =
+      subst (λ (l : Look). IsFrom (order_of l) (expects s c).stopped) (sym what)
+      (subst (λ (t : Told). IsFrom 2 t.stopped) (sym (expects-file s c at.filename bytes free known e)) (from-file at.filename (length bytes)))
+  expects-from bytes known free (AsPart raw file e f name what) =
+      subst (λ (l : Look). IsFrom (order_of l) (expects s c).stopped) (sym what) (from-none (expects s c).stopped)
+  expects-from bytes known free (AsImage image file e f name what) =
+      subst (λ (l : Look). IsFrom (order_of l) (expects s c).stopped) (sym what)
+      (subst (λ (t : Told). IsFrom 2 t.stopped) (sym (expects-image s c at.filename bytes free known image file e f name))
+      (from-first (file_stop at.filename (length bytes)) (image_stop s.table c.node_name image (image_sight (Bytes bytes)))
+      (from-file at.filename (length bytes)) (behind-inside s.table c.node_name image (image_sight (Bytes bytes)))))
+
+  in-vain : (told : Told) → is_unopened s.table at.filename ≡ false → LooksInVain at old new told → IsSeenAs s c told
   in-vain told free looks = by_cause looks.cause
     where
-      stops : told.stopped ≡ Some (record { look = look.File; refusal = looks.why })
-      stops = ap (λ (t : Told). t.stopped) looks.is
-
       by_cause : (IsAbsent old new at.filename looks.why ⊎ HasFailed old new at.filename looks.why) → IsSeenAs s c told
       by_cause (inl absent) =
           let lacks : file_at at.filename files ≡ None = rw told-files at absent.lacks in
           let none : held.held at.filename ≡ None = own free ∙ ap (option_map (λ (f : File). f.bytes)) lacks in
           let known : content_in s.files at.filename ≡ None = known-absent opening s held agrees stands at.filename free none in
           let is : told ≡ told_as None None (Some (record { look = look.File; refusal = refusal.File at.filename Absent })) =
-          looks.is ∙ ap (λ (r : Refusal). told_as None None (Some (record { look = look.File; refusal = r }))) absent.is in
+          looks.is ∙ ap (λ (r : Refusal). told_as None None (Some (record { look = look_in_vain at.what r; refusal = r }))) absent.is in
           seen-whole s c told (expects-absent s c at opener free known ∙ sym is)
       by_cause (inr failed) =
           let there : HasFile at.filename (λ _. Unit {0}) files = rw told-files at failed.there in
           let bytes : held.held at.filename ≡ Some there.0.bytes = own free ∙ ap (option_map (λ (f : File). f.bytes)) there.1 in
           let known : content_in s.files at.filename ≡ Some (Bytes there.0.bytes) =
           known-there opening s held agrees stands at.filename free there.0.bytes bytes in
-          seen-stopped s c told look.File looks.why stops (has-as c at opener)
-          (fails s c told look.File looks.why stops (record {
+          let stops : told.stopped ≡ Some (record { look = at.what; refusal = refusal.Io Store new.faults }) =
+          ap (λ (t : Told). t.stopped) looks.is
+          ∙ ap (λ (r : Refusal). let x : Stopped = record { look = look_in_vain at.what r; refusal = r } in Some x) failed.is in
+          seen-stopped s c told at.what (refusal.Io Store new.faults) stops (has-at c at opener)
+          (fails s c told at.what (refusal.Io Store new.faults) stops (record {
             call = calls-file opener free;
-            failure = rw failed.is tt;
-            reached = reach-file c (expects s c).stopped (expects-there there.0.bytes known free opener);
+            failure = failed-file new.faults opener;
+            reached = reach-from c at.what (expects s c).stopped (expects-there there.0.bytes known free opener)
+                (expects-from there.0.bytes known free opener);
           }))
 
   -- the image in a file that is known

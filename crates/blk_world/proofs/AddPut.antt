@@ -1,6 +1,7 @@
 -- For want of memory an addition leaves the world as it was, but for openings that are over and counts.
 use Rattle.std.proofs.Common.{◌≡◌, ◌⊎◌, ℕ, ◌≤◌, List, [], ◌∷◌, ◌++◌, inl, inr, refl, sym, ◌∙◌, ap, subst, arith, Option, Some, None}
 use Rattle.std.specs.Prelude.{is_some}
+use Rattle.blk_base.specs.declared.fault.FaultAt.{FaultAt}
 use Rattle.blk_base.specs.declared.file.File.{File}
 use Rattle.blk_base.specs.declared.file.Opened.{Opened}
 use Rattle.qmp_codec.specs.declared.nodes.Added.{Added}
@@ -8,7 +9,7 @@ use Rattle.qmp_rules.specs.Table.{Table}
 use Rattle.blk_world.specs.Adding.{Adding, IsBack, Opens, Taken, opens}
 use Rattle.blk_world.specs.Carrying.{IsPutBack}
 use Rattle.blk_world.specs.Coherent.{DevicesTell, IsCoherent}
-use Rattle.blk_world.specs.Counting.{RunsOn}
+use Rattle.blk_world.specs.Counting.{HidesNoFault, LeavesNoneOut, RunsOn}
 use Rattle.blk_world.specs.Face.{Face}
 use Rattle.blk_world.specs.Looking.{HasCalled, IsLookedBack, Site, StoreIsBack, site}
 use Rattle.blk_world.specs.Staging.{IsNotAdded, back_if, opened_name, site_of, store_of}
@@ -18,7 +19,6 @@ use Rattle.blk_world.proofs.AddCarried.{sited}
 use Rattle.blk_world.proofs.AddClosed.{closed-in}
 use Rattle.blk_world.proofs.AddKinds.{IsLookedSo, looked-so}
 use Rattle.blk_world.proofs.AddLooked.{called_itself}
-use Rattle.blk_world.proofs.AddQuiet.{quiet-called}
 use Rattle.blk_world.proofs.AddRuns.{back-is, closed-opening, runs-opened}
 use Rattle.blk_world.proofs.AddRunsOn.{runs-still}
 use Rattle.blk_world.proofs.CountLemmas.{not-fallen, out-same, same-risen}
@@ -83,13 +83,27 @@ module _ (w : Face) (coherent : IsCoherent w.table w.nodes w.opened w.progress) 
             (ap (λ (s : StoreInRun). s.earlier) over.is) (omega (arith, faults)) over.opening (ap (λ (s : StoreInRun). s.opened) over.is)
             (not-fallen w.nodes.devices x.nodes.devices (same-risen w.nodes.devices x.nodes.devices put.called.risen) w.opened 0)
 
-    pub put-back : (u : Table) → u ≡ w.table → IsPutBack w (sited w x u)
-    put-back u table = record {
+    none-out : LeavesNoneOut w.opened x.store.opened
+    none-out = by_store put.store
+      where
+        by_store : IsCounted (store_of w) x.store ⊎ IsOverAgain (store_of w) x.store → LeavesNoneOut w.opened x.store.opened
+        by_store (inl counted) = inl (ap (λ (s : StoreInRun). s.opened) counted.is)
+        by_store (inr over) =
+            inr (record { opening = over.opening; is = ap (λ (s : StoreInRun). s.opened) over.is; back = ap (λ (r : Option ℕ). is_some r) over.back })
+
+    pub put-back : (u : Table) → u ≡ w.table → (fault : Option FaultAt) → HidesNoFault w (sited w x u) fault → IsPutBack w (sited w x u)
+    put-back u table fault hides = record {
       table = table;
       progress = refl;
+      bitmaps = refl;
+      drains = refl;
       runs = runs u;
+      files = same-files;
+      called = put.called;
+      opens = none-out;
+      fault = fault;
+      hides = hides;
       coherent = λ was. subst (λ (t : Table). IsCoherent t x.nodes x.store.opened w.progress) (sym table) put-both.0;
-      contents = λ told o s shows. quiet-called w (sited w x u) same-files table put.called;
     }
 
   -- ---- how it comes to that
@@ -101,17 +115,17 @@ module _ (w : Face) (coherent : IsCoherent w.table w.nodes w.opened w.progress) 
   }
 
   looked-back : (driver : Added (List ℕ)) → IsLookedBack driver (site_of w) x → IsPutSo w x
-  looked-back driver is = record { store = by_opens (opens driver) is.store; called = is.called }
+  looked-back driver is = record { store = by_opens (opens driver) is.store; called = subst (HasCalled w.nodes) (sym is.kept) (called_itself w.nodes) }
     where
       by_back : (name : List ℕ) → IsBack (store_of w) x.store name → IsCounted (store_of w) x.store ⊎ IsOverAgain (store_of w) x.store
       by_back name (inl same) = inl (counted-same same)
       by_back name (inr again) =
           inr
           (record {
-            opening = closed-opening (store_of w) again.between name again.first again.now again.out again.same again.inside;
-            count = again.now.faults;
+            opening = closed-opening (store_of w) again.between name again.first again.first again.out refl again.inside;
+            count = again.first.faults;
             back = refl;
-            is = again.is ∙ back-is (store_of w) again.between name again.first again.now again.out again.same again.inside;
+            is = again.is ∙ back-is (store_of w) again.between name again.first again.first again.out refl again.inside;
           })
 
       by_opens : (at : Option Opens) → StoreIsBack at (store_of w) x.store → IsCounted (store_of w) x.store ⊎ IsOverAgain (store_of w) x.store

@@ -1,5 +1,7 @@
 -- The refusal of an addition, and its answer, by what the files tell.
 use Rattle.std.proofs.Common.{◌≡◌, ◌≢◌, ℕ, Bool, true, false, List, refl, sym, ◌∙◌, ap, Option, Some, None}
+use Rattle.std.specs.List.{list_any}
+use Rattle.std.proofs.lemmas.Bool.{or_parts}
 use Rattle.qmp_codec.specs.declared.command.Command.TheVariants as command
 use Rattle.qmp_codec.specs.declared.nodes.Added.{Added}
 use Rattle.qmp_codec.specs.declared.nodes.Added.TheVariants as added
@@ -10,18 +12,20 @@ use Rattle.qmp_codec.specs.declared.nodes.FileRef.TheVariants as file_ref
 use Rattle.qmp_codec.specs.declared.nodes.InlineFile.{InlineFile}
 use Rattle.qmp_rules.specs.declared.refusal.Refusal.{Refusal}
 use Rattle.qmp_rules.specs.declared.refusal.Refusal.TheVariants.{Aborted}
+use Rattle.qmp_rules.specs.declared.refusal.Refusal.TheVariants as refusal
 use Rattle.qmp_rules.specs.declared.told.Look.{Look}
 use Rattle.qmp_rules.specs.declared.told.Look.TheVariants as look
 use Rattle.qmp_rules.specs.declared.told.Told.{Told}
-use Rattle.qmp_rules.specs.Table.{Table}
+use Rattle.qmp_rules.specs.Table.{Table, file_state}
 use Rattle.qmp_rules.specs.Refusals.{or_else}
-use Rattle.qmp_rules.specs.Asks.{first}
+use Rattle.qmp_rules.specs.Asks.{first, holds, is_lost, stands_for, told_at}
+use Rattle.qmp_rules.specs.Looks.{is_unopened}
 use Rattle.qmp_rules.specs.CommandAsks.{asks_of}
 use Rattle.qmp_rules.specs.NodeAsks.{add_asks, backing_name, is_read_only}
 use Rattle.qmp_rules.specs.Edits.{added_edits, edits_of, qcow2_edits, raw_edits}
 use Rattle.qmp_rules.specs.Answers.{answer, answer_by, conflict_after, is_joined, out_of_turn, refusal_of, untold}
-use Rattle.blk_world.specs.Adding.{Adding, probe}
-use Rattle.blk_world.proofs.AddTold.{first-told, looks_at, has_look, unreached, stop-refuses}
+use Rattle.blk_world.specs.Adding.{Adding, IsLookReached, probe}
+use Rattle.blk_world.proofs.AddTold.{behind_look, first-reached, first-told, looks_at, look-itself, has_look, unreached, stop-refuses}
 
 -- behind the asks: what the edges break
 abbrev pub broken : Table → Adding → Option Refusal
@@ -72,6 +76,40 @@ unreached-refused t what c at not = λ told. by_turn (out_of_turn false t.negoti
         let there : refusal_of t (probe what) (command.BlockdevAdd c) ≡ Some other = refusal-is t (probe what) c ∙ rw e refl in
         here ∙ sym there
     by_turn None e told = refusal-same t told (probe what) c (unreached t what (add_asks c) at (λ is. not (refusal-is t (probe what) c ∙ rw (e, is) refl)) told)
+
+-- where a look is reached, what the files tell there refuses, or else what stands behind it
+pub reached-refused : (t : Table) (what : Look) (c : Adding) → looks_at what (add_asks c) ≡ true → has_look what (add_asks c) ≡ true
+    → IsLookReached t (command.BlockdevAdd c) what → (told : Told)
+    → refusal_of t told (command.BlockdevAdd c)
+    ≡ or_else (or_else (told_at what told.stopped) (first t told (behind_look (add_asks c)))) (broken t c)
+reached-refused t what c at has is told = by_turn t.negotiated refl
+  where
+    by_first : (found : Option Refusal) → first t (probe what) (add_asks c) ≡ found → or_else found (broken t c) ≡ Some Aborted
+        → first t (probe what) (add_asks c) ≡ Some Aborted
+    by_first None e found = absurd (stop-refuses t (probe what) what Aborted (add_asks c) refl has e)
+    by_first (Some other) e found = e ∙ found
+
+    by_turn : (b : Bool) → t.negotiated ≡ b
+        → refusal_of t told (command.BlockdevAdd c)
+        ≡ or_else (or_else (told_at what told.stopped) (first t told (behind_look (add_asks c)))) (broken t c)
+    by_turn false e =
+        let stops : refusal_of t (probe what) (command.BlockdevAdd c) ≡ Some (refusal.Negotiation false) = refusal-is t (probe what) c ∙ rw e refl in
+        let bad : Some (refusal.Negotiation false) ≡ Some Aborted = sym stops ∙ is in
+        absurd (cc bad)
+    by_turn true e =
+        let probed : refusal_of t (probe what) (command.BlockdevAdd c) ≡ or_else (first t (probe what) (add_asks c)) (broken t c) =
+        refusal-is t (probe what) c ∙ rw e refl in
+        let found = by_first (first t (probe what) (add_asks c)) refl (sym probed ∙ is) in
+        let mine : refusal_of t told (command.BlockdevAdd c) ≡ or_else (first t told (add_asks c)) (broken t c) = refusal-is t told c ∙ rw e refl in
+        mine ∙ ap (λ (r : Option Refusal). or_else r (broken t c)) (first-reached t what told (add_asks c) at found)
+
+-- so a stop there is the refusal
+pub stop-told : (t : Table) (what : Look) (c : Adding) → looks_at what (add_asks c) ≡ true → has_look what (add_asks c) ≡ true
+    → IsLookReached t (command.BlockdevAdd c) what → (told : Told) (cause : Refusal)
+    → told.stopped ≡ Some (record { look = what; refusal = cause }) → refusal_of t told (command.BlockdevAdd c) ≡ Some cause
+stop-told t what c at has is told cause stops =
+    let here : told_at what told.stopped ≡ Some cause = rw (stops, look-itself what) refl in
+    reached-refused t what c at has is told ∙ rw here refl
 
 -- ---- the answer
 
@@ -153,6 +191,17 @@ module _ (c : Adding) where
   pub has-opened : (image : AddQcow2 (List ℕ)) (file : InlineFile (List ℕ)) → c.driver ≡ added.Qcow2 image → image.file ≡ file_ref.Inline file
       → (has_look look.File (add_asks c) ≡ true) × (has_look look.Image (add_asks c) ≡ true)
   has-opened image file e f = (rw (e, f) refl, rw (e, f) refl)
+
+  -- and a stop at the image is the refusal where the file is opened for it
+  pub image-told : (t : Table) (image : AddQcow2 (List ℕ)) (file : InlineFile (List ℕ)) → c.driver ≡ added.Qcow2 image
+      → image.file ≡ file_ref.Inline file → IsLookReached t (command.BlockdevAdd c) look.File → is_unopened t file.filename ≡ false
+      → (told : Told) (cause : Refusal) → told.stopped ≡ Some (record { look = look.Image; refusal = cause })
+      → refusal_of t told (command.BlockdevAdd c) ≡ Some cause
+  unfolding holds
+  image-told t image file e f is free told cause stops =
+      let kept = (or_parts (list_any (stands_for file.filename) t.nodes) (is_lost false (file_state t file.filename)) free).1 in
+      reached-refused t look.File c (looks-image image file e f) (has-opened image file e f).0 is told
+      ∙ rw (stops, e, f, kept) refl
 
   pub has-named : (image : AddQcow2 (List ℕ)) (name : List ℕ) → c.driver ≡ added.Qcow2 image → image.file ≡ file_ref.Name name
       → has_look look.Image (add_asks c) ≡ true

@@ -18,7 +18,7 @@ use Rattle.blk_world.proofs.CountLemmas.{there, with-of}
 
 -- ---- counts
 
-counts-append : (ds : List DeviceState) (k : ℕ) (xs : List Opened) (y : Opened)
+pub counts-append : (ds : List DeviceState) (k : ℕ) (xs : List Opened) (y : Opened)
     → counts_from ds k (xs ++ y ∷ []) ≡ counts_from ds k xs ++ count_of_opening ds (k + length xs) y ∷ []
 counts-append ds k [] y = let same : k + 0 ≡ k = omega arith in rw same refl
 counts-append ds k (x ∷ xs) y =

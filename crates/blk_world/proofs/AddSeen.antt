@@ -11,11 +11,13 @@ use Rattle.qmp_codec.specs.declared.nodes.InlineFile.{InlineFile}
 use Rattle.qmp_rules.specs.declared.told.Look.{Look}
 use Rattle.qmp_rules.specs.declared.told.Look.TheVariants as look
 use Rattle.qmp_rules.specs.Looks.{add_told, absent, file_stop, first_stop, image_stop, is_unopened, raw_stop, told_as}
+use Rattle.qmp_rules.specs.declared.refusal.Refusal.{Refusal}
+use Rattle.qmp_rules.specs.declared.refusal.Refusal.TheVariants as refusal
 use Rattle.qmp_rules.specs.NodeAsks.{add_asks}
 use Rattle.qmp_rules.specs.Answers.{untold}
 use Rattle.flat_machine.specs.State.{State, Bytes, content_in}
 use Rattle.flat_machine.specs.Sights.{image_sight}
-use Rattle.blk_world.specs.Adding.{Adding, Opens, opens}
+use Rattle.blk_world.specs.Adding.{Adding, Opens, look_in_vain, opens}
 use Rattle.blk_world.proofs.AddTold.{looks_at, has_look}
 use Rattle.blk_world.proofs.AddRefused.{looks-file, looks-part, looks-image, has-file, has-begin, has-part, has-opened}
 use Rattle.blk_world.proofs.AddSights.{expects}
@@ -59,7 +61,7 @@ looks-as c at (AsFile e what) = subst (λ (w : Look). looks_at w (add_asks c) �
 looks-as c at (AsPart raw file e f name what) = subst (λ (w : Look). looks_at w (add_asks c) ≡ true) (sym what) (looks-part c raw file e f)
 looks-as c at (AsImage image file e f name what) = subst (λ (w : Look). looks_at w (add_asks c) ≡ true) (sym what) (looks-image c image file e f)
 
-pub has-as : (c : Adding) (at : Opens) → OpensAs c at → has_look look.File (add_asks c) ≡ true
+has-as : (c : Adding) (at : Opens) → OpensAs c at → has_look look.File (add_asks c) ≡ true
 has-as c at (AsFile e what) = has-file c at.filename e
 has-as c at (AsPart raw file e f name what) = has-part c raw file e f
 has-as c at (AsImage image file e f name what) = (has-opened c image file e f).0
@@ -68,6 +70,11 @@ pub has-at : (c : Adding) (at : Opens) → OpensAs c at → has_look at.what (ad
 has-at c at (AsFile e what) = subst (λ (w : Look). has_look w (add_asks c) ≡ true) (sym what) (has-file c at.filename e)
 has-at c at (AsPart raw file e f name what) = subst (λ (w : Look). has_look w (add_asks c) ≡ true) (sym what) (has-begin c raw file e f)
 has-at c at (AsImage image file e f name what) = subst (λ (w : Look). has_look w (add_asks c) ≡ true) (sym what) (has-opened c image file e f).0
+
+-- a file that isn't opened is refused at a look that is asked for
+pub has-vain : (c : Adding) (at : Opens) → OpensAs c at → (why : Refusal) → has_look (look_in_vain at.what why) (add_asks c) ≡ true
+has-vain c at opener (refusal.Io source count) = has-at c at opener
+has-vain c at opener _ = has-as c at opener
 
 -- ---- what is told of it
 

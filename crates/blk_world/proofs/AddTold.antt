@@ -1,15 +1,16 @@
 -- What the files tell decides a refusal of an addition only where its look is reached.
-use Rattle.std.proofs.Common.{◌≡◌, ◌≢◌, ℕ, Bool, true, false, List, [], ◌∷◌, refl, sym, ◌∙◌, Option, Some, None}
+use Rattle.std.proofs.Common.{◌≡◌, ◌≢◌, ℕ, Bool, true, false, List, [], ◌∷◌, refl, sym, ◌∙◌, ap, Option, Some, None}
 use Rattle.std.specs.Prelude.{◌==◌, if◌then◌else◌}
 use Rattle.std.proofs.lemmas.Bool.{eq-eqb, false≢true}
 use Rattle.qmp_rules.specs.declared.ask.Ask.TheVariants as ask
 use Rattle.qmp_rules.specs.declared.refusal.Refusal.{Refusal}
 use Rattle.qmp_rules.specs.declared.refusal.Refusal.TheVariants.{Aborted}
 use Rattle.qmp_rules.specs.declared.told.Look.{Look}
+use Rattle.qmp_rules.specs.declared.told.Look.TheVariants as look
 use Rattle.qmp_rules.specs.declared.told.Told.{Told}
 use Rattle.qmp_rules.specs.Table.{Table}
 use Rattle.qmp_rules.specs.Refusals.{place_of, or_else}
-use Rattle.qmp_rules.specs.Asks.{Asking, first, holds, place, same_look}
+use Rattle.qmp_rules.specs.Asks.{Asking, first, holds, place, same_look, told_at}
 use Rattle.qmp_rules.proofs.PlaceLemmas.{has_place}
 use Rattle.flat_machine.proofs.Asked.{NoneHolds}
 use Rattle.blk_world.specs.Adding.{probe}
@@ -132,6 +133,66 @@ module _ (t : Table) (what : Look) where
   reached [] at is told = absurd (false≢true at)
   reached (asking ∷ asks) at is told =
       up-to asking asks (is_quiet asking) refl at is told (λ later found. reached asks later found told)
+
+-- ---- what refuses where a look is reached
+
+same-look : (a b : Look) → same_look a b ≡ true → a ≡ b
+same-look look.Begin look.Begin is = refl
+same-look look.End look.End is = refl
+same-look look.File look.File is = refl
+same-look look.Image look.Image is = refl
+same-look look.Backing look.Backing is = refl
+same-look look.Size look.Size is = refl
+same-look look.Format look.Format is = refl
+same-look _ _ is = absurd (false≢true is)
+
+pub look-itself : (a : Look) → same_look a a ≡ true
+look-itself look.Begin = refl
+look-itself look.End = refl
+look-itself look.File = refl
+look-itself look.Image = refl
+look-itself look.Backing = refl
+look-itself look.Size = refl
+look-itself look.Format = refl
+
+-- the asks behind the first that files answer
+abbrev pub behind_look : List Asking → List Asking
+behind_look [] = []
+behind_look (asking ∷ asks) = if is_quiet asking then behind_look asks else asks
+
+module _ (t : Table) (what : Look) (told : Told) where
+  told-here : (asking : Asking) → is_look what asking ≡ true → holds t told asking ≡ told_at what told.stopped
+  unfolding holds
+  told-here (ask.Files other) is = ap (λ (l : Look). told_at l told.stopped) (same-look other what is)
+  told-here _ is = absurd (false≢true is)
+
+  abbrev Refuses : List Asking → Option Refusal → Type 0
+  Refuses asks found = found ≡ or_else (told_at what told.stopped) (first t told asks)
+
+  past-quiet : (asking : Asking) (asks : List Asking) → is_quiet asking ≡ true → (found : Option Refusal) → holds t (probe what) asking ≡ found
+      → or_else (holds t (probe what) asking) (first t (probe what) asks) ≡ Some Aborted
+      → (first t (probe what) asks ≡ Some Aborted → Refuses (behind_look asks) (first t told asks))
+      → Refuses (behind_look asks) (or_else (holds t told asking) (first t told asks))
+  past-quiet asking asks quiet (Some cause) e is rest =
+      let stops : or_else (Some cause) (first t (probe what) asks) ≡ Some Aborted = rw e at is in
+      absurd (never-aborted t (probe what) asking quiet (e ∙ stops))
+  past-quiet asking asks quiet None e is rest =
+      rw (quiet-same t told (probe what) asking quiet ∙ e) (rest (rw e at is))
+
+  look-past : (asking : Asking) (asks : List Asking) (b : Bool) → is_quiet asking ≡ b
+      → (if b then looks_at what asks else is_look what asking) ≡ true
+      → or_else (holds t (probe what) asking) (first t (probe what) asks) ≡ Some Aborted
+      → (looks_at what asks ≡ true → first t (probe what) asks ≡ Some Aborted → Refuses (behind_look asks) (first t told asks))
+      → Refuses (if b then behind_look asks else asks) (or_else (holds t told asking) (first t told asks))
+  look-past asking asks true quiet later is rest = past-quiet asking asks quiet (holds t (probe what) asking) refl is (rest later)
+  look-past asking asks false quiet here is rest = ap (λ (found : Option Refusal). or_else found (first t told asks)) (told-here asking here)
+
+  -- what the files tell there, or else what stands behind
+  pub first-reached : (asks : List Asking) → looks_at what asks ≡ true → first t (probe what) asks ≡ Some Aborted
+      → first t told asks ≡ or_else (told_at what told.stopped) (first t told (behind_look asks))
+  first-reached [] at is = absurd (false≢true at)
+  first-reached (asking ∷ asks) at is =
+      look-past asking asks (is_quiet asking) refl at is (λ later found. first-reached asks later found)
 
 -- ---- a stop at a look that is asked for refuses
 

@@ -1,6 +1,8 @@
 -- A guest's device that was put on a node, or refused: what it leaves of the world.
 use Rattle.std.proofs.Common.{◌≡◌, ◌≢◌, ℕ, ◌≤◌, ◌==◌, Bool, true, false, cond, not, List, [], ◌∷◌, ◌++◌, length, map, inl, inr, refl, sym, ◌∙◌, ap, subst, Option, Some, None}
 use Rattle.std.specs.Prelude.{IsSome, AllPairs, Contains, find, option_and_then, option_map, unwrap_or}
+use Rattle.flat_machine.specs.Marks.{IsCalm}
+use Rattle.std.proofs.lemmas.List.Elements.{All-nil}
 use Rattle.std.proofs.lemmas.Bool.{cases_eq, eq-eqb, false≢true, ne_eqb}
 use Rattle.std.proofs.lemmas.Option.{same_Some}
 use Rattle.blk_base.specs.Pieces.{end_of}
@@ -44,14 +46,16 @@ use Rattle.blk_nodes.specs.Contents.{disk_of}
 use Rattle.blk_nodes.specs.Joined.{IsJoined}
 use Rattle.blk_nodes.specs.Nodes.{Nodes, row_at}
 use Rattle.blk_world.specs.Coherent.{AreAlike, AreAllowed, AreHeld, AreNodesOf, AreOnDisks, AreOnWritable, AreWithin, AskToWrite, HaveDrives, IsCoherent, IsWhole, node_row}
-use Rattle.blk_world.specs.Face.{Face, contents_of, held_by, node_over}
+use Rattle.blk_world.specs.Face.{Face, contents_of, seen_state, held_by, node_over}
 use Rattle.blk_world.specs.Handling.{IsAttached}
 use Rattle.blk_world.specs.Progress.{flight_at}
 use Rattle.blk_world.proofs.Attached.{IsWithDevice, device as device_of_table, file as file_used, of, edits, table_then, table_is, is_with, fresh, named_is, found_is, own_device, at_row, nodes_then, drawn_same}
 use Rattle.blk_world.proofs.CarryPlain.{quiet-self}
 use Rattle.blk_world.proofs.CountLemmas.{runs-devices, same-devices}
+use Rattle.blk_world.proofs.CountsKept.{hides-same}
 use Rattle.blk_world.proofs.DeletedLists.{find_there, pairs}
 use Rattle.blk_world.proofs.GuestEdges.{guest_edge, guest_stays}
+use Rattle.blk_world.proofs.BitmapsLeft.{left-listed}
 use Rattle.blk_world.proofs.Placed.{answer-is, CarriedUntold, carried_by, rests_by, used, shape_by, performed_used}
 
 find-past : {A : Type 0} (p : A → Bool) (xs : List A) (y : A) → p y ≡ false → find p (xs ++ y ∷ []) ≡ find p xs
@@ -322,8 +326,8 @@ module _ (w : Face) (whole : IsWhole w) (joined : IsJoined w.nodes)
 
       attached_carried : CarriedUntold w v (command.DeviceAdd c) None
       attached_carried =
-          carried_by w v (command.DeviceAdd c) refl none table_so refl refl
-          (runs-devices w v refl refl refl refl refl refl (same-devices w.nodes.devices)) (λ before. attached_coherent)
+          carried_by w v (command.DeviceAdd c) refl refl none table_so refl refl (All-nil (IsCalm (seen_state w))) refl
+          (runs-devices w v refl refl refl refl refl refl (same-devices w.nodes.devices)) (hides-same w v refl refl refl) (λ before. attached_coherent)
           (λ o s told shows. subst (λ (changes : List Change). AllPerformed s changes (contents_of w) (contents_of v)) (sym changes_so)
           (performed_used w s (file_used w.table h c none) (AddDevice device node ∷ []) (contents_of v)
           (contents_of v, quiet_then, quiet-self (contents_of v))))
@@ -347,5 +351,10 @@ module _ (w : Face) (whole : IsWhole w) (joined : IsJoined w.nodes)
         subst (λ (f : Face). CarriedUntold w f (command.DeviceAdd c) None) same
             (attached_carried joined_then (λ n. subst (λ (ns : Nodes). disk_of ns n ≡ disk_of w.nodes n) same_nodes (put.disks n))),
         subst IsWhole same
-            (record { coherent = attached_coherent joined_then; tell = whole.tell; counted = whole.counted }),
+            (record {
+              coherent = attached_coherent joined_then;
+              tell = whole.tell;
+              counted = whole.counted;
+              bitmaps = left-listed w.table untold (command.DeviceAdd c) w.bitmaps u refl (sym same_table ∙ table) whole.bitmaps;
+            }),
       )

@@ -27,10 +27,11 @@ module _ (store : StoreSeen) (guests : List (List ℕ)) (room : Room) (o : Openi
       let files = is.files_are told in
       record {
         stands = start_rests o;
-        clean = refl;
+        dirty = refl;
         table = record { room_is = sym (is.room_is told); table_is = ap opening_table (sym is.guests_are); rest = record { started = refl; ended = refl } };
         guests = record { guests_are = guests-start o.guests ∙ ap (λ names. replicate (length names) new_guest) (sym is.guests_are); ended_are = refl };
         contents = start_agrees o (contents_of (new_world store guests room)) (λ name. rw files refl);
+        images = λ node. record { noted = refl; mapped = λ name file is held. absurd cc };
       }
 
   pub comes-start : Comes o (new_world store guests room)
@@ -42,7 +43,7 @@ module _ (store : StoreSeen) (guests : List (List ℕ)) (room : Room) (o : Openi
     };
     counted = omega arith;
     requests = sym (guests-start guests) ∙ ap (map (λ name. new_guest)) is.guests_are;
-    table = ap opening_table is.guests_are;
+    table = (ap opening_table is.guests_are, refl);
     coherent = coherent-new guests room;
     shows = λ told. shows-start told;
   }

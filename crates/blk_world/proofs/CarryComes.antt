@@ -28,7 +28,7 @@ use Rattle.flat_machine.specs.State.{State}
 use Rattle.flat_machine.specs.Machine.{after}
 use Rattle.flat_machine.specs.Changed.{all_stepped}
 use Rattle.flat_machine.specs.Legal.{Fits, IsNotDone}
-use Rattle.flat_machine.specs.Marks.{IsCalm, marks_of, snapshot_marks}
+use Rattle.flat_machine.specs.Marks.{AreCalm, IsCalm, drained_by, marks_of}
 use Rattle.flat_machine.specs.Replies.{IsAnswer, is_accepted, edits_by}
 use Rattle.flat_machine.specs.Sights.{IsTold}
 use Rattle.flat_machine.specs.Licence.{named_in}
@@ -36,27 +36,35 @@ use Rattle.flat_machine.specs.Final.{bytes_of}
 use Rattle.flat_machine.specs.Agreement.{Agrees}
 use Rattle.flat_machine.specs.Performing.{AllCan}
 use Rattle.flat_machine.specs.Standing.{Stands, StandsAtRest}
+use Rattle.flat_machine.specs.Suiting.{AllSuit}
+use Rattle.flat_machine.specs.Imaging.{ShowsImages, AllKeepImages}
 use Rattle.flat_machine.specs.declared.opening.Opening.{Opening}
 use Rattle.flat_machine.proofs.Accepted.{accepted_can}
 use Rattle.flat_machine.proofs.Answered.{reads_refused}
 use Rattle.flat_machine.proofs.Kept.{changes_keep}
+use Rattle.flat_machine.proofs.ImagesChanged.{all_images_keep}
 use Rattle.flat_machine.proofs.Asked.{none-both}
 use Rattle.flat_machine.proofs.Resting.{answer_rests}
+use Rattle.flat_machine.proofs.Recorded.{all_stepped-dirty}
+use Rattle.flat_machine.specs.Recording.{dirty_after}
 use Rattle.blk_world.specs.Progress.{Progress, with_entry, ended_in}
-use Rattle.blk_world.specs.Face.{Face, contents_of, seen_state}
+use Rattle.blk_world.specs.Face.{Face, contents_of, dirty_of, seen_state}
 use Rattle.blk_world.specs.Counting.{RunsOn, IsReachedBy}
 use Rattle.blk_world.specs.Comes.{Comes, Shows}
 use Rattle.blk_world.specs.Saying.{IsSaid}
-use Rattle.blk_world.specs.Carrying.{IsCarried, IsCarriedIn, IsCaused, HasCause}
+use Rattle.blk_world.specs.Carrying.{IsCarried, IsCarriedIn, IsCaused, HasCause, counted, counts_of}
 use Rattle.blk_world.specs.Steps.{onward}
 use Rattle.blk_world.specs.Tabling.{IsAnsweredBy}
 use Rattle.blk_world.proofs.InStep.{ended-push}
 use Rattle.blk_world.proofs.Coherence.{coherent-same}
 use Rattle.blk_world.proofs.Pushing.{comes-push}
 use Rattle.blk_world.proofs.Quiet.{undone}
+use Rattle.blk_world.proofs.Counted.{answer-counted}
 use Rattle.blk_world.proofs.CountLemmas.{licensed-on}
+use Rattle.blk_world.proofs.CarryCalm.{marked_calm, shown_calm}
 use Rattle.blk_world.proofs.CarryWords.{IsTellable}
 use Rattle.blk_world.proofs.CarryNames.{not_found_word}
+use Rattle.blk_world.proofs.CarryImages.{answer_suits, answer_keeps_images}
 use Rattle.blk_world.proofs.CarryState.{is_plain, edits_plain, left_plain, all_tables, all_keep, all_tables_keep}
 use Rattle.blk_world.proofs.CarrySaid.{fault_of, CanBeTold, said_fault, said_edits}
 
@@ -78,11 +86,6 @@ plain-by t told c (Some cause) is = left_plain t told c cause
 answer-plain : (t : Table) (told : Told) (c : Cmd) → list_all is_plain (answer t told c).changes ≡ true
 unfolding answer
 answer-plain t told c = plain-by t told c (refusal_of t told c) refl
-
-no-marks : (t : Table) (c : Cmd) → is_built c ≡ true → snapshot_marks t (Ok c) ≡ []
-no-marks t (command.BlockdevSnapshot c) built = absurd cc
-no-marks t (command.Transaction c) built = absurd cc
-no-marks t _ built = refl
 
 -- ---- its changes can be made
 
@@ -158,33 +161,37 @@ module _ (w u : Face) (c : Cmd) (refusal' : Option Refusal) (is : IsCarried w u 
   unfolding answer
   reply-reached = reached-by (refusal_of w.table is.told c) (rw is.answered is.cause)
 
-  module _ (given text : List ℕ) (line : command_at given ≡ Ok c) (said : IsSaid given (answer w.table is.told c).reply text) where
+  module _ (given text : List ℕ) (line : command_at given ≡ Ok c) (said : IsSaid given (answer w.table is.told c).reply text)
+      (dirty : dirty_of u ≡ dirty_after w.table (dirty_of w) (answer w.table is.told c).changes) where
     abbrev reply : ℕ → Event
     reply number = Reply number given (Some c) text
 
     names-reached : (number : ℕ) → IsReachedBy w u (named_in (reply number))
     names-reached number = rw (said_fault given _ text said can_tell) reply-reached
 
-    accepted-built : (first : Option Refusal) → refusal_of w.table is.told c ≡ first → is_accepted text ≡ true → is_built c ≡ true
+    accepted-none : (first : Option Refusal) → refusal_of w.table is.told c ≡ first → is_accepted text ≡ true → refusal' ≡ None
     unfolding answer
-    accepted-built None none known = built_accepted w.table is.told c none
-    accepted-built (Some cause) some known =
+    accepted-none None none known = sym is.answered ∙ none
+    accepted-none (Some cause) some known =
         let says : IsSaid given (Err cause) text = subst (λ (first : Option Refusal). IsSaid given (answer_by w.table is.told c first).reply text) some said in
         let no = (reads_refused text (id_at given) (refusal_class cause) (refusal_text cause) says.reads).0 in
         absurd (false≢true (sym no ∙ known))
 
-    -- the answer, as that to the line
-    line-own : answer w.table is.told c ≡ line_answer w.table is.told given
+    -- with what is dirty, be it asked for or not
+    counted-own : answer w.table is.told c ≡ line_answer w.table (counted is.told (counts_of w)) given
     unfolding line_answer
-    line-own = sym (ap (answer_for w.table is.told given) line)
+    counted-own =
+        sym (answer-counted is.told (counts_of w) w.table c (λ prints. sym (is.counts prints)))
+        ∙ sym (ap (answer_for w.table (counted is.told (counts_of w)) given) line)
 
-    answered-by : IsAnsweredBy w.table given text u.table
+    answered-by : IsAnsweredBy w.table (dirty_of w) given text u.table (dirty_of u)
     unfolding line_text
     answered-by = record {
-      told = is.told;
-      clean = is.clean;
-      says = said.prints ∙ ap (λ (a : Answer). compact_text (reply_data (id_at given) a.reply)) line-own;
-      changes = is.table ∙ ap (λ (a : Answer). all_changed w.table a.changes) line-own;
+      told = counted is.told (counts_of w);
+      counts = refl;
+      says = said.prints ∙ ap (λ (a : Answer). compact_text (reply_data (id_at given) a.reply)) counted-own;
+      changes = is.table ∙ ap (λ (a : Answer). all_changed w.table a.changes) counted-own;
+      dirty = dirty ∙ ap (λ (a : Answer). dirty_after w.table (dirty_of w) a.changes) counted-own;
     }
 
     -- ---- where the store tells its files
@@ -233,7 +240,10 @@ module _ (w u : Face) (c : Cmd) (refusal' : Option Refusal) (is : IsCarried w u 
         where
           at : (b : Bool) → is_accepted text ≡ b → All (IsCalm s) (marks_of s (reply number))
           at false known = rw known (All-nil (IsCalm s))
-          at true known = rw (known, line, no-marks s.table c (accepted-built (refusal_of w.table is.told c) refl known)) (All-nil (IsCalm s))
+          at true known =
+              let found = is.calm (accepted-none (refusal_of w.table is.told c) refl known) in
+              let drained : AreCalm s (drained_by s.table c) = subst (λ (t : Table). AreCalm s (drained_by t c)) (sym same-table) (shown_calm o s w (drained_by w.table c) shows found) in
+              rw (known, line) (marked_calm s s.table c drained)
 
       -- ---- the state after it
 
@@ -254,6 +264,21 @@ module _ (w u : Face) (c : Cmd) (refusal' : Option Refusal) (is : IsCarried w u 
       agrees : Agrees (bytes_of o.files) now (contents_of u)
       agrees = changes_keep (bytes_of o.files) changes s (contents_of w) (contents_of u) can-all in-it.performed shows.contents
 
+      suit-all : AllSuit s changes
+      suit-all =
+          subst (λ (t : Table). AllSuit s (answer t is.told c).changes) same-table
+          (answer_suits s c is.told in-it.seen shows.stands in-it.is_told told-same)
+
+      keep-all : AllKeepImages s changes
+      keep-all =
+          subst (λ (t : Table). AllKeepImages s (answer t is.told c).changes) same-table
+          (answer_keeps_images s is.told c shows.stands.stands (built_accepted s.table is.told c))
+
+      images : ShowsImages now (contents_of u)
+      images =
+          all_images_keep (bytes_of o.files) changes s (contents_of w) (contents_of u) suit-all can-all keep-all shows.stands.stands shows.contents
+          in-it.performed shows.images
+
       shows-now : (number : ℕ) → StandsAtRest now → Shows o now (onward u (with_entry (reply number)))
       shows-now number stands =
           let kept = all_keep changes s plain in
@@ -261,7 +286,9 @@ module _ (w u : Face) (c : Cmd) (refusal' : Option Refusal) (is : IsCarried w u 
           let moved : now.table.started ≡ s.table.started = ap (λ (t : Table). t.started) (all_tables changes s) ∙ tables.started in
           record {
             stands = stands;
-            clean = kept.dirty shows.clean;
+            dirty =
+                all_stepped-dirty changes s ∙ ap (λ (t : Table). dirty_after t s.dirty changes) same-table
+                ∙ ap (λ ds. dirty_after w.table ds changes) shows.dirty ∙ sym dirty;
             table = record {
               room_is = kept.room ∙ shows.table.room_is ∙ sym is.runs.room;
               table_is = table-now;
@@ -281,6 +308,7 @@ module _ (w u : Face) (c : Cmd) (refusal' : Option Refusal) (is : IsCarried w u 
               left = agrees.left;
               unchanged = agrees.unchanged;
             };
+            images = λ node. record { noted = (images node).noted; mapped = (images node).mapped };
           }
 
     fits-now : (number : ℕ) (o : Opening) → IsNotDone (seen_state w) 0 → (s : State) (told : is_some w.files ≡ true) (shows : Shows o s w)

@@ -17,26 +17,31 @@ use Rattle.qmp_rules.specs.Changes.{all_changed}
 use Rattle.qmp_rules.specs.Answers.{Answer, answer, answer_by, answer_for, untold, accepted, refused_so, returned, refusal_of, line_refusal, name_refusal, member_refusal, out_of_turn, line_answer, line_text}
 use Rattle.flat_machine.specs.State.{State}
 use Rattle.flat_machine.specs.Legal.{Fits, IsNotDone}
-use Rattle.flat_machine.specs.Marks.{marks_of, snapshot_marks}
+use Rattle.flat_machine.specs.Marks.{after_later, after_reply, drained_by, marks_of, snapshot_marks}
 use Rattle.flat_machine.specs.Replies.{is_accepted, command_in, replied, edits_by}
 use Rattle.flat_machine.specs.Changed.{all_stepped}
-use Rattle.flat_machine.specs.Licence.{named_in_text}
+use Rattle.flat_machine.specs.Licence.{named_in, named_in_text}
 use Rattle.flat_machine.specs.EventLicence.{IsLicensedBy, IsCommandsFault, IsCommandsFull, RoseIn}
+use Rattle.flat_machine.specs.Performing.{AllPerformed}
+use Rattle.flat_machine.specs.Recording.{dirty_after}
 use Rattle.flat_machine.specs.declared.opening.Opening.{Opening}
 use Rattle.blk_world.specs.Progress.{Progress, with_entry}
-use Rattle.blk_world.specs.Face.{Face, counts_now, contents_of, seen_state}
-use Rattle.blk_world.specs.Counting.{sources_of, counts_within}
+use Rattle.blk_world.specs.Face.{Face, counts_now, contents_of, dirty_of, seen_state}
+use Rattle.blk_world.specs.Counting.{sources_of, counts_within, RunsOn, HidesNoFault}
 use Rattle.blk_world.specs.Comes.{Comes, Shows}
 use Rattle.blk_world.specs.Saying.{Given, IsSaid}
-use Rattle.blk_world.specs.Carrying.{IsCarried, IsCarriedIn, IsCarriedAs, HasCause, HasFitted, IsReplied, reply_entry, would_pass}
-use Rattle.blk_world.specs.Steps.{onward}
+use Rattle.blk_world.specs.Carrying.{IsCarried, IsCarriedIn, IsCarriedAs, HasCause, HasFitted, IsReplied, counted, counts_of, reply_entry, would_pass, IsLate, IsPutOff, fault_named, fault_told}
+use Rattle.blk_world.specs.Steps.{onward, lifted}
 use Rattle.blk_world.proofs.InStep.{ended-push}
 use Rattle.blk_world.proofs.Coherence.{coherent-same}
 use Rattle.blk_world.proofs.CountLemmas.{same-devices, runs-devices}
+use Rattle.blk_world.proofs.CountsKept.{hides-same}
 use Rattle.blk_world.proofs.Quiet.{quiet, undone, shows-onward}
-use Rattle.blk_world.proofs.CarryWords.{IsTellable, fault_named, full_named}
+use Rattle.blk_world.proofs.Pushing.{comes-drains}
+use Rattle.blk_world.proofs.CarryWords.{IsTellable, full_named}
 use Rattle.blk_world.proofs.CarrySaid.{fault_of, full_of, CanBeTold, said_fault, said_full}
 use Rattle.blk_world.proofs.CarryPlain.{quiet-self}
+use Rattle.blk_world.proofs.Counted.{answer-counted, refusal-counted}
 use Rattle.blk_world.proofs.CarryComes.{can_tell, runs-onward, carried_comes}
 
 -- ---- texts
@@ -115,6 +120,11 @@ licensed-of : (w v : Face) (line : Given) (told : Told) (text : List ℕ) (reply
 licensed-of w v line told text reply said can is_text called rose full =
     rw (← is_text, said_fault line.text reply text said can, said_full line.text reply text said can) (called, rose, full)
 
+hides-of : (w v : Face) (line : Given) (told : Told) (text : List ℕ) (reply : Result Data Refusal) → IsSaid line.text reply text → CanBeTold reply
+    → text ≡ line_text w.table told line.text → HidesNoFault w v (fault_of reply) → HidesNoFault w v (named_in (reply_entry w told line))
+hides-of w v line told text reply said can is_text hides =
+    subst (HidesNoFault w v) (sym (ap named_in_text (sym is_text) ∙ said_fault line.text reply text said can)) hides
+
 -- ---- lines that are no commands
 
 module _ (w : Face) (line : Given) (text : List ℕ) (why : Stop) (bad : command_at line.text ≡ Err why)
@@ -128,18 +138,41 @@ module _ (w : Face) (line : Given) (text : List ℕ) (why : Stop) (bad : command
   names-none : named_in_text text ≡ None
   names-none = let mild = mild_reply w.table line.text why bad in said_fault line.text _ text said mild.can ∙ mild.fault
 
-  pub no_command_replied : IsReplied w (onward w (with_entry entry)) line
+  -- what is dirty is told, and decides nothing
+  abbrev told-then : Told
+  told-then = counted untold (counts_of w)
+
+  same-then : line_answer w.table told-then line.text ≡ line_answer w.table untold line.text
+  unfolding line_answer
+  same-then = rw bad refl
+
+  none-changed : (line_answer w.table told-then line.text).changes ≡ []
+  none-changed = ap (λ (a : Answer). a.changes) same-then ∙ unchanged w.table line.text why bad
+
+  said-then : IsSaid line.text (line_answer w.table told-then line.text).reply text
+  said-then = subst (λ (a : Answer). IsSaid line.text a.reply text) (sym same-then) said
+
+  pub no_command_replied : IsReplied w (lifted (onward w (with_entry entry))) line
   no_command_replied =
       let mild = mild_reply w.table line.text why bad in
-      let same : entry ≡ reply_entry w untold line = entry-is w untold line None text no-command (text_is w.table untold line.text text said) in
+      let same : entry ≡ reply_entry w told-then line = entry-is w told-then line None text no-command (text_is w.table told-then line.text text said-then) in
       record {
-        told = untold;
-        clean = refl;
+        told = told-then;
+        counts = refl;
         by_files = tt;
-        table = sym (ap (all_changed w.table) (unchanged w.table line.text why bad));
+        maps = rw bad tt;
+        table = sym (ap (all_changed w.table) none-changed);
+        dirty = sym (ap (dirty_after w.table (dirty_of w)) none-changed);
         progress = ap (λ (e : Event). with_entry e w.progress) same;
-        runs = runs-devices w (onward w (with_entry entry)) refl refl refl refl refl refl (same-devices w.nodes.devices);
-        licensed = licensed-of w (onward w (with_entry entry)) line untold text (line_answer w.table untold line.text).reply said mild.can (text_is w.table untold line.text text said) (rw mild.fault tt) (rw mild.fault tt) (rw mild.full tt);
+        drains = refl;
+        calm = rw bad tt;
+        runs = runs-devices w (lifted (onward w (with_entry entry))) refl refl refl refl refl refl (same-devices w.nodes.devices);
+        licensed = licensed-of w (lifted (onward w (with_entry entry))) line told-then text (line_answer w.table untold line.text).reply said mild.can
+            (text_is w.table told-then line.text text said-then) (rw mild.fault tt) (rw mild.fault tt) (rw mild.full tt);
+        hides = hides-of w (lifted (onward w (with_entry entry))) line told-then text (line_answer w.table untold line.text).reply said mild.can
+            (text_is w.table told-then line.text text said-then)
+            (subst (HidesNoFault w (lifted (onward w (with_entry entry)))) (sym mild.fault)
+            (hides-same w (lifted (onward w (with_entry entry))) refl refl refl));
         fits = rw no-command tt;
         opens = rw bad refl;
         shows = λ told o s shows. rw bad (quiet-self (contents_of w));
@@ -172,13 +205,14 @@ module _ (w : Face) (line : Given) (text : List ℕ) (why : Stop) (bad : command
       at true = none
       at false = refl
 
-  pub no_command_comes : (o : Opening) → IsNotDone (seen_state w) 0 → Comes o w → Comes o (onward w (with_entry entry))
-  no_command_comes o not_done comes = quiet o w (with_entry entry w.progress) entry comes refl refl
+  entry_comes : (o : Opening) → IsNotDone (seen_state w) 0 → Comes o w → Comes o (onward w (with_entry entry))
+  entry_comes o not_done comes = quiet o w (with_entry entry w.progress) entry comes refl refl
       (record {
-        told = untold;
-        clean = refl;
-        says = text_is w.table untold line.text text said;
-        changes = sym (ap (all_changed w.table) (unchanged w.table line.text why bad));
+        told = told-then;
+        counts = refl;
+        says = text_is w.table told-then line.text text said-then;
+        changes = sym (ap (all_changed w.table) none-changed);
+        dirty = sym (ap (dirty_after w.table (dirty_of w)) none-changed);
       })
       (λ was. coherent-same w.table w.nodes w.opened w.progress was (with_entry entry w.progress) refl) names-none unmarked
       (λ s shows. (
@@ -188,9 +222,23 @@ module _ (w : Face) (line : Given) (text : List ℕ) (why : Stop) (bad : command
             (shows.guests.ended_are ∙ sym (ended-push w.progress.log.events entry refl))),
       ))
 
+  pub no_command_comes : (o : Opening) → IsNotDone (seen_state w) 0 → Comes o w → Comes o (lifted (onward w (with_entry entry)))
+  no_command_comes o not_done comes = comes-drains o (onward w (with_entry entry)) (after_reply w.drains) (entry_comes o not_done comes)
+
 -- ---- commands
 
-seen-onward : (w u : Face) (c : Cmd) (told : Told) (s : State) (f : Progress → Progress) → IsCarriedIn s w u c told → IsCarriedIn s w (onward u f) c told
+runs-lifted : (w u : Face) → RunsOn w u → RunsOn w (lifted u)
+runs-lifted w u is = record {
+  told = is.told;
+  room = is.room;
+  first = is.first;
+  earlier = is.earlier;
+  store = is.store;
+  openings = is.openings;
+  devices = is.devices;
+}
+
+seen-onward : (w u : Face) (c : Cmd) (told : Told) (s : State) (f : Progress → Progress) → IsCarriedIn s w u c told → IsCarriedIn s w (lifted (onward u f)) c told
 seen-onward w u c told s f is = record {
   seen = is.seen;
   is_told = is.is_told;
@@ -200,7 +248,27 @@ seen-onward w u c told s f is = record {
 }
 
 module _ (w u : Face) (c : Cmd) (refusal' : Option Refusal) (is : IsCarried w u c refusal') (line : Given) (text : List ℕ)
-    (good : command_at line.text ≡ Ok c) (said : IsSaid line.text (answer w.table is.told c).reply text) where
+    (good : command_at line.text ≡ Ok c) (said : IsSaid line.text (answer w.table is.told c).reply text)
+    (dirty : dirty_of u ≡ dirty_after w.table (dirty_of w) (answer w.table is.told c).changes) where
+  -- with what is dirty, be it asked for or not
+  abbrev told-so : Told
+  told-so = counted is.told (counts_of w)
+
+  answer-so : answer w.table told-so c ≡ answer w.table is.told c
+  answer-so = answer-counted is.told (counts_of w) w.table c (λ prints. sym (is.counts prints))
+
+  line-so : line_answer w.table told-so line.text ≡ answer w.table is.told c
+  line-so = line_command w.table told-so line.text c good ∙ answer-so
+
+  seen-so : (s : State) → IsCarriedIn s w u c is.told → IsCarriedIn s w u c told-so
+  seen-so s was = record {
+    seen = was.seen;
+    is_told = was.is_told;
+    exact = was.exact;
+    same = was.same ∙ sym answer-so;
+    performed = subst (λ (a : Answer). AllPerformed s a.changes (contents_of w) (contents_of u)) (sym answer-so) was.performed;
+  }
+
   abbrev reply : Event
   reply = Reply line.number line.text (Some c) text
 
@@ -224,6 +292,11 @@ module _ (w u : Face) (c : Cmd) (refusal' : Option Refusal) (is : IsCarried w u 
   full-by (Some (refusal.NoSpace dev)) caused = (caused.called, caused.passes)
   full-by (Some _) caused = tt
 
+  hides-by : (first : Option Refusal) → HidesNoFault w u (fault_told first)
+      → HidesNoFault w u (fault_of (answer_by w.table is.told c first).reply)
+  hides-by None hides = hides
+  hides-by (Some cause) hides = hides
+
   fits-by : (first : Option Refusal) → HasCause w u c first → HasFitted w (Some c) (answer_by w.table is.told c first).reply
   fits-by None caused = caused
   fits-by (Some _) caused = tt
@@ -231,48 +304,59 @@ module _ (w u : Face) (c : Cmd) (refusal' : Option Refusal) (is : IsCarried w u 
   cause-first : HasCause w u c (refusal_of w.table is.told c)
   cause-first = rw is.answered is.cause
 
-  line-said : IsSaid line.text (line_answer w.table is.told line.text).reply text
-  line-said = rw (line_command w.table is.told line.text c good) said
+  line-said : IsSaid line.text (line_answer w.table told-so line.text).reply text
+  line-said = subst (λ (a : Answer). IsSaid line.text a.reply text) (sym line-so) said
 
-  pub command_replied : IsReplied w (onward u (with_entry reply)) line
+  hides-first : HidesNoFault w u (fault_told (refusal_of w.table is.told c))
+  hides-first = subst (λ (first : Option Refusal). HidesNoFault w u (fault_told first)) (sym is.answered) is.hides
+
+  pub command_replied : IsReplied w (lifted (onward u (with_entry reply))) line
   unfolding answer
   command_replied =
-      let same : reply ≡ reply_entry w is.told line = entry-is w is.told line (Some c) text is-command (text_is w.table is.told line.text text line-said) in
+      let same : reply ≡ reply_entry w told-so line = entry-is w told-so line (Some c) text is-command (text_is w.table told-so line.text text line-said) in
       record {
-        told = is.told;
-        clean = is.clean;
+        told = told-so;
+        counts = refl;
         by_files = is.by_files;
-        table = is.table ∙ ap (λ (a : Answer). all_changed w.table a.changes) (sym (line_command w.table is.told line.text c good));
-        progress = ap (λ (e : Event). with_entry e u.progress) same ∙ ap (with_entry (reply_entry w is.told line)) is.progress;
-        runs = runs-onward w u (with_entry reply) is.runs;
-        licensed = licensed-of w (onward u (with_entry reply)) line is.told text (answer w.table is.told c).reply said (can_tell w u c refusal' is) (text_is w.table is.told line.text text line-said) (rw is-command (called-by (refusal_of w.table is.told c) cause-first)) (rose-by (refusal_of w.table is.told c) cause-first) (rw is-command (full-by (refusal_of w.table is.told c) cause-first));
-        fits = rw (is-command, line_command w.table is.told line.text c good) (fits-by (refusal_of w.table is.told c) cause-first);
+        maps = rw good is.maps;
+        table = is.table ∙ ap (λ (a : Answer). all_changed w.table a.changes) (sym line-so);
+        dirty = dirty ∙ ap (λ (a : Answer). dirty_after w.table (dirty_of w) a.changes) (sym line-so);
+        progress = ap (λ (e : Event). with_entry e u.progress) same ∙ ap (with_entry (reply_entry w told-so line)) is.progress;
+        drains = ap after_reply is.drains;
+        calm = rw good (λ none. is.calm (sym is.answered ∙ sym (refusal-counted is.told (counts_of w) w.table c) ∙ none));
+        runs = runs-lifted w (onward u (with_entry reply)) (runs-onward w u (with_entry reply) is.runs);
+        licensed = licensed-of w (lifted (onward u (with_entry reply))) line told-so text (answer w.table is.told c).reply said (can_tell w u c refusal' is) (text_is w.table told-so line.text text line-said) (rw is-command (called-by (refusal_of w.table is.told c) cause-first)) (rose-by (refusal_of w.table is.told c) cause-first) (rw is-command (full-by (refusal_of w.table is.told c) cause-first));
+        hides = hides-of w (lifted (onward u (with_entry reply))) line told-so text (answer w.table is.told c).reply said (can_tell w u c refusal' is)
+            (text_is w.table told-so line.text text line-said) (hides-by (refusal_of w.table is.told c) hides-first);
+        fits = rw (is-command, line-so) (fits-by (refusal_of w.table is.told c) cause-first);
         opens = rw good is.opens;
-        shows = λ told o s shows. rw good (seen-onward w u c is.told s (with_entry reply) (is.shows told o s shows));
+        shows = λ told o s shows. rw good (seen-onward w u c told-so s (with_entry reply) (seen-so s (is.shows told o s shows)));
       }
 
 -- ---- with the text that is given
 
-same-returned : (t : Table) (told : Told) (c : Cmd) → told.dirty ≡ [] → returned t untold c ≡ returned t told c
-same-returned t told (command.QueryNamedBlockNodes flat) clean = rw clean refl
-same-returned t told _ clean = refl
-
-module _ (w u : Face) (given text : List ℕ) (c : Cmd) where
-  pub said_accepted : IsCarried w u c None → IsSaid given (Ok (returned w.table untold c)) text → IsCarriedAs w u given c text
-  unfolding answer
-  said_accepted is said = record {
-    refusal = None;
-    carried = is;
-    said = rw (is.answered, ← same-returned w.table is.told c is.clean) said;
-  }
-
-  pub said_refused : (cause : Refusal) → IsCarried w u c (Some cause) → IsSaid given (Err cause) text → IsCarriedAs w u given c text
-  unfolding answer
-  said_refused cause is said = record { refusal = Some cause; carried = is; said = rw is.answered said }
-
 module _ (w u : Face) (line : Given) (text : List ℕ) (c : Cmd) (good : command_at line.text ≡ Ok c) (is : IsCarriedAs w u line.text c text) where
-  pub answered_replied : IsReplied w (onward u (with_entry (Reply line.number line.text (Some c) text))) line
-  answered_replied = command_replied w u c is.refusal is.carried line text good is.said
+  pub answered_replied : IsReplied w (lifted (onward u (with_entry (Reply line.number line.text (Some c) text)))) line
+  answered_replied = command_replied w u c is.refusal is.carried line text good is.said is.dirty
 
-  pub answered_comes : (o : Opening) → IsNotDone (seen_state w) 0 → Comes o w → Comes o (onward u (with_entry (Reply line.number line.text (Some c) text)))
-  answered_comes o not_done comes = carried_comes w u c is.refusal is.carried line.text text good is.said line.number o not_done comes
+  pub answered_comes : (o : Opening) → IsNotDone (seen_state w) 0 → Comes o w → Comes o (lifted (onward u (with_entry (Reply line.number line.text (Some c) text))))
+  answered_comes o not_done comes =
+      comes-drains o (onward u (with_entry (Reply line.number line.text (Some c) text))) (after_reply u.drains) (carried_comes w u c is.refusal is.carried line.text text good is.said is.dirty line.number o not_done comes)
+
+-- ---- what became of a line
+
+pub late_put_off : (w v : Face) (line : Given) (c : Cmd) (g r : ℕ) → command_at line.text ≡ Ok c → IsLate w v c g r → IsPutOff w v line g r
+late_put_off w v line c g r good is = record {
+  told = is.told;
+  clean = is.clean;
+  by_files = is.by_files;
+  command = c;
+  read = good;
+  maps = is.maps;
+  waits = is.waits;
+  left = is.left;
+  shows = is.shows;
+}
+
+pub late_comes : (w v : Face) (c : Cmd) (g r : ℕ) → IsLate w v c g r → (o : Opening) → Comes o w → Comes o v
+late_comes w v c g r is o comes = subst (Comes o) (sym is.left) (comes-drains o w (after_later (drained_by w.table c) w.drains) comes)

@@ -1,9 +1,12 @@
 -- What a refusal says that nothing is found by is a name that was asked for, and has no blank.
-use Rattle.std.proofs.Common.{◌≡◌, ℕ, Bool, true, false, List, [], ◌∷◌, ◌++◌, inl, inr, refl, ◌∙◌, ap, Option, Some, None}
+use Rattle.std.proofs.Common.{◌≡◌, ℕ, Bool, true, false, List, [], ◌∷◌, ◌++◌, inl, inr, refl, ◌∙◌, ap, Option, Some, None, sym, subst}
 use Rattle.std.specs.Prelude.{◌⊎◌, option_map, ◌==◌, not}
 use Rattle.std.specs.List.{list_all}
+use Rattle.std.proofs.lemmas.List.{append_assoc}
 use Rattle.std.proofs.lemmas.Bool.{eqb-true}
-use Rattle.qmp_codec.specs.Commands.{Cmd}
+use Rattle.qmp_codec.specs.Commands.{Cmd, SeenSources}
+use Rattle.qmp_codec.specs.declared.bitmaps.BitmapMerge.{BitmapMerge}
+use Rattle.qmp_codec.specs.declared.bitmaps.Source.TheVariants as source
 use Rattle.qmp_codec.specs.declared.command.Command.TheVariants as command
 use Rattle.qmp_codec.specs.declared.nodes.FileRef.{FileRef}
 use Rattle.qmp_codec.specs.declared.nodes.FileRef.TheVariants as file_ref
@@ -26,6 +29,7 @@ use Rattle.qmp_rules.specs.Naming.{is_name, is_name_byte}
 use Rattle.qmp_rules.specs.Table.{Table}
 use Rattle.qmp_rules.specs.Refusals.{refused, or_else}
 use Rattle.qmp_rules.specs.Asks.{Asking, holds, first, place, told_at, same_look}
+use Rattle.qmp_rules.specs.BitmapAsks.{all_source_names, merge_names, merge_rest, source_name, source_node, sources_equal, sources_found, sources_free}
 use Rattle.qmp_rules.specs.NodeAsks.{add_asks, create_asks}
 use Rattle.qmp_rules.specs.Order.{IsOfTable}
 use Rattle.qmp_rules.specs.CommandAsks.{asks_of, is_built, command_name, negotiates}
@@ -183,6 +187,76 @@ create-covered c (created.File o) is = rw is tt
 create-covered c (created.Qcow2 o) is = rw is (inl refl, tt)
 create-covered c created.Unknown is = rw is tt
 
+-- a merge names each source first, then looks for each
+abbrev known_after : List (Option (List ℕ)) → SeenSources → List (Option (List ℕ))
+known_after known [] = known
+known_after known (source.Name name ∷ sources) = known_after (Some name ∷ known) sources
+known_after known (source.Of bitmap ∷ sources) = known_after (Some bitmap.name ∷ Some bitmap.node ∷ known) sources
+
+abbrev AreSourcesAmong : List ℕ → SeenSources → List (Option (List ℕ)) → Type 0
+AreSourcesAmong node [] known = Unit {0}
+AreSourcesAmong node (s ∷ sources) known =
+    IsAmong (Some (source_node node s)) known × (IsAmong (Some (source_name s)) known × AreSourcesAmong node sources known)
+
+among-after : (text : Option (List ℕ)) (sources : SeenSources) (known : List (Option (List ℕ))) → IsAmong text known → IsAmong text (known_after known sources)
+among-after text [] known is = is
+among-after text (source.Name name ∷ sources) known is = among-after text sources (Some name ∷ known) (inr is)
+among-after text (source.Of bitmap ∷ sources) known is = among-after text sources (Some bitmap.name ∷ Some bitmap.node ∷ known) (inr (inr is))
+
+sources-among : (node : List ℕ) (sources : SeenSources) (known : List (Option (List ℕ))) → IsAmong (Some node) known
+    → AreSourcesAmong node sources (known_after known sources)
+sources-among node [] known is = tt
+sources-among node (source.Name name ∷ sources) known is = (
+  among-after (Some node) sources (Some name ∷ known) (inr is),
+  (
+    among-after (Some name) sources (Some name ∷ known) (inl refl),
+    sources-among node sources (Some name ∷ known) (inr is),
+  ),
+)
+sources-among node (source.Of bitmap ∷ sources) known is =
+    let now : List (Option (List ℕ)) = Some bitmap.name ∷ Some bitmap.node ∷ known in (
+      among-after (Some bitmap.node) sources now (inr (inl refl)),
+      (
+        among-after (Some bitmap.name) sources now (inl refl),
+        sources-among node sources now (inr (inr is)),
+      ),
+    )
+
+named-covered : (sources : SeenSources) (known : List (Option (List ℕ))) (rest : List Asking) → Covered (known_after known sources) rest
+    → Covered known (all_source_names sources ++ rest)
+named-covered [] known rest is = is
+named-covered (source.Name name ∷ sources) known rest is = named-covered sources (Some name ∷ known) rest is
+named-covered (source.Of bitmap ∷ sources) known rest is = named-covered sources (Some bitmap.name ∷ Some bitmap.node ∷ known) rest is
+
+looked-covered : (node : List ℕ) (sources : SeenSources) (known : List (Option (List ℕ))) (rest : List Asking) → AreSourcesAmong node sources known
+    → Covered known rest → Covered known (sources_found node sources ++ rest)
+looked-covered node [] known rest among is = is
+looked-covered node (s ∷ sources) known rest among is = (among.0, (among.1.0, looked-covered node sources known rest among.1.1 is))
+
+free-covered : (node : List ℕ) (sources : SeenSources) (known : List (Option (List ℕ))) (rest : List Asking)
+    → Covered known rest → Covered known (sources_free node sources ++ rest)
+free-covered node [] known rest is = is
+free-covered node (s ∷ sources) known rest is = free-covered node sources known rest is
+
+equal-covered : (node : List ℕ) (sources : SeenSources) (known : List (Option (List ℕ))) → Covered known (sources_equal node sources)
+equal-covered node [] known = tt
+equal-covered node (s ∷ sources) known = equal-covered node sources known
+
+merge-covered : (c : BitmapMerge (List ℕ) SeenSources) → Covered [] (merge_names c ++ merge_rest c)
+merge-covered c =
+    let known : List (Option (List ℕ)) = Some c.target ∷ Some c.node ∷ [] in
+    let after : List (Option (List ℕ)) = known_after known c.bitmaps in
+    let free : List Asking = ask.BitmapFree c.node (Some c.target) ∷ sources_free c.node c.bitmaps in
+    named-covered c.bitmaps known (merge_rest c) (
+      among-after (Some c.node) c.bitmaps known (inr (inl refl)),
+      (
+        among-after (Some c.target) c.bitmaps known (inl refl),
+        subst (Covered after) (sym (append_assoc (sources_found c.node c.bitmaps) free (sources_equal c.node c.bitmaps)))
+            (looked-covered c.node c.bitmaps after (free ++ sources_equal c.node c.bitmaps) (sources-among c.node c.bitmaps known (inr (inl refl)))
+            (free-covered c.node c.bitmaps after (sources_equal c.node c.bitmaps) (equal-covered c.node c.bitmaps after))),
+      ),
+    )
+
 covered : (c : Cmd) → is_built c ≡ true → Covered [] (asks_of c)
 unfolding asks_of
 covered (command.Capabilities enable) built = tt
@@ -191,8 +265,16 @@ covered (command.JobDismiss id) built = (inl refl, tt)
 covered (command.BlockdevAdd c) built = add-covered c c.driver refl
 covered (command.BlockdevDel name) built = (inl refl, tt)
 covered (command.DeviceAdd c) built = (inl refl, tt)
+covered (command.DeviceDel id) built = (inl refl, tt)
+covered (command.BlockdevSnapshot c) built = (inr (inl refl), (inl refl, tt))
 covered command.QueryBlockJobs built = tt
 covered (command.QueryNamedBlockNodes flat) built = tt
+covered (command.BitmapAdd c) built = (inr (inl refl), tt)
+covered (command.BitmapRemove c) built = (inr (inl refl), (inl refl, tt))
+covered (command.BitmapClear c) built = (inr (inl refl), (inl refl, tt))
+covered (command.BitmapEnable c) built = (inr (inl refl), (inl refl, tt))
+covered (command.BitmapDisable c) built = (inr (inl refl), (inl refl, tt))
+covered (command.BitmapMerge c) built = merge-covered c
 covered _ built = absurd cc
 
 -- ---- the whole command

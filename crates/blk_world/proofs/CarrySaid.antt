@@ -20,9 +20,9 @@ use Rattle.flat_machine.specs.Licence.{named_in_text}
 use Rattle.flat_machine.specs.EventLicence.{full_in_text}
 use Rattle.flat_machine.specs.Replies.{desc_of, edits_by, failed_edits}
 use Rattle.flat_machine.proofs.Answered.{reads_refused, accepted_edits, refused_edits, failed_call_edits}
-use Rattle.blk_world.specs.Carrying.{is_failed}
+use Rattle.blk_world.specs.Carrying.{fault_named, is_failed}
 use Rattle.blk_world.specs.Saying.{IsSaid}
-use Rattle.blk_world.proofs.CarryWords.{IsTellable, fault_named, full_named, tells, says_call}
+use Rattle.blk_world.proofs.CarryWords.{IsTellable, full_named, tells, says_call}
 
 -- ---- what it names
 

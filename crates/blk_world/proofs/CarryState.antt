@@ -4,7 +4,7 @@ use Rattle.std.specs.Prelude.{◌&&◌, if◌then◌else◌, find}
 use Rattle.std.specs.List.{list_all}
 use Rattle.blk_graph.specs.declared.kind.Kind.{Kind}
 use Rattle.blk_graph.specs.declared.kind.Kind.TheVariants as kind
-use Rattle.qmp_codec.specs.Commands.{Cmd}
+use Rattle.qmp_codec.specs.Commands.{Cmd, SeenSources}
 use Rattle.qmp_codec.specs.declared.command.Command.TheVariants as command
 use Rattle.qmp_codec.specs.declared.nodes.FileRef.{FileRef}
 use Rattle.qmp_codec.specs.declared.nodes.FileRef.TheVariants as file_ref
@@ -19,11 +19,12 @@ use Rattle.qmp_rules.specs.declared.change.Change.TheVariants as change
 use Rattle.qmp_rules.specs.declared.refusal.Refusal.{Refusal}
 use Rattle.qmp_rules.specs.declared.refusal.Refusal.TheVariants as refusal
 use Rattle.qmp_rules.specs.declared.rows.NodeRecord.{NodeRecord}
+use Rattle.qmp_rules.specs.declared.rows.Device.{Device}
 use Rattle.qmp_rules.specs.declared.told.Told.{Told}
-use Rattle.qmp_rules.specs.Table.{Table, node_named}
+use Rattle.qmp_rules.specs.Table.{Table, device_named, node_named}
 use Rattle.qmp_rules.specs.Changes.{changed, all_changed}
 use Rattle.qmp_rules.specs.CommandAsks.{is_built}
-use Rattle.qmp_rules.specs.Edits.{edits_of, created_change, spoiled, raw_edits, qcow2_edits, added_edits, uses, file_under, with_inline, goes_with_node, row_gone, of_row, device_uses, new_device}
+use Rattle.qmp_rules.specs.Edits.{edits_of, created_change, spoiled, raw_edits, qcow2_edits, added_edits, uses, file_under, with_inline, goes_with_node, row_gone, of_row, device_uses, new_device, merges}
 use Rattle.qmp_rules.specs.Asks.{is_file}
 use Rattle.qmp_rules.specs.NodeAsks.{is_read_only, backing_name}
 use Rattle.qmp_rules.specs.Answers.{command_edits, left_by}
@@ -47,6 +48,14 @@ is_plain (change.AddFormat row file backing) = true
 is_plain (change.AddFilter row child) = true
 is_plain (change.RemoveNode node) = true
 is_plain (change.AddDevice device node) = true
+is_plain (change.AddBitmap row) = true
+is_plain (change.RemoveBitmap node name) = true
+is_plain (change.TurnBitmap node name on) = true
+is_plain (change.ClearBitmap node name) = true
+is_plain (change.MergeBitmap node name source_node source) = true
+is_plain (change.RemoveDevice number) = true
+is_plain (change.Attach overlay node) = true
+is_plain (change.Move from to but) = true
 is_plain c = false
 
 both : (p : Change → Bool) (xs ys : List Change) → list_all p xs ≡ true → list_all p ys ≡ true → list_all p (xs ++ ys) ≡ true
@@ -101,6 +110,14 @@ module _ (t : Table) (told : Told) where
       used true = uses-plain row.filename
       used false = refl
 
+  merges-plain : (node target : List ℕ) (sources : SeenSources) → list_all is_plain (merges t node target sources) ≡ true
+  merges-plain node target [] = refl
+  merges-plain node target (source ∷ sources) = merges-plain node target sources
+
+  removed-plain : (found : Option Device) → list_all is_plain (elim found as (λ _. List Change) [ None ↦ [] | Some device ↦ change.RemoveDevice device.number ∷ [] ]) ≡ true
+  removed-plain None = refl
+  removed-plain (Some device) = refl
+
   pub edits_plain : (c : Cmd) → is_built c ≡ true → list_all is_plain (command_edits t told c) ≡ true
   unfolding edits_of
   edits_plain (command.Capabilities enable) built = refl
@@ -109,8 +126,16 @@ module _ (t : Table) (told : Told) where
   edits_plain (command.BlockdevAdd c) built = added-plain c.node_name (is_read_only c.options) c.driver
   edits_plain (command.BlockdevDel name) built = gone-plain (node_named t name)
   edits_plain (command.DeviceAdd c) built = device-plain c (node_named t c.drive)
+  edits_plain (command.DeviceDel id) built = removed-plain (device_named t id)
+  edits_plain (command.BlockdevSnapshot c) built = refl
   edits_plain command.QueryBlockJobs built = refl
   edits_plain (command.QueryNamedBlockNodes flat) built = refl
+  edits_plain (command.BitmapAdd c) built = refl
+  edits_plain (command.BitmapRemove c) built = refl
+  edits_plain (command.BitmapClear c) built = refl
+  edits_plain (command.BitmapEnable c) built = refl
+  edits_plain (command.BitmapDisable c) built = refl
+  edits_plain (command.BitmapMerge c) built = merges-plain c.node c.target c.bitmaps
   edits_plain _ built = absurd cc
 
   pub spoiled_plain : (options : Created (List ℕ)) → list_all is_plain (spoiled t options) ≡ true
@@ -135,16 +160,14 @@ pub record Keeps (s v : State) : Type 0 where
   pub starts : v.starts ≡ s.starts
   pub ending : v.ending ≡ s.ending
   pub ended : v.ended ≡ s.ended
-  pub dirty : s.dirty ≡ [] → v.dirty ≡ []
 
 pub record KeepsTable (t u : Table) : Type 0 where
   pub guests : u.guests ≡ t.guests
   pub jobs : u.jobs ≡ t.jobs
   pub started : u.started ≡ t.started
-  pub bitmaps : t.bitmaps ≡ [] → u.bitmaps ≡ []
 
 same : (s : State) → Keeps s s
-same s = record { room = refl; guests = refl; starts = refl; ending = refl; ended = refl; dirty = λ e. e }
+same s = record { room = refl; guests = refl; starts = refl; ending = refl; ended = refl }
 
 keeps-then : (s u v : State) → Keeps s u → Keeps u v → Keeps s v
 keeps-then s u v a b = record {
@@ -153,41 +176,40 @@ keeps-then s u v a b = record {
   starts = b.starts ∙ a.starts;
   ending = b.ending ∙ a.ending;
   ended = b.ended ∙ a.ended;
-  dirty = λ e. b.dirty (a.dirty e);
 }
 
 named-if : (only : Bool) (name : List ℕ) (s : State) → Keeps s (if only then s else name_file name s)
 named-if true name s = same s
-named-if false name s = record { room = refl; guests = refl; starts = refl; ending = refl; ended = refl; dirty = λ e. e }
+named-if false name s = record { room = refl; guests = refl; starts = refl; ending = refl; ended = refl }
 
 file-keeps : (row : NodeRecord) (s : State) → Keeps s (add_file row s)
 file-keeps row s =
     let put_so : State = put row.id (file_bytes row.size (content_in s.files (filename_or row))) s in
-    keeps-then s put_so _ (record { room = refl; guests = refl; starts = refl; ending = refl; ended = refl; dirty = λ e. e }) (named-if row.read_only (filename_or row) put_so)
+    keeps-then s put_so _ (record { room = refl; guests = refl; starts = refl; ending = refl; ended = refl }) (named-if row.read_only (filename_or row) put_so)
 
 image-keeps : (driver : Kind) (node : ℕ) (mapped : _) (s : State) → Keeps s (note_image driver node mapped s)
-image-keeps kind.Qcow2 node mapped s = record { room = refl; guests = refl; starts = refl; ending = refl; ended = refl; dirty = λ e. e }
+image-keeps kind.Qcow2 node mapped s = record { room = refl; guests = refl; starts = refl; ending = refl; ended = refl }
 image-keeps _ node mapped s = same s
 
 know-keeps : (name : Option (List ℕ)) (content : Content) (s : State) → Keeps s (know_if name content s)
 know-keeps None content s = same s
-know-keeps (Some name) content s = record { room = refl; guests = refl; starts = refl; ending = refl; ended = refl; dirty = λ e. e }
+know-keeps (Some name) content s = record { room = refl; guests = refl; starts = refl; ending = refl; ended = refl }
 
 format-keeps : (row : NodeRecord) (file : ℕ) (backing : Option ℕ) (s : State) → Keeps s (add_format row file backing s)
 format-keeps row file backing s =
     let put_so : State = put row.id _ s in
     keeps-then s (note_image row.kind row.id _ put_so) _
-    (keeps-then s put_so _ (record { room = refl; guests = refl; starts = refl; ending = refl; ended = refl; dirty = λ e. e }) (image-keeps row.kind row.id _ put_so))
+    (keeps-then s put_so _ (record { room = refl; guests = refl; starts = refl; ending = refl; ended = refl }) (image-keeps row.kind row.id _ put_so))
     (know-keeps (filename_of s.table file) _ _)
 
 leave-keeps : (left : Option Left) (s : State) → Keeps s (leave left s)
 leave-keeps None s = same s
-leave-keeps (Some left) s = record { room = refl; guests = refl; starts = refl; ending = refl; ended = refl; dirty = λ e. e }
+leave-keeps (Some left) s = record { room = refl; guests = refl; starts = refl; ending = refl; ended = refl }
 
 remove-keeps : (node : ℕ) (s : State) → Keeps s (remove_node node s)
 remove-keeps node s =
     let first = leave-keeps _ s in
-    record { room = first.room; guests = first.guests; starts = first.starts; ending = first.ending; ended = first.ended; dirty = λ e. rw (first.dirty e) refl }
+    record { room = first.room; guests = first.guests; starts = first.starts; ending = first.ending; ended = first.ended }
 
 beside-keeps : (s : State) (c : Change) → is_plain c ≡ true → Keeps s (beside s c)
 beside-keeps s (change.AddFile row) plain = file-keeps row s
@@ -196,28 +218,44 @@ beside-keeps s (change.RemoveNode node) plain = remove-keeps node s
 beside-keeps s change.Negotiate plain = same s
 beside-keeps s (change.KeepId id) plain = same s
 beside-keeps s (change.DropId id) plain = same s
-beside-keeps s (change.UseFile name) plain = record { room = refl; guests = refl; starts = refl; ending = refl; ended = refl; dirty = λ e. e }
-beside-keeps s (change.MakeFile name size) plain = record { room = refl; guests = refl; starts = refl; ending = refl; ended = refl; dirty = λ e. e }
-beside-keeps s (change.SpoilFile name) plain = record { room = refl; guests = refl; starts = refl; ending = refl; ended = refl; dirty = λ e. e }
-beside-keeps s (change.FormatFile node name size backing_file backing_fmt) plain = record { room = refl; guests = refl; starts = refl; ending = refl; ended = refl; dirty = λ e. e }
+beside-keeps s (change.UseFile name) plain = record { room = refl; guests = refl; starts = refl; ending = refl; ended = refl }
+beside-keeps s (change.MakeFile name size) plain = record { room = refl; guests = refl; starts = refl; ending = refl; ended = refl }
+beside-keeps s (change.SpoilFile name) plain = record { room = refl; guests = refl; starts = refl; ending = refl; ended = refl }
+beside-keeps s (change.FormatFile node name size backing_file backing_fmt) plain = record { room = refl; guests = refl; starts = refl; ending = refl; ended = refl }
 beside-keeps s (change.AddFilter row child) plain = same s
 beside-keeps s (change.AddDevice device node) plain = same s
+beside-keeps s (change.AddBitmap row) plain = record { room = refl; guests = refl; starts = refl; ending = refl; ended = refl }
+beside-keeps s (change.RemoveBitmap node name) plain = record { room = refl; guests = refl; starts = refl; ending = refl; ended = refl }
+beside-keeps s (change.TurnBitmap node name on) plain = same s
+beside-keeps s (change.ClearBitmap node name) plain = record { room = refl; guests = refl; starts = refl; ending = refl; ended = refl }
+beside-keeps s (change.MergeBitmap node name source_node source) plain = record { room = refl; guests = refl; starts = refl; ending = refl; ended = refl }
+beside-keeps s (change.RemoveDevice number) plain = same s
+beside-keeps s (change.Attach overlay node) plain = record { room = refl; guests = refl; starts = refl; ending = refl; ended = refl }
+beside-keeps s (change.Move from to but) plain = same s
 beside-keeps s _ plain = absurd cc
 
 table-keeps : (t : Table) (c : Change) → is_plain c ≡ true → KeepsTable t (changed t c)
 unfolding changed
-table-keeps t change.Negotiate plain = record { guests = refl; jobs = refl; started = refl; bitmaps = λ e. e }
-table-keeps t (change.KeepId id) plain = record { guests = refl; jobs = refl; started = refl; bitmaps = λ e. e }
-table-keeps t (change.DropId id) plain = record { guests = refl; jobs = refl; started = refl; bitmaps = λ e. e }
-table-keeps t (change.MakeFile name size) plain = record { guests = refl; jobs = refl; started = refl; bitmaps = λ e. e }
-table-keeps t (change.FormatFile node name size backing_file backing_fmt) plain = record { guests = refl; jobs = refl; started = refl; bitmaps = λ e. e }
-table-keeps t (change.SpoilFile name) plain = record { guests = refl; jobs = refl; started = refl; bitmaps = λ e. e }
-table-keeps t (change.UseFile name) plain = record { guests = refl; jobs = refl; started = refl; bitmaps = λ e. e }
-table-keeps t (change.AddFile row) plain = record { guests = refl; jobs = refl; started = refl; bitmaps = λ e. e }
-table-keeps t (change.AddFormat row file backing) plain = record { guests = refl; jobs = refl; started = refl; bitmaps = λ e. e }
-table-keeps t (change.AddFilter row child) plain = record { guests = refl; jobs = refl; started = refl; bitmaps = λ e. e }
-table-keeps t (change.RemoveNode node) plain = record { guests = refl; jobs = refl; started = refl; bitmaps = λ e. rw e refl }
-table-keeps t (change.AddDevice device node) plain = record { guests = refl; jobs = refl; started = refl; bitmaps = λ e. e }
+table-keeps t change.Negotiate plain = record { guests = refl; jobs = refl; started = refl }
+table-keeps t (change.KeepId id) plain = record { guests = refl; jobs = refl; started = refl }
+table-keeps t (change.DropId id) plain = record { guests = refl; jobs = refl; started = refl }
+table-keeps t (change.MakeFile name size) plain = record { guests = refl; jobs = refl; started = refl }
+table-keeps t (change.FormatFile node name size backing_file backing_fmt) plain = record { guests = refl; jobs = refl; started = refl }
+table-keeps t (change.SpoilFile name) plain = record { guests = refl; jobs = refl; started = refl }
+table-keeps t (change.UseFile name) plain = record { guests = refl; jobs = refl; started = refl }
+table-keeps t (change.AddFile row) plain = record { guests = refl; jobs = refl; started = refl }
+table-keeps t (change.AddFormat row file backing) plain = record { guests = refl; jobs = refl; started = refl }
+table-keeps t (change.AddFilter row child) plain = record { guests = refl; jobs = refl; started = refl }
+table-keeps t (change.RemoveNode node) plain = record { guests = refl; jobs = refl; started = refl }
+table-keeps t (change.AddDevice device node) plain = record { guests = refl; jobs = refl; started = refl }
+table-keeps t (change.AddBitmap row) plain = record { guests = refl; jobs = refl; started = refl }
+table-keeps t (change.RemoveBitmap node name) plain = record { guests = refl; jobs = refl; started = refl }
+table-keeps t (change.TurnBitmap node name on) plain = record { guests = refl; jobs = refl; started = refl }
+table-keeps t (change.ClearBitmap node name) plain = record { guests = refl; jobs = refl; started = refl }
+table-keeps t (change.MergeBitmap node name source_node source) plain = record { guests = refl; jobs = refl; started = refl }
+table-keeps t (change.RemoveDevice number) plain = record { guests = refl; jobs = refl; started = refl }
+table-keeps t (change.Attach overlay node) plain = record { guests = refl; jobs = refl; started = refl }
+table-keeps t (change.Move from to but) plain = record { guests = refl; jobs = refl; started = refl }
 table-keeps t _ plain = absurd cc
 
 -- ---- one change after another
@@ -239,11 +277,11 @@ all_keep (c ∷ changes) s plain =
     let p = parts c changes plain in
     let one = beside-keeps s c p.0 in
     keeps-then s (stepped s c) _
-    (record { room = one.room; guests = one.guests; starts = one.starts; ending = one.ending; ended = one.ended; dirty = one.dirty })
+    (record { room = one.room; guests = one.guests; starts = one.starts; ending = one.ending; ended = one.ended })
     (all_keep changes (stepped s c) p.1)
 
 pub all_tables_keep : (changes : List Change) (t : Table) → list_all is_plain changes ≡ true → KeepsTable t (all_changed t changes)
-all_tables_keep [] t plain = record { guests = refl; jobs = refl; started = refl; bitmaps = λ e. e }
+all_tables_keep [] t plain = record { guests = refl; jobs = refl; started = refl }
 all_tables_keep (c ∷ changes) t plain =
     let p = parts c changes plain in
     let one = table-keeps t c p.0 in
@@ -252,5 +290,4 @@ all_tables_keep (c ∷ changes) t plain =
       guests = rest.guests ∙ one.guests;
       jobs = rest.jobs ∙ one.jobs;
       started = rest.started ∙ one.started;
-      bitmaps = λ e. rest.bitmaps (one.bitmaps e);
     }

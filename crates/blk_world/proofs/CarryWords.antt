@@ -16,7 +16,7 @@ use Rattle.qmp_rules.specs.Refusals.{refusal_text}
 use Rattle.flat_machine.specs.Licence.{fault_at, value_of, named_in_words}
 use Rattle.flat_machine.specs.EventLicence.{full_in_words}
 use Rattle.flat_machine.specs.Replies.{is_failed_call}
-use Rattle.blk_world.specs.Carrying.{is_failed}
+use Rattle.blk_world.specs.Carrying.{fault_named, is_failed}
 
 -- ---- numbers
 
@@ -121,11 +121,7 @@ silent-name name is =
 
 -- ---- refusals
 
--- the fault that one names, and the device that it says to be full
-abbrev pub fault_named : Refusal → Option FaultAt
-fault_named (refusal.Io source count) = Some (fault_at source count)
-fault_named cause = None
-
+-- the device that one says to be full
 abbrev pub full_named : Refusal → Option ℕ
 full_named (refusal.NoSpace dev) = Some dev.0
 full_named cause = None

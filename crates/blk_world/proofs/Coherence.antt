@@ -21,6 +21,7 @@ use Rattle.flat_machine.specs.Machine.{admitted, finished, past_piece}
 use Rattle.flat_machine.specs.Opening.{new_guest}
 use Rattle.flat_machine.proofs.Openings.{start_table_rests}
 use Rattle.blk_world.specs.Progress.{Progress, flight_at, no_progress, with_admission}
+use Rattle.flat_machine.specs.Marks.{none_drained}
 use Rattle.blk_world.specs.Face.{face_of}
 use Rattle.blk_world.specs.Stores.{found_store}
 use Rattle.blk_world.specs.Coherent.{IsCoherent, IsWhole, AreWithin, AreAllowed}
@@ -145,6 +146,11 @@ coherent-new guests room = record {
 }
 
 pub whole-new : (files : Option (List File)) (earlier : List Opened) (room faults : ℕ) (guests : List (List ℕ)) (spare : Room)
-    → IsWhole (face_of (found_store files earlier room faults) faults no_nodes (opening_table guests) (no_progress (length guests) spare))
+    → IsWhole (face_of (found_store files earlier room faults) faults no_nodes (opening_table guests) (no_progress (length guests) spare) none_drained [])
 whole-new files earlier room faults guests spare =
-    record { coherent = coherent-new guests spare; tell = λ told device held. absurd (omega (arith, held.1)); counted = omega arith }
+    record {
+      coherent = coherent-new guests spare;
+      tell = λ told device held. absurd (omega (arith, held.1));
+      counted = omega arith;
+      bitmaps = record { listed = refl; single = tt; each = λ row there. absurd (omega (arith, there.1)) };
+    }

@@ -1,22 +1,28 @@
 -- A deletion that was carried out, or refused: what it leaves of the world.
 use Rattle.std.proofs.Common.{◌≡◌, ℕ, ◌==◌, true, not, List, [], ◌∷◌, ◌++◌, length, map, Option, Some, None, refl, sym, ◌∙◌, ap, subst}
-use Rattle.std.specs.Prelude.{is_some, Contains, find, option_map, unwrap_or}
+use Rattle.std.specs.Prelude.{is_some, Contains, filter, find, option_map, unwrap_or}
+use Rattle.std.specs.List.{list_all}
+use Rattle.flat_machine.specs.Marks.{IsCalm}
+use Rattle.std.proofs.lemmas.List.Elements.{All-nil}
 use Rattle.blk_base.specs.declared.file.File.{File as StoreFile}
 use Rattle.blk_base.specs.declared.file.Opened.{Opened}
+use Rattle.blk_bitmaps.specs.declared.row.Bitmap.{Bitmap}
 use Rattle.blk_graph.proofs.Members.{Contains-filter}
 use Rattle.qmp_codec.specs.Commands.{Cmd}
 use Rattle.qmp_codec.specs.declared.command.Command.TheVariants as command
 use Rattle.qmp_rules.specs.Answers.{Answer, answer, refusal_of, untold}
 use Rattle.qmp_rules.specs.Changes.{changed, all_changed}
 use Rattle.qmp_rules.specs.Edits.{edits_of, goes_with_node, file_under, uses, with_inline, row_gone, of_row}
-use Rattle.qmp_rules.specs.Table.{Table}
+use Rattle.qmp_rules.specs.Table.{Table, id_named}
 use Rattle.qmp_rules.specs.declared.change.Change.{Change}
 use Rattle.qmp_rules.specs.declared.change.Change.TheVariants.{UseFile, RemoveNode}
 use Rattle.qmp_rules.specs.declared.rows.NodeRecord.{NodeRecord}
+use Rattle.flat_machine.specs.Bitmaps.{AreBitmapsOf, FollowChanges}
 use Rattle.flat_machine.specs.Changed.{stepped}
 use Rattle.flat_machine.specs.Performing.{Removes, AllPerformed}
 use Rattle.flat_machine.specs.State.{State}
 use Rattle.flat_machine.specs.Wiring.{StandsFor, TableAtRest}
+use Rattle.flat_machine.proofs.BitmapRows.{follow-gone, follow-left, follow-none, leaves_bitmaps}
 use Rattle.blk_nodes.specs.Dropping.{without}
 use Rattle.blk_nodes.specs.Contents.{Unfolds}
 use Rattle.blk_nodes.specs.Joined.{IsJoined}
@@ -25,20 +31,22 @@ use Rattle.blk_world.specs.Coherent.{IsWhole}
 use Rattle.blk_world.specs.Counting.{RunsOn}
 use Rattle.blk_world.specs.Carrying.{opened_names}
 use Rattle.blk_world.specs.Deleting.{name_under, with_back, Ground, ground_of, left, all_left, going, CanLeave, HasLeft, HaveLeft, without_node, made_with, with_made, Belong, IsDeleted}
-use Rattle.blk_world.specs.Face.{Face, contents_of}
+use Rattle.blk_world.specs.Face.{Face, contents_of, seen_state}
+use Rattle.blk_world.specs.Handling.{bitmaps_but, bitmaps_left, bitmaps_named}
 use Rattle.blk_world.proofs.Belonging.{belong_of}
 use Rattle.blk_world.proofs.CarryPlain.{quiet-self}
 use Rattle.blk_world.proofs.CloseCounts.{same-back}
 use Rattle.blk_world.proofs.CountLemmas.{runs-devices, runs-then, same-devices}
+use Rattle.blk_world.proofs.CountsKept.{KeepsCounts, hides-kept, keeps-then}
 use Rattle.blk_world.proofs.CreatedAsked.{del_asked}
 use Rattle.blk_world.proofs.DeletedParts.{nodes_left, filename_stays}
-use Rattle.blk_world.proofs.DeletedRuns.{runs_left, tell_left}
+use Rattle.blk_world.proofs.DeletedRuns.{counts_left, runs_left, tell_left}
 use Rattle.blk_world.proofs.DeletedSteps.{Parts, parts_left, entered_left, device_out, first_can, file_can, file_differs, free_by}
 use Rattle.blk_world.proofs.DeletedWhole.{Tells, step_removes}
 use Rattle.blk_world.proofs.EasedTables.{eased_use}
 use Rattle.blk_world.proofs.GuestEdges.{asks_left}
 use Rattle.blk_world.proofs.KeptDrives.{drives_kept, disks_kept, within_kept, writable_kept}
-use Rattle.blk_world.proofs.Placed.{placed, answer-is, CarriedUntold, carried_by, rests_by, Goes, goes_of, goes_shape, coherent_of, whole_of, allowed_same, used, state_used, shape_used, shape_by, table_used, changed_used, performed_used}
+use Rattle.blk_world.proofs.Placed.{placed, answer-is, CarriedUntold, carried_by, rests_by, Goes, goes_of, goes_shape, coherent_of, allowed_same, used, state_used, shape_used, shape_by, table_used, changed_used, performed_used}
 
 -- ---- one node goes
 
@@ -120,6 +128,7 @@ removals nodes = map (λ node. RemoveNode node) nodes
 record AreGone (w v : Face) (nodes : List ℕ) (x : Ground) : Type 0 where
   goes : Goes v
   runs : RunsOn w v
+  counts : KeepsCounts w v
   ground_is : x ≡ ground_of v
   performed : (s : State) → is_some w.files ≡ true → s.table ≡ w.table → AllPerformed s (removals nodes) (contents_of w) (contents_of v)
 
@@ -131,6 +140,7 @@ one_gone w t node goes can has named =
     record {
       goes = goes_left w node goes can' has;
       runs = runs_left w node goes.parts goes.tell has;
+      counts = counts_left w node goes.parts goes.tell has;
       ground_is =
           ap (λ (name : List ℕ). let x : Ground = record { store = with_back name (device_in w.nodes.devices node) (ground_of w).store; nodes = without node w.nodes } in x) named
           ∙ same_ground w node goes can' has;
@@ -148,6 +158,7 @@ two_gone w t node file goes can has named can_file has_file named_file =
     record {
       goes = second.goes;
       runs = runs-then w then (without_node file then) first.runs second.runs;
+      counts = keeps-then w then (without_node file then) first.counts second.counts;
       ground_is = ap (left t file) first.ground_is ∙ second.ground_is;
       performed = λ s told same. (
         contents_of then,
@@ -214,6 +225,7 @@ module _ (w : Face) (whole : IsWhole w) (joined : IsJoined w.nodes) (unfolds : U
   record IsEnd (v : Face) (nodes : List ℕ) : Type 0 where
     goes : Goes v
     runs : RunsOn w v
+    counts : KeepsCounts w v
     ground_is : x ≡ ground_of v
     performed : (s : State) → is_some w.files ≡ true → s.table ≡ w.table
         → AllPerformed s (uses (file_under w.table row) ++ removals nodes) (contents_of w) (contents_of v)
@@ -222,6 +234,7 @@ module _ (w : Face) (whole : IsWhole w) (joined : IsJoined w.nodes) (unfolds : U
   ended v nodes gone = record {
     goes = gone.goes;
     runs = runs-then w (then (file_under w.table row)) v (runs_then (file_under w.table row)) gone.runs;
+    counts = keeps-then w (then (file_under w.table row)) v (record { now = refl; many = refl }) gone.counts;
     ground_is = gone.ground_is;
     performed = λ s told same. performed_used w s (file_under w.table row) (removals nodes) (contents_of v)
         (gone.performed (state_used s (file_under w.table row)) told (table_used s w.table (file_under w.table row) same));
@@ -236,7 +249,7 @@ module _ (w : Face) (whole : IsWhole w) (joined : IsJoined w.nodes) (unfolds : U
       let each = subst (λ (m : Option ℕ). HaveLeft w.table (ground_of w) (with_made node m)) is deleted.each in
       let all = deleted.left_are ∙ ap (λ (m : Option ℕ). all_left w.table (with_made node m) (ground_of w)) is in
       let gone = one_gone (then (file_under w.table row)) w.table node (goes_then (file_under w.table row)) can each.0 (named (file_under w.table row) node) in
-      ended (last None) (node ∷ []) (record { goes = gone.goes; runs = gone.runs; ground_is = all ∙ gone.ground_is; performed = gone.performed })
+      ended (last None) (node ∷ []) (record { goes = gone.goes; runs = gone.runs; counts = gone.counts; ground_is = all ∙ gone.ground_is; performed = gone.performed })
   end_by (Some file) is =
       let each = subst (λ (m : Option ℕ). HaveLeft w.table (ground_of w) (with_made node m)) is deleted.each in
       let all = deleted.left_are ∙ ap (λ (m : Option ℕ). all_left w.table (with_made node m) (ground_of w)) is in
@@ -244,7 +257,7 @@ module _ (w : Face) (whole : IsWhole w) (joined : IsJoined w.nodes) (unfolds : U
       let gone = two_gone (then (file_under w.table row)) w.table node file (goes_then (file_under w.table row)) can each.0 (named (file_under w.table row) node)
       (file_can w.table (ground_of w) joined belong node can each.0 file is) each.1.0
       (named (file_under w.table row) file ∙ sym (ap (λ (f : Option (List ℕ)). unwrap_or f []) (filename_stays (used w.table (file_under w.table row)) node file differs))) in
-      ended (last (Some file)) (node ∷ file ∷ []) (record { goes = gone.goes; runs = gone.runs; ground_is = all ∙ gone.ground_is; performed = gone.performed })
+      ended (last (Some file)) (node ∷ file ∷ []) (record { goes = gone.goes; runs = gone.runs; counts = gone.counts; ground_is = all ∙ gone.ground_is; performed = gone.performed })
 
   -- ---- the table
 
@@ -275,6 +288,10 @@ module _ (w : Face) (whole : IsWhole w) (joined : IsJoined w.nodes) (unfolds : U
   last_progress None = refl
   last_progress (Some file) = refl
 
+  last_drains : (made : Option ℕ) → (last made).drains ≡ w.drains
+  last_drains None = refl
+  last_drains (Some file) = refl
+
   abbrev final : Face
   final = last (made_with w.table node)
 
@@ -296,19 +313,69 @@ module _ (w : Face) (whole : IsWhole w) (joined : IsJoined w.nodes) (unfolds : U
       ap (λ (y : Ground). opened_names y.store.opened) (sym end.ground_is ∙ deleted.left_are)
       ∙ all_left_names w.table (going w.table row.id) (ground_of w)
 
-  final_carried : CarriedUntold w final c None
+  -- ---- the bitmaps
+
+  abbrev bitmaps : List Bitmap
+  bitmaps = bitmaps_but (with_made node (made_with w.table node)) w.bitmaps
+
+  gone_follow : (nodes : List ℕ) (t : Table) (rows : List Bitmap) → AreBitmapsOf t.bitmaps rows → FollowChanges t rows (bitmaps_but nodes rows) (removals nodes)
+  gone_follow [] t rows was = follow-none t rows was
+  gone_follow (n ∷ nodes) t rows was =
+      follow-gone t rows was n (bitmaps_but nodes (filter (λ row. not (row.node == n)) rows)) (removals nodes)
+      (λ left. gone_follow nodes (changed t (RemoveNode n)) (filter (λ row. not (row.node == n)) rows) left)
+
+  used_leaves : (file : Option (List ℕ)) → list_all leaves_bitmaps (uses file) ≡ true
+  used_leaves None = refl
+  used_leaves (Some file) = refl
+
+  follow : FollowChanges w.table w.bitmaps bitmaps (answer w.table untold c).changes
+  follow =
+      subst (λ (changes : List Change). FollowChanges w.table w.bitmaps bitmaps changes) (sym edits)
+      (follow-left (uses (file_under w.table row)) w.table w.bitmaps bitmaps (removals (with_made node (made_with w.table node))) (used_leaves (file_under w.table row)) whole.bitmaps
+      (λ kept. gone_follow (with_made node (made_with w.table node)) (all_changed w.table (uses (file_under w.table row))) w.bitmaps kept))
+
+  -- the world with these
+  abbrev final_with : Face
+  final_with = record final { bitmaps = bitmaps }
+
+  runs_with : RunsOn w final → RunsOn w final_with
+  runs_with is = record {
+    told = is.told;
+    room = is.room;
+    first = is.first;
+    earlier = is.earlier;
+    store = is.store;
+    openings = is.openings;
+    devices = is.devices;
+  }
+
+  counts_with : KeepsCounts w final → KeepsCounts w final_with
+  counts_with is = record { now = is.now; many = is.many }
+
+  final_carried : CarriedUntold w final_with c None
   final_carried =
-      carried_by w final c refl none final_table (last_progress (made_with w.table node)) final_names end.runs (λ was. coherent_of final end.goes rest)
+      carried_by w final_with c refl refl none final_table (last_progress (made_with w.table node)) (last_drains (made_with w.table node)) (All-nil (IsCalm (seen_state w))) final_names (runs_with end.runs)
+      (hides-kept w final_with (counts_with end.counts)) (λ was. coherent_of final end.goes rest)
       (λ o s told shows. subst (λ (changes : List Change). AllPerformed s changes (contents_of w) (contents_of final)) (sym edits)
       (end.performed s told shows.table.table_is))
 
-  pub deleted_carried : (u : Table) → u ≡ all_changed w.table (answer w.table untold c).changes
-      → CarriedUntold w (placed w x u) c None × IsWhole (placed w x u)
-  deleted_carried u is =
-      let same : final ≡ placed w x u =
+  pub deleted_carried : (u : Table) → u ≡ all_changed w.table (answer w.table untold c).changes → (b : List Bitmap) → b ≡ bitmaps_left None w.table c w.bitmaps
+      → CarriedUntold w (record (placed w x u) { bitmaps = b }) c None × IsWhole (record (placed w x u) { bitmaps = b })
+      × FollowChanges w.table w.bitmaps b (answer w.table untold c).changes
+  deleted_carried u is b left =
+      let placed_is : final ≡ placed w x u =
       last_placed (made_with w.table node)
       ∙ ap (λ (y : Ground). placed w y final.table) (sym end.ground_is)
-      ∙ ap (placed w x) (final_table ∙ sym is) in (
+      ∙ ap (placed w x) (final_table ∙ sym is) in
+      let same_id : id_named w.table name ≡ Some node = ap (option_map (λ (r : NodeRecord). r.id)) deleted.found in
+      let same_rows : b ≡ bitmaps = left ∙ ap (λ (found : Option ℕ). bitmaps_named w.table found w.bitmaps) same_id in
+      let same : final_with ≡ record (placed w x u) { bitmaps = b } =
+      ap (λ (v : Face). let f : Face = record v { bitmaps = bitmaps } in f) placed_is
+      ∙ ap (λ (rows : List Bitmap). let f : Face = record (placed w x u) { bitmaps = rows } in f) (sym same_rows) in
+      let listed : AreBitmapsOf final.table.bitmaps bitmaps = subst (λ (t : Table). AreBitmapsOf t.bitmaps bitmaps) (sym final_table) follow.listed in
+      let whole_then : IsWhole final_with =
+      record { coherent = coherent_of final end.goes rest; tell = end.goes.tell; counted = end.goes.counted; bitmaps = listed } in (
         subst (λ (v : Face). CarriedUntold w v c None) same final_carried,
-        subst IsWhole same (whole_of final end.goes rest),
+        subst IsWhole same whole_then,
+        subst (λ (rows : List Bitmap). FollowChanges w.table w.bitmaps rows (answer w.table untold c).changes) (sym same_rows) follow,
       )

@@ -1,5 +1,5 @@
 -- A node that goes gives its device back with its count: counts run on, and the devices that are left tell their bytes.
-use Rattle.std.proofs.Common.{◌≡◌, ◌≢◌, ℕ, zero, suc, ◌+◌, ◌≤◌, ◌==◌, Bool, true, false, not, List, [], ◌∷◌, inl, inr, refl, sym, ◌∙◌, ap, subst, arith, Option, Some, None}
+use Rattle.std.proofs.Common.{◌≡◌, ◌≢◌, ℕ, zero, suc, ◌+◌, ◌≤◌, ◌==◌, Bool, true, false, not, List, [], ◌∷◌, length, inl, inr, refl, sym, ◌∙◌, ap, subst, arith, Option, Some, None}
 use Rattle.std.specs.Prelude.{IsSome, is_some, Contains, slice_get, option_map, unwrap_or}
 use Rattle.std.proofs.lemmas.Bool.{cases_eq, eqb-true, false≢true, ne_eqb}
 use Rattle.std.proofs.lemmas.Option.{same_Some}
@@ -13,15 +13,18 @@ use Rattle.blk_nodes.specs.Nodes.{DeviceState, is_of, device_in}
 use Rattle.blk_nodes.proofs.Dropped.{none_gone}
 use Rattle.qmp_rules.specs.Changes.{changed}
 use Rattle.qmp_rules.specs.declared.change.Change.TheVariants.{RemoveNode}
+use Rattle.flat_machine.specs.Licence.{Counts}
 use Rattle.blk_world.specs.Coherent.{AreOut, DevicesTell}
 use Rattle.blk_world.specs.Counting.{RunsOn, IsLater, HaveNotFallen}
 use Rattle.blk_world.specs.Deleting.{TellsFlush, name_under, with_back, ground_of, HasLeft, without_node}
 use Rattle.blk_world.specs.Face.{Face, device_numbered, count_of_opening, counts_from, counts_now}
 use Rattle.blk_world.specs.Steps.{StoreSeen}
 use Rattle.blk_world.proofs.CountLemmas.{counts-at, numbered, same-devices, not-fallen, with-of}
+use Rattle.blk_world.proofs.CountsKept.{KeepsCounts, counts-equal, length-counts}
 use Rattle.blk_world.proofs.DeletedLists.{kept-in, given-there, given-other}
 use Rattle.blk_world.proofs.DeletedParts.{one_of, was, only_out, out_left}
 use Rattle.blk_world.proofs.DeletedSteps.{Parts}
+use Rattle.blk_world.proofs.RunOpenings.{length-back}
 
 -- the opening of a count
 pub counted-at : (devices : List DeviceState) (opened : List Opened) (first n count : ℕ) → slice_get (counts_from devices first opened) n ≡ Some count
@@ -121,8 +124,10 @@ module _ (w : Face) (node : ℕ) (parts : Parts w.table (ground_of w)) (tell : D
             one : (x : DeviceState) → Contains w.nodes.devices x → x.node ≡ node → x ≡ d
             one x at' same = one_of w.table w.nodes w.opened node parts.joined parts.out node x d at' there same of
 
-    pub counts_back : HaveNotFallen (counts_now w).devices (counts_from (other_devices node w.nodes.devices) 0 back.opened)
-    counts_back n count at =
+    -- each count stays
+    counts_stay : (n count : ℕ) → slice_get (counts_now w).devices n ≡ Some count
+        → slice_get (counts_from (other_devices node w.nodes.devices) 0 back.opened) n ≡ Some count
+    counts_stay n count at =
         let old = counted-at w.nodes.devices w.opened 0 n count at in
         elim (cases_eq n d.number.0) [
           | inl same ↦ at_own n count old.0 old.1 old.2 same
@@ -130,7 +135,7 @@ module _ (w : Face) (node : ℕ) (parts : Parts w.table (ground_of w)) (tell : D
         ]
       where
         at_own : (n count : ℕ) (o : Opened) → slice_get w.opened n ≡ Some o → count_of_opening w.nodes.devices (0 + n) o ≡ count → n ≡ d.number.0
-            → With (slice_get (counts_from (other_devices node w.nodes.devices) 0 back.opened) n) (λ now. count ≤ now)
+            → slice_get (counts_from (other_devices node w.nodes.devices) 0 back.opened) n ≡ Some count
         at_own n count o at counted same =
             let was' = was w.table w.nodes w.opened node parts.joined parts.out d is in
             let its : o ≡ was'.opening = same_Some o was'.opening (sym at ∙ ap (slice_get w.opened) same ∙ was'.there) in
@@ -139,16 +144,15 @@ module _ (w : Face) (node : ℕ) (parts : Parts w.table (ground_of w)) (tell : D
             let found = numbered w.nodes.devices d parts.out.once there in
             let before : count_of_opening w.nodes.devices (0 + n) o ≡ d.faults = rw (none, zero_first, found) refl in
             let now = counts-at (other_devices node w.nodes.devices) back.opened 0 n (record was'.opening { returned = Some d.faults }) (ap (slice_get back.opened) same ∙ here) in
-            with-of (slice_get (counts_from (other_devices node w.nodes.devices) 0 back.opened) n) d.faults (λ c. count ≤ c) now (omega (arith, before, counted))
+            now ∙ ap Some (sym before ∙ counted)
 
         at_other : (n count : ℕ) (o : Opened) → slice_get w.opened n ≡ Some o → count_of_opening w.nodes.devices (0 + n) o ≡ count → n ≢ d.number.0
             → (back' : Option ℕ) → o.returned ≡ back'
-            → With (slice_get (counts_from (other_devices node w.nodes.devices) 0 back.opened) n) (λ now. count ≤ now)
+            → slice_get (counts_from (other_devices node w.nodes.devices) 0 back.opened) n ≡ Some count
         at_other n count o at counted apart back' e =
             let now = counts-at (other_devices node w.nodes.devices) back.opened 0 n o (other n apart ∙ at) in
             let same : count_of_opening (other_devices node w.nodes.devices) (0 + n) o ≡ count_of_opening w.nodes.devices (0 + n) o = same_count back' e in
-            with-of (slice_get (counts_from (other_devices node w.nodes.devices) 0 back.opened) n)
-            (count_of_opening (other_devices node w.nodes.devices) (0 + n) o) (λ c. count ≤ c) now (omega (arith, same, counted))
+            now ∙ ap Some (same ∙ counted)
           where
             zero_first : 0 + n ≡ n
             zero_first = omega arith
@@ -159,6 +163,19 @@ module _ (w : Face) (node : ℕ) (parts : Parts w.table (ground_of w)) (tell : D
             same_count None e =
                 let same = left_there n o at e apart in
                 rw (e, zero_first) (ap (λ (found : Option DeviceState). unwrap_or (option_map (λ (x : DeviceState). x.faults) found) o.faults) same)
+
+    counts_back : HaveNotFallen (counts_now w).devices (counts_from (other_devices node w.nodes.devices) 0 back.opened)
+    counts_back n count at =
+        with-of (slice_get (counts_from (other_devices node w.nodes.devices) 0 back.opened) n) count (λ now. count ≤ now) (counts_stay n count at)
+        (omega arith)
+
+    many_back : length back.opened ≡ length w.opened
+    many_back = length-back name d.faults w.opened
+
+    same_back : counts_from (other_devices node w.nodes.devices) 0 back.opened ≡ (counts_now w).devices
+    same_back =
+        counts-equal (counts_now w).devices (counts_from (other_devices node w.nodes.devices) 0 back.opened)
+        (length-counts (other_devices node w.nodes.devices) 0 back.opened ∙ many_back ∙ sym (length-counts w.nodes.devices 0 w.opened)) counts_stay
 
   -- ---- a node with a device or without one
 
@@ -190,6 +207,20 @@ module _ (w : Face) (node : ℕ) (parts : Parts w.table (ground_of w)) (tell : D
     openings = openings_back d is;
     devices = counts_back d is;
   }
+
+  keeps_by : (found : Option DeviceState) → device_in w.nodes.devices node ≡ found → KeepsCounts w (gone found)
+  keeps_by None is = record {
+    now = ap (λ (ds : List DeviceState). let c : Counts = record { store = w.faults; devices = counts_from ds 0 w.opened } in c)
+        (none_gone node w.nodes.devices is);
+    many = refl;
+  }
+  keeps_by (Some d) is = record {
+    now = ap (λ (l : List ℕ). let c : Counts = record { store = w.faults; devices = l } in c) (same_back d is);
+    many = many_back d is;
+  }
+
+  pub counts_left : KeepsCounts w v
+  counts_left = keeps_by (device_in w.nodes.devices node) refl
 
   pub runs_left : RunsOn w v
   runs_left = runs_by (device_in w.nodes.devices node) refl

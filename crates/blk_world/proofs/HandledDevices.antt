@@ -3,7 +3,8 @@ use Rattle.std.proofs.Common.{◌≡◌, ℕ, true, List, [], Option, Some, None
 use Rattle.std.specs.Prelude.{Result, IfOk, OnErr}
 use Rattle.qmp_codec.specs.Commands.{Cmd}
 use Rattle.qmp_codec.specs.declared.command.Command.TheVariants as command
-use Rattle.qmp_rules.specs.Answers.{left_by, refusal_of, untold}
+use Rattle.qmp_codec.specs.declared.nodes.DeviceAdd.{DeviceAdd}
+use Rattle.qmp_rules.specs.Answers.{answer, left_by, refusal_of, untold}
 use Rattle.qmp_rules.specs.Table.{Table}
 use Rattle.qmp_rules.specs.declared.refusal.Refusal.{Refusal}
 use Rattle.blk_nodes.specs.Joined.{IsJoined}
@@ -11,7 +12,9 @@ use Rattle.blk_nodes.specs.Nodes.{Nodes}
 use Rattle.blk_world.specs.Carrying.{IsCarriedAs, IsPutBack}
 use Rattle.blk_world.specs.Coherent.{IsWhole}
 use Rattle.blk_world.specs.Deleting.{Ground, ground_of}
-use Rattle.blk_world.specs.Face.{Face}
+use Rattle.flat_machine.specs.Recording.{dirty_after}
+use Rattle.blk_world.specs.Face.{Face, dirty_of}
+use Rattle.blk_world.proofs.BitmapsLeft.{left-dirty}
 use Rattle.blk_world.specs.Handling.{DoneIf, IsAttachedBy, IsHandled, IsUntouched, is_attachment}
 use Rattle.blk_world.proofs.AttachedCarried.{attachment_done}
 use Rattle.blk_world.proofs.Handled.{refused_placed, said_as}
@@ -33,6 +36,9 @@ same_ground w now same = ap (ground_with w) same
 
 module _ (w : Face) (whole : IsWhole w) (joined : IsJoined w.nodes) (given : List ℕ) (now : Nodes) (after : IsJoined now)
     (u : Table) where
+  kept_so : (c : DeviceAdd (List ℕ)) → dirty_of (rewired_so w now u) ≡ dirty_after w.table (dirty_of w) (answer w.table untold (command.DeviceAdd c)).changes
+  kept_so c = left-dirty w (rewired_so w now u) untold (command.DeviceAdd c) refl refl whole.bitmaps
+
   attachment_carried : (c : Cmd) (text : List ℕ) → is_attachment c ≡ true → IsHandled given w.table c u (IsAttachedBy u c w.nodes now) (now ≡ w.nodes) text
       → IsCarriedAs w (rewired_so w now u) given c text × IsWhole (rewired_so w now u)
   attachment_carried (command.DeviceAdd c) text is handled = by_refusal handled.refusal handled.judged handled.done_is
@@ -42,10 +48,10 @@ module _ (w : Face) (whole : IsWhole w) (joined : IsJoined w.nodes) (given : Lis
           → IsCarriedAs w (rewired_so w now u) given (command.DeviceAdd c) text × IsWhole (rewired_so w now u)
       by_refusal None none done =
           let all = attachment_done w whole joined c none now u handled.table done after in
-          (said_as w given (rewired_so w now u) text (command.DeviceAdd c) None all.0 handled.said, all.1)
+          (said_as w given (rewired_so w now u) text (command.DeviceAdd c) None all.0 handled.said (kept_so c), all.1)
       by_refusal (Some cause) some kept =
-          let all = refused_placed w (command.DeviceAdd c) cause refl some refl (ground_with w now) u (same_ground w now kept) handled.table whole in
-          (said_as w given (rewired_so w now u) text (command.DeviceAdd c) (Some cause) all.0 handled.said, all.1)
+          let all = refused_placed w (command.DeviceAdd c) cause refl refl some refl (ground_with w now) u (same_ground w now kept) handled.table whole in
+          (said_as w given (rewired_so w now u) text (command.DeviceAdd c) (Some cause) all.0 handled.said (kept_so c), all.1)
   attachment_carried c text is handled = absurd (let bad : ⊥ = cc is in bad)
 
   untouched : IsUntouched w.table u (now ≡ w.nodes) → w ≡ rewired_so w now u

@@ -7,6 +7,8 @@ pub mod Beginning
 pub mod Coherence
 pub mod Judging
 pub mod CountLemmas
+pub mod CountsKept
+pub mod PieceCounts
 pub mod CloseLemmas
 pub mod CloseHeld
 pub mod CloseDisks
@@ -18,8 +20,10 @@ pub mod CarryState
 pub mod CarrySaid
 pub mod CarryComes
 pub mod CarryPlain
+pub mod CarryImages
 pub mod CarryLines
 pub mod CarryBack
+pub mod CarryCalm
 pub mod CarryGiven
 pub mod CarryInTable
 pub mod Borrowed
@@ -30,6 +34,8 @@ pub mod PiecePaths
 pub mod PieceWriters
 pub mod PieceReady
 pub mod PieceNodes
+pub mod ImageRows
+pub mod ImageTold
 pub mod PieceTables
 pub mod PieceContents
 pub mod PieceTold
@@ -74,6 +80,10 @@ pub mod CloseCounts
 pub mod Attached
 pub mod AttachedCarried
 pub mod HandledDevices
+pub mod DeviceAsked
+pub mod Detached
+pub mod DetachedCarried
+pub mod InTheWay
 pub mod AddAsked
 pub mod AddReady
 pub mod AddImages
@@ -100,6 +110,7 @@ pub mod AddEnds
 pub mod AddPut
 pub mod AddFailed
 pub mod AddCause
+pub mod AddCounts
 pub mod AddUnder
 pub mod AddAccount
 pub mod AddHandled
@@ -109,5 +120,15 @@ pub mod MadeCarried
 pub mod MadeHandled
 pub mod MadeTold
 pub mod MadePerformed
+pub mod MadeCounts
 pub mod MadeWorld
 pub mod MadeEnd
+pub mod CoverReady
+pub mod CoverCoherent
+pub mod CoverCarried
+pub mod CoverHandled
+pub mod CoverSaid
+pub mod Counted
+pub mod BitmapsLeft
+pub mod BitmapsChanged
+pub mod CoverTold

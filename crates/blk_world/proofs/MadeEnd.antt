@@ -1,6 +1,8 @@
 -- How a creation is answered in the world.
 use Rattle.std.proofs.Common.{◌≡◌, ◌⊎◌, ℕ, ◌≤◌, true, List, [], inl, inr, refl, sym, ◌∙◌, ap, subst, Option, Some, None, Ok, Err}
 use Rattle.std.specs.Prelude.{Result, IfOk, OnErr, nat_lt, Bool, false}
+use Rattle.std.proofs.lemmas.List.Elements.{All-nil}
+use Rattle.flat_machine.specs.Marks.{IsCalm}
 use Rattle.qmp_codec.specs.Commands.{Cmd}
 use Rattle.qmp_codec.specs.declared.command.Command.TheVariants as command
 use Rattle.qmp_codec.specs.declared.nodes.BlockdevCreate.{BlockdevCreate}
@@ -21,17 +23,20 @@ use Rattle.flat_machine.specs.Performing.{AllPerformed}
 use Rattle.blk_nodes.specs.Joined.{IsJoined}
 use Rattle.blk_world.specs.Carrying.{IsCarried, IsCarriedAs, IsCaused, StopsByFiles, is_failed}
 use Rattle.blk_world.specs.Coherent.{IsWhole}
+use Rattle.blk_world.specs.Counting.{HidesNoFault}
 use Rattle.blk_world.specs.Deleting.{Ground, ground_of}
-use Rattle.blk_world.specs.Face.{Face, contents_of}
+use Rattle.blk_world.specs.Face.{Face, contents_of, seen_state}
 use Rattle.blk_world.specs.Handling.{IsUntouched}
 use Rattle.blk_world.specs.Making.{IsMade, MadeSo, is_creation}
 use Rattle.blk_world.specs.Saying.{IsSaid}
-use Rattle.blk_world.proofs.CarryPlain.{quiet_cause, quiet-self}
+use Rattle.blk_world.proofs.CarryPlain.{quiet_named, quiet-self}
 use Rattle.blk_world.proofs.CountLemmas.{runs-devices, same-devices}
+use Rattle.blk_world.proofs.CountsKept.{hides-same}
 use Rattle.blk_world.proofs.Handled.{untouched_whole}
 use Rattle.blk_world.proofs.MadeHandled.{creation-quiet, first-quiet, left-none, left-some}
-use Rattle.blk_world.proofs.MadeTold.{create-tells, told_by_room}
+use Rattle.blk_world.proofs.MadeTold.{told_by_room}
 use Rattle.blk_world.proofs.MadeWorld.{CarriedTold, changes-created, made_world, spoiled_world}
+use Rattle.blk_world.proofs.BitmapsLeft.{keeps_bitmaps, left-dirty}
 use Rattle.blk_world.proofs.Placed.{answer-is, placed, placed_same}
 
 first-files : (options : Created (List ℕ)) (room : ℕ) → StopsByFiles (create_told options room).stopped
@@ -53,12 +58,16 @@ refused_first w c cause some =
     ap (λ (a : Answer). a.changes) (answer-is w.table told (command.BlockdevCreate c) (Some cause) some) ∙ left-none w.table c cause quiet in
     let carried : IsCarried w w (command.BlockdevCreate c) (Some cause) = record {
       told = told;
-      clean = (create-tells c.options w.room).dirty;
+      counts = λ prints. absurd (let bad : ⊥ = cc prints in bad);
       by_files = first-files c.options w.room;
+      maps = tt;
       answered = some;
       table = sym (ap (all_changed w.table) changes);
       progress = refl;
+      drains = refl;
+      calm = λ is. All-nil (IsCalm (seen_state w));
       runs = runs-devices w w refl refl refl refl refl refl (same-devices w.nodes.devices);
+      hides = subst (HidesNoFault w w) (sym (quiet_named cause quiet)) (hides-same w w refl refl refl);
       opens = refl;
       cause = quiet_one w c cause quiet;
       coherent = λ was. was;
@@ -72,10 +81,14 @@ refused_first w c cause some =
     quiet_one w c (refusal.NoSpace dev) bad = absurd (let e : ⊥ = cc bad in e)
     quiet_one w c _ is = tt
 
-said_so : (w : Face) (given : List ℕ) (v : Face) (text : List ℕ) (c : Cmd) (refusal : Option Refusal) (told : Told) → CarriedTold w v c refusal told
-    → IsSaid given (answer w.table told c).reply text → IsCarriedAs w v given c text
-said_so w given v text c refusal told carried said =
-    record { refusal = refusal; carried = carried.0; said = subst (λ (t : Told). IsSaid given (answer w.table t c).reply text) (sym carried.1) said }
+said_so : (w : Face) (given : List ℕ) (v : Face) (text : List ℕ) (c : Cmd) (refusal : Option Refusal) (told : Told) → IsWhole w → keeps_bitmaps c ≡ true → v.bitmaps ≡ w.bitmaps
+    → CarriedTold w v c refusal told → IsSaid given (answer w.table told c).reply text → IsCarriedAs w v given c text
+said_so w given v text c refusal told whole keeps bitmaps carried said = record {
+  refusal = refusal;
+  carried = carried.0;
+  said = subst (λ (t : Told). IsSaid given (answer w.table t c).reply text) (sym carried.1) said;
+  dirty = left-dirty w v carried.0.told c keeps bitmaps whole.bitmaps;
+}
 
 module _ (w : Face) (whole : IsWhole w) (joined : IsJoined w.nodes) (given : List ℕ) (x : Ground) (after : IsJoined x.nodes) (least : w.faults ≤ x.store.faults) (u : Table) where
   creation_said : (text : List ℕ) (c : Cmd) → is_creation c ≡ true → IsMade given w.table c (ground_of w) x u text
@@ -91,7 +104,7 @@ module _ (w : Face) (whole : IsWhole w) (joined : IsJoined w.nodes) (given : Lis
           let all = made_world w whole joined c.job_id x after c.options first done.1 in
           let same : placed w x (all_changed w.table (create_edits w.table c)) ≡ placed w x u =
           ap (placed w x) (sym (made.table ∙ ap (all_changed w.table) (changes-created w.table made.told c none))) in (
-            said_so w given (placed w x u) text cmd None made.told
+            said_so w given (placed w x u) text cmd None made.told whole refl refl
                 (subst (λ (v : Face). CarriedTold w v cmd None made.told) same
                 (subst (λ (t : Told). CarriedTold w (placed w x (all_changed w.table (create_edits w.table c))) cmd None t) (sym done.0) all.0)) made.said,
             subst IsWhole same all.1,
@@ -104,7 +117,7 @@ module _ (w : Face) (whole : IsWhole w) (joined : IsJoined w.nodes) (given : Lis
           made.table ∙ ap (λ (a : Answer). all_changed w.table a.changes) (answer-is w.table made.told cmd (Some cause) some)
           ∙ ap (all_changed w.table) (left-none w.table c cause quiet) in
           let same = placed_same w x u done.1 kept in (
-            said_so w given (placed w x u) text cmd (Some cause) made.told
+            said_so w given (placed w x u) text cmd (Some cause) made.told whole refl refl
                 (subst (λ (v : Face). CarriedTold w v cmd (Some cause) made.told) same
                 (subst (λ (t : Told). CarriedTold w w cmd (Some cause) t) (sym done.0) (refused_first w c cause first))) made.said,
             subst IsWhole same whole,
@@ -115,7 +128,7 @@ module _ (w : Face) (whole : IsWhole w) (joined : IsJoined w.nodes) (given : Lis
           let same : placed w x (all_changed w.table (spoiled w.table c.options)) ≡ placed w x u =
           ap (placed w x) (sym (made.table ∙ ap (λ (a : Answer). all_changed w.table a.changes) (answer-is w.table made.told cmd (Some cause) some)
           ∙ ap (all_changed w.table) (left-some w.table c cause fails.ended.fits))) in (
-            said_so w given (placed w x u) text cmd (Some cause) made.told
+            said_so w given (placed w x u) text cmd (Some cause) made.told whole refl refl
                 (subst (λ (v : Face). CarriedTold w v cmd (Some cause) made.told) same
                 (subst (λ (t : Told). CarriedTold w (placed w x (all_changed w.table (spoiled w.table c.options))) cmd (Some cause) t) (sym fails.told_is) all.0)) made.said,
             subst IsWhole same all.1,

@@ -18,6 +18,7 @@ use Rattle.qmp_rules.specs.declared.change.Change.TheVariants.{FormatFile, KeepI
 use Rattle.qmp_rules.specs.declared.rows.NodeRecord.{NodeRecord}
 use Rattle.flat_machine.specs.Wiring.{TableAtRest, TableStands}
 use Rattle.flat_machine.proofs.Finds.{same-bytes_eq, bytes_eq-same}
+use Rattle.flat_machine.specs.Bitmaps.{AreBitmapsOf}
 use Rattle.blk_world.specs.Coherent.{DevicesTell, IsCoherent, IsWhole}
 use Rattle.blk_world.specs.Counting.{RunsOn}
 use Rattle.blk_world.specs.Face.{Face, node_over}
@@ -192,9 +193,10 @@ moved_coherent w v moves rest was =
     (coherent_moved w.table v.table moves.table.eased w.nodes v.nodes w.opened w.progress moves.nodes rest
     (disks_kept w.table v.table moves.table.keeps was.disks) was)
 
-pub moved_whole : (w v : Face) → Moves w v → TableAtRest v.table → IsWhole w → IsWhole v
-moved_whole w v moves rest whole = record {
+pub moved_whole : (w v : Face) → Moves w v → TableAtRest v.table → AreBitmapsOf v.table.bitmaps v.bitmaps → IsWhole w → IsWhole v
+moved_whole w v moves rest bitmaps whole = record {
   coherent = moved_coherent w v moves rest whole.coherent;
   tell = moves.tell;
   counted = omega (arith, whole.counted, moves.first, moves.store);
+  bitmaps = bitmaps;
 }

@@ -23,11 +23,12 @@ use Rattle.flat_machine.specs.State.{State}
 use Rattle.flat_machine.specs.declared.opening.Opening.{Opening}
 use Rattle.blk_nodes.specs.declared.stop.FormatStop.{FormatStop}
 use Rattle.blk_nodes.specs.declared.stop.FormatStop.TheVariants as stop
-use Rattle.blk_world.specs.Carrying.{IsCarriedIn}
+use Rattle.blk_world.specs.Carrying.{IsCarriedIn, counted}
 use Rattle.blk_world.specs.Comes.{Shows}
 use Rattle.blk_world.specs.Creating.{IsFailed, unformatted}
 use Rattle.blk_world.specs.Deleting.{Ground}
 use Rattle.blk_world.specs.Face.{Face, contents_of}
+use Rattle.blk_world.proofs.Counted.{answer-counted}
 use Rattle.blk_world.specs.Making.{look_of}
 use Rattle.blk_world.proofs.CreatedAsked.{file_asked}
 
@@ -44,16 +45,17 @@ create-tells (created.File c) room = record { length = refl; size = refl; dirty 
 create-tells (created.Qcow2 c) room = record { length = refl; size = refl; dirty = refl }
 create-tells created.Unknown room = record { length = refl; size = refl; dirty = refl }
 
-pub is-told : (s : State) (c : BlockdevCreate (List ℕ)) (told : Told) → TellsNoMore told → s.dirty ≡ [] → MayStop s (command.BlockdevCreate c) (told_by s (command.BlockdevCreate c)).stopped told.stopped
-    → IsTold s (command.BlockdevCreate c) told
-is-told s c told tells clean stops =
+-- with what is dirty
+pub is-told : (s : State) (c : BlockdevCreate (List ℕ)) (told : Told) → TellsNoMore told → MayStop s (command.BlockdevCreate c) (told_by s (command.BlockdevCreate c)).stopped told.stopped
+    → IsTold s (command.BlockdevCreate c) (counted told (map dirty_bytes s.dirty))
+is-told s c told tells stops =
     let first = create-tells c.options s.room in
     record {
       file = tells.length ∙ sym first.length;
       image = tells.size ∙ sym first.size;
       refusal = stops;
       clusters = λ name node there named. absurd (Contains-nil name there);
-      bitmaps = tells.dirty ∙ sym (ap (map dirty_bytes) clean);
+      bitmaps = refl;
     }
 
 -- ---- where no call failed
@@ -64,10 +66,10 @@ pub told_by_room : (o : Opening) (s : State) (w v : Face) (c : BlockdevCreate (L
 told_by_room o s w v c shows did =
     let same : (create_told c.options w.room).stopped ≡ (create_told c.options s.room).stopped = ap (λ (room : ℕ). (create_told c.options room).stopped) (sym shows.table.room_is) in
     record {
-      seen = create_told c.options w.room;
-      is_told = is-told s c (create_told c.options w.room) (create-tells c.options w.room) shows.clean (inl same);
+      seen = counted (create_told c.options w.room) (map dirty_bytes s.dirty);
+      is_told = is-told s c (create_told c.options w.room) (create-tells c.options w.room) (inl same);
       exact = inl same;
-      same = refl;
+      same = answer-counted (create_told c.options w.room) (map dirty_bytes s.dirty) w.table (command.BlockdevCreate c) (λ prints. absurd (let bad : ⊥ = cc prints in bad));
       performed = did;
     }
 
@@ -119,9 +121,9 @@ told_by_failure o s w v id options old now cause shows none failed did =
       reached = subst (IsReached (command.BlockdevCreate (record { job_id = id; options = options })) (look_of options)) (sym quiet) tt;
     } in
     record {
-      seen = told;
-      is_told = is-told s (record { job_id = id; options = options }) told (record { length = first.length; size = first.size; dirty = first.dirty }) shows.clean (inr (inl fails));
+      seen = counted told (map dirty_bytes s.dirty);
+      is_told = is-told s (record { job_id = id; options = options }) told (record { length = first.length; size = first.size; dirty = first.dirty }) (inr (inl fails));
       exact = inr fails;
-      same = refl;
+      same = answer-counted told (map dirty_bytes s.dirty) w.table (command.BlockdevCreate (record { job_id = id; options = options })) (λ prints. absurd (let bad : ⊥ = cc prints in bad));
       performed = did;
     }

@@ -1,6 +1,8 @@
 -- A creation in the world: carried out, refused, or stopped by a call.
 use Rattle.std.proofs.Common.{◌≡◌, ◌⊎◌, ℕ, ◌≤◌, true, List, [], ◌∷◌, inl, inr, refl, sym, ◌∙◌, ap, subst, Option, Some, None, Ok, Err}
 use Rattle.std.specs.Prelude.{Result, is_some, option_map}
+use Rattle.std.proofs.lemmas.List.Elements.{All-nil}
+use Rattle.flat_machine.specs.Marks.{IsCalm}
 use Rattle.qmp_codec.specs.Commands.{Cmd}
 use Rattle.qmp_codec.specs.declared.command.Command.TheVariants as command
 use Rattle.qmp_codec.specs.declared.nodes.BlockdevCreate.{BlockdevCreate}
@@ -25,24 +27,28 @@ use Rattle.flat_machine.specs.Wiring.{TableAtRest}
 use Rattle.flat_machine.specs.declared.opening.Opening.{Opening}
 use Rattle.flat_machine.proofs.TableRests.{command_rests, spoiled_rests}
 use Rattle.blk_nodes.specs.Joined.{IsJoined}
-use Rattle.blk_world.specs.Carrying.{IsCarried, IsOfFiles, StopsByFiles, opened_names}
+use Rattle.blk_world.specs.Carrying.{IsCarried, IsOfFiles, StopsByFiles, fault_named, opened_names}
 use Rattle.blk_world.specs.Coherent.{IsWhole}
 use Rattle.blk_world.specs.Comes.{Shows}
+use Rattle.blk_world.specs.Counting.{HidesNoFault}
 use Rattle.blk_world.specs.Creating.{HasCreated, HasFormatted, creation_for}
 use Rattle.blk_world.specs.Deleting.{Ground, ground_of}
-use Rattle.blk_world.specs.Face.{Face, contents_of}
+use Rattle.blk_world.specs.Face.{Face, contents_of, seen_state}
 use Rattle.blk_world.specs.Making.{FitsWords, HasEndedSo, told_failed}
 use Rattle.blk_world.proofs.Belonging.{belong_of}
 use Rattle.blk_world.proofs.CountLemmas.{out-same}
+use Rattle.blk_world.proofs.CountsKept.{hides-same}
 use Rattle.blk_world.proofs.CreatedAsked.{file_asked}
 use Rattle.blk_world.proofs.CreatedCauses.{FitsSo, created_causes}
 use Rattle.blk_world.proofs.CreatedFits.{created_fits}
 use Rattle.blk_world.proofs.CreatedReady.{can_create}
 use Rattle.blk_world.proofs.MadeHandled.{fails-so, left-some}
 use Rattle.blk_world.proofs.MadeCarried.{id_is, its, lone_file, made_ground, moves_failed, moves_image, moves_made}
+use Rattle.blk_world.proofs.MadeCounts.{hides_failed, hides_formatted, hides_unformatted}
 use Rattle.blk_world.proofs.MadeMoves.{IsEasedTo, Moves, eased_image, eased_spoiled, moved_coherent, moved_runs, moved_whole}
 use Rattle.blk_world.proofs.MadePerformed.{performed_failed, performed_image, performed_made, performed_stopped}
-use Rattle.blk_world.proofs.MadeTold.{create-tells, stopped-none, told_by_failure, told_by_room}
+use Rattle.blk_world.proofs.MadeTold.{stopped-none, told_by_failure, told_by_room}
+use Rattle.blk_world.proofs.BitmapsLeft.{left-listed}
 use Rattle.blk_world.proofs.Placed.{placed, answer-is}
 
 -- carried out, and told this
@@ -67,27 +73,31 @@ module _ (w : Face) (whole : IsWhole w) (c : BlockdevCreate (List ℕ)) (none : 
   abbrev v : Face
   v = placed w x (all_changed w.table (create_edits w.table c))
 
-  pub accepted_carried : Moves w v → ((s : State) → is_some w.files ≡ true → s.table ≡ w.table → AllPerformed s (create_edits w.table c) (contents_of w) (contents_of v))
+  pub accepted_carried : Moves w v → HidesNoFault w v None → ((s : State) → is_some w.files ≡ true → s.table ≡ w.table → AllPerformed s (create_edits w.table c) (contents_of w) (contents_of v))
       → CarriedTold w v (command.BlockdevCreate c) None (create_told c.options w.room) × IsWhole v
-  accepted_carried moves performed =
+  accepted_carried moves hides performed =
       let told : Told = create_told c.options w.room in
       let changes = changes-created w.table told c none in
       let rest = rests-created w c told none whole.coherent.table in
       let carried : IsCarried w v (command.BlockdevCreate c) None = record {
         told = told;
-        clean = (create-tells c.options w.room).dirty;
+        counts = λ prints. absurd (let bad : ⊥ = cc prints in bad);
         by_files = subst StopsByFiles (sym (stopped-none w.table c.job_id c.options w.room none)) tt;
+        maps = tt;
         answered = none;
         table = ap (all_changed w.table) (sym changes);
         progress = refl;
+        drains = refl;
         runs = moved_runs w v moves;
+        hides = hides;
         opens = ap opened_names moves.opened;
+        calm = λ is. All-nil (IsCalm (seen_state w));
         cause = created_fits w x whole.coherent.out.once c created_is;
         coherent = moved_coherent w v moves rest;
         shows = λ told_files o s shows. told_by_room o s w v c shows
             (subst (λ (cs : List Change). AllPerformed s cs (contents_of w) (contents_of v)) (sym changes) (performed s told_files shows.table.table_is));
       } in
-      ((carried, refl), moved_whole w v moves rest whole)
+      ((carried, refl), moved_whole w v moves rest (left-listed w.table told (command.BlockdevCreate c) w.bitmaps v.table refl carried.table whole.bitmaps) whole)
 
 -- ---- a call failed
 
@@ -106,10 +116,10 @@ module _ (w : Face) (whole : IsWhole w) (c : BlockdevCreate (List ℕ)) (none : 
   abbrev failed_then : Face
   failed_then = placed w x (all_changed w.table (spoiled w.table c.options))
 
-  pub stopped_carried : Moves w failed_then
+  pub stopped_carried : Moves w failed_then → HidesNoFault w failed_then (fault_named cause)
       → ((s : State) → is_some w.files ≡ true → s.table ≡ w.table → AllPerformed s (spoiled w.table c.options) (contents_of w) (contents_of failed_then))
       → CarriedTold w failed_then (command.BlockdevCreate c) (Some cause) (told_failed (command.BlockdevCreate c) w.room cause) × IsWhole failed_then
-  stopped_carried moves performed =
+  stopped_carried moves hides performed =
       let told : Told = told_failed (command.BlockdevCreate c) w.room cause in
       let some : refusal_of w.table told (command.BlockdevCreate c) ≡ Some cause = fails-so w.table c.job_id c.options w.room cause none in
       let changes : (answer w.table told (command.BlockdevCreate c)).changes ≡ spoiled w.table c.options =
@@ -118,20 +128,24 @@ module _ (w : Face) (whole : IsWhole w) (c : BlockdevCreate (List ℕ)) (none : 
       let can = can_create w.table (ground_of w) (belong_of w.table (ground_of w) w.progress whole.coherent) c.job_id c.options none in
       let carried : IsCarried w failed_then (command.BlockdevCreate c) (Some cause) = record {
         told = told;
-        clean = (create-tells c.options w.room).dirty;
+        counts = λ prints. absurd (let bad : ⊥ = cc prints in bad);
         by_files = files-of cause ended.fits;
+        maps = tt;
         answered = some;
         table = ap (all_changed w.table) (sym changes);
         progress = refl;
+        drains = refl;
         runs = moved_runs w failed_then moves;
+        hides = hides;
         opens = ap opened_names moves.opened;
+        calm = λ is. All-nil (IsCalm (seen_state w));
         cause = created_causes w failed_then c (moved_runs w failed_then moves) whole.counted moves.opened whole.coherent.out
             (out-same w.table w.nodes x.nodes w.opened moves.nodes.devices whole.coherent.out) cause can ended.failed (FitsSo-of cause ended.fits);
         coherent = moved_coherent w failed_then moves rest;
         shows = λ told_files o s shows. told_by_failure o s w failed_then c.job_id c.options (ground_of w) x cause shows none ended.failed
             (subst (λ (cs : List Change). AllPerformed s cs (contents_of w) (contents_of failed_then)) (sym changes) (performed s told_files shows.table.table_is));
       } in
-      ((carried, refl), moved_whole w failed_then moves rest whole)
+      ((carried, refl), moved_whole w failed_then moves rest (left-listed w.table told (command.BlockdevCreate c) w.bitmaps failed_then.table refl carried.table whole.bitmaps) whole)
 
 -- ---- by what is created
 
@@ -150,6 +164,7 @@ module _ (w : Face) (whole : IsWhole w) (joined : IsJoined w.nodes) (id : List �
       subst (λ (y : Ground). CarriedTold w (made_then (created.File c) y) (command.BlockdevCreate (asks_for (created.File c))) None (create_told (created.File c) w.room)
       × IsWhole (made_then (created.File c) y)) (sym is)
       (accepted_carried w whole (asks_for (created.File c)) none (made_ground w whole id c) refl (moves_made w whole id c)
+      (hides-same w (made_then (created.File c) (made_ground w whole id c)) refl refl refl)
       (λ s told same. performed_made w whole id c asked.closed s told))
   made_world (created.Qcow2 c) none is =
       let rest = whole.coherent.table in
@@ -163,6 +178,7 @@ module _ (w : Face) (whole : IsWhole w) (joined : IsJoined w.nodes) (id : List �
       (eased_image w.table rest.stands row name lone id size c) in
       accepted_carried w whole (asks_for (created.Qcow2 c)) none x is
       (moves_image w whole joined x after (id_or 0 w.table (Some c.file)) (creation_for c) (Ok tt) is _ eased)
+      (hides_formatted w whole joined x (all_changed w.table (create_edits w.table (asks_for (created.Qcow2 c)))) (id_or 0 w.table (Some c.file)) (creation_for c) (Ok tt) is is.format.formatted.cause)
       (λ s told at.
       subst (λ (n : ℕ). AllPerformed s (KeepId id ∷ FormatFile n name size c.backing_file c.backing_fmt ∷ []) (contents_of w) (contents_of (made_then (created.Qcow2 c) x))) (sym same)
       (performed_image w whole x _ row name lone eased.eased (creation_for c) (Ok tt)
@@ -181,6 +197,7 @@ module _ (w : Face) (whole : IsWhole w) (joined : IsJoined w.nodes) (id : List �
       let nodes = sym ended.failed.0 in
       stopped_carried w whole (asks_for (created.File c)) none x cause ended
       (subst (λ (n : Nodes). Moves w (spoiled_then (created.File c) (record { store = x.store; nodes = n }))) nodes (moves_failed w whole id c none x.store cause ended.failed.1 least))
+      (hides_failed w whole joined x (all_changed w.table (spoiled w.table (created.File c))) c.filename cause ended.failed.0 ended.failed.1)
       (λ s told same.
       subst (λ (n : Nodes). AllPerformed s (spoiled w.table (created.File c)) (contents_of w) (contents_of (spoiled_then (created.File c) (record { store = x.store; nodes = n })))) nodes
       (performed_failed w whole id c asked.closed s x.store ended.failed.1.others))
@@ -193,6 +210,8 @@ module _ (w : Face) (whole : IsWhole w) (joined : IsJoined w.nodes) (id : List �
       let eased = eased_spoiled w.table rest.stands row name lone in
       stopped_carried w whole (asks_for (created.Qcow2 c)) none x cause ended
       (moves_image w whole joined x after (id_or 0 w.table (Some c.file)) (creation_for c) (Err ended.failed.why) ended.failed.formatted _ eased)
+      (hides_unformatted w whole joined x (all_changed w.table (spoiled w.table (created.Qcow2 c))) (id_or 0 w.table (Some c.file)) (creation_for c) (Err ended.failed.why) ended.failed.formatted cause
+      ended.failed.why ended.failed.formatted.format.formatted.cause ended.failed.is)
       (λ s told at.
       performed_stopped w whole x _ row name lone eased.eased (creation_for c) (Err ended.failed.why)
       (subst (λ (n : ℕ). HasFormatted n (ground_of w) x (creation_for c) (Err ended.failed.why)) same ended.failed.formatted) told s at)

@@ -1,21 +1,24 @@
 -- The calls that make a piece: what each asks, and what they leave together.
-use Rattle.std.proofs.Common.{◌≡◌, ℕ, Option, Some, None, refl, sym, ◌∙◌, ap, subst}
+use Rattle.std.proofs.Common.{◌≡◌, ℕ, List, map, Option, Some, None, refl, sym, ◌∙◌, ap, subst}
 use Rattle.std.specs.Prelude.{IsSome}
 use Rattle.std.proofs.lemmas.Bool.{false≢true}
 use Rattle.blk_base.specs.declared.fault.Outcome.{Outcome}
 use Rattle.trace_codec.specs.declared.op.Op.{Op}
+use Rattle.blk_bitmaps.specs.declared.row.Bitmap.{Bitmap}
 use Rattle.blk_history.specs.Fold.{With}
 use Rattle.blk_history.specs.Machine.{Flight}
 use Rattle.qmp_rules.specs.Chains.{disk_node}
 use Rattle.qmp_rules.specs.Table.{Table, device_at}
+use Rattle.flat_machine.specs.Bitmaps.{AreBitmapsOf, dirty_in}
 use Rattle.flat_machine.specs.Legal.{IsForbidden}
+use Rattle.flat_machine.specs.Recording.{dirty_by}
 use Rattle.flat_machine.specs.State.{drive_of}
 use Rattle.flat_machine.specs.declared.opening.Opening.{Opening}
 use Rattle.blk_nodes.specs.Joined.{IsJoined}
 use Rattle.blk_nodes.specs.Nodes.{Nodes}
 use Rattle.blk_world.specs.Coherent.{IsCoherent, IsWhole}
 use Rattle.blk_world.specs.Comes.{Comes}
-use Rattle.blk_world.specs.Face.{Face}
+use Rattle.blk_world.specs.Face.{Face, dirty_of}
 use Rattle.blk_world.specs.Piecing.{CanTransfer, IsMadeOn, IsPieceMade, HasPieceLicence, Transfers, part_of, table_after}
 use Rattle.blk_world.specs.Progress.{Progress, HasNext, flight_at}
 use Rattle.blk_world.proofs.CountLemmas.{IsThere, there}
@@ -53,10 +56,12 @@ drive_there t nodes p opened coherent g next none =
 
 -- ---- what the calls leave together
 
-pub made_of : (w : Face) (nodes : Nodes) (table : Table) (p : Progress) (g drive node : ℕ) (f : Flight) (outcome : Outcome) (op : Op) → drive_of w.table g ≡ Some drive → node ≡ disk_node w.table drive
+pub made_of : (w : Face) (nodes : Nodes) (table : Table) (p : Progress) (bitmaps : List Bitmap) (g drive node : ℕ) (f : Flight) (outcome : Outcome) (op : Op)
+    → drive_of w.table g ≡ Some drive → node ≡ disk_node w.table drive
     → f.op ≡ op → table ≡ table_after op node w.table → IsMadeOn w.nodes nodes w.progress p node g f outcome
-    → IsPieceMade w (record w { nodes = nodes; table = table; progress = p }) g f outcome
-made_of w nodes table p g drive node f outcome op on is_node asks noted made = record {
+    → map dirty_in bitmaps ≡ dirty_by f.op outcome (part_of f) drive table (dirty_of w)
+    → IsPieceMade w (record w { nodes = nodes; table = table; progress = p; bitmaps = bitmaps }) g f outcome
+made_of w nodes table p bitmaps g drive node f outcome op on is_node asks noted made dirty = record {
   drive = drive;
   buffer = made.buffer;
   on = on;
@@ -64,9 +69,10 @@ made_of w nodes table p g drive node f outcome op on is_node asks noted made = r
   fits = made.fits;
   shown = made.shown;
   kept =
-      ap (λ (t : Table). let v : Face = record w { nodes = nodes; table = t; progress = p } in v)
+      ap (λ (t : Table). let v : Face = record w { nodes = nodes; table = t; progress = p; bitmaps = bitmaps } in v)
       (noted ∙ ap (λ (o : Op). table_after o node w.table) (sym asks) ∙ ap (λ (n : ℕ). table_after f.op n w.table) is_node)
-      ∙ ap (λ (q : Progress). let v : Face = record w { nodes = nodes; table = table_after f.op (disk_node w.table drive) w.table; progress = q } in v) made.noted;
+      ∙ ap (λ (q : Progress). let v : Face = record w { nodes = nodes; table = table_after f.op (disk_node w.table drive) w.table; progress = q; bitmaps = bitmaps } in v) made.noted;
+  dirty = dirty;
 }
 
 module _ (w v : Face) (g : ℕ) (outcome : Outcome) (next : With (flight_at w.progress.guests g) HasNext)
@@ -75,10 +81,10 @@ module _ (w v : Face) (g : ℕ) (outcome : Outcome) (next : With (flight_at w.pr
   flight : IsThere (flight_at w.progress.guests g) HasNext
   flight = there (flight_at w.progress.guests g) HasNext next
 
-  pub made_comes : (o : Opening) → Comes o w → Comes o v
+  pub made_comes : IsJoined v.nodes → (o : Opening) → Comes o w → Comes o v
   made_comes = piece_comes w v g flight.at outcome (made flight.at flight.is) flight.holds flight.is joined whole.coherent whole.tell
 
-  pub made_whole : IsJoined v.nodes → IsWhole v
+  pub made_whole : AreBitmapsOf v.table.bitmaps v.bitmaps → IsJoined v.nodes → IsWhole v
   made_whole = piece_whole w v g flight.at outcome (made flight.at flight.is) flight.holds flight.is joined whole.coherent whole.tell whole.counted
 
   pub made_licence : (f : Flight) (flies : flight_at w.progress.guests g ≡ Some f) → (m : IsPieceMade w v g f outcome) × HasPieceLicence w v g f outcome m

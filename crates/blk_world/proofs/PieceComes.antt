@@ -24,24 +24,29 @@ use Rattle.flat_machine.specs.Machine.{after}
 use Rattle.flat_machine.specs.Marks.{IsCalm}
 use Rattle.flat_machine.specs.State.{State, Guest, drive_of}
 use Rattle.flat_machine.specs.Writing.{CanWrite, ReadsWritten, written_file}
+use Rattle.flat_machine.specs.Imaging.{KeepsMapping}
 use Rattle.flat_machine.specs.declared.opening.Opening.{Opening}
 use Rattle.flat_machine.proofs.Resting.{guest_can}
 use Rattle.blk_nodes.specs.Joined.{IsJoined}
 use Rattle.blk_nodes.specs.Nodes.{DeviceState, AreTold, device_in, is_of}
-use Rattle.blk_nodes.specs.Reading.{StoppedBy}
+use Rattle.blk_nodes.specs.Reading.{StoppedAt, StoppedBy}
 use Rattle.blk_nodes.specs.Writing.{IsApart}
 use Rattle.blk_nodes.specs.declared.row.Row.{Row}
 use Rattle.blk_world.specs.Coherent.{IsCoherent, IsWhole, DevicesTell}
 use Rattle.blk_world.specs.Comes.{Comes, Shows}
-use Rattle.blk_world.specs.Counting.{RunsOn, IsReached, IsReachedBy, sources_of, counts_within}
-use Rattle.blk_world.specs.Face.{Face, held, counts_now, device_numbered, node_over}
+use Rattle.blk_world.specs.Counting.{RunsOn, IsReached, IsReachedBy, sources_of, counts_within, HidesNoFault}
+use Rattle.blk_world.specs.Face.{Face, dirty_of, held, counts_now, device_numbered, node_over, contents_of}
 use Rattle.blk_world.specs.Piecing.{Transfers, IsPieceMade, HasPieceLicence, CanTransfer, CountFits, PassesBy, table_after, part_of, piece_entry, piece_passes, shown_by}
 use Rattle.blk_world.specs.Progress.{Progress, HasNext, flight_at, done_at, ended_in, with_piece}
-use Rattle.blk_world.specs.Tabling.{piece_table}
+use Rattle.flat_machine.specs.Bitmaps.{AreBitmapsOf}
+use Rattle.blk_world.specs.Tabling.{piece_table, piece_dirty}
 use Rattle.blk_world.proofs.Coherence.{coherent-past}
 use Rattle.blk_world.proofs.CountLemmas.{runs-devices, reached-held, licensed-on, numbered, out-same}
+use Rattle.blk_world.proofs.CountsKept.{counts-same, hides-none, hides-stopped}
 use Rattle.blk_world.proofs.DeletedContents.{over-row}
+use Rattle.blk_world.proofs.ImageTold.{mapping_kept}
 use Rattle.blk_world.proofs.InStep.{ended-push}
+use Rattle.blk_world.proofs.PieceCounts.{AreCounted, piece-counted}
 use Rattle.blk_world.proofs.PieceContents.{content_after, else_by, over_same, held_after, payload_length}
 use Rattle.blk_world.proofs.PieceFits.{piece_fits, stop_reached, same_in}
 use Rattle.blk_world.proofs.PieceNodes.{AreAfter, nodes_after, StoppedOn, IsStop, stop_of, full_of}
@@ -117,11 +122,12 @@ module _ (w v : Face) (g : ℕ) (f : Flight) (outcome : Outcome) (made : IsPiece
       subst (λ (x : Face). IsCoherent x.table x.nodes x.opened x.progress) (sym made.kept) now
 
   -- and its devices tell their bytes where they did
-  pub piece_whole : DevicesTell w.files w.nodes.devices → w.first_faults ≤ w.faults → IsJoined v.nodes → IsWhole v
-  piece_whole tell counted now = record {
+  pub piece_whole : DevicesTell w.files w.nodes.devices → w.first_faults ≤ w.faults → AreBitmapsOf v.table.bitmaps v.bitmaps → IsJoined v.nodes → IsWhole v
+  piece_whole tell counted bitmaps now = record {
     coherent = piece_coherent;
     tell = λ tells. told_after f.op w.nodes v.nodes node part outcome made.buffer joined now made.transferred (tell (sym (ap (λ (x : Face). is_some x.files) made.kept) ∙ tells));
     counted = subst (λ (x : Face). x.first_faults ≤ x.faults) (sym made.kept) counted;
+    bitmaps = bitmaps;
   }
 
   -- ---- its fault
@@ -176,9 +182,30 @@ module _ (w v : Face) (g : ℕ) (f : Flight) (outcome : Outcome) (made : IsPiece
       subst (λ (row : Option Row). With row (λ r. With (device_numbered w.nodes.devices dev.0) (λ device. PassesBy r.driver f.op part device.capacity))) (sym full.there)
       (subst (λ (found' : Option DeviceState). With found' (λ device. PassesBy full.row.driver f.op part device.capacity)) (sym found) full.passes)
 
+  -- no other count rose
+  store_kept : v.faults ≡ w.faults
+  store_kept = ap (λ (x : Face). x.faults) made.kept
+
+  hides_at : (dev : DevNo) (count file : ℕ) → StoppedAt file w.nodes.devices v.nodes.devices dev count
+      → HidesNoFault w v (Some (fault_at (Dev dev) count))
+  hides_at dev count file at =
+      hides-stopped w v opened_kept store_kept joined.once
+      (out-same w.table w.nodes v.nodes w.opened moved.devices was.out) file dev count at
+      (same_in w.nodes.devices v.nodes.devices file at.before at.after moved.devices at.held at.left).number
+
+  hides_by : (o : Outcome) → AreCounted o w.nodes.devices v.nodes.devices → HidesNoFault w v (named_by o)
+  hides_by Good same = hides-none w v opened_kept store_kept (counts-same w.nodes.devices v.nodes.devices w.opened same)
+  hides_by (Torn done dev count) at = hides_at dev count at.0 at.1
+  hides_by (Io dev count) at = hides_at dev count at.0 at.1
+  hides_by (NoSpace dev) same = hides-none w v opened_kept store_kept (counts-same w.nodes.devices v.nodes.devices w.opened same)
+
+  piece_hides : HidesNoFault w v (named_by outcome)
+  piece_hides = hides_by outcome (piece-counted w.nodes v.nodes joined f.op node part outcome made.buffer made.transferred)
+
   pub piece_licence : HasPieceLicence w v g f outcome made
   piece_licence = record {
     runs = piece_runs;
+    hides = piece_hides;
     licensed = (on_the_way (device_named outcome) refl, rose (named_by outcome) piece_reached, passes outcome refl);
   }
 
@@ -198,7 +225,7 @@ module _ (w v : Face) (g : ℕ) (f : Flight) (outcome : Outcome) (made : IsPiece
   apart changes other none =
       is_apart w.table w.nodes joined was.alike was.table.stands node disk.row disk.at disk.held disk.id_is disk.has disk.own disk.own_at disk.alike other none
 
-  module _ (o : Opening) (s : State) (told : AreTold w.nodes.devices) (shows : Shows o s w) where
+  module _ (o : Opening) (s : State) (told : AreTold w.nodes.devices) (shows : Shows o s w) (joined_now : IsJoined v.nodes) where
     on_then : drive_of s.table g ≡ Some made.drive
     on_then = ap (λ (t : Table). drive_of t g) shows.table.table_is ∙ made.on
 
@@ -212,24 +239,31 @@ module _ (w v : Face) (g : ℕ) (f : Flight) (outcome : Outcome) (made : IsPiece
         piece_shows o s w v g f.next made.drive f outcome entry (done_at w.progress.guests g) (shown_by f outcome made.buffer) refl shows on_then
         (ap (λ (guests : List Guest). flight_at guests g) shows.guests.guests_are ∙ flies)
         (ap (λ (x : Face). x.room) made.kept) table_kept (ap (λ (x : Face). x.progress.guests) made.kept)
-        (ap (λ (x : Face). ended_in x.progress.log.events) made.kept ∙ ended-push w.progress.log.events entry refl)
+        (ap (λ (x : Face). ended_in x.progress.log.events) made.kept ∙ ended-push w.progress.log.events entry refl) made.dirty
         can_write (piece_done s w.table w v made.drive f.op outcome part made.buffer shows.table.table_is made.transferred apart told held_else)
+        (subst (λ (t : Table). KeepsMapping t (disk_node t made.drive) (contents_of w) (contents_of v)) (sym shows.table.table_is)
+        (mapping_kept w v was.alike joined joined_now was.table.stands moved told over_kept node))
 
     pub fits_then : Fits s entry
     fits_then = piece_fits o s w v g made.drive f outcome made.buffer disk.row shows told made.on disk.at disk.has flies next made.transferred
 
-  pub piece_comes : DevicesTell w.files w.nodes.devices → (o : Opening) → Comes o w → Comes o v
-  piece_comes told o comes =
+  pub piece_comes : DevicesTell w.files w.nodes.devices → IsJoined v.nodes → (o : Opening) → Comes o w → Comes o v
+  piece_comes told joined_now o comes =
       comes-push o w v entry comes (record {
         events = ap (λ (x : Face). x.progress.log.events) made.kept;
         names = ap (λ (t : Table). t.guests) table_kept ∙ (eased_after f.op node w.table).guests;
         told = ap (λ (x : Face). is_some x.files) made.kept;
         guests = ap (λ (x : Face). x.progress.guests) made.kept;
-        table =
-            table_kept ∙ ap (λ (drive : Option ℕ). piece_table drive (Some f) w.table) (sym made.on)
-            ∙ ap (λ (flight : Option Flight). piece_table (drive_of w.table g) flight w.table) (sym flies);
+        table = record {
+          table =
+              table_kept ∙ ap (λ (drive : Option ℕ). piece_table drive (Some f) w.table) (sym made.on)
+              ∙ ap (λ (flight : Option Flight). piece_table (drive_of w.table g) flight w.table) (sym flies);
+          dirty =
+              made.dirty ∙ ap (λ (drive : Option ℕ). piece_dirty drive (Some f) f.next outcome v.table (dirty_of w)) (sym made.on)
+              ∙ ap (λ (flight : Option Flight). piece_dirty (drive_of w.table g) flight f.next outcome v.table (dirty_of w)) (sym flies);
+        };
         counted = λ least. subst (λ (x : Face). x.first_faults ≤ x.faults) (sym made.kept) least;
         coherent = λ coherent. piece_coherent;
         licensed = licensed-on w v piece_runs w.progress.log.events entry piece_reached;
-        fits = λ tells s shows. (fits_then o s (told tells) shows, All-nil (IsCalm s), shows_then o s (told tells) shows);
+        fits = λ tells s shows. (fits_then o s (told tells) shows joined_now, All-nil (IsCalm s), shows_then o s (told tells) shows joined_now);
       })

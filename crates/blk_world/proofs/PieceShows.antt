@@ -23,11 +23,15 @@ use Rattle.flat_machine.specs.Writing.{PieceDone, CanWrite, Writes, ReadsWritten
 use Rattle.flat_machine.specs.declared.opening.Opening.{Opening}
 use Rattle.flat_machine.proofs.Resting.{piece_rests}
 use Rattle.flat_machine.proofs.Written.{piece_keeps}
+use Rattle.flat_machine.proofs.ImagesWritten.{piece_images_keep}
+use Rattle.flat_machine.specs.Imaging.{ShowsImages, KeepsMapping}
 use Rattle.blk_nodes.specs.Contents.{disk_of}
 use Rattle.blk_nodes.specs.Nodes.{AreTold}
 use Rattle.blk_nodes.specs.Writing.{IsApart}
 use Rattle.blk_world.specs.Comes.{Shows}
-use Rattle.blk_world.specs.Face.{Face, held, contents_of}
+use Rattle.flat_machine.specs.Recording.{dirty_by}
+use Rattle.flat_machine.proofs.Recorded.{part-dirty}
+use Rattle.blk_world.specs.Face.{Face, dirty_of, held, contents_of}
 use Rattle.blk_world.specs.Piecing.{Transfers, PutsPart, table_after}
 use Rattle.blk_world.specs.Progress.{ended_in}
 use Rattle.blk_world.proofs.PieceContents.{taken_is}
@@ -43,11 +47,6 @@ pub record LeavesBeside (s now : State) (t : Table) : Type 0 where
   pub ending : now.ending ≡ s.ending
   pub ended : now.ended ≡ s.ended
   pub guests : now.guests ≡ s.guests
-  pub clean : s.dirty ≡ [] → now.dirty ≡ []
-
-none_noted : (t : Table) (part : Extent) (nodes : List ℕ) → noted t part [] nodes ≡ []
-none_noted t part [] = refl
-none_noted t part (node ∷ nodes) = none_noted t part nodes
 
 note_part : (outcome : Outcome) (part : Extent) (drive : ℕ) (s now : State) (t : Table) → LeavesBeside s now t → LeavesBeside s (note outcome part drive now) t
 note_part outcome part drive s now t is = by_test (is_noted outcome)
@@ -60,7 +59,6 @@ note_part outcome part drive s now t is = by_test (is_noted outcome)
       ending = is.ending;
       ended = is.ended;
       guests = is.guests;
-      clean = λ none. ap (λ (ds : List Dirty). noted now.table part ds (path now.table drive)) (is.clean none) ∙ none_noted now.table part (path now.table drive);
     }
     by_test false = is
 
@@ -68,7 +66,7 @@ read_part : (drive : ℕ) (s now : State) (t : Table) → LeavesBeside s now t �
 read_part drive s now t is = by_test (copies_through now.table drive)
   where
     by_test : (b : Bool) → LeavesBeside s (cond b (record now { images = map (unsure (disk_node now.table drive ∷ [])) now.images }) now) t
-    by_test true = record { room = is.room; table_is = is.table_is; started = is.started; ending = is.ending; ended = is.ended; guests = is.guests; clean = is.clean }
+    by_test true = record { room = is.room; table_is = is.table_is; started = is.started; ending = is.ending; ended = is.ended; guests = is.guests }
     by_test false = is
 
 pub part_is : (s : State) (drive : ℕ) (op : Op) (outcome : Outcome) (part : Extent) → LeavesBeside s (with_part drive op outcome part s) (table_after op (disk_node s.table drive) s.table)
@@ -78,10 +76,10 @@ part_is s drive op outcome part = by_op op
     done o = with_disk (disk_node s.table drive) (done_in o part (done_by outcome part)) s
 
     itself : (o : Op) → LeavesBeside s (done o) s.table
-    itself o = record { room = refl; table_is = refl; started = refl; ending = refl; ended = refl; guests = refl; clean = λ none. none }
+    itself o = record { room = refl; table_is = refl; started = refl; ending = refl; ended = refl; guests = refl }
 
     was_written : (o : Op) → LeavesBeside s (written (disk_node s.table drive) (done o)) (written_under (disk_node s.table drive) s.table)
-    was_written o = record { room = refl; table_is = refl; started = refl; ending = refl; ended = refl; guests = refl; clean = λ none. none }
+    was_written o = record { room = refl; table_is = refl; started = refl; ending = refl; ended = refl; guests = refl }
 
     by_op : (o : Op) → LeavesBeside s (with_part drive o outcome part s) (table_after o (disk_node s.table drive) s.table)
     by_op (Read span) = read_part drive s (done (Read span)) s.table (itself (Read span))
@@ -159,17 +157,27 @@ module _ (o : Opening) (s : State) (w v : Face) (g k drive : ℕ) (f : Flight) (
 
   module _ (room : v.room ≡ w.room) (table : v.table ≡ table_after f.op (disk_node w.table drive) w.table) (guests : v.progress.guests ≡ change g (past_piece outcome) w.progress.guests)
       (ends : ended_in v.progress.log.events ≡ ended_in w.progress.log.events)
-      (can : CanWrite s drive f.op) (done : PieceDone s drive f.op outcome (piece f.op k) (contents_of w) (contents_of v)) where
+      (dirty : dirty_of v ≡ dirty_by f.op outcome (piece f.op k) drive v.table (dirty_of w))
+      (can : CanWrite s drive f.op) (done : PieceDone s drive f.op outcome (piece f.op k) (contents_of w) (contents_of v))
+      (keeps : KeepsMapping s.table (disk_node s.table drive) (contents_of w) (contents_of v)) where
     part : LeavesBeside s now (table_after f.op (disk_node s.table drive) s.table)
     part = part_is s drive f.op outcome (piece f.op k)
 
     agrees : Agrees (bytes_of o.files) now (contents_of v)
     agrees = piece_keeps (bytes_of o.files) s drive f.op outcome (piece f.op k) (contents_of w) (contents_of v) can done shows.contents
 
+    images : ShowsImages now (contents_of v)
+    images = piece_images_keep s g drive shows.stands.stands.table on f.op outcome (piece f.op k) (contents_of w) (contents_of v) done keeps shows.images
+
     pub piece_shows : Shows o (after s e) v
     piece_shows = subst (λ (x : State). Shows o x v) (sym after_is) (record {
       stands = stands-onward now (change g (past_piece outcome) now.guests) now.ended (piece_rests s drive f.op outcome (piece f.op k) shows.stands);
-      clean = part.clean shows.clean;
+      dirty =
+          part-dirty s drive f.op outcome (piece f.op k)
+          ∙ ap (λ (t : Table). dirty_by f.op outcome (piece f.op k) drive t s.dirty) part.table_is
+          ∙ ap (λ (t : Table). dirty_by f.op outcome (piece f.op k) drive (table_after f.op (disk_node t drive) t) s.dirty) shows.table.table_is
+          ∙ ap (λ (t : Table). dirty_by f.op outcome (piece f.op k) drive t s.dirty) (sym table)
+          ∙ ap (dirty_by f.op outcome (piece f.op k) drive v.table) shows.dirty ∙ sym dirty;
       table = record {
         room_is = part.room ∙ shows.table.room_is ∙ sym room;
         table_is = part.table_is ∙ ap (λ (u : Table). table_after f.op (disk_node u drive) u) shows.table.table_is ∙ sym table;
@@ -189,4 +197,5 @@ module _ (o : Opening) (s : State) (w v : Face) (g k drive : ℕ) (f : Flight) (
         left = agrees.left;
         unchanged = agrees.unchanged;
       };
+      images = λ node. record { noted = (images node).noted; mapped = (images node).mapped };
     })

@@ -1,6 +1,8 @@
 -- A world whose store, nodes and table are others: what stays belonging together, and what an answer says of it.
-use Rattle.std.proofs.Common.{◌≡◌, ◌≤◌, ℕ, ◌==◌, true, List, [], ◌++◌, length, Option, Some, None, refl, sym, ◌∙◌, ap, subst}
+use Rattle.std.proofs.Common.{◌≡◌, ◌≤◌, ℕ, ◌==◌, true, false, List, [], ◌++◌, length, Option, Some, None, refl, sym, ◌∙◌, ap, subst, inl}
 use Rattle.std.specs.Prelude.{Contains, find, is_some}
+use Rattle.std.proofs.lemmas.Bool.{false≢true}
+use Rattle.flat_machine.specs.Marks.{AreCalm, drained_by}
 use Rattle.blk_graph.specs.declared.edge.Parent.TheVariants.{Node, Guest as GuestOf}
 use Rattle.blk_graph.specs.declared.edge.Role.TheVariants.{Drive}
 use Rattle.blk_graph.specs.Edits.{child_of}
@@ -26,14 +28,16 @@ use Rattle.flat_machine.specs.declared.opening.Opening.{Opening}
 use Rattle.flat_machine.proofs.TableRests.{command_rests}
 use Rattle.blk_nodes.specs.Contents.{Unfolds}
 use Rattle.blk_nodes.specs.Joined.{IsJoined}
-use Rattle.blk_world.specs.Carrying.{IsCarried, IsPutBack, opened_names}
+use Rattle.blk_world.specs.Carrying.{IsCarried, IsPutBack, opened_names, prints_counts}
 use Rattle.blk_world.specs.Coherent.{HaveDrives, AreOnDisks, AskToWrite, AreOnWritable, AreWithin, AreAllowed, DevicesTell, IsCoherent, IsWhole}
 use Rattle.blk_world.specs.Comes.{Shows}
-use Rattle.blk_world.specs.Counting.{RunsOn}
+use Rattle.blk_world.specs.Counting.{HidesNoFault, RunsOn}
 use Rattle.blk_world.specs.Deleting.{Ground, ground_of}
-use Rattle.blk_world.specs.Face.{Face, contents_of}
-use Rattle.blk_world.proofs.CarryPlain.{HasShape, fits_all, opens_nothing, plain_opens, quiet_cause, quiet-self, table_quiet, told_nothing}
+use Rattle.blk_world.specs.Face.{Face, contents_of, seen_state}
+use Rattle.blk_world.proofs.CarryPlain.{HasShape, fits_all, opens_nothing, plain_opens, quiet_cause, quiet-self, table_quiet, told_nothing, quiet_fault, maps_nothing}
 use Rattle.blk_world.proofs.CountLemmas.{runs-devices, same-devices}
+use Rattle.blk_world.proofs.AddLooked.{called_itself}
+use Rattle.blk_world.proofs.CountsKept.{hides-same}
 use Rattle.blk_world.proofs.DeletedSteps.{Parts}
 use Rattle.blk_world.proofs.EasedTables.{IsEased, nodes_of_eased, out_eased}
 use Rattle.blk_world.proofs.GuestEdges.{asks_eased}
@@ -70,44 +74,54 @@ rests_by w u c none is was =
 abbrev pub CarriedUntold : Face → Face → Cmd → Option Refusal → Type 0
 CarriedUntold w v c refusal = (carried : IsCarried w v c refusal) × (carried.told ≡ untold)
 
-pub carried_by : (w v : Face) (c : Cmd) → opens_nothing c ≡ true → refusal_of w.table untold c ≡ None
-    → v.table ≡ all_changed w.table (answer w.table untold c).changes → v.progress ≡ w.progress → opened_names v.opened ≡ opened_names w.opened → RunsOn w v
+pub carried_by : (w v : Face) (c : Cmd) → opens_nothing c ≡ true → prints_counts c ≡ false → refusal_of w.table untold c ≡ None
+    → v.table ≡ all_changed w.table (answer w.table untold c).changes → v.progress ≡ w.progress → v.drains ≡ w.drains
+    → AreCalm (seen_state w) (drained_by w.table c) → opened_names v.opened ≡ opened_names w.opened → RunsOn w v
+    → HidesNoFault w v None
     → (IsCoherent w.table w.nodes w.opened w.progress → IsCoherent v.table v.nodes v.opened v.progress)
     → ((o : Opening) (s : State) → is_some w.files ≡ true → Shows o s w → AllPerformed s (answer w.table untold c).changes (contents_of w) (contents_of v))
     → CarriedUntold w v c None
-carried_by w v c opens none table progress names runs coherent performed =
+carried_by w v c opens silent none table progress drains calm names runs hides coherent performed =
     let carried : IsCarried w v c None = record {
       told = untold;
-      clean = refl;
+      counts = λ prints. absurd (false≢true (sym silent ∙ prints));
       by_files = tt;
+      maps = maps_nothing w.table w.nodes c [] opens;
       answered = none;
       table = table;
       progress = progress;
+      drains = drains;
+      calm = λ is. calm;
       runs = runs;
+      hides = hides;
       opens = plain_opens c opens w.opened v.opened names;
       cause = fits_all w c opens;
       coherent = coherent;
-      shows = λ told o s shows. told_nothing o s w v c opens shows (performed o s told shows);
+      shows = λ told o s shows. told_nothing o s w v c opens (λ prints. absurd (false≢true (sym silent ∙ prints))) shows (performed o s told shows);
     } in
     (carried, refl)
 
 -- a refusal that leaves nothing behind
-pub refused_by : (w : Face) (c : Cmd) (cause : Refusal) → opens_nothing c ≡ true → refusal_of w.table untold c ≡ Some cause → left_by w.table c cause ≡ []
+pub refused_by : (w : Face) (c : Cmd) (cause : Refusal) → opens_nothing c ≡ true → prints_counts c ≡ false → refusal_of w.table untold c ≡ Some cause → left_by w.table c cause ≡ []
     → CarriedUntold w w c (Some cause)
-refused_by w c cause opens some nothing =
+refused_by w c cause opens silent some nothing =
     let changes : (answer w.table untold c).changes ≡ [] = ap (λ (a : Answer). a.changes) (answer-is w.table untold c (Some cause) some) ∙ nothing in
     let carried : IsCarried w w c (Some cause) = record {
       told = untold;
-      clean = refl;
+      counts = λ prints. absurd (false≢true (sym silent ∙ prints));
       by_files = tt;
+      maps = maps_nothing w.table w.nodes c [] opens;
       answered = some;
       table = sym (ap (all_changed w.table) changes);
       progress = refl;
+      drains = refl;
+      calm = λ is. absurd (let bad : ⊥ = cc is in bad);
       runs = runs-devices w w refl refl refl refl refl refl (same-devices w.nodes.devices);
+      hides = subst (HidesNoFault w w) (sym (quiet_fault (Some cause) (λ other is. table_quiet w.table c other (some ∙ is)))) (hides-same w w refl refl refl);
       opens = plain_opens c opens w.opened w.opened refl;
       cause = quiet_cause w w c (Some cause) opens (λ other is. table_quiet w.table c other (some ∙ is));
       coherent = λ was. was;
-      shows = λ told o s shows. told_nothing o s w w c opens shows
+      shows = λ told o s shows. told_nothing o s w w c opens (λ prints. absurd (false≢true (sym silent ∙ prints))) shows
           (subst (λ (cs : List Change). AllPerformed s cs (contents_of w) (contents_of w)) (sym changes) (quiet-self (contents_of w)));
     } in
     (carried, refl)
@@ -117,9 +131,15 @@ pub put_back : (w : Face) → IsPutBack w w
 put_back w = record {
   table = refl;
   progress = refl;
+  bitmaps = refl;
+  drains = refl;
   runs = runs-devices w w refl refl refl refl refl refl (same-devices w.nodes.devices);
+  files = refl;
+  called = called_itself w.nodes;
+  opens = inl refl;
+  fault = None;
+  hides = hides-same w w refl refl refl;
   coherent = λ was. was;
-  contents = λ told o s shows. quiet-self (contents_of w);
 }
 
 pub placed_same : (w : Face) (x : Ground) (u : Table) → x ≡ ground_of w → u ≡ w.table → w ≡ placed w x u
@@ -178,9 +198,6 @@ coherent_of w goes rest = record {
   jobs = goes.jobs;
   out = goes.parts.out;
 }
-
-pub whole_of : (w : Face) → Goes w → TableAtRest w.table → IsWhole w
-whole_of w goes rest = record { coherent = coherent_of w goes rest; tell = goes.tell; counted = goes.counted }
 
 -- a guest's device is the same
 pub allowed_same : (t now : Table) (guests : List Guest) → ((g : ℕ) → device_at now g ≡ device_at t g) → AreAllowed t guests → AreAllowed now guests

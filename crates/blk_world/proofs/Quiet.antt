@@ -21,9 +21,9 @@ use Rattle.flat_machine.specs.Standing.{StandsAtRest}
 use Rattle.flat_machine.proofs.Resting.{beside_rests}
 use Rattle.flat_machine.specs.declared.opening.Opening.{Opening}
 use Rattle.blk_world.specs.declared.admission.Admission.{Admission}
-use Rattle.blk_world.specs.declared.admission.Admission.TheVariants.{Admitted, Refused as NotAdmitted, Away}
+use Rattle.blk_world.specs.declared.admission.Admission.TheVariants.{Admitted, Refused as NotAdmitted, Held, Away}
 use Rattle.blk_world.specs.Progress.{Progress, ended_in, done_by, done_at, flight_at, with_admission, with_refusal, with_retirement, with_entry}
-use Rattle.blk_world.specs.Face.{Face, seen_state}
+use Rattle.blk_world.specs.Face.{Face, dirty_of, seen_state}
 use Rattle.blk_world.specs.Comes.{Comes, Shows}
 use Rattle.blk_world.specs.Tabling.{IsTableBy}
 use Rattle.blk_world.specs.Steps.{onward, after_admission, IsAnswered, after_wait, after_end, IsIdle}
@@ -42,7 +42,7 @@ pub shows-onward : (o : Opening) (s : State) (w : Face) (p : Progress) (guests :
     → Shows o (record s { guests = guests; ended = ended }) (record w { progress = p })
 shows-onward o s w p guests ended shows are ends = record {
   stands = stands-onward s guests ended shows.stands;
-  clean = shows.clean;
+  dirty = shows.dirty;
   table = record { room_is = shows.table.room_is; table_is = shows.table.table_is; rest = record { started = shows.table.rest.started; ended = shows.table.rest.ended } };
   guests = record { guests_are = are; ended_are = ends };
   contents = record {
@@ -52,11 +52,12 @@ shows-onward o s w p guests ended shows are ends = record {
     left = shows.contents.left;
     unchanged = shows.contents.unchanged;
   };
+  images = λ node. record { noted = (shows.images node).noted; mapped = (shows.images node).mapped };
 }
 
 -- an entry that names no fault and marks no disk
 pub quiet : (o : Opening) (w : Face) (p : Progress) (e : Event) → Comes o w → p.log.events ≡ w.progress.log.events ++ e ∷ [] → p.guests ≡ guest_step w.progress.guests e
-    → IsTableBy w.progress.guests w.table e w.table
+    → IsTableBy w.progress.guests w.table (dirty_of w) e w.table (dirty_of w)
     → (IsCoherent w.table w.nodes w.opened w.progress → IsCoherent w.table w.nodes w.opened p)
     → named_in e ≡ None → ((s : State) → marks_of s e ≡ []) → ((s : State) → Shows o s w → Fits s e × Shows o (after s e) (record w { progress = p })) → Comes o (record w { progress = p })
 quiet o w p e comes events guests table coherent names marks fits = comes-push o w (record w { progress = p }) e comes (record {
@@ -81,7 +82,7 @@ judged o s w g r P shows is = rw (shows.guests.ended_are, shows.guests.guests_ar
 
 admission-kept : (o : Opening) (w : Face) (g : ℕ) (op : Op) → IsJudged (seen_state w) g (done_at w.progress.guests g) (CanAdmit op) → Comes o w → Comes o (onward w (with_admission g op))
 admission-kept o w g op is comes =
-    quiet o w (with_admission g op w.progress) (Admit g (done_at w.progress.guests g) op) comes refl refl refl
+    quiet o w (with_admission g op w.progress) (Admit g (done_at w.progress.guests g) op) comes refl refl (refl, refl)
     (λ was. coherent-admission _ _ _ _ was g op (judged-inside w g (done_at w.progress.guests g) op is) (judged-allowed w g (done_at w.progress.guests g) op is)) refl (λ s. refl)
     (λ s shows. (
       (shows.table.rest, judged o s w g (done_at w.progress.guests g) (CanAdmit op) shows is),
@@ -92,7 +93,7 @@ admission-kept o w g op is comes =
 refusal-kept : (o : Opening) (w : Face) (g : ℕ) (op : Op) (why : Refused) → IsJudged (seen_state w) g (done_at w.progress.guests g) (λ access size. IsRefusedFor op access size why)
     → Comes o w → Comes o (onward w (with_refusal g op why))
 refusal-kept o w g op why is comes =
-    quiet o w (with_refusal g op why w.progress) (Refuse g (done_at w.progress.guests g) op why) comes refl refl refl
+    quiet o w (with_refusal g op why w.progress) (Refuse g (done_at w.progress.guests g) op why) comes refl refl (refl, refl)
     (λ was. coherent-end _ _ _ _ was (with_refusal g op why w.progress) g refl) refl (λ s. refl)
     (λ s shows. (
       (shows.table.rest, judged o s w g (done_at w.progress.guests g) (λ access size. IsRefusedFor op access size why) shows is),
@@ -110,9 +111,10 @@ number-is w g r P is = at (slice_get w.progress.guests g) is.1
 
 pub admission-comes : (w : Face) (g : ℕ) (op : Op) (answer : Admission) → IsAnswered w g op answer → (o : Opening) → Comes o w → Comes o (after_admission w g op answer)
 admission-comes w g op (Admitted r) is o comes =
-    let number = number-is w g r (CanAdmit op) is in
-    admission-kept o w g op (subst (λ n. IsJudged (seen_state w) g n (CanAdmit op)) number is) comes
-admission-comes w g op (NotAdmitted why) is o comes = refusal-kept o w g op why is comes
+    let number = number-is w g r (CanAdmit op) is.0 in
+    admission-kept o w g op (subst (λ n. IsJudged (seen_state w) g n (CanAdmit op)) number is.0) comes
+admission-comes w g op (NotAdmitted why) is o comes = refusal-kept o w g op why is.0 comes
+admission-comes w g op (Held back) is o comes = comes
 admission-comes w g op (Away back) is o comes = comes
 
 -- ---- requests that are over
@@ -128,7 +130,7 @@ in-flight guests g P is = at (slice_get guests g) refl is
 
 pub retirement-comes : (w : Face) (g : ℕ) → With (flight_at w.progress.guests g) IsOver → (o : Opening) → Comes o w → Comes o (onward w (with_retirement g))
 retirement-comes w g is o comes =
-    quiet o w (with_retirement g w.progress) (Retire g (done_at w.progress.guests g)) comes refl refl refl
+    quiet o w (with_retirement g w.progress) (Retire g (done_at w.progress.guests g)) comes refl refl (refl, refl)
     (λ was. coherent-end _ _ _ _ was (with_retirement g w.progress) g refl) refl (λ s. refl)
     (λ s shows. (
       (shows.table.rest, rw shows.guests.guests_are (in-flight w.progress.guests g IsOver is)),
@@ -153,7 +155,7 @@ undone o s w actor shows is = rw shows.guests.ended_are is
 pub wait-comes : (w : Face) (line : ℕ) (what : Await (List ℕ)) (is_over : Bool) → IsNotDone (seen_state w) 0 → (is_over ≡ true → IsMet (seen_state w) what)
     → (o : Opening) → Comes o w → Comes o (after_wait w line what is_over)
 wait-comes w line what true not_done is o comes =
-    quiet o w (with_entry (Reached line what) w.progress) (Reached line what) comes refl refl refl
+    quiet o w (with_entry (Reached line what) w.progress) (Reached line what) comes refl refl (refl, refl)
     (λ was. coherent-same _ _ _ _ was (with_entry (Reached line what) w.progress) refl) refl (λ s. refl)
     (λ s shows. (
       (shows.table.rest, (undone o s w 0 shows not_done, met o s w what shows (is refl))),
@@ -170,7 +172,7 @@ end-fits o s w (suc g) shows not_done idle = (shows.table.rest, (rw (add-one g) 
 
 pub end-comes : (w : Face) (actor : ℕ) → IsNotDone (seen_state w) actor → IsIdle w.progress.guests actor → (o : Opening) → Comes o w → Comes o (after_end w actor)
 end-comes w actor not_done idle o comes =
-    quiet o w (with_entry (Done actor) w.progress) (Done actor) comes refl refl refl
+    quiet o w (with_entry (Done actor) w.progress) (Done actor) comes refl refl (refl, refl)
     (λ was. coherent-same _ _ _ _ was (with_entry (Done actor) w.progress) refl) refl (λ s. refl)
     (λ s shows. (
       end-fits o s w actor shows not_done idle,

@@ -90,7 +90,8 @@ back-behind name count (x ∷ xs) ys none = by_test (is_out_as name x) refl (bac
         let later : is_out name xs ≡ false = rw is at none in
         rw is (ap (λ (more : List Opened). x ∷ more) (rest later))
 
-length-back : (name : List ℕ) (count : ℕ) (xs : List Opened) → length (given_back name count xs) ≡ length xs
+-- openings are as many once one is back
+pub length-back : (name : List ℕ) (count : ℕ) (xs : List Opened) → length (given_back name count xs) ≡ length xs
 length-back name count [] = refl
 length-back name count (x ∷ xs) = by_test (is_out_as name x) refl (length-back name count xs)
   where

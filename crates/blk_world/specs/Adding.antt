@@ -192,6 +192,9 @@ pub record Opens : Type 0 where
 abbrev pub probe : Look → Told
 probe what = told_as None None (Some (record { look = what; refusal = Aborted }))
 
+abbrev pub IsLookReached : Table → Cmd → Look → Type 0
+IsLookReached t c what = refusal_of t (probe what) c ≡ Some Aborted
+
 -- which file a command opens, and at which look it does
 abbrev pub opens_by : FileRef (List ℕ) → Look → Option Opens
 opens_by (file_ref.Name name) what = None
@@ -212,11 +215,16 @@ pub record LooksAway (t : Table) (c : Cmd) (at : Opens) (old new : StoreInRun)
   pub is : told ≡ untold
   pub kept : new ≡ old
 
--- it is refused
-pub record LooksInVain (filename : List ℕ) (old new : StoreInRun) (told : Told) : Type 0 where
+-- It is refused. A failed call stands at the look that makes it: what the file would have told stands there or behind.
+abbrev pub look_in_vain : Look → Refusal → Look
+look_in_vain what (Io from count) = what
+look_in_vain what cause = look.File
+
+pub record LooksInVain (at : Opens) (old new : StoreInRun) (told : Told) : Type 0 where
   pub why : Refusal
-  pub cause : IsUnopened old new filename why
-  pub is : told ≡ told_as None None (Some (record { look = look.File; refusal = why }))
+  pub cause : IsUnopened old new at.filename why
+  pub is : told
+      ≡ told_as None None (Some (record { look = look_in_vain at.what why; refusal = why }))
 
 -- it is opened, and tells what it does
 pub record LooksInside (t : Table) (c : Adding) (filename : List ℕ) (old new : StoreInRun)
@@ -225,18 +233,19 @@ pub record LooksInside (t : Table) (c : Adding) (filename : List ℕ) (old new :
   pub out : IsTakenOut old new filename first
   pub tells : Tells t c.node_name filename c.driver first now image told
 
-abbrev pub LooksAtFile : Table → Adding → List ℕ → StoreInRun → StoreInRun → Option Taken
+abbrev pub LooksAtFile : Table → Adding → Opens → StoreInRun → StoreInRun → Option Taken
     → Option Known → Told → Type 0
-LooksAtFile t c filename old new (Some now) image told =
-    LooksInside t c filename old new now image told
-LooksAtFile t c filename old new None image told = LooksInVain filename old new told
+LooksAtFile t c at old new (Some now) image told =
+    LooksInside t c at.filename old new now image told
+LooksAtFile t c at old new None image told = LooksInVain at old new told
 
--- where it is opened, no node stands for it and it wasn't used
+-- where it is opened, the look is reached, no node stands for it and it wasn't used
 abbrev pub Looks : Table → Adding → Opens → StoreInRun → StoreInRun → Option Taken → Option Known
     → Told → Type 0
 Looks t c at old new out image told =
     (LooksAway t (command.BlockdevAdd c) at old new told × (out ≡ None) × (image ≡ None))
-    ⊎ (LooksAtFile t c at.filename old new out image told × (is_unopened t at.filename ≡ false))
+    ⊎ (LooksAtFile t c at old new out image told × (is_unopened t at.filename ≡ false)
+    × IsLookReached t (command.BlockdevAdd c) at.what)
 
 -- ---- a device that is given back
 
@@ -246,16 +255,13 @@ put_back filename device store = record store {
   opened = given_back filename device.faults store.opened;
 }
 
--- The file was opened and is back, and nothing was written to it; or it wasn't opened.
+-- The file was opened and is back, and no call of its device failed or wrote; or it wasn't opened.
 pub record IsBackAgain (old new : StoreInRun) (filename : List ℕ) : Type 0 where
   pub first : Taken
-  pub now : Taken
   pub between : StoreInRun
   pub inside : is_out filename old.opened ≡ false
   pub out : IsTakenOut old between filename first
-  pub same : now ≡ record first { faults = now.faults }
-  pub faults : first.faults ≤ now.faults
-  pub is : new ≡ put_back filename now between
+  pub is : new ≡ put_back filename first between
 
 abbrev pub IsBack : StoreInRun → StoreInRun → List ℕ → Type 0
 IsBack old new filename = (new ≡ old) ⊎ IsBackAgain old new filename
@@ -278,7 +284,9 @@ pub record LooksPast (t : Table) (c : Adding) (file : List ℕ) (old new : Nodes
   pub kept : new ≡ old
 
 -- it is refused, or a read of it failed
-pub record LooksBadly (t : Table) (file : List ℕ) (old new : Nodes) (told : Told) : Type 0 where
+pub record LooksBadly (t : Table) (c : Adding) (file : List ℕ) (old new : Nodes)
+    (told : Told) : Type 0 where
+  pub reached : IsLookReached t (command.BlockdevAdd c) look.Image
   pub node : ℕ
   pub free : IsFreeFile t file node
   pub device : DeviceState
@@ -292,17 +300,18 @@ pub record LooksBadly (t : Table) (file : List ℕ) (old new : Nodes) (told : To
       (Some (record { look = look.Image; refusal = unopened device.number cause }))
 
 -- it is open
-pub record LooksWell (t : Table) (node file : List ℕ) (added : AddQcow2 (List ℕ)) (old : Nodes)
-    (image : Known) (told : Told) : Type 0 where
+pub record LooksWell (t : Table) (node file : List ℕ) (added : AddQcow2 (List ℕ))
+    (old new : Nodes) (image : Known) (told : Told) : Type 0 where
   pub id : ℕ
   pub free : IsFreeFile t file id
   pub opened : IsOpened old.devices id image
+  pub kept : new ≡ old
   pub is : told ≡ told_as None (Some image.header.size)
       (image_stop t node added (opened_sight image.header))
 
 abbrev pub LooksUnder : Table → Adding → AddQcow2 (List ℕ) → List ℕ → Nodes → Nodes → Option Known
     → Told → Type 0
 LooksUnder t c added file old new (Some image) told =
-    LooksWell t c.node_name file added old image told
+    LooksWell t c.node_name file added old new image told
 LooksUnder t c added file old new None told =
-    LooksPast t c file old new told ⊎ LooksBadly t file old new told
+    LooksPast t c file old new told ⊎ LooksBadly t c file old new told

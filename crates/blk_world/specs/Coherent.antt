@@ -18,6 +18,7 @@ use Rattle.qmp_rules.specs.declared.rows.NodeRecord.{NodeRecord}
 use Rattle.qmp_rules.specs.Table.{Table, node_at, device_at}
 use Rattle.qmp_rules.specs.Chains.{disk_node}
 use Rattle.flat_machine.specs.Agreement.{HasDisk}
+use Rattle.flat_machine.specs.Bitmaps.{AreBitmapsOf}
 use Rattle.flat_machine.specs.Legal.{IsForbidden}
 use Rattle.flat_machine.specs.Wiring.{TableAtRest}
 use Rattle.flat_machine.specs.State.{Guest, drive_of, disk_of_guest, size_of, filename_of}
@@ -137,3 +138,4 @@ pub record IsWhole (w : Face) : Type 0 where
   pub coherent : IsCoherent w.table w.nodes w.opened w.progress
   pub tell : DevicesTell w.files w.nodes.devices
   pub counted : w.first_faults ≤ w.faults
+  pub bitmaps : AreBitmapsOf w.table.bitmaps w.bitmaps

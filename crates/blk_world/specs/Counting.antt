@@ -1,6 +1,8 @@
 -- What one event does to the counts of faults of a world, and the faults that are reached in it.
-use Rattle.std.specs.Prelude.{◌≡◌, ℕ, ◌≤◌, List, [], ◌∷◌, ◌++◌, length, drop, slice_get, Option, Some, None, IsSome, is_some, option_map}
+use Rattle.std.specs.Prelude.{◌≡◌, ◌⊎◌, ℕ, ◌≤◌, List, [], ◌∷◌, ◌++◌, length, drop, slice_get, slice_set, Option, Some, None, IsSome, is_some, option_map}
 use Rattle.blk_base.specs.declared.fault.FaultAt.{FaultAt}
+use Rattle.blk_base.specs.declared.fault.FaultFrom.{FaultFrom}
+use Rattle.blk_base.specs.declared.fault.FaultFrom.TheVariants.{Store, Dev, Sink}
 use Rattle.blk_base.specs.declared.file.Opened.{Opened}
 use Rattle.blk_history.specs.Fold.{With}
 use Rattle.blk_nodes.specs.Nodes.{DeviceState, device_in}
@@ -51,6 +53,33 @@ pub record IsReached (w v : Face) (fault : FaultAt) : Type 0 where
 abbrev pub IsReachedBy : Face → Face → Option FaultAt → Type 0
 IsReachedBy w v None = Unit {0}
 IsReachedBy w v (Some fault) = IsReached w v fault
+
+-- ---- no fault is hidden
+
+-- the counts with that of one source as it is told
+abbrev pub with_count : Counts → FaultFrom → ℕ → Counts
+with_count counts Store count = record counts { store = count }
+with_count counts (Dev dev) count =
+    record counts { devices = slice_set counts.devices dev.0 count }
+with_count counts Sink count = counts
+
+abbrev pub counts_with : Counts → Option FaultAt → Counts
+counts_with counts None = counts
+counts_with counts (Some fault) = with_count counts fault.from fault.count
+
+-- An event ends with the counts that it began with, but for that of the fault that it names, which is as it says.
+abbrev pub HidesNoFault : Face → Face → Option FaultAt → Type 0
+HidesNoFault w v named = counts_now v ≡ counts_with (counts_within w v) named
+
+-- one more file was opened, and it is back
+pub record HasOneBack (old new : List Opened) : Type 0 where
+  pub opening : Opened
+  pub is : new ≡ old ++ opening ∷ []
+  pub back : IsSome opening.returned
+
+-- no file is out that wasn't
+abbrev pub LeavesNoneOut : List Opened → List Opened → Type 0
+LeavesNoneOut old new = (new ≡ old) ⊎ HasOneBack old new
 
 -- ---- devices whose counts have not fallen
 

@@ -2,20 +2,24 @@
 use Rattle.std.specs.Prelude.{ℕ, ◌+◌, ◌==◌, List, [], ◌∷◌, map, find, Option, Some, None, option_and_then, option_map, unwrap_or}
 use Rattle.blk_base.specs.declared.file.File.{File}
 use Rattle.blk_base.specs.declared.file.Opened.{Opened}
+use Rattle.blk_bitmaps.specs.declared.row.Bitmap.{Bitmap}
 use Rattle.blk_nodes.specs.Nodes.{Nodes, DeviceState, device_in}
 use Rattle.blk_nodes.specs.Contents.{disk_of}
 use Rattle.qmp_rules.specs.Asks.{stands_for}
 use Rattle.qmp_rules.specs.Table.{Table}
 use Rattle.flat_machine.specs.Agreement.{Contents}
+use Rattle.flat_machine.specs.Bitmaps.{dirty_in}
 use Rattle.flat_machine.specs.Final.{bytes_of}
 use Rattle.flat_machine.specs.Licence.{Counts}
-use Rattle.flat_machine.specs.State.{State}
+use Rattle.flat_machine.specs.State.{State, Dirty}
+use Rattle.flat_machine.specs.Marks.{Drained}
 use Rattle.blk_world.specs.Progress.{Progress, ended_in}
 use Rattle.blk_world.specs.Stores.{StoreInRun}
 
 -- The store: its files where it tells them, the openings before the run and those of the run, the capacity of files that are
 -- made, its count of faults now and when the world was made. Then the nodes with their devices, the table of names, the guests
--- and the history. A device's number is the place of its opening among those of the run.
+-- and the history, the disks that are drained, and the dirty bitmaps. A device's number is the place of its opening among
+-- those of the run.
 pub record Face : Type 0 where
   pub files : Option (List File)
   pub earlier : List Opened
@@ -26,10 +30,12 @@ pub record Face : Type 0 where
   pub nodes : Nodes
   pub table : Table
   pub progress : Progress
+  pub drains : Drained
+  pub bitmaps : List Bitmap
 
 -- what is seen of these parts
-abbrev pub face_of : StoreInRun → ℕ → Nodes → Table → Progress → Face
-face_of store first_faults nodes table progress = record {
+abbrev pub face_of : StoreInRun → ℕ → Nodes → Table → Progress → Drained → List Bitmap → Face
+face_of store first_faults nodes table progress drains bitmaps = record {
   files = store.files;
   earlier = store.earlier;
   opened = store.opened;
@@ -39,7 +45,13 @@ face_of store first_faults nodes table progress = record {
   nodes = nodes;
   table = table;
   progress = progress;
+  drains = drains;
+  bitmaps = bitmaps;
 }
+
+-- what of the bitmaps is dirty
+abbrev pub dirty_of : Face → List Dirty
+dirty_of w = map dirty_in w.bitmaps
 
 -- ---- the flat machine's state, as far as the world keeps it; of disks and files it keeps the bytes alone
 
@@ -53,7 +65,7 @@ seen_state w = record {
   files = [];
   named = [];
   images = [];
-  dirty = [];
+  dirty = dirty_of w;
   begun = [];
   starts = w.table.started;
   ending = None;

@@ -1,5 +1,7 @@
 -- What is left of table, store and nodes by a command that opens and makes no file, with the text that answers it.
-use Rattle.std.specs.Prelude.{◌≡◌, ◌<◌, ℕ, Bool, true, false, List, Option, Some, None, Err}
+use Rattle.std.specs.Prelude.{◌≡◌, ◌<◌, ℕ, Bool, true, false, List, [], ◌∷◌, Option, Some, None, Err}
+use Rattle.blk_bitmaps.specs.declared.row.Bitmap.{Bitmap}
+use Rattle.blk_bitmaps.specs.Calls.{after, RemoveAll}
 use Rattle.qmp_codec.specs.Commands.{Cmd}
 use Rattle.qmp_codec.specs.declared.command.Command.TheVariants as command
 use Rattle.qmp_codec.specs.declared.nodes.DeviceAdd.{DeviceAdd}
@@ -15,7 +17,7 @@ use Rattle.blk_graph.specs.Rule.{first_conflict}
 use Rattle.blk_nodes.specs.Adding.{guest_edge, with_below}
 use Rattle.blk_nodes.specs.Contents.{disk_of}
 use Rattle.blk_nodes.specs.Nodes.{Nodes}
-use Rattle.blk_world.specs.Deleting.{Ground, IsDeleted}
+use Rattle.blk_world.specs.Deleting.{Ground, IsDeleted, going}
 use Rattle.blk_world.specs.Saying.{IsSaid}
 
 -- accepted, this was done; refused, that holds
@@ -52,6 +54,25 @@ IsDeletedBy t (command.BlockdevDel name) old now = IsDeleted t name old now
 IsDeletedBy t c old now = ⊥
 
 -- ---- guests' devices
+
+-- the bitmaps of nodes that go
+abbrev pub bitmaps_but : List ℕ → List Bitmap → List Bitmap
+bitmaps_but [] bitmaps = bitmaps
+bitmaps_but (node ∷ nodes) bitmaps = bitmaps_but nodes (after bitmaps (RemoveAll node))
+
+-- A deletion takes the bitmaps of the node with it, and those of the `file` node that goes too.
+abbrev pub bitmaps_named : Table → Option ℕ → List Bitmap → List Bitmap
+bitmaps_named t None bitmaps = bitmaps
+bitmaps_named t (Some node) bitmaps = bitmaps_but (going t node) bitmaps
+
+abbrev pub bitmaps_deleted : Table → Cmd → List Bitmap → List Bitmap
+bitmaps_deleted t (command.BlockdevDel name) bitmaps = bitmaps_named t (id_named t name) bitmaps
+bitmaps_deleted t c bitmaps = bitmaps
+
+-- accepted, these are left; refused, all
+abbrev pub bitmaps_left : Option Refusal → Table → Cmd → List Bitmap → List Bitmap
+bitmaps_left None t c bitmaps = bitmaps_deleted t c bitmaps
+bitmaps_left (Some cause) t c bitmaps = bitmaps
 
 abbrev pub is_attachment : Cmd → Bool
 is_attachment (command.DeviceAdd c) = true

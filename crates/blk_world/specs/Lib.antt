@@ -16,6 +16,10 @@ pub mod Deleting
 pub mod Creating
 pub mod Adding
 pub mod Handling
+pub mod Draining
+pub mod Detaching
+pub mod Snapshots
 pub mod Making
 pub mod Piecing
 pub mod Tabling
+pub mod Recorded

@@ -25,7 +25,7 @@ use Rattle.qmp_rules.specs.declared.refusal.Refusal.TheVariants.{Aborted}
 use Rattle.qmp_rules.specs.declared.rows.NodeRecord.{NodeRecord}
 use Rattle.qmp_rules.specs.declared.told.Look.TheVariants as look
 use Rattle.qmp_rules.specs.declared.told.Told.{Told}
-use Rattle.blk_world.specs.Adding.{Adding, CountFits, IsBack, Looks, LooksUnder, Opens, Taken, opens, probe, unopened}
+use Rattle.blk_world.specs.Adding.{Adding, CountFits, IsBack, IsLookReached, Looks, LooksUnder, Opens, Taken, opens, probe, unopened}
 use Rattle.blk_world.specs.Stores.{StoreInRun}
 
 -- a store, and the nodes over its files
@@ -40,7 +40,7 @@ site store nodes = record { store = store; nodes = nodes }
 
 -- It isn't where a refusal stands before the look, a node stands for it, or it was used.
 abbrev pub MayOpen : Table → Cmd → Opens → Bool → Type 0
-MayOpen t c at true = is_unopened t at.filename ≡ false
+MayOpen t c at true = (is_unopened t at.filename ≡ false) × IsLookReached t c at.what
 MayOpen t c at false = (refusal_of t (probe at.what) c ≢ Some Aborted) ⊎ (is_unopened t at.filename ≡ true)
 
 -- a file for which no node stands, and that wasn't used, isn't out
@@ -127,11 +127,11 @@ HasLooked t c old new out image told = LooksBy t c c.driver old new out image to
 
 -- ---- want of memory
 
--- a file that was opened is back
+-- a file that was opened is back, and no read failed
 abbrev pub StoreIsBack : Option Opens → StoreInRun → StoreInRun → Type 0
 StoreIsBack None old new = new ≡ old
 StoreIsBack (Some at) old new = IsBack old new at.filename
 
 pub record IsLookedBack (driver : Added (List ℕ)) (old new : Site) : Type 0 where
   pub store : StoreIsBack (opens driver) old.store new.store
-  pub called : HasCalled old.nodes new.nodes
+  pub kept : new.nodes ≡ old.nodes

@@ -23,9 +23,11 @@ use Rattle.blk_nodes.specs.declared.row.Driver.TheVariants as drivers
 use Rattle.qmp_rules.specs.Chains.{disk_node, written_under}
 use Rattle.qmp_rules.specs.Table.{Table}
 use Rattle.flat_machine.specs.EventLicence.{IsLicensedBy, changes_disk}
+use Rattle.flat_machine.specs.Recording.{dirty_by}
 use Rattle.flat_machine.specs.State.{drive_of}
-use Rattle.blk_world.specs.Counting.{RunsOn, sources_of, counts_within}
-use Rattle.blk_world.specs.Face.{Face, counts_now, device_numbered, seen_state}
+use Rattle.blk_world.specs.Counting.{RunsOn, sources_of, counts_within, HidesNoFault}
+use Rattle.blk_world.specs.Face.{Face, counts_now, device_numbered, dirty_of, seen_state}
+use Rattle.flat_machine.specs.Licence.{named_by}
 use Rattle.blk_world.specs.Progress.{Progress, with_piece, done_at, shows_in}
 
 -- ---- what a piece is
@@ -148,18 +150,21 @@ pub record IsPieceMade (w v : Face) (g : ℕ) (f : Flight) (outcome : Outcome) :
     nodes = v.nodes;
     table = table_after f.op (disk_node w.table drive) w.table;
     progress = with_piece g f.next outcome (shown_by f outcome buffer) w.progress;
+    bitmaps = v.bitmaps;
   }
+  pub dirty : dirty_of v ≡ dirty_by f.op outcome (part_of f) drive v.table (dirty_of w)
 
 -- its entry
 abbrev pub piece_entry : Face → ℕ → Flight → Outcome → List ℕ → Event
 piece_entry w g f outcome buffer =
     Piece g (done_at w.progress.guests g) f.next outcome (shown_by f outcome buffer)
 
--- No count falls, and a fault that it names was reached in this event, of a device that the guest's node reaches; want of
--- space comes where a write of it would have passed that device's capacity.
+-- No count falls, and a fault that it names was reached in this event, of a device that the guest's node reaches, and none is
+-- hidden; want of space comes where a write of it would have passed that device's capacity.
 pub record HasPieceLicence (w v : Face) (g : ℕ) (f : Flight) (outcome : Outcome)
     (made : IsPieceMade w v g f outcome) : Type 0 where
   pub runs : RunsOn w v
+  pub hides : HidesNoFault w v (named_by outcome)
   pub licensed : IsLicensedBy (seen_state w) (sources_of w)
       (counts_now w) (counts_within w v) (counts_now v)
       (piece_passes w.nodes (disk_node w.table made.drive) f.op (part_of f))

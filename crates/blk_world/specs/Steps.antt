@@ -1,5 +1,5 @@
 -- What each event leaves of the world, and when each of its answers comes.
-use Rattle.std.specs.Prelude.{◌≡◌, ℕ, zero, suc, Bool, true, false, List, [], length, slice_get, Option, Some, None, is_some}
+use Rattle.std.specs.Prelude.{◌≡◌, ℕ, zero, suc, Bool, true, false, List, [], length, slice_get, Option, Some, None, IsSome, is_some}
 use Rattle.blk_base.specs.declared.file.File.{File}
 use Rattle.blk_base.specs.declared.file.Opened.{Opened}
 use Rattle.blk_base.specs.declared.memory.Room.{Room}
@@ -12,8 +12,9 @@ use Rattle.qmp_rules.specs.Table.{Table, device_at, opening_table}
 use Rattle.flat_machine.specs.declared.opening.Opening.{Opening}
 use Rattle.flat_machine.specs.State.{Guest, disk_of_guest, size_of}
 use Rattle.flat_machine.specs.Legal.{IsJudged, CanAdmit, IsRefusedFor}
+use Rattle.flat_machine.specs.Marks.{after_reply, is_held, none_drained}
 use Rattle.blk_world.specs.declared.admission.Admission.{Admission}
-use Rattle.blk_world.specs.declared.admission.Admission.TheVariants.{Admitted, Refused as NotAdmitted, Away}
+use Rattle.blk_world.specs.declared.admission.Admission.TheVariants.{Admitted, Refused as NotAdmitted, Held, Away}
 use Rattle.blk_world.specs.declared.admission.Seat.{Seat}
 use Rattle.blk_world.specs.Progress.{Progress, with_admission, with_refusal, with_entry, done_at, no_progress}
 use Rattle.blk_world.specs.Face.{Face, seen_state}
@@ -45,6 +46,8 @@ new_world store guests room = record {
   nodes = no_nodes;
   table = opening_table guests;
   progress = no_progress (length guests) room;
+  drains = none_drained;
+  bitmaps = [];
 }
 
 -- These are the opening's guests, and its files and their room, where the store tells its files.
@@ -57,6 +60,10 @@ pub record IsOpeningOf (store : StoreSeen) (guests : List (List ℕ)) (o : Openi
 abbrev pub onward : Face → (Progress → Progress) → Face
 onward w f = record w { progress = f w.progress }
 
+-- a line is answered: the disks of the command that had to come again are held no more
+abbrev pub lifted : Face → Face
+lifted w = record w { drains = after_reply w.drains }
+
 -- ---- admissions
 
 -- what a guest's requests are judged by
@@ -67,13 +74,19 @@ pub record IsSeat (t : Table) (g : ℕ) (seat : Seat) : Type 0 where
 abbrev pub after_admission : Face → ℕ → Op → Admission → Face
 after_admission w g op (Admitted r) = onward w (with_admission g op)
 after_admission w g op (NotAdmitted why) = onward w (with_refusal g op why)
+after_admission w g op (Held back) = w
 after_admission w g op (Away back) = w
 
--- A request is away exactly where its guest has no device. Else its span is judged, and then whether the guest may write.
+-- A request is away exactly where its guest has no device, and else held exactly where a drain that stands holds the guest. Else
+-- its span is judged, and then whether the guest may write.
 abbrev pub IsAnswered : Face → ℕ → Op → Admission → Type 0
-IsAnswered w g op (Admitted r) = IsJudged (seen_state w) g r (CanAdmit op)
+IsAnswered w g op (Admitted r) =
+    IsJudged (seen_state w) g r (CanAdmit op) × (is_held (seen_state w) w.drains g ≡ false)
 IsAnswered w g op (NotAdmitted why) =
     IsJudged (seen_state w) g (done_at w.progress.guests g) (λ access size. IsRefusedFor op access size why)
+    × (is_held (seen_state w) w.drains g ≡ false)
+IsAnswered w g op (Held back) =
+    IsSome (device_at w.table g) × (is_held (seen_state w) w.drains g ≡ true) × (back ≡ op)
 IsAnswered w g op (Away back) = (device_at w.table g ≡ None) × (back ≡ op)
 
 -- ---- waits and ends of actors

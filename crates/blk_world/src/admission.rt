@@ -19,6 +19,8 @@ pub enum Admission {
     /// It is in flight, and this is its number.
     Admitted(u32),
     Refused(Refused),
+    /// A drain holds the guest, and the request is given back.
+    Held(Op),
     /// The guest has no device, and the request is given back.
     Away(Op),
 }

@@ -1,5 +1,5 @@
 //! Nodes that go, with their devices.
-ghost use Rattle.std.specs.Prelude.{◌≡◌, ℕ, true, None, IfOk, OnErr, string_bytes};
+ghost use Rattle.std.specs.Prelude.{◌≡◌, ℕ, true, None, IfOk, OnOk, OnErr, string_bytes};
 ghost use Rattle.blk_graph.specs.Graph.{HasNode};
 ghost use Rattle.blk_nodes.specs.Contents.{disk_of};
 ghost use Rattle.blk_nodes.specs.Dropping.{without};
@@ -7,7 +7,7 @@ ghost use Rattle.blk_nodes.specs.Nodes.{device_in};
 ghost use Rattle.qmp_codec.specs.Commands.{seen_command};
 ghost use Rattle.qmp_rules.specs.Answers.{refusal_of, untold};
 ghost use Rattle.qmp_rules.specs.Edits.{goes_with_node};
-ghost use Rattle.blk_world.specs.Handling.{IsDeletedBy, IsHandled, IsUntouched, is_deletion};
+ghost use Rattle.blk_world.specs.Handling.{IsDeletedBy, IsHandled, IsUntouched, bitmaps_but, bitmaps_deleted, bitmaps_left, is_deletion};
 ghost use Rattle.blk_world.specs.Steps.{seen_in_run};
 ghost use Rattle.blk_world.specs.Deleting.{ground_in, name_under, made_with, going, with_back, TellsFlush, CanLeave, HasLeft, HaveLeft, all_left, Belong, IsFree, Deletes, IsDeleted};
 
@@ -15,6 +15,7 @@ use crate::answering::accepted_text;
 use crate::handling::refused;
 use crate::run_store::RunStore;
 use blk_base::{NoMemory, Store};
+use blk_bitmaps::Bitmaps;
 use blk_graph::NodeId;
 use blk_nodes::Nodes;
 use qmp_codec::Command;
@@ -160,12 +161,34 @@ fn drop_by<S: Store>(
     }
 }
 
+/// The bitmaps of a node go, and those of the file node that goes with it.
+fn drop_bitmaps_of(bitmaps: &mut Bitmaps, names: &Names, node: NodeId)
+    ensures { bitmaps.new ≡ bitmaps_but (going names.now.table node) bitmaps.old }
+{
+    bitmaps.remove_all(node);
+    if let Some(file) = made_with(names, node) {
+        bitmaps.remove_all(file);
+    }
+}
+
+/// The bitmaps go of the node that a deletion names.
+fn drop_bitmaps(bitmaps: &mut Bitmaps, names: &Names, command: &Command)
+    ensures { bitmaps.new ≡ bitmaps_deleted names.now.table (seen_command command.now) bitmaps.old }
+{
+    if let Command::BlockdevDel(name) = command {
+        if let Some(node) = names.id_named(name.as_str()) {
+            drop_bitmaps_of(bitmaps, names, node);
+        }
+    }
+}
+
 /// Carries out `blockdev-del`, or refuses it. Says the text of the reply.
 pub(crate) fn delete<S: Store>(
     alloc: Global,
     store: &mut RunStore<S>,
     nodes: &mut Nodes<S::Dev>,
     names: &mut Names,
+    bitmaps: &mut Bitmaps,
     given: &str,
     command: &Command,
 ) -> Result<String, NoMemory>
@@ -178,6 +201,10 @@ pub(crate) fn delete<S: Store>(
         (ground_in store.new nodes.new ≡ ground_in store.old nodes.old) (string_bytes text)) }
     ensures back { OnErr result (IsUntouched names.old.table names.new.table
         (ground_in store.new nodes.new ≡ ground_in store.old nodes.old)) }
+    ensures bitmaps { OnOk result (bitmaps.new ≡ bitmaps_left
+        (refusal_of names.old.table untold (seen_command command.now)) names.old.table
+        (seen_command command.now) bitmaps.old) }
+    ensures bitmaps_back { OnErr result (bitmaps.new ≡ bitmaps.old) }
     ensures earlier { store.new.earlier ≡ store.old.earlier }
 {
     let told = Told::nothing(alloc);
@@ -185,6 +212,7 @@ pub(crate) fn delete<S: Store>(
         Ok(edits) => {
             let text = accepted_text(alloc, names, given, &told, command)?;
             drop_by(store, nodes, names, command);
+            drop_bitmaps(bitmaps, names, command);
             names.apply(edits);
             Ok(text)
         }

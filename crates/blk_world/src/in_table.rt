@@ -17,7 +17,11 @@ use qmp_rules::{Edits, Names, PrepareStop, Told};
 use std::alloc::Global;
 
 /// Looks at a command of which files tell nothing, and takes the memory for its changes.
-fn prepare(alloc: Global, names: &mut Names, command: &Command) -> Result<Edits, PrepareStop>
+pub(crate) fn prepare(
+    alloc: Global,
+    names: &mut Names,
+    command: &Command,
+) -> Result<Edits, PrepareStop>
     ensures accepted { IfOk result
         (λ _. refusal_of names.old.table untold (seen_command command.now) ≡ None) }
     ensures edits { IfOk result (λ edits. edits
@@ -32,7 +36,7 @@ fn prepare(alloc: Global, names: &mut Names, command: &Command) -> Result<Edits,
 }
 
 /// The text of the answer to such a command that is accepted.
-fn accepted_alone(
+pub(crate) fn accepted_alone(
     alloc: Global,
     names: &Names,
     given: &str,

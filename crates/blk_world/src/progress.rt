@@ -125,6 +125,7 @@ impl Progress {
     ghost use Rattle.blk_history.specs.Machine.{Flight};
     ghost use Rattle.blk_history.specs.Legal.{IsOver};
     ghost use Rattle.trace_codec.specs.Awaits.{seen_await};
+    ghost use Rattle.blk_world.specs.Draining.{request_in};
     ghost use Rattle.blk_world.specs.Progress.{no_progress, answered_in, ended_in, done_at, IsFree, HasRoomFor, with_admission, with_refusal, with_retirement, with_entry, with_piece, flight_at, CanShow};
 
     /// So many guests that have asked for nothing yet, no entry, and room for those of a run.
@@ -265,6 +266,20 @@ impl Progress {
             return self.script_is_done;
         }
         row_at(self.rows.as_slice(), actor - 1).is_done
+    }
+
+    /// The number of a guest's request in flight.
+    pub(crate) fn request(&self, guest: u32) -> Option<u32>
+        ensures { result ≡ request_in (slice_get self.now.guests guest) }
+    {
+        if guest as usize >= self.rows.len() {
+            return None;
+        }
+        let row = row_at(self.rows.as_slice(), guest);
+        match row.flight {
+            Some(_) => Some(row.done),
+            None => None,
+        }
     }
 
     /// The request in flight of a guest.

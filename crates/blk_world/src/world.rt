@@ -7,18 +7,23 @@ ghost use Rattle.blk_world.specs.Progress.{no_progress};
 mod adding;
 mod alone;
 mod attaching;
+mod bitmaps;
 mod closing;
+mod covering;
 mod deleting;
+mod detaching;
 mod execute;
 mod making;
 mod piece;
 
 use crate::admission::{Admission, refusal_of, seat_of};
 use crate::buffer::Buffer;
+use crate::drained::{Drained, is_held};
 use crate::progress::Progress;
 use crate::run_store::RunStore;
 use crate::turned::Turned;
 use blk_base::{Device, Names1, NoMemory, Room, Store};
+use blk_bitmaps::Bitmaps;
 use blk_nodes::Nodes;
 use qmp_rules::{Name, Names};
 use std::alloc::Global;
@@ -33,6 +38,8 @@ pub struct World<S: Store> {
     nodes: Nodes<S::Dev>,
     names: Names,
     progress: Progress,
+    drained: Drained,
+    bitmaps: Bitmaps,
     buffer: Buffer,
 }
 
@@ -42,10 +49,10 @@ impl<S: Store> Model for World<S> {
 
     ghost Value = { Face };
 
-    ghost view = { λ w. face_of w.store w.first_faults w.nodes w.names.table w.progress };
+    ghost view = { λ w. face_of w.store w.first_faults w.nodes w.names.table w.progress w.drained w.bitmaps };
 
     ghost invariant = { λ w. IsWhole
-        (face_of w.store w.first_faults w.nodes w.names.table w.progress) };
+        (face_of w.store w.first_faults w.nodes w.names.table w.progress w.drained w.bitmaps) };
 }
 
 /// The names of the guests, as the table keeps them.
@@ -64,6 +71,7 @@ struct Parts<D: Device> {
     names: Names,
     progress: Progress,
     nodes: Nodes<D>,
+    bitmaps: Bitmaps,
     buffer: Buffer,
 }
 
@@ -73,10 +81,12 @@ fn new_parts<D: Device>(alloc: Global, guests: &Names1, room: Room) -> Result<Pa
     ensures names { IfOk result (λ parts. parts.names.table ≡ opening_table guests.now) }
     ensures progress { IfOk result (λ parts.
         parts.progress ≡ no_progress (length guests.now) room) }
+    ensures bitmaps { IfOk result (λ parts. parts.bitmaps ≡ []) }
 {
     Ok(Parts {
         names: Names::new(alloc, names_of(alloc, guests)?)?,
         progress: Progress::new(alloc, guests.len(), room)?,
+        bitmaps: Bitmaps::new(alloc)?,
         buffer: Buffer::new(alloc)?,
         nodes: Nodes::new(alloc)?,
     })
@@ -110,6 +120,7 @@ impl<S: Store> World<S> {
                     names,
                     progress,
                     nodes,
+                    bitmaps,
                     buffer,
                 },
             ) => Ok(World {
@@ -118,6 +129,8 @@ impl<S: Store> World<S> {
                 nodes,
                 names,
                 progress,
+                drained: Drained::none(alloc),
+                bitmaps,
                 buffer,
             }),
         }
@@ -148,6 +161,9 @@ impl<S: Store> World<S> {
         let Some(seat) = seat_of(&self.names, guest) else {
             return Admission::Away(op);
         };
+        if is_held(&self.names, &self.drained, guest) {
+            return Admission::Held(op);
+        }
         match refusal_of(&op, seat) {
             Some(why) => {
                 self.progress.refuse(guest, op, why);
@@ -157,8 +173,9 @@ impl<S: Store> World<S> {
         }
     }
 
-    /// Admits a guest's next request. It is away where the guest has no device, and else refused where its span ends past the
-    /// disk, or where a guest that may only read asks to write. Takes no memory.
+    /// Admits a guest's next request. It is away where the guest has no device, and held where a drain that stands holds the
+    /// guest. Else it is refused where its span ends past the disk, or where a guest that may only read asks to write. Takes no
+    /// memory.
     pub fn admit(&mut self, guest: u32, op: Op) -> Admission
         requires open { IsNotDone (seen_state self.old) (guest + 1) }
         requires free { With (slice_get self.old.progress.guests guest) IsFree }

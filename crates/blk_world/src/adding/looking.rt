@@ -7,10 +7,10 @@ ghost use Rattle.blk_nodes.specs.Overlays.{IsOpened};
 ghost use Rattle.qmp_codec.specs.Commands.{seen_command};
 ghost use Rattle.qmp_codec.specs.Nodes.{seen_add_qcow2, seen_blockdev_add, seen_file_ref};
 ghost use Rattle.qmp_codec.specs.declared.command.Command.TheVariants.{BlockdevAdd as AddCommand};
-ghost use Rattle.qmp_rules.specs.Answers.{refusal_of, untold};
+ghost use Rattle.qmp_rules.specs.Answers.{untold};
 ghost use Rattle.qmp_rules.specs.Looks.{image_stop, is_free_file, is_unopened, told_as};
-ghost use Rattle.blk_world.specs.Adding.{IsBack, IsFreeFile, IsNotOpenOn, IsOpenOn, Looks, LooksAtFile, LooksUnder, Tells, TellsInside, opened_sight, opens_by, probe};
-ghost use Rattle.blk_world.specs.Looking.{AreIn, HasCalled, HasLooked, HaveFiles, IsLookedBack, IsRead, IsUnopenedFor, LooksAtImage, LooksAtPart, MayOpen, StoreIsBack, site};
+ghost use Rattle.blk_world.specs.Adding.{IsBack, IsFreeFile, IsLookReached, IsNotOpenOn, IsOpenOn, Looks, LooksAtFile, LooksUnder, Tells, TellsInside, look_in_vain, opened_sight, opens_by};
+ghost use Rattle.blk_world.specs.Looking.{AreIn, HasCalled, HasLooked, HaveFiles, IsLookedBack, IsUnopenedFor, LooksAtImage, LooksAtPart, MayOpen, StoreIsBack, site};
 
 use crate::adding::opening::{Out, open_file, unopened};
 use crate::adding::telling::{file_stop, image_stop, raw_stop, told_as};
@@ -59,7 +59,7 @@ fn number_of<D: Device>(out: &Out<D>) -> DevNo
 fn open_out<D: Device>(alloc: Global, out: &mut Out<D>) -> Result<Result<Image, Refusal>, NoMemory>
     ensures answer { IfOk result (λ opened. MatchResult opened (IsOpenOn out.old out.new)
         (IsNotOpenOn out.old out.new)) }
-    ensures err { OnErr result (IsRead out.old out.new) }
+    ensures err { OnErr result (out.new ≡ out.old) }
 {
     let number = number_of(out);
     match open_image(alloc, &mut out.device) {
@@ -118,7 +118,7 @@ fn look_inside<D: Device>(
     ensures ok { IfOk result (λ seen. TellsInside names.now.table node.now filename.now
         (seen_add_qcow2 added.now)
         out.old out.new seen.image seen.told) }
-    ensures err { OnErr result (IsRead out.old out.new) }
+    ensures err { OnErr result (out.new ≡ out.old) }
 {
     let length = out.device.length();
     if let Some(stopped) = file_stop(alloc, filename, length)? {
@@ -141,7 +141,7 @@ fn look_at<D: Device>(
     ensures ok { IfOk result (λ seen. Tells names.now.table (seen_blockdev_add c.now).node_name
         filename.now
         (seen_blockdev_add c.now).driver out.old out.new seen.image seen.told) }
-    ensures err { OnErr result (IsRead out.old out.new) }
+    ensures err { OnErr result (out.new ≡ out.old) }
 {
     let length = out.device.length();
     match &c.driver {
@@ -172,14 +172,16 @@ fn open_and_look<S: Store>(
     names: &Names,
     c: &BlockdevAdd,
     filename: &str,
+    what: Look,
 ) -> Result<Looked<S::Dev>, NoMemory>
     requires { is_out filename.now store.old.opened ≡ false }
-    ensures ok { IfOk result (λ looked. LooksAtFile names.now.table (seen_blockdev_add c.now) filename.now
+    ensures ok { IfOk result (λ looked. LooksAtFile names.now.table (seen_blockdev_add c.now)
+        (record { filename = filename.now; what = what })
         store.old store.new looked.out looked.seen.image looked.seen.told) }
     ensures err { OnErr result (IsBack store.old store.new filename.now) }
 {
     match open_file(alloc, store, filename)? {
-        Err(refusal) => Ok(vain(alloc, refusal)),
+        Err(refusal) => Ok(vain(alloc, what, refusal)),
         Ok(mut out) => match look_at(alloc, names, c, filename, &mut out) {
             Ok(seen) => Ok(Looked {
                 out: Some(out),
@@ -194,14 +196,24 @@ fn open_and_look<S: Store>(
     }
 }
 
+/// At which look a file that isn't opened for that is refused: a failed call where it is made.
+fn look_in_vain(what: Look, refusal: &Refusal) -> Look
+    ensures { result ≡ look_in_vain what refusal.now }
+{
+    match refusal {
+        Refusal::Io { .. } => what,
+        _ => Look::File,
+    }
+}
+
 /// What is seen of a file that isn't opened for that.
-fn vain<D: Device>(alloc: Global, refusal: Refusal) -> Looked<D>
+fn vain<D: Device>(alloc: Global, what: Look, refusal: Refusal) -> Looked<D>
     ensures none { result.out ≡ None }
     ensures told { result.seen.told ≡ told_as None None
-        (Some (record { look = Look.File; refusal = refusal })) }
+        (Some (record { look = look_in_vain what refusal; refusal = refusal })) }
 {
     let stopped = Some(Stopped {
-        look: Look::File,
+        look: look_in_vain(what, &refusal),
         refusal,
     });
     Looked {
@@ -224,7 +236,7 @@ fn is_aborted(found: &Option<Refusal>) -> bool
 /// Whether a stop at a look would be the answer.
 fn is_reached(alloc: Global, names: &Names, command: &Command, what: Look) -> Result<bool, NoMemory>
     ensures { IfOk result (λ is. IsTrue is
-        ↔ (refusal_of names.now.table (probe what) (seen_command command.now) ≡ Some Refusal.Aborted)) }
+        ↔ IsLookReached names.now.table (seen_command command.now) what) }
 {
     let stopped = Some(Stopped {
         look: what,
@@ -291,7 +303,7 @@ fn look_out<S: Store>(
     ensures err { OnErr result (IsBack store.old store.new filename.now) }
 {
     if may_open(alloc, names, command, filename, what)? {
-        return open_and_look(alloc, store, names, c, filename);
+        return open_and_look(alloc, store, names, c, filename, what);
     }
     Ok(Looked {
         out: None,
@@ -320,8 +332,10 @@ fn open_free<D: Device>(
     node: NodeId,
 ) -> Result<Result<Image, Refusal>, NoMemory>
     requires { IsFile nodes.old node }
-    ensures answer { IfOk result (λ opened. MatchResult opened (IsOpened nodes.old.devices node)
+    ensures answer { IfOk result (λ opened. MatchResult opened
+        (λ image. IsOpened nodes.old.devices node image × (nodes.new ≡ nodes.old))
         (IsUnopenedFor nodes.old nodes.new node)) }
+    ensures err { OnErr result (nodes.new ≡ nodes.old) }
     ensures called { HasCalled nodes.old nodes.new }
 {
     let number = nodes.number(node);
@@ -348,6 +362,7 @@ fn look_under<D: Device>(
     ensures ok { IfOk result (λ seen. LooksUnder names.now.table (seen_blockdev_add c.now)
         (seen_add_qcow2 added.now)
         file.now nodes.old nodes.new seen.image seen.told) }
+    ensures err { OnErr result (nodes.new ≡ nodes.old) }
     ensures called { HasCalled nodes.old nodes.new }
 {
     if !is_reached(alloc, names, command, Look::Image)? {
@@ -421,7 +436,7 @@ fn look_at_image<S: Store>(
         looked.out looked.seen.image looked.seen.told) }
     ensures store { OnErr result (StoreIsBack (opens_by (seen_add_qcow2 added.now).file Look.File)
         store.old store.new) }
-    ensures called { HasCalled nodes.old nodes.new }
+    ensures err { OnErr result (nodes.new ≡ nodes.old) }
 {
     match &added.file {
         FileRef::Inline(file) => {

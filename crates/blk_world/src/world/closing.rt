@@ -38,6 +38,8 @@ impl<S: Store> World<S> {
             nodes,
             names,
             progress,
+            drained: _,
+            bitmaps: _,
             buffer: _,
         } = self;
         let _ = nodes.edges();

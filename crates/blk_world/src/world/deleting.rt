@@ -29,6 +29,7 @@ impl<S: Store> World<S> {
             &mut self.store,
             &mut self.nodes,
             &mut self.names,
+            &mut self.bitmaps,
             given,
             command,
         )

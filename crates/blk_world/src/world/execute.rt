@@ -1,24 +1,42 @@
 //! Lines of the script that are answered.
-ghost use Rattle.std.specs.Prelude.{◌≡◌, ◌<◌, Ok, Err, IfOk, OnOk, OnErr, string_bytes};
+ghost use Rattle.std.specs.Prelude.{◌≡◌, ◌<◌, false, Ok, Err, IfOk, OnOk, OnErr, option_map, string_bytes};
 ghost use Rattle.qmp_codec.specs.Commands.{seen_command};
 ghost use Rattle.qmp_codec.specs.Lines.{command_at, seen_stop};
+ghost use Rattle.blk_history.specs.declared.event.Event.{Event};
 ghost use Rattle.flat_machine.specs.Legal.{IsNotDone};
 ghost use Rattle.flat_machine.specs.declared.opening.Opening.{Opening};
 ghost use Rattle.blk_world.specs.Face.{seen_state};
 ghost use Rattle.blk_world.specs.Comes.{Comes};
+ghost use Rattle.blk_world.specs.Draining.{is_drain};
+ghost use Rattle.blk_world.specs.Progress.{with_entry};
 ghost use Rattle.blk_world.specs.Saying.{given_line};
-ghost use Rattle.blk_world.specs.Carrying.{IsCarriedAs, IsPutBack, IsReplied};
+ghost use Rattle.blk_world.specs.Steps.{lifted, onward};
+ghost use Rattle.blk_world.specs.Carrying.{IsCarriedAs, IsCarriedOut, IsExecuted, IsPutBack};
 
+use crate::carried::Carried;
+use crate::executed::Executed;
 use crate::line::{Line, read_line, stopped_text};
 use crate::world::World;
 use blk_base::{NoMemory, Store};
 use qmp_codec::{CodecStop, Command};
 use std::alloc::Global;
 
+/// A copy of the text of a line.
+fn copied(alloc: Global, text: &str) -> Result<String, NoMemory>
+    ensures { IfOk result (λ copy. string_bytes copy ≡ text.now) }
+{
+    Ok(String::from_str(alloc, text)?)
+}
+
 impl<S: Store> World<S> {
-    /// Carries out a command, or refuses it. Gives the text of the answer, which isn't noted yet.
-    fn carry(&mut self, alloc: Global, given: &str, command: &Command) -> Result<String, NoMemory>
-        requires { command_at given.now ≡ Ok (seen_command command.now) }
+    /// Carries out a command that drains no disk, or refuses it. Gives the text of the answer, which isn't noted yet.
+    fn carry_at_once(
+        &mut self,
+        alloc: Global,
+        given: &str,
+        command: &Command,
+    ) -> Result<String, NoMemory>
+        requires { is_drain (seen_command command.now) ≡ false }
         ensures carried { IfOk result (λ text. IsCarriedAs self.old self.new given.now
             (seen_command command.now) (string_bytes text)) }
         ensures back { OnErr result (IsPutBack self.old self.new) }
@@ -28,8 +46,40 @@ impl<S: Store> World<S> {
             Command::BlockdevCreate(_) => self.carry_creation(alloc, given, command),
             Command::BlockdevDel(_) => self.carry_deletion(alloc, given, command),
             Command::DeviceAdd(_) => self.carry_attachment(alloc, given, command),
+            Command::QueryNamedBlockNodes(_) => self.carry_counts(alloc, given, command),
+            Command::BitmapAdd(_)
+            | Command::BitmapRemove(_)
+            | Command::BitmapClear(_)
+            | Command::BitmapEnable(_)
+            | Command::BitmapDisable(_)
+            | Command::BitmapMerge(_) => self.carry_bitmaps(alloc, given, command),
             _ => self.carry_alone(alloc, given, command),
         }
+    }
+
+    /// Carries out a command, or refuses it, or says which request it has to wait for. The answer isn't noted yet.
+    fn carry(&mut self, alloc: Global, given: &str, command: &Command) -> Result<Carried, NoMemory>
+        requires { command_at given.now ≡ Ok (seen_command command.now) }
+        ensures carried { IfOk result (λ carried. IsCarriedOut self.old self.new given.now
+            (seen_command command.now) carried) }
+        ensures back { OnErr result (IsPutBack self.old self.new) }
+    {
+        match command {
+            Command::DeviceDel(_) => self.carry_detachment(alloc, given, command),
+            Command::BlockdevSnapshot(_) => self.carry_snapshot(alloc, given, command),
+            _ => Ok(Carried::Said(self.carry_at_once(alloc, given, command)?)),
+        }
+    }
+
+    /// Notes the reply to a line, after which no drain of a command stands.
+    fn note_reply(&mut self, line: u32, given: String, command: Option<Command>, text: String)
+        requires { 0 < self.old.progress.spare.entries }
+        ensures { self.new ≡ lifted (onward self.old (with_entry
+            (Event.Reply line (string_bytes given) (option_map seen_command command)
+            (string_bytes text)))) }
+    {
+        self.progress.reply(line, given, command, text);
+        self.drained.lift();
     }
 
     /// Answers a line that is a command.
@@ -37,20 +87,26 @@ impl<S: Store> World<S> {
         &mut self,
         alloc: Global,
         line: u32,
-        given: String,
+        given: &str,
         command: Command,
-    ) -> Result<(), NoMemory>
-        requires read { command_at (string_bytes given) ≡ Ok (seen_command command) }
+    ) -> Result<Executed, NoMemory>
+        requires read { command_at given.now ≡ Ok (seen_command command) }
         requires open { IsNotDone (seen_state self.old) 0 }
         requires room { 0 < self.old.progress.spare.entries }
-        ensures replied { OnOk result
-            (IsReplied self.old self.new (given_line line (string_bytes given))) }
+        ensures done { IfOk result (λ answer.
+            IsExecuted self.old self.new (given_line line given.now) answer) }
         ensures back { OnErr result (IsPutBack self.old self.new) }
         ensures comes { (o : Opening) → Comes o self.old → Comes o self.new }
     {
-        let text = self.carry(alloc, given.as_str(), &command)?;
-        self.progress.reply(line, given, Some(command), text);
-        Ok(())
+        let copy = copied(alloc, given)?;
+        let carried = self.carry(alloc, given, &command)?;
+        match carried {
+            Carried::Said(text) => {
+                self.note_reply(line, copy, Some(command), text);
+                Ok(Executed::Replied)
+            }
+            Carried::Later { guest, request } => Ok(Executed::Later { guest, request }),
+        }
     }
 
     /// Answers a line that can't be read as a command.
@@ -58,35 +114,38 @@ impl<S: Store> World<S> {
         &mut self,
         alloc: Global,
         line: u32,
-        given: String,
+        given: &str,
         stop: CodecStop,
-    ) -> Result<(), NoMemory>
-        requires read { command_at (string_bytes given) ≡ Err (seen_stop stop) }
+    ) -> Result<Executed, NoMemory>
+        requires read { command_at given.now ≡ Err (seen_stop stop) }
         requires open { IsNotDone (seen_state self.old) 0 }
         requires room { 0 < self.old.progress.spare.entries }
-        ensures replied { OnOk result
-            (IsReplied self.old self.new (given_line line (string_bytes given))) }
+        ensures done { IfOk result (λ answer.
+            IsExecuted self.old self.new (given_line line given.now) answer) }
         ensures back { OnErr result (IsPutBack self.old self.new) }
         ensures comes { (o : Opening) → Comes o self.old → Comes o self.new }
     {
-        let text = stopped_text(alloc, &self.names, given.as_str(), stop)?;
-        self.progress.reply(line, given, None, text);
-        Ok(())
+        let text = stopped_text(alloc, &self.names, given, stop)?;
+        let copy = copied(alloc, given)?;
+        self.note_reply(line, copy, None, text);
+        Ok(Executed::Replied)
     }
 
-    /// Answers a line of the script: a command is carried out or refused, and another line refused. Its reply is noted with its
-    /// text. Where memory is wanted nothing is noted, and the world is as before but for openings and counts.
-    pub fn execute(&mut self, alloc: Global, line: u32, given: String) -> Result<(), NoMemory>
+    /// Answers a line of the script. A command is carried out or refused, and another line refused; the reply is noted with its
+    /// text. Later comes exactly where nothing refuses a command and a request is in flight on a disk that it must drain: the
+    /// first guest's, by number. Nothing is noted then, and the guests of those disks are held until a line is answered or a
+    /// command has to come again. Where memory is wanted the world is as before but for openings and counts.
+    pub fn execute(&mut self, alloc: Global, line: u32, text: &str) -> Result<Executed, NoMemory>
         requires open { IsNotDone (seen_state self.old) 0 }
         requires room { 0 < self.old.progress.spare.entries }
-        ensures replied { OnOk result
-            (IsReplied self.old self.new (given_line line (string_bytes given))) }
+        ensures done { IfOk result (λ answer.
+            IsExecuted self.old self.new (given_line line text.now) answer) }
         ensures back { OnErr result (IsPutBack self.old self.new) }
         ensures comes { (o : Opening) → Comes o self.old → Comes o self.new }
     {
-        match read_line(alloc, given.as_str())? {
-            Line::Command(command) => self.put_command(alloc, line, given, command),
-            Line::Stop(stop) => self.put_stop(alloc, line, given, stop),
+        match read_line(alloc, text)? {
+            Line::Command(command) => self.put_command(alloc, line, text, command),
+            Line::Stop(stop) => self.put_stop(alloc, line, text, stop),
         }
     }
 }

@@ -9,6 +9,7 @@ ghost use Rattle.blk_world.specs.Comes.{Comes};
 ghost use Rattle.blk_world.specs.Piecing.{IsPieceMade, HasPieceLicence, table_after};
 ghost use Rattle.blk_world.specs.Progress.{HasNext, flight_at};
 
+use crate::recording::{next_written, note_written};
 use crate::world::World;
 use blk_base::{Outcome, Store};
 use blk_graph::NodeId;
@@ -32,6 +33,7 @@ impl<S: Store> World<S> {
         ensures made { (f : Flight) → flight_at self.old.progress.guests guest ≡ Some f
             → IsPieceMade self.old self.new guest f result }
         ensures joined { IsJoined self.old.nodes }
+        ensures joined_then { IsJoined self.new.nodes }
         ensures whole { IsWhole self.old }
     {
         let Some(drive) = self.names.drive(guest) else {
@@ -39,10 +41,12 @@ impl<S: Store> World<S> {
         };
         let node = self.names.disk_node(drive);
         let _ = self.nodes.edges();
+        let written = next_written(&self.progress, guest);
         note_write(&mut self.names, node, self.progress.flying(guest));
         let outcome = self
             .buffer
             .make_next(&mut self.nodes, &mut self.progress, node, guest);
+        note_written(&mut self.bitmaps, &self.names, drive, outcome, written);
         let _ = self.nodes.edges();
         outcome
     }

@@ -4,6 +4,7 @@ use Rattle.qmp_codec.specs.Commands.{Cmd, seen_command}
 use Rattle.qmp_rules.specs.Table.{Table}
 use Rattle.qmp_rules.specs.Answers.{returned, untold}
 use Rattle.blk_world.specs.Saying.{IsSaid}
+use Rattle.blk_world.proofs.CarryPlain.{alone-stays}
 use Rattle.blk_world.proofs.CarryInTable.{accepted_said, accepted_changes, refused_said, refused_unchanged}
 use Rattle.blk_world.proofs.in_table.answer_alone.Goals as goal
 
@@ -24,12 +25,12 @@ returns-in-Ok-clause-changed c =
 pub returns-in-Err-clause-said : goal.returns-in-Err-clause-said
 returns-in-Err-clause-said c =
     refused_said c.args.names.now.table
-    (seen_command c.args.command.now) string_bytes c.args.given.now c.refused.result c.in-Err.stop c.requires
+    (seen_command c.args.command.now) string_bytes c.args.given.now c.refused.result c.in-Err.stop (alone-stays (seen_command c.args.command.now) c.requires)
     c.in-Err.ensures.refused c.refused.ensures
 
 pub returns-in-Err-clause-changed : goal.returns-in-Err-clause-changed
 returns-in-Err-clause-changed c =
     rw c.prepare.ensures.table
     (refused_unchanged c.args.names.now.table
-    (seen_command c.args.command.now) string_bytes c.args.given.now c.refused.result c.in-Err.stop c.requires
+    (seen_command c.args.command.now) string_bytes c.args.given.now c.refused.result c.in-Err.stop (alone-stays (seen_command c.args.command.now) c.requires)
     c.in-Err.ensures.refused c.refused.ensures)

@@ -16,6 +16,8 @@ returns-clause-carried g c =
       nodes = c.self.inside.nodes;
       table = c.self.inside.names.table;
       progress = c.self.inside.progress;
+      drains = c.self.inside.drained;
+      bitmaps = c.self.inside.bitmaps;
     } in
     rw (← c.self.view_is)
     (attachment_texts w c.self.invariant c.edges.ensures.joined c.args.given.now c.attach-text.new.nodes c.edges-2.ensures.joined
@@ -33,6 +35,8 @@ returns-clause-back g c =
       nodes = c.self.inside.nodes;
       table = c.self.inside.names.table;
       progress = c.self.inside.progress;
+      drains = c.self.inside.drained;
+      bitmaps = c.self.inside.bitmaps;
     } in
     rw (← c.self.view_is)
     (attachment_back w c.self.invariant c.edges.ensures.joined c.args.given.now c.attach-text.new.nodes c.edges-2.ensures.joined
@@ -51,6 +55,8 @@ invariant_of-self g c =
       nodes = c.self.inside.nodes;
       table = c.self.inside.names.table;
       progress = c.self.inside.progress;
+      drains = c.self.inside.drained;
+      bitmaps = c.self.inside.bitmaps;
     } in
     attachment_whole w c.self.invariant c.edges.ensures.joined c.args.given.now c.attach-text.new.nodes c.edges-2.ensures.joined
     c.attach-text.new.names.table (seen_command c.args.command.now) c.requires c.attach-text.result string_bytes c.attach-text.ensures.handled

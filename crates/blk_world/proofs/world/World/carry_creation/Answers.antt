@@ -23,6 +23,8 @@ returns-clause-carried g c =
       nodes = c.self.inside.nodes;
       table = c.self.inside.names.table;
       progress = c.self.inside.progress;
+      drains = c.self.inside.drained;
+      bitmaps = c.self.inside.bitmaps;
     } in
     rw (← c.self.view_is, c.make-text.ensures.earlier)
     (creation_texts w c.self.invariant c.edges.ensures.joined c.args.given.now (ground_in c.make-text.new.store c.make-text.new.nodes) c.edges-2.ensures.joined
@@ -40,6 +42,8 @@ returns-clause-back g c =
       nodes = c.self.inside.nodes;
       table = c.self.inside.names.table;
       progress = c.self.inside.progress;
+      drains = c.self.inside.drained;
+      bitmaps = c.self.inside.bitmaps;
     } in
     rw (← c.self.view_is, c.make-text.ensures.earlier)
     (untouched_back c.make-text.result string_bytes w (ground_in c.make-text.new.store c.make-text.new.nodes) c.make-text.new.names.table c.make-text.ensures.back)
@@ -56,6 +60,8 @@ invariant_of-self g c =
       nodes = c.self.inside.nodes;
       table = c.self.inside.names.table;
       progress = c.self.inside.progress;
+      drains = c.self.inside.drained;
+      bitmaps = c.self.inside.bitmaps;
     } in
     rw c.make-text.ensures.earlier
     (creation_whole w c.self.invariant c.edges.ensures.joined c.args.given.now (ground_in c.make-text.new.store c.make-text.new.nodes) c.edges-2.ensures.joined

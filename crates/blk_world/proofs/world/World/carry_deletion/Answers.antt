@@ -3,7 +3,7 @@ use Rattle.qmp_codec.specs.Commands.{seen_command}
 use Rattle.blk_world.specs.Deleting.{ground_in}
 use Rattle.blk_world.specs.Face.{Face}
 use Rattle.blk_world.proofs.Belonging.{belong_of}
-use Rattle.blk_world.proofs.Handled.{deletion_texts, deletion_whole, untouched_back}
+use Rattle.blk_world.proofs.Handled.{deletion_back, deletion_texts, deletion_whole}
 use Rattle.blk_world.proofs.world.World.carry_deletion.Goals as goal
 
 pub delete-requires-clause-belong : goal.delete-requires-clause-belong
@@ -22,10 +22,13 @@ returns-clause-carried g c =
       nodes = c.self.inside.nodes;
       table = c.self.inside.names.table;
       progress = c.self.inside.progress;
+      drains = c.self.inside.drained;
+      bitmaps = c.self.inside.bitmaps;
     } in
     rw (← c.self.view_is, c.delete.ensures.earlier)
     (deletion_texts w c.self.invariant c.edges.ensures.joined c.edges.ensures.disks c.args.given.now (ground_in c.delete.new.store c.delete.new.nodes)
-    c.delete.new.names.table (seen_command c.args.command.now) c.requires c.delete.result string_bytes c.delete.ensures.handled)
+    c.delete.new.names.table c.delete.new.bitmaps (seen_command c.args.command.now) c.requires c.delete.result string_bytes c.delete.ensures.handled
+    c.delete.ensures.bitmaps)
 
 pub returns-clause-back : goal.returns-clause-back
 returns-clause-back g c =
@@ -39,9 +42,12 @@ returns-clause-back g c =
       nodes = c.self.inside.nodes;
       table = c.self.inside.names.table;
       progress = c.self.inside.progress;
+      drains = c.self.inside.drained;
+      bitmaps = c.self.inside.bitmaps;
     } in
     rw (← c.self.view_is, c.delete.ensures.earlier)
-    (untouched_back c.delete.result string_bytes w (ground_in c.delete.new.store c.delete.new.nodes) c.delete.new.names.table c.delete.ensures.back)
+    (deletion_back c.delete.result string_bytes w (ground_in c.delete.new.store c.delete.new.nodes) c.delete.new.names.table c.delete.new.bitmaps c.delete.ensures.back
+    c.delete.ensures.bitmaps_back)
 
 pub invariant_of-self : goal.invariant_of-self
 invariant_of-self g c =
@@ -55,7 +61,10 @@ invariant_of-self g c =
       nodes = c.self.inside.nodes;
       table = c.self.inside.names.table;
       progress = c.self.inside.progress;
+      drains = c.self.inside.drained;
+      bitmaps = c.self.inside.bitmaps;
     } in
     rw c.delete.ensures.earlier
     (deletion_whole w c.self.invariant c.edges.ensures.joined c.edges.ensures.disks c.args.given.now (ground_in c.delete.new.store c.delete.new.nodes)
-    c.delete.new.names.table (seen_command c.args.command.now) c.requires c.delete.result string_bytes c.delete.ensures.handled c.delete.ensures.back)
+    c.delete.new.names.table c.delete.new.bitmaps (seen_command c.args.command.now) c.requires c.delete.result string_bytes c.delete.ensures.handled c.delete.ensures.bitmaps
+    c.delete.ensures.back c.delete.ensures.bitmaps_back)

@@ -1,0 +1,33 @@
+use Rattle.std.specs.Prelude.{string_bytes}
+use Rattle.qmp_codec.specs.Commands.{seen_command}
+use Rattle.blk_world.specs.Face.{Face, face_of}
+use Rattle.blk_world.proofs.CarryInTable.{counts_back, counts_bitmaps, counts_carried, counts_coherent}
+use Rattle.blk_world.proofs.world.World.carry_counts.Goals as goal
+
+pub answer_counts-requires-clause-free : goal.answer_counts-requires-clause-free
+answer_counts-requires-clause-free g c = c.self.invariant.bitmaps.each
+
+pub invariant_of-self : goal.invariant_of-self
+invariant_of-self g c =
+    let w : Face = face_of c.self.inside.store c.self.inside.first_faults c.self.inside.nodes c.self.inside.names.table c.self.inside.progress c.self.inside.drained c.self.inside.bitmaps in
+    record {
+      coherent = counts_coherent w c.answer_counts.new.names.table
+          (seen_command c.args.command.now) c.requires c.answer_counts.result
+          c.answer_counts.ensures.changed c.answer_counts.ensures.kept c.self.invariant.coherent;
+      tell = c.self.invariant.tell;
+      counted = c.self.invariant.counted;
+      bitmaps = counts_bitmaps w c.answer_counts.new.names.table
+          (seen_command c.args.command.now) c.requires c.answer_counts.result
+          c.answer_counts.ensures.changed c.answer_counts.ensures.kept c.self.invariant.bitmaps;
+    }
+
+pub returns-clause-carried : goal.returns-clause-carried
+returns-clause-carried g c =
+    rw (← c.self.view_is) (counts_carried _ c.answer_counts.new.names.table
+    (seen_command c.args.command.now) c.requires
+    string_bytes c.args.given.now c.answer_counts.result c.self.invariant.bitmaps c.answer_counts.ensures.said c.answer_counts.ensures.changed)
+
+pub returns-clause-back : goal.returns-clause-back
+returns-clause-back g c =
+    rw (← c.self.view_is) (counts_back _ c.answer_counts.new.names.table
+    (seen_command c.args.command.now) c.requires c.answer_counts.result c.answer_counts.ensures.kept)

@@ -1,0 +1,42 @@
+//! Commands on dirty bitmaps, over a world.
+ghost use Rattle.std.specs.Prelude.{◌≡◌, true, IfOk, OnErr, string_bytes};
+ghost use Rattle.qmp_codec.specs.Commands.{seen_command};
+ghost use Rattle.blk_world.specs.Carrying.{IsCarriedAs, IsPutBack, is_of_bitmaps, prints_counts};
+
+use crate::bitmaps::{answer_bitmaps, answer_counts};
+use crate::world::World;
+use blk_base::{NoMemory, Store};
+use qmp_codec::Command;
+use std::alloc::Global;
+
+impl<S: Store> World<S> {
+    /// Carries out a command on bitmaps, or refuses it. Gives the text of the answer, which isn't noted yet.
+    pub(crate) fn carry_bitmaps(
+        &mut self,
+        alloc: Global,
+        given: &str,
+        command: &Command,
+    ) -> Result<String, NoMemory>
+        requires { is_of_bitmaps (seen_command command.now) ≡ true }
+        ensures carried { IfOk result (λ text. IsCarriedAs self.old self.new given.now
+            (seen_command command.now) (string_bytes text)) }
+        ensures back { OnErr result (IsPutBack self.old self.new) }
+    {
+        answer_bitmaps(alloc, &mut self.names, &mut self.bitmaps, given, command)
+    }
+
+    /// Answers the query that prints what is dirty, or refuses it. Gives the text of the answer, which isn't noted yet.
+    pub(crate) fn carry_counts(
+        &mut self,
+        alloc: Global,
+        given: &str,
+        command: &Command,
+    ) -> Result<String, NoMemory>
+        requires { prints_counts (seen_command command.now) ≡ true }
+        ensures carried { IfOk result (λ text. IsCarriedAs self.old self.new given.now
+            (seen_command command.now) (string_bytes text)) }
+        ensures back { OnErr result (IsPutBack self.old self.new) }
+    {
+        answer_counts(alloc, &mut self.names, &self.bitmaps, given, command)
+    }
+}

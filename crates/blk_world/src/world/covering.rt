@@ -1,0 +1,40 @@
+//! Snapshots in a world.
+ghost use Rattle.std.specs.Prelude.{◌≡◌, true, IfOk, OnErr};
+ghost use Rattle.qmp_codec.specs.Commands.{seen_command};
+ghost use Rattle.blk_world.specs.Carrying.{IsCarriedOut, IsPutBack};
+ghost use Rattle.blk_world.specs.Snapshots.{is_snapshot};
+
+use crate::carried::Carried;
+use crate::covering::cover;
+use crate::world::World;
+use blk_base::{NoMemory, Store};
+use qmp_codec::Command;
+use std::alloc::Global;
+
+impl<S: Store> World<S> {
+    /// Carries out `blockdev-snapshot`, or refuses it, or says which request it has to wait for.
+    pub(crate) fn carry_snapshot(
+        &mut self,
+        alloc: Global,
+        given: &str,
+        command: &Command,
+    ) -> Result<Carried, NoMemory>
+        requires { is_snapshot (seen_command command.now) ≡ true }
+        ensures carried { IfOk result (λ carried. IsCarriedOut self.old self.new given.now
+            (seen_command command.now) carried) }
+        ensures back { OnErr result (IsPutBack self.old self.new) }
+    {
+        let _ = self.nodes.edges();
+        let carried = cover(
+            alloc,
+            &mut self.nodes,
+            &mut self.names,
+            &self.progress,
+            &mut self.drained,
+            given,
+            command,
+        );
+        let _ = self.nodes.edges();
+        carried
+    }
+}
