@@ -1,49 +1,46 @@
 -- What a run was, as the program tells it.
-use Rattle.std.proofs.Common.{◌≡◌, ◌⊎◌, ℕ, zero, suc, ◌+◌, ◌≤◌, ◌<◌, Bool, true, false, List, [], ◌∷◌, ◌++◌, length, map, replicate, refl, sym, ◌∙◌, ap, subst, arith, Option, Some, None, inl, inr}
-use Rattle.std.specs.Prelude.{slice_get, get_or, All, IsSome, is_some, MatchOption, unwrap_or}
+use Rattle.std.proofs.Common.{◌≡◌, ℕ, ◌≤◌, Bool, true, false, List, [], ◌++◌, length, map, refl, sym, ◌∙◌, ap, subst, arith, Option, Some, None, inl, inr}
+use Rattle.std.specs.Prelude.{slice_get, get_or, All, is_some, MatchOption, unwrap_or}
 use Rattle.std.proofs.lemmas.Bool.{false≢true}
-use Rattle.std.proofs.lemmas.List.{length-map}
 use Rattle.blk_base.specs.Counts.{Rose}
-use Rattle.blk_base.specs.Files.{IfTold, is_out}
+use Rattle.blk_base.specs.Files.{IfTold}
 use Rattle.blk_base.specs.Written.{Written}
 use Rattle.blk_base.specs.declared.fault.DevNo.{DevNo}
 use Rattle.blk_base.specs.declared.fault.FaultAt.{FaultAt}
 use Rattle.blk_base.specs.declared.fault.FaultFrom.TheVariants.{Dev}
 use Rattle.blk_base.specs.declared.file.File.{File}
-use Rattle.blk_base.specs.declared.file.Opened.{Opened}
 use Rattle.blk_base.specs.declared.memory.Room.{Room}
 use Rattle.trace_codec.specs.declared.waits.Waits.{Waits}
-use Rattle.trace_codec.specs.declared.wish.Wish.{Wish}
-use Rattle.trace_codec.specs.Script.{Order}
 use Rattle.qmp_rules.specs.Table.{Table}
 use Rattle.blk_history.specs.Fold.{With}
-use Rattle.blk_history.specs.declared.event.Event.{Event}
 use Rattle.flat_machine.specs.State.{State, Guest}
 use Rattle.flat_machine.specs.Final.{AreDisks}
 use Rattle.flat_machine.specs.Machine.{replay}
 use Rattle.flat_machine.specs.Opening.{start}
-use Rattle.flat_machine.specs.Blocked.{IsStuck, ActorWaits, GuestWaits}
-use Rattle.flat_machine.specs.Comes.{HasEnded, IsDone, guests_after}
-use Rattle.flat_machine.specs.Courses.{Course, KeepsOrder, course_of, course_after}
-use Rattle.flat_machine.specs.Licence.{Counts, AreLicensed, faults_of, count_of}
+use Rattle.flat_machine.specs.Blocked.{IsStuck, ActorWaits}
+use Rattle.flat_machine.specs.Courses.{Course, KeepsOrder, course_of}
+use Rattle.flat_machine.specs.Licence.{Counts, AreLicensed}
 use Rattle.flat_machine.specs.declared.opening.Opening.{Opening}
-use Rattle.blk_world.specs.Closing.{IsClosed, IsToldBack, count_back}
-use Rattle.blk_world.specs.Comes.{Comes, Shows}
+use Rattle.blk_world.specs.Closing.{IsToldBack, count_back, store_in}
+use Rattle.blk_world.specs.Comes.{Comes}
 use Rattle.blk_world.specs.Face.{Face, seen_state, first_counts, counts_now}
 use Rattle.blk_world.specs.Progress.{ended_in}
-use Rattle.blk_world.specs.Steps.{StoreSeen, IsOpeningOf}
+use Rattle.blk_world.specs.Steps.{StoreSeen, IsOpeningOf, new_world}
 use Rattle.blk_world.specs.Tabling.{IsTableAfter}
 use Rattle.qblk_inputs.specs.Inputs.{Work}
 use Rattle.qblk_inputs.specs.Words.{Cast, guests_of}
-use Rattle.qblk_run.specs.Run.{Account, HasOpened, IsRun, LeavesFiles, EndsDone, EndsStuck, HasStopped, FailsToFlush, counts_at_first, counts_at_last, state_after, course_in, seen_waits}
-use Rattle.qblk_run.specs.Session.{IsEnd, IsPlayed, IsGivenUp}
+use Rattle.qblk_run.specs.Run.{Account, HasOpened, IsRun, HaveNotSunk, IsFlushedAs, LeavesFiles, EndsDone, EndsStuck, HasStopped, FailsToFlush, counts_at_first, counts_at_last, course_in, seen_waits}
+use Rattle.qblk_run.specs.Session.{IsEnd}
 use Rattle.qblk_run.specs.Tasks.{Tasks, KeepsTo, CanGoOn}
 use Rattle.qblk_run.specs.Turns.{StaysIn}
 use Rattle.qblk_run.specs.Rounds.{AllRest, AreDone, IsFirst}
-use Rattle.qblk_run.proofs.Closing.{all-back, behind-back, licensed-later, quiet-run, named-below, leaves-files}
+use Rattle.qblk_run.proofs.Closing.{all-back, behind-back, licensed-later, quiet-run, leaves-files}
+use Rattle.qblk_run.proofs.Flushes.{same-places, all-stand, first-stand, first-above, both-at}
+use Rattle.qblk_run.specs.Devices.{HaveDevices}
+use Rattle.qblk_run.specs.Worlds.{GoesThrough}
 use Rattle.qblk_run.proofs.Ending.{is-stuck, is-whole, idle-at}
 use Rattle.qblk_run.proofs.History.{course-ended}
-use Rattle.qblk_run.proofs.Lists.{with-some, at-with, at-get}
+use Rattle.qblk_run.proofs.Lists.{at-get}
 
 -- ---- the opening
 
@@ -68,7 +65,7 @@ module _ (old : StoreSeen) (guests : List (List ℕ)) (w v : Face) (store : Stor
     (earlier : w.earlier ≡ old.opened) (first : w.first_faults ≡ old.faults) (telling : is_some w.files ≡ is_some old.files) (roomy : w.room ≡ old.room)
     (counted : v.first_faults ≤ v.faults) (stays : StaysIn w v) (comes : Comes (opening_by old guests) v) (end : IsEnd v store fault) where
   abbrev pub account : Account
-  account = record { opening = opening_by old guests; openings = end.closed.opened; events = v.progress.log.events }
+  account = record { opening = opening_by old guests; openings = end.closed.opened; events = v.progress.log.events; counts = counts_now v }
 
   opened : HasOpened old.opened store.opened end.closed.opened
   opened =
@@ -78,31 +75,72 @@ module _ (old : StoreSeen) (guests : List (List ℕ)) (w v : Face) (store : Stor
         back = all-back end.closed.opened (behind-back old.opened end.closed.opened (λ name. rw behind at (end.none_out name)));
       }
 
-  licensed : AreLicensed (counts_at_first old account) (counts_at_last store account) v.progress.log.events
-  licensed =
-      let start-is : first_counts v ≡ counts_at_first old account = rw (end.closed.given.first, stays.first, first) refl in
-      let same : v.faults ≡ store.faults = sym end.faults in
-      subst (λ (a : Counts). AreLicensed a (counts_at_last store account) v.progress.log.events) start-is
-      (licensed-later (first_counts v) (counts_now v) (counts_at_last store account) v.progress.log.events (omega arith) end.closed.given.counts comes.history.licensed)
+  begun : first_counts v ≡ counts_at_first old account
+  begun = rw (end.closed.given.first, stays.first, first) refl
 
-  pub run-is : (cast : Cast) (work : Work) (is_flushed : Bool) → guests_of cast ≡ guests → length work.traces ≡ length guests
-      → KeepsOrder (course_of work.script work.traces) v.progress.log.events → (is_flushed ≡ true → fault ≡ None) → IsRun cast work is_flushed old store account
-  run-is cast work is_flushed names count order good = record {
+  licensed : AreLicensed (counts_at_first old account) (counts_now v) v.progress.log.events
+  licensed = subst (λ (a : Counts). AreLicensed a (counts_now v) v.progress.log.events) begun comes.history.licensed
+
+  later : HaveNotSunk (counts_now v) (counts_at_last store account)
+  later = record { store = let same = end.faults in omega arith; devices = end.closed.given.counts }
+
+  flush : IsFlushedAs store account fault
+  flush = by_fault fault refl
+    where
+      same-counts : (a b : Counts) → a.store ≡ b.store → a.devices ≡ b.devices → a ≡ b
+      same-counts a b x y =
+          let one : a ≡ record a { store = b.store } = ap (λ (n : ℕ). record a { store = n }) x in
+          let two : record a { store = b.store } ≡ b = ap (λ (ns : List ℕ). record b { devices = ns }) y in
+          one ∙ two
+
+      failed : (f : FaultAt) → fault ≡ Some f → (dev : DevNo) × (f.from ≡ Dev dev) × FailsToFlush store account dev f.count
+      failed f is =
+          let told : IsToldBack v end.closed.opened f = rw is at end.closed.given.told in
+          let above = first-above v.table v.nodes.devices (store_in v) (record store { opened = end.closed.opened }) fault end.closed.back comes.coherent.out f told.number is told.from in (
+            told.number,
+            told.from,
+            record {
+              last = both-at end.closed.opened told.number.0 (λ o. o.returned ≡ Some f.count) (λ before. Rose before f.count) told.count
+                  (subst (λ (counts : List ℕ). With (slice_get counts told.number.0) (λ before. Rose before f.count)) (sym end.closed.given.first) above);
+              rose = told.rose;
+              first = first-stand v.table v.nodes.devices (store_in v) (record store { opened = end.closed.opened }) fault end.closed.back comes.coherent.out f told.number is told.from;
+            },
+          )
+
+      by_fault : (x : Option FaultAt) → fault ≡ x → IsFlushedAs store account x
+      by_fault None none = same-counts (counts_at_last store account) (counts_now v) end.faults
+          (same-places (map count_back end.closed.opened) (counts_now v).devices
+          (all-stand v.table v.nodes.devices (store_in v) (record store { opened = end.closed.opened }) fault end.closed.back comes.coherent.out none))
+      by_fault (Some f) some = failed f some
+
+  pub flush-failed : (f : FaultAt) → fault ≡ Some f → (dev : DevNo) × (f.from ≡ Dev dev)
+  flush-failed f is =
+      let told : IsToldBack v end.closed.opened f = rw is at end.closed.given.told in
+      (told.number, told.from)
+
+  pub run-is : (cast : Cast) (work : Work) → guests_of cast ≡ guests → length work.traces ≡ length guests
+      → KeepsOrder (course_of work.script work.traces) v.progress.log.events
+      → (room : Room) → GoesThrough (opening_by old guests) (new_world old guests room) v.progress.log.events v → IsRun cast work fault old store account
+  run-is cast work names count order room through = record {
     opening = rw names (opening-of old guests);
     openings = opened;
     room = end.room ∙ stays.room ∙ roomy;
     order = record { guests = count; order = order };
     licensed = licensed;
-    quiet = quiet-run (counts_at_first old account) (counts_at_last store account) v.progress.log.events licensed;
+    later = later;
+    quiet = quiet-run (counts_at_first old account) (counts_at_last store account) v.progress.log.events
+        (licensed-later (counts_at_first old account) (counts_now v) (counts_at_last store account) v.progress.log.events later.store later.devices licensed);
+    flush = flush;
+    worlds = record { room = room; last = v; through = through; comes = comes; counts_are = refl; closed = end.closed };
     files = by_files old.files refl;
   }
     where
-      by_store : is_some v.files ≡ true → (x : Option (List File)) → store.files ≡ x → With x (LeavesFiles account is_flushed)
+      by_store : is_some v.files ≡ true → (x : Option (List File)) → store.files ≡ x → With x (LeavesFiles account fault)
       by_store told None is = absurd (with-none (λ fs. AreDisks fs (replay (start (opening_by old guests)) v.progress.log.events)) store.files (end.disks told (replay (start (opening_by old guests)) v.progress.log.events)
           (comes.shows told).table.table_is (comes.shows told).contents.disks) is)
-      by_store told (Some files) is = leaves-files (opening_by old guests) v account store fault is_flushed files refl refl comes end told is good
+      by_store told (Some files) is = leaves-files (opening_by old guests) v account store fault files refl refl comes end told is
 
-      by_files : (x : Option (List File)) → old.files ≡ x → IfTold x (λ told. With store.files (LeavesFiles account is_flushed))
+      by_files : (x : Option (List File)) → old.files ≡ x → IfTold x (λ told. With store.files (LeavesFiles account fault))
       by_files None is = tt
       by_files (Some files) is =
           let told : is_some v.files ≡ true = stays.told ∙ telling ∙ ap (λ (x : Option (List File)). is_some x) is in
@@ -145,8 +183,8 @@ module _ (old : StoreSeen) (guests : List (List ℕ)) (w v : Face) (store : Stor
       slots = λ slot below. rw (← table, ← guests', ← ended) (stuck.slots slot below);
     }
 
-    pub ends-stuck : AllRest v after → (actor : ℕ) (what : Waits (List ℕ)) → IsFirst v after actor what → EndsStuck (is_some old.files) work account actor what
-    ends-stuck rest actor what first' = by_told (is_some old.files) refl
+    pub ends-stuck : HaveDevices guests v.progress.log.events v.table → AllRest v after → (actor : ℕ) (what : Waits (List ℕ)) → IsFirst v after actor what → EndsStuck (is_some old.files) work account actor what
+    ends-stuck devices rest actor what first' = by_told (is_some old.files) refl
       where
         stuck : IsStuck (seen_state v) (course_in work account) actor what
         stuck = is-stuck v after work.script work.traces can keeps comes.coherent.jobs rest actor what first'
@@ -158,6 +196,8 @@ module _ (old : StoreSeen) (guests : List (List ℕ)) (w v : Face) (store : Stor
         by_told false none = record {
           state = seen_state v;
           table = comes.table;
+          devices = devices;
+          jobs = comes.coherent.jobs;
           told = λ bad. absurd (false≢true bad);
           guests = comes.requests;
           ended = sym ended;
@@ -168,30 +208,18 @@ module _ (old : StoreSeen) (guests : List (List ℕ)) (w v : Face) (store : Stor
             let s = replay (start (opening_by old guests)) v.progress.log.events in
             record {
               state = s;
-              table = subst (IsTableAfter guests v.progress.log.events) (sym shows.table.table_is) comes.table;
+              table =
+                  subst (λ (t : Table). IsTableAfter guests v.progress.log.events t s.dirty) (sym shows.table.table_is)
+                  (subst (IsTableAfter guests v.progress.log.events v.table) (sym shows.dirty) comes.table);
+              devices = subst (HaveDevices guests v.progress.log.events) (sym shows.table.table_is) devices;
+              jobs = ap (λ (t : Table). t.jobs) shows.table.table_is ∙ comes.coherent.jobs;
               told = λ is. refl;
               guests = shows.guests.guests_are ∙ comes.requests;
               ended = shows.guests.ended_are ∙ sym ended;
               stuck = stuck-alike (seen_state v) s (course_in work account) actor what (sym shows.table.table_is) (sym shows.guests.guests_are) (sym shows.guests.ended_are) stuck;
             }
 
-    pub has-stopped : AllRest v after → (waiting : Option (ℕ × Waits Written)) → MatchOption waiting (AreDone after) (λ r. IsFirst v after r.0 (seen_waits r.1))
+    pub has-stopped : HaveDevices guests v.progress.log.events v.table → AllRest v after → (waiting : Option (ℕ × Waits Written)) → MatchOption waiting (AreDone after) (λ r. IsFirst v after r.0 (seen_waits r.1))
         → HasStopped (is_some old.files) work account
-    has-stopped rest None done = inl (ends-done done)
-    has-stopped rest (Some r) first' = inr (r.0, seen_waits r.1, ends-stuck rest r.0 (seen_waits r.1) first')
-
-  -- ---- a fault of the last flush
-
-  pub flush-failed : (f : FaultAt) → fault ≡ Some f → (dev : DevNo) × (f.from ≡ Dev dev) × FailsToFlush account dev f.count
-  flush-failed f is =
-      let told : IsToldBack v end.closed.opened f = rw is at end.closed.given.told in
-      let before = with-some (slice_get (counts_now v).devices told.number.0) (λ b. Rose b f.count) told.rose in (
-        told.number,
-        told.from,
-        record {
-          last = told.count;
-          before = before.0;
-          rose = before.2;
-          named = named-below (first_counts v) (counts_now v) (Dev told.number) before.0 before.1 (faults_of v.progress.log.events) comes.history.licensed.rises;
-        },
-      )
+    has-stopped devices rest None done = inl (ends-done done)
+    has-stopped devices rest (Some r) first' = inr (r.0, seen_waits r.1, ends-stuck devices rest r.0 (seen_waits r.1) first')

@@ -1,18 +1,15 @@
 -- Why a run ended with its status.
-use Rattle.std.proofs.Common.{◌≡◌, ◌⊎◌, ℕ, zero, suc, ◌+◌, ◌≤◌, ◌<◌, Bool, true, false, List, [], ◌∷◌, ◌++◌, length, take, refl, sym, ◌∙◌, ap, subst, arith, Option, Some, None, inl, inr}
-use Rattle.std.specs.Prelude.{slice_get, is_some, MatchOption, option_map}
-use Rattle.std.proofs.lemmas.Bool.{false≢true}
-use Rattle.std.proofs.lemmas.List.{take_all, take-append-le, append-nil, length-append}
+use Rattle.std.proofs.Common.{◌≡◌, ◌⊎◌, ℕ, List, [], ◌∷◌, ◌++◌, length, take, refl, sym, ◌∙◌, ap, subst, arith, Option, Some, None, inl, inr}
+use Rattle.std.specs.Prelude.{is_some, MatchOption, option_map}
+use Rattle.std.proofs.lemmas.List.{take_all, take-append-le}
 use Rattle.blk_base.specs.Counts.{Rose}
 use Rattle.blk_base.specs.Files.{IfTold}
 use Rattle.blk_base.specs.Written.{Written}
-use Rattle.blk_base.specs.declared.fault.DevNo.{DevNo}
 use Rattle.blk_base.specs.declared.fault.FaultAt.{FaultAt}
 use Rattle.blk_base.specs.declared.fault.FaultFrom.{FaultFrom}
-use Rattle.blk_base.specs.declared.fault.FaultFrom.TheVariants.{Store, Dev, Sink}
+use Rattle.blk_base.specs.declared.fault.FaultFrom.TheVariants.{Dev, Sink}
 use Rattle.blk_base.specs.declared.memory.Room.{Room}
 use Rattle.trace_codec.specs.declared.waits.Waits.{Waits}
-use Rattle.blk_history.specs.Names.{RowNames}
 use Rattle.blk_history.specs.Recorded.{Recorded}
 use Rattle.blk_history.specs.Transcript.{transcript}
 use Rattle.blk_history.specs.declared.event.Event.{Event}
@@ -20,24 +17,28 @@ use Rattle.blk_history.specs.declared.event.Event.TheVariants.{Admit, Refuse, Pi
 use Rattle.flat_machine.specs.State.{State}
 use Rattle.flat_machine.specs.Machine.{after}
 use Rattle.flat_machine.specs.Opening.{start}
-use Rattle.flat_machine.specs.Comes.{jobs_from, names_of, transcript_of}
+use Rattle.flat_machine.specs.Comes.{jobs_from, transcript_of}
+use Rattle.flat_machine.specs.Licence.{fault_at}
 use Rattle.flat_machine.specs.declared.opening.Opening.{Opening}
 use Rattle.blk_world.specs.Comes.{Comes}
 use Rattle.blk_world.specs.Face.{Face}
-use Rattle.blk_world.specs.Steps.{StoreSeen, IsOpeningOf, new_world}
+use Rattle.blk_world.specs.Steps.{IsOpeningOf, new_world}
 use Rattle.qblk_core.specs.Output.{SendsFront}
 use Rattle.qblk_core.specs.declared.status.Status.{Status}
-use Rattle.qblk_core.specs.declared.status.Status.TheVariants.{Done, Usage, Input, Fault, Stuck, NoMemory}
+use Rattle.qblk_core.specs.declared.status.Status.TheVariants.{Done, Fault, Stuck, NoMemory}
 use Rattle.qblk_inputs.specs.Inputs.{Work, HasWork}
-use Rattle.qblk_inputs.specs.Room.{IsRoomFor}
 use Rattle.qblk_inputs.specs.Words.{Cast, guests_of}
 use Rattle.qblk_run.specs.Beginning.{new_tasks}
 use Rattle.qblk_run.specs.Ending.{EndsAs, ended_as, failed_as, WentOut}
-use Rattle.qblk_run.specs.Run.{Setting, Account, IsRun, WasRun, WasRunWhole, WasStopped, HasStopped, IsFaulty, IsUnsent, Answers, whole_transcript, seen_waits}
-use Rattle.qblk_run.specs.Session.{IsEnd, IsPlayed, IsGivenUp}
+use Rattle.qblk_run.specs.Run.{Setting, Account, IsRun, WasRun, HasStopped, IsFaulty, Answers, whole_transcript, seen_waits}
+use Rattle.qblk_run.specs.Session.{IsPlayed}
 use Rattle.qblk_run.specs.Tasks.{HaveLines, KeepsTo, guests_only}
 use Rattle.qblk_run.proofs.Accounts.{opening_by, opening-of, account, run-is, ends-done, ends-stuck, has-stopped, flush-failed}
 use Rattle.qblk_run.proofs.Beginnings.{start-keeps}
+use Rattle.qblk_run.proofs.Devices.{run-devices}
+use Rattle.qblk_run.proofs.Worlds.{come-first}
+use Rattle.qblk_run.specs.Devices.{HaveDevices}
+use Rattle.qblk_run.specs.Worlds.{HasCome}
 
 -- ---- the transcript
 
@@ -78,8 +79,12 @@ module _ (cast : Cast) (work : Work) (old new : Setting) (room : Room) (log : Re
   abbrev w : Face
   w = new_world old.store (guests_of cast) room
 
+  abbrev has : HasCome (opening_by old.store (guests_of cast)) w played.now
+  has = played.comes (opening_by old.store (guests_of cast)) w (come-first (opening_by old.store (guests_of cast)) w
+      (begins (opening_by old.store (guests_of cast)) (opening-of old.store (guests_of cast))) refl)
+
   abbrev comes : Comes (opening_by old.store (guests_of cast)) played.now
-  comes = played.comes (opening_by old.store (guests_of cast)) (begins (opening_by old.store (guests_of cast)) (opening-of old.store (guests_of cast)))
+  comes = has.comes
 
   abbrev keeps : KeepsTo work.script work.traces played.now.progress.log.events played.after
   keeps = played.so.order work.script work.traces (start-keeps work.script work.traces)
@@ -87,15 +92,21 @@ module _ (cast : Cast) (work : Work) (old new : Setting) (room : Room) (log : Re
   abbrev its : Account
   its = account old.store (guests_of cast) w played.now new.store fault refl refl refl refl comes.counted played.stays comes played.end
 
-  run : (is_flushed : Bool) → (is_flushed ≡ true → fault ≡ None) → IsRun cast work is_flushed old.store new.store its
-  run is_flushed good = run-is old.store (guests_of cast) w played.now new.store fault refl refl refl refl comes.counted played.stays comes played.end cast work is_flushed refl count keeps.order good
+  run : IsRun cast work fault old.store new.store its
+  run = run-is old.store (guests_of cast) w played.now new.store fault refl refl refl refl comes.counted played.stays comes played.end cast work refl count keeps.order room has.through
 
-  was : (is_flushed : Bool) (n : ℕ) → (is_flushed ≡ true → fault ≡ None) → new.sent ≡ option_map (λ s. s ++ take n (whole_transcript its)) old.sent → WasRun cast work is_flushed old new its n
-  was is_flushed n good sent = record { inputs = inputs; run = run is_flushed good; sent = sent }
+  run-as : (x : Option FaultAt) → fault ≡ x → IsRun cast work x old.store new.store its
+  run-as x is = subst (λ (f : Option FaultAt). IsRun cast work f old.store new.store its) is run
+
+  was : (x : Option FaultAt) → fault ≡ x → (n : ℕ) → new.sent ≡ option_map (λ s. s ++ take n (whole_transcript its)) old.sent → WasRun cast work x old new its n
+  was x is n sent = record { inputs = inputs; run = run-as x is; sent = sent }
+
+  devices : HaveDevices (guests_of cast) played.now.progress.log.events played.now.table
+  devices = run-devices (opening_by old.store (guests_of cast)) old.store (guests_of cast) room played.now.progress.log.events played.now has.through
 
   stopped : HasStopped (is_some old.store.files) work its
   stopped = has-stopped old.store (guests_of cast) w played.now new.store fault refl refl refl refl comes.counted played.stays comes played.end
-      work played.after played.so.can keeps count played.rest waiting played.named
+      work played.after played.so.can keeps count devices played.rest waiting played.named
 
   -- the flush was good, and all went out
   done : fault ≡ None → waiting ≡ None → new.sent ≡ option_map (λ s. s ++ whole_transcript its) old.sent → new.sink_faults ≡ old.sink_faults → Answers cast old new Done
@@ -103,7 +114,7 @@ module _ (cast : Cast) (work : Work) (old new : Setting) (room : Room) (log : Re
       let all : MatchOption waiting _ _ = played.named in (
         work,
         its,
-        record { was = was true (length (whole_transcript its)) (λ is. good) (whole-out old.sent new.sent (whole_transcript its) sent); sink = sink },
+        record { was = was None good (length (whole_transcript its)) (whole-out old.sent new.sent (whole_transcript its) sent); sink = sink },
         ends-done old.store (guests_of cast) w played.now new.store fault refl refl refl refl comes.counted played.stays comes played.end
             work played.after played.so.can keeps count (rw none at played.named),
       )
@@ -113,23 +124,24 @@ module _ (cast : Cast) (work : Work) (old new : Setting) (room : Room) (log : Re
   stuck good r some sent sink = (
     work,
     its,
-    record { was = was true (length (whole_transcript its)) (λ is. good) (whole-out old.sent new.sent (whole_transcript its) sent); sink = sink },
+    record { was = was None good (length (whole_transcript its)) (whole-out old.sent new.sent (whole_transcript its) sent); sink = sink },
     ends-stuck old.store (guests_of cast) w played.now new.store fault refl refl refl refl comes.counted played.stays comes played.end
-        work played.after played.so.can keeps count played.rest r.0 (seen_waits r.1) (rw some at played.named),
+        work played.after played.so.can keeps count devices played.rest r.0 (seen_waits r.1) (rw some at played.named),
   )
 
   flush : (f : FaultAt) → fault ≡ Some f → (n : ℕ) → new.sent ≡ option_map (λ s. s ++ take n (whole_transcript its)) old.sent
       → ((n ≡ length (whole_transcript its)) × (new.sink_faults ≡ old.sink_faults)) ⊎ Rose old.sink_faults new.sink_faults → Answers cast old new (Fault f.from f.count)
   flush f is n sent out =
       let failed = flush-failed old.store (guests_of cast) w played.now new.store fault refl refl refl refl comes.counted played.stays comes played.end f is in
+      let named : f ≡ fault_at (Dev failed.0) f.count = ap (λ (from : FaultFrom). fault_at from f.count) failed.1 in
       subst (λ (from : FaultFrom). IsFaulty cast old new from f.count) (sym failed.1)
-      (work, its, n, record { was = was false n (λ bad. absurd (false≢true bad)) sent; stopped = stopped }, failed.2, out)
+      (work, its, n, record { was = was (Some (fault_at (Dev failed.0) f.count)) (is ∙ ap (λ (x : FaultAt). Some x) named) n sent; stopped = stopped }, out)
 
   put : fault ≡ None → (n : ℕ) → new.sent ≡ option_map (λ s. s ++ take n (whole_transcript its)) old.sent → Rose old.sink_faults new.sink_faults → Answers cast old new (Fault Sink new.sink_faults)
-  put good n sent rose = (work, its, n, record { was = was true n (λ is. good) sent; stopped = stopped }, rose, refl)
+  put good n sent rose = (work, its, n, record { was = was None good n sent; stopped = stopped }, rose, refl)
 
   unsent : new.sent ≡ old.sent → new.sink_faults ≡ old.sink_faults → Answers cast old new NoMemory
-  unsent sent sink = (sent, sink, inr (work, its, inputs, run false (λ bad. absurd (false≢true bad))))
+  unsent sent sink = (sent, sink, inr (work, fault, its, inputs, run))
 
   by-end : (whole : List ℕ) → whole ≡ whole_transcript its → (x : Option FaultAt) → fault ≡ x → (y : Option (ℕ × Waits Written)) → waiting ≡ y → WentOut old.sent new.sent whole old.sink_faults new.sink_faults
       → Answers cast old new (ended_as x y)

@@ -1,5 +1,5 @@
 -- At the beginning the actors can go on, and script and traces are whole.
-use Rattle.std.proofs.Common.{◌≡◌, ℕ, zero, suc, ◌+◌, ◌≤◌, ◌<◌, ◌^◌, false, List, [], ◌∷◌, length, map, replicate, refl, sym, ◌∙◌, ap, subst, arith, Option, Some, None}
+use Rattle.std.proofs.Common.{◌≡◌, ℕ, zero, suc, ◌+◌, ◌<◌, ◌^◌, false, List, [], ◌∷◌, length, map, replicate, refl, sym, ◌∙◌, subst, arith, Some}
 use Rattle.std.specs.Prelude.{slice_get}
 use Rattle.std.proofs.lemmas.List.{length-map, length-replicate}
 use Rattle.blk_base.specs.declared.memory.Room.{Room}
@@ -8,11 +8,11 @@ use Rattle.trace_codec.specs.Script.{Order}
 use Rattle.blk_history.specs.Fold.{With}
 use Rattle.flat_machine.specs.State.{Guest}
 use Rattle.flat_machine.specs.Opening.{new_guest}
-use Rattle.flat_machine.specs.Courses.{course_of, past_waits}
+use Rattle.flat_machine.specs.Courses.{past_waits}
 use Rattle.blk_world.specs.Progress.{Progress, no_progress}
-use Rattle.qblk_inputs.specs.Room.{IsRoomFor, CanCount, AllCanCount, entries_for, entries_for_all, bytes_for, bytes_for_all}
+use Rattle.qblk_inputs.specs.Room.{IsRoomFor, AllCanCount, entries_for_all, bytes_for_all}
 use Rattle.qblk_run.specs.Beginning.{new_task, new_tasks}
-use Rattle.qblk_run.specs.Tasks.{Task, Tasks, CanGoOn, KeepsTo, IsTaskOf, IsTaskIn, IsRestOf, entries_of_all, bytes_of_all}
+use Rattle.qblk_run.specs.Tasks.{Task, CanGoOn, KeepsTo, IsTaskOf, entries_of_all, bytes_of_all}
 
 entries-start : (traces : List (List Wish)) → entries_of_all (map new_task traces) ≡ entries_for_all traces
 entries-start [] = refl

@@ -1,10 +1,10 @@
 -- What a run was, by the world that was closed.
-use Rattle.std.proofs.Common.{◌≡◌, ◌⊎◌, ℕ, zero, suc, ◌<◌, ◌≤◌, Bool, true, false, List, [], ◌∷◌, ◌++◌, length, map, refl, sym, ◌∙◌, ap, subst, arith, Option, Some, None, inl, inr}
-use Rattle.std.specs.Prelude.{slice_get, get_or, All, Contains, IsSome, is_some, is_none, option_map, unwrap_or, ◌||◌, bytes_eq}
+use Rattle.std.proofs.Common.{◌≡◌, ℕ, zero, suc, ◌<◌, ◌≤◌, Bool, true, false, List, [], ◌∷◌, ◌++◌, length, refl, sym, ◌∙◌, ap, subst, arith, Option, Some, None}
+use Rattle.std.specs.Prelude.{slice_get, get_or, All, IsSome, is_some, option_map, ◌||◌}
 use Rattle.std.proofs.lemmas.Bool.{false≢true}
 use Rattle.flat_machine.proofs.Finds.{bytes_eq-same}
 use Rattle.blk_base.specs.Counts.{Rose}
-use Rattle.blk_base.specs.Files.{IfTold, is_out, is_out_as, file_at}
+use Rattle.blk_base.specs.Files.{is_out, is_out_as, file_at}
 use Rattle.blk_base.specs.declared.fault.FaultAt.{FaultAt}
 use Rattle.blk_base.specs.declared.fault.FaultFrom.{FaultFrom}
 use Rattle.blk_base.specs.declared.fault.FaultFrom.TheVariants.{Store, Dev, Sink}
@@ -12,22 +12,20 @@ use Rattle.blk_base.specs.declared.file.File.{File}
 use Rattle.blk_base.specs.declared.file.Opened.{Opened}
 use Rattle.blk_history.specs.Fold.{With}
 use Rattle.blk_history.specs.declared.event.Event.{Event}
-use Rattle.flat_machine.specs.State.{State, Left, filename_of}
+use Rattle.flat_machine.specs.State.{Left, filename_of}
 use Rattle.flat_machine.specs.Machine.{replay}
 use Rattle.flat_machine.specs.Opening.{start}
 use Rattle.flat_machine.specs.Agreement.{Contents, IsLeftAs}
-use Rattle.flat_machine.specs.Final.{bytes_of, read_as, IsLeftIn, AreLeftBy, AreDisks}
+use Rattle.flat_machine.specs.Final.{bytes_of, read_as, IsLeftIn, AreDisks}
 use Rattle.flat_machine.specs.Licence.{Counts, IsBetween, AreLicensed, faults_of, count_of}
 use Rattle.flat_machine.specs.declared.opening.Opening.{Opening}
-use Rattle.blk_world.specs.Closing.{IsClosed, IsFlushedIn, count_back}
 use Rattle.blk_world.specs.Comes.{Comes}
 use Rattle.blk_world.specs.Counting.{HaveNotFallen}
-use Rattle.blk_world.specs.Face.{Face, held, told_bytes, contents_of, first_counts, counts_now}
-use Rattle.blk_world.specs.Steps.{StoreSeen, IsOpeningOf}
-use Rattle.qblk_run.specs.Run.{HasOpened, HaveStood, LeavesFiles, Account, state_after}
+use Rattle.blk_world.specs.Face.{Face, held, told_bytes, contents_of}
+use Rattle.blk_world.specs.Steps.{StoreSeen}
+use Rattle.qblk_run.specs.Run.{HaveStood, LeavesFiles, Account}
 use Rattle.qblk_run.specs.Session.{IsEnd}
-use Rattle.qblk_run.specs.Turns.{StaysIn}
-use Rattle.qblk_run.proofs.Lists.{with-some, at-with, with-map}
+use Rattle.qblk_run.proofs.Lists.{with-some, with-map}
 
 -- ---- all of a list
 
@@ -84,21 +82,6 @@ licensed-later a b c h store devices is = record {
   once = is.once;
 }
 
--- what the history names of a device is no more than its count
-pub named-below : (a b : Counts) (from : FaultFrom) (before : ℕ) → count_of b from ≡ Some before → (faults : List FaultAt) → All (IsBetween a b) faults
-    → All (λ f. f.from ≡ from → f.count ≤ before) faults
-named-below a b from before is faults all = all-weaker (IsBetween a b) (λ f. f.from ≡ from → f.count ≤ before) (λ f between same.
-    let there : count_of b f.from ≡ Some before = ap (count_of b) same ∙ is in
-    below f before there between.reached) faults all
-  where
-    below : (f : FaultAt) (before : ℕ) → count_of b f.from ≡ Some before → With (count_of b f.from) (λ now. f.count ≤ now) → f.count ≤ before
-    below f before there reached = let found = with-some (count_of b f.from) (λ now. f.count ≤ now) reached in
-        let same : found.0 ≡ before = some-same (sym found.1 ∙ there) in
-        rw (← same) found.2
-      where
-        some-same : {x y : ℕ} → Some x ≡ Some y → x ≡ y
-        some-same e = cc
-
 -- where no count has risen none is named
 none-between : (a b : Counts) (fault : FaultAt) → HaveStood a b → IsBetween a b fault → ⊥
 none-between a b fault stood is =
@@ -132,10 +115,10 @@ left-in files c holds left is = by_file (file_at left.file files) (subst (λ x. 
     by_file None is = is
     by_file (Some f) is = is
 
-pub leaves-files : (o : Opening) (v : Face) (a : Account) (store : StoreSeen) (fault : Option FaultAt) (is_flushed : Bool) (files : List File)
-    → a.opening ≡ o → a.events ≡ v.progress.log.events → Comes o v → IsEnd v store fault → is_some v.files ≡ true → store.files ≡ Some files → (is_flushed ≡ true → fault ≡ None)
-    → LeavesFiles a is_flushed files
-leaves-files o v a store fault is_flushed files opening events comes end told is good =
+pub leaves-files : (o : Opening) (v : Face) (a : Account) (store : StoreSeen) (fault : Option FaultAt) (files : List File)
+    → a.opening ≡ o → a.events ≡ v.progress.log.events → Comes o v → IsEnd v store fault → is_some v.files ≡ true → store.files ≡ Some files
+    → LeavesFiles a fault files
+leaves-files o v a store fault files opening events comes end told is =
     let shows = comes.shows told in
     let s = replay (start o) v.progress.log.events in
     let holds : (name : List ℕ) → bytes_of files name ≡ held v name = λ name. sym (ap (λ x. told_bytes x name) is) ∙ end.held told name in
@@ -147,6 +130,6 @@ leaves-files o v a store fault is_flushed files opening events comes end told is
         left = all-weaker (IsLeftAs (contents_of v)) (IsLeftIn files) (left-in files (contents_of v) holds) s.left shows.contents.left;
         unnamed = λ name none. holds name ∙ shows.contents.unchanged name none;
       };
-      flushed = λ all node name named.
-          rw is at (end.flushed told (good all) node name (ap (λ (t : _). filename_of t node) (sym shows.table.table_is) ∙ named));
+      flushed = λ none node name named.
+          rw is at (end.flushed told none node name (ap (λ (t : _). filename_of t node) (sym shows.table.table_is) ∙ named));
     })

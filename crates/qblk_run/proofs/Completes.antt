@@ -1,6 +1,6 @@
 -- A run whose script awaits nothing, and whose traces wait for lines of it alone, isn't stuck while its guests are attached.
-use Rattle.std.proofs.Common.{◌≡◌, ◌≢◌, ◌⊎◌, ℕ, zero, suc, ◌+◌, ◌≤◌, ◌<◌, true, false, Bool, List, [], ◌∷◌, ◌++◌, length, refl, sym, ◌∙◌, ap, subst, arith, append_assoc, Option, Some, None, inl, inr}
-use Rattle.std.specs.Prelude.{slice_get, All, IsSome, Contains, option_map, ◌==◌, ◌||◌}
+use Rattle.std.proofs.Common.{◌≡◌, ◌≢◌, ◌⊎◌, ℕ, zero, suc, ◌≤◌, true, false, Bool, List, [], ◌∷◌, ◌++◌, length, refl, sym, ◌∙◌, subst, arith, append_assoc, Option, Some, None, inl, inr}
+use Rattle.std.specs.Prelude.{slice_get, All, IsSome, option_map}
 use Rattle.std.proofs.lemmas.Bool.{false≢true}
 use Rattle.std.proofs.lemmas.List.{append-nil}
 use Rattle.trace_codec.specs.declared.order.Order.TheVariants.{Give, Watch}
@@ -10,16 +10,15 @@ use Rattle.trace_codec.specs.declared.waits.Waits.{Waits}
 use Rattle.trace_codec.specs.Script.{Order}
 use Rattle.qmp_rules.specs.Chains.{has_id}
 use Rattle.qmp_rules.specs.Table.{device_at}
-use Rattle.blk_history.specs.Fold.{With, change, Each, run}
+use Rattle.blk_history.specs.Fold.{change}
 use Rattle.blk_history.specs.declared.event.Event.{Event}
 use Rattle.blk_history.specs.declared.event.Event.TheVariants.{Admit, Refuse, Piece, Retire, Reply, Reached, Start, Ready, End, Done}
-use Rattle.blk_world.proofs.Ends.{has-is, is-has}
+use Rattle.blk_world.proofs.Ends.{is-has}
 use Rattle.flat_machine.specs.State.{State}
 use Rattle.flat_machine.specs.Blocked.{ScriptWaits, TraceWaits, ActorWaits, IsStuck}
 use Rattle.flat_machine.specs.Courses.{Course, course_of, course_after, onward, IsOwn, IsGiven, IsWatched, KeepsOrder, past_waits, behind, rest_of, is_answered}
 use Rattle.qblk_inputs.specs.Inputs.{Work}
 use Rattle.qblk_run.specs.Completeness.{AwaitsNothing, lines_in, WaitsForLines, CanBeWhole, AreAttached}
-use Rattle.qblk_run.specs.Run.{Account, EndsStuck}
 use Rattle.qblk_run.proofs.Lists.{get-change, get-change-other, same_or_not, with-some, has-stays, is-get, below-get}
 use Rattle.qblk_run.proofs.History.{traces-onward}
 

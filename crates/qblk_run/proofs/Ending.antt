@@ -1,20 +1,17 @@
 -- How a run ends: all is done, or each actor that isn't is blocked.
-use Rattle.std.proofs.Common.{◌≡◌, ◌⊎◌, ℕ, zero, suc, ◌+◌, ◌≤◌, ◌<◌, true, false, Bool, List, [], ◌∷◌, length, refl, sym, ◌∙◌, ap, subst, arith, add-one, Option, Some, None, inl, inr}
-use Rattle.std.specs.Prelude.{slice_get, Contains, All}
+use Rattle.std.proofs.Common.{◌≡◌, ℕ, zero, suc, ◌+◌, ◌<◌, true, false, Bool, List, [], length, refl, sym, ◌∙◌, ap, subst, arith, add-one, Option, Some, None, inl, inr}
+use Rattle.std.specs.Prelude.{slice_get, Contains}
 use Rattle.std.proofs.lemmas.Bool.{false≢true}
 use Rattle.trace_codec.specs.declared.wish.Wish.{Wish}
 use Rattle.trace_codec.specs.declared.waits.Waits.{Waits}
 use Rattle.trace_codec.specs.Script.{Order}
-use Rattle.qmp_rules.specs.Table.{job_in}
-use Rattle.blk_history.specs.Fold.{With}
-use Rattle.blk_history.specs.declared.event.Event.{Event}
-use Rattle.flat_machine.specs.State.{State, Guest, guest_at}
-use Rattle.flat_machine.specs.Blocked.{ScriptWaits, TraceWaits, GuestWaits, ActorWaits, IsUnfinished, IsStuck, SlotWaits, JobWaits}
-use Rattle.flat_machine.specs.Courses.{Course, course_of, course_after, past_waits, rest_of, IsUsedUp, UsesUp, AreAllDone, IsWhole}
+use Rattle.flat_machine.specs.State.{Guest, guest_at}
+use Rattle.flat_machine.specs.Blocked.{ScriptWaits, TraceWaits, ActorWaits, IsUnfinished, IsStuck, SlotWaits}
+use Rattle.flat_machine.specs.Courses.{Course, course_of, course_after, past_waits, rest_of, IsUsedUp, AreAllDone, IsWhole}
 use Rattle.blk_world.specs.Face.{Face, seen_state}
-use Rattle.blk_world.specs.Progress.{Progress, ended_in, answered_in}
-use Rattle.qblk_run.specs.Tasks.{Task, Tasks, ScriptTask, CanGoOn, KeepsTo, IsTaskOf, IsFlying, Rests, TaskWaits, ScriptRests}
-use Rattle.qblk_run.specs.Rounds.{AllRest, AllAreDone, AreDone, IsFirst, IsFirstGuest}
+use Rattle.blk_world.specs.Progress.{ended_in, answered_in}
+use Rattle.qblk_run.specs.Tasks.{Task, Tasks, CanGoOn, KeepsTo, IsTaskOf, IsFlying, Rests, TaskWaits, ScriptRests}
+use Rattle.qblk_run.specs.Rounds.{AllRest, AreDone, IsFirst, IsFirstGuest}
 use Rattle.qblk_run.proofs.Lists.{get-below, below-get, at-with, with-map, with-some, none-has, some-has}
 use Rattle.qblk_run.proofs.History.{course-answered, course-ended}
 

@@ -1,18 +1,17 @@
 -- What each event of a guest makes of its task.
-use Rattle.std.proofs.Common.{◌≡◌, ◌≢◌, ◌⊎◌, ℕ, zero, suc, ◌+◌, ◌-◌, ◌*◌, ◌≤◌, ◌<◌, ◌^◌, true, false, Bool, not, List, [], ◌∷◌, ◌++◌, length, refl, sym, ◌∙◌, ap, subst, arith, add-one, Option, Some, None, inl, inr}
-use Rattle.std.specs.Prelude.{slice_get, option_map, option_and_then, option_to_list, Contains}
+use Rattle.std.proofs.Common.{◌≡◌, ℕ, zero, suc, ◌+◌, ◌-◌, ◌≤◌, ◌<◌, true, false, Bool, List, [], ◌∷◌, ◌++◌, length, refl, sym, ◌∙◌, ap, subst, arith, add-one, Option, Some, None, inl, inr}
+use Rattle.std.specs.Prelude.{slice_get, option_and_then, option_to_list}
 use Rattle.std.proofs.lemmas.Bool.{false≢true}
 use Rattle.blk_base.specs.Outcomes.{is_good}
 use Rattle.blk_base.specs.Pieces.{Extent, piece_of}
 use Rattle.blk_base.specs.declared.fault.Outcome.{Outcome}
-use Rattle.blk_base.specs.declared.memory.Room.{Room}
 use Rattle.trace_codec.specs.declared.op.Op.{Op}
 use Rattle.trace_codec.specs.declared.op.Op.TheVariants.{Read, Write, Zero, Flush, Discard}
 use Rattle.trace_codec.specs.declared.wish.Wish.{Wish}
-use Rattle.trace_codec.specs.declared.wish.Wish.TheVariants.{Ask, Wait}
+use Rattle.trace_codec.specs.declared.wish.Wish.TheVariants.{Ask}
 use Rattle.trace_codec.specs.Request.{pieces_of, read_bytes_of}
 use Rattle.trace_codec.specs.declared.waits.Waits.{Waits}
-use Rattle.trace_codec.specs.declared.waits.Waits.TheVariants.{Line, Attached}
+use Rattle.trace_codec.specs.declared.waits.Waits.TheVariants.{Attached}
 use Rattle.blk_history.specs.Disk.{piece}
 use Rattle.blk_history.specs.Fold.{With, change}
 use Rattle.blk_history.specs.Legal.{IsOver}
@@ -20,21 +19,21 @@ use Rattle.blk_history.specs.Machine.{Flight, one_further}
 use Rattle.blk_history.specs.declared.entry.Refused.{Refused}
 use Rattle.blk_history.specs.declared.event.Event.{Event}
 use Rattle.blk_history.specs.declared.event.Event.TheVariants.{Admit, Refuse, Piece, Retire, Reply, Reached, Start, Ready, End, Done}
-use Rattle.qmp_rules.specs.Table.{device_at}
 use Rattle.flat_machine.specs.State.{Guest}
 use Rattle.flat_machine.specs.Machine.{admitted, finished, past_piece}
 use Rattle.flat_machine.specs.Courses.{past_waits}
 use Rattle.flat_machine.specs.Legal.{IsNotDone}
 use Rattle.flat_machine.specs.Blocked.{TraceWaits}
-use Rattle.blk_world.specs.declared.admission.Admission.{Admission}
+use Rattle.flat_machine.specs.Marks.{is_held}
 use Rattle.blk_world.specs.declared.admission.Admission.TheVariants.{Admitted, Refused as NotAdmitted, Away}
 use Rattle.blk_world.specs.Face.{Face, seen_state}
-use Rattle.blk_world.specs.Progress.{Progress, ended_in, answered_in, done_at, flight_at, with_admission, with_refusal, with_piece, with_retirement, with_entry, IsFree, HasNext, CanShow, HasRoomFor, shows_in}
+use Rattle.blk_world.specs.Piecing.{IsPieceMade, HasPieceLicence, shown_by}
+use Rattle.blk_world.specs.Progress.{Progress, ended_in, answered_in, done_at, flight_at, with_piece, with_retirement, IsFree, HasNext, CanShow, HasRoomFor, shows_in}
 use Rattle.blk_world.specs.Steps.{onward, after_admission, after_end, IsAnswered, IsIdle}
 use Rattle.qblk_inputs.specs.Room.{entries_for, bytes_for, HaveNumbers}
-use Rattle.qblk_run.specs.Tasks.{Task, IsTaskOf, IsTaskIn, HasLeft, IsFlying, in_flight, entries_of, steps_of, end_of, Rests, TaskWaits}
-use Rattle.qblk_run.specs.Turns.{IsOwnMove, IsMove, MakesMove, IsStill, IsTurn, Asks, GoesOn, Ends}
-use Rattle.qblk_run.proofs.Lists.{with-at, at-with, with-map, with-some, get-change, none-has, below-get}
+use Rattle.qblk_run.specs.Tasks.{Task, IsTaskOf, IsTaskIn, HasLeft, IsFlying, in_flight, entries_of, steps_of, end_of}
+use Rattle.qblk_run.specs.Turns.{IsOwnMove, MakesMove, IsTurn}
+use Rattle.qblk_run.proofs.Lists.{with-at, at-with, with-some, get-change, none-has, below-get}
 use Rattle.qblk_run.proofs.Waits.{through, grows-same, entries-past, bytes-past}
 use Rattle.qblk_run.proofs.Continuing.{Passes, entries-same, bytes-same, passed-task}
 
@@ -131,6 +130,19 @@ left-next n f outcome left is good bad = by_test (is_good outcome) refl
     by_test : (b : Bool) → is_good outcome ≡ b → HasLeft left (one_further outcome f)
     by_test true e = on_good left e (good e)
     by_test false e = rw (bad e) (inr (rw e refl))
+
+-- what a piece notes
+pub piece-noted : (w v : Face) (g : ℕ) (outcome : Outcome) → With (flight_at w.progress.guests g) HasNext
+    → ((f : Flight) → flight_at w.progress.guests g ≡ Some f → (made : IsPieceMade w v g f outcome) × HasPieceLicence w v g f outcome made)
+    → (f : Flight) → flight_at w.progress.guests g ≡ Some f → (got : List ℕ) × (v.progress ≡ with_piece g f.next outcome got w.progress) × CanShow (length got) f
+piece-noted w v g outcome can made f there =
+    let its = (made f there).0 in
+    let next = with-at (flight_at w.progress.guests g) f HasNext there can in
+    (shown_by f outcome its.buffer, ap (λ (u : Face). u.progress) its.kept, record { next = next.next; shown = its.shown })
+
+-- and leaves of drains
+pub piece-drains : (w v : Face) (g : ℕ) (f : Flight) (outcome : Outcome) → IsPieceMade w v g f outcome → v.drains ≡ w.drains
+piece-drains w v g f outcome made = ap (λ (u : Face). u.drains) made.kept
 
 -- ---- each event
 
@@ -347,8 +359,18 @@ passed-twice : (a : List ℕ) (before after : Task) → Passes a before after �
 passed-twice a before after passes = ap (past_waits a) passes.wishes ∙ through a a (grows-same a) before.wishes ∙ sym passes.wishes
 
 module _ (w v : Face) (g : ℕ) (before mid after : Task) (passes : Passes (answered_in w.progress.log.events) before mid) where
-  pub ask-moves : MakesMove w.progress v.progress g mid after → IsTurn w v g before after true
-  ask-moves move = move-passed w.progress v.progress g before mid after passes move
+  pub ask-moves : MakesMove w.progress v.progress g mid after → v.drains ≡ w.drains → IsTurn w v g before after true
+  ask-moves move drains = (move-passed w.progress v.progress g before mid after passes move, drains)
+
+  -- a drain holds it
+  pub ask-held : after ≡ mid → v ≡ w → mid.left ≡ None → is_held (seen_state w) w.drains g ≡ true → IsTurn w v g before after false
+  ask-held same kept idle held = rw same (record {
+    world = kept;
+    wishes = passes.wishes;
+    left = passes.left;
+    is_done = passes.is_done;
+    halts = inr (record { idle = idle; held = held });
+  })
 
   -- it waits for a line, or for its device
   pub ask-waits : after ≡ mid → v ≡ w → mid.left ≡ None → (what : Waits (List ℕ)) → TraceWaits (seen_state w) g mid.wishes what → IsTurn w v g before after false
@@ -357,7 +379,7 @@ module _ (w v : Face) (g : ℕ) (before mid after : Task) (passes : Passes (answ
     wishes = passes.wishes;
     left = passes.left;
     is_done = passes.is_done;
-    rests = inr (record { idle = idle; passed = passed-twice (answered_in w.progress.log.events) before mid passes; what = what; waits = waits });
+    halts = inl (inr (record { idle = idle; passed = passed-twice (answered_in w.progress.log.events) before mid passes; what = what; waits = waits }));
   })
 
 -- a request that isn't admitted is given back

@@ -1,5 +1,5 @@
 -- What is left of script and traces, by the history.
-use Rattle.std.proofs.Common.{◌≡◌, ℕ, List, [], ◌∷◌, ◌++◌, length, refl, sym, ◌∙◌, ap, append_assoc}
+use Rattle.std.proofs.Common.{◌≡◌, List, [], ◌∷◌, ◌++◌, length, refl, sym, ◌∙◌, append_assoc}
 use Rattle.std.proofs.lemmas.List.{append-nil}
 use Rattle.trace_codec.specs.declared.wish.Wish.{Wish}
 use Rattle.blk_history.specs.declared.event.Event.{Event}

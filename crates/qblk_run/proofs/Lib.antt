@@ -1,6 +1,9 @@
 pub mod Lists
 pub mod Waits
 pub mod History
+pub mod Worlds
+mod LeftDevices
+pub mod Devices
 pub mod Sums
 pub mod Moves
 pub mod Orders
@@ -13,8 +16,10 @@ pub mod Lines
 pub mod Ending
 pub mod Firsts
 pub mod Closing
+pub mod Flushes
 pub mod Accounts
 pub mod Beginnings
 pub mod Answering
 pub mod Runs
 pub mod Completes
+pub mod Unharmed

@@ -1,11 +1,10 @@
 -- Lines of a transcript and the room that they take.
-use Rattle.std.proofs.Common.{◌≡◌, ℕ, zero, suc, ◌+◌, ◌*◌, ◌≤◌, ◌<◌, List, [], ◌∷◌, length, refl, ap, arith, Option, Some, None, Result, Ok, Err, IfOk}
+use Rattle.std.proofs.Common.{◌≡◌, ℕ, zero, suc, ◌+◌, ◌≤◌, List, [], ◌∷◌, length, refl, ap, arith, Some, Result, Ok, Err, IfOk}
 use Rattle.blk_base.specs.Written.{Written, memory_of}
-use Rattle.std.specs.Prelude.{slice_get, get_or}
-use Rattle.blk_history.specs.Line.{HasName, line_room, reply_by, actor_room, shown_by}
+use Rattle.blk_history.specs.Line.{line_room, reply_by}
 use Rattle.blk_history.specs.declared.event.Event.{Event}
 use Rattle.blk_history.specs.declared.event.Event.TheVariants.{Admit, Refuse, Piece, Retire, Reply, Reached, Start, Ready, End, Done}
-use Rattle.qblk_core.specs.Output.{Fits, AllFit}
+use Rattle.qblk_core.specs.Output.{AllFit}
 use Rattle.qblk_run.specs.Tasks.{HasLine, HaveLines, guests_only}
 use Rattle.qblk_run.specs.Sending.{RepliesFit, NamesFit}
 

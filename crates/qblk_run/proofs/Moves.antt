@@ -1,28 +1,20 @@
 -- What holds of tasks and history stays so where a guest makes an entry.
-use Rattle.std.proofs.Common.{◌≡◌, ◌≢◌, ◌⊎◌, ℕ, zero, suc, ◌+◌, ◌≤◌, ◌<◌, ◌^◌, true, false, List, [], ◌∷◌, ◌++◌, length, set, refl, sym, ◌∙◌, ap, subst, arith, add-one, Option, Some, None, inl, inr}
-use Rattle.std.specs.Prelude.{slice_get, option_map}
+use Rattle.std.proofs.Common.{◌≡◌, ◌≢◌, ◌⊎◌, ℕ, ◌+◌, List, [], ◌∷◌, ◌++◌, length, set, refl, sym, ◌∙◌, ap, arith, Some, inl, inr}
+use Rattle.std.specs.Prelude.{slice_get}
 use Rattle.std.proofs.Math.ListN.{length-set}
 use Rattle.std.proofs.lemmas.List.Elements.{filter_map-append}
-use Rattle.trace_codec.specs.declared.wish.Wish.{Wish}
-use Rattle.trace_codec.specs.declared.wish.Wish.TheVariants.{Ask}
-use Rattle.trace_codec.specs.Script.{Order}
 use Rattle.qmp_rules.specs.Chains.{has_id}
-use Rattle.blk_history.specs.Fold.{With, change}
-use Rattle.blk_history.specs.Line.{HasName}
 use Rattle.blk_history.specs.declared.event.Event.{Event}
 use Rattle.blk_history.specs.declared.event.Event.TheVariants.{Admit, Refuse, Piece, Retire, Reply, Reached, Start, Ready, End, Done}
-use Rattle.blk_history.proofs.Folds.{each-push}
 use Rattle.flat_machine.specs.State.{Guest}
 use Rattle.flat_machine.specs.Comes.{guest_step}
-use Rattle.flat_machine.specs.Courses.{Course, course_of, course_after, onward, IsOwn, KeepsOrder, past_waits, behind, rest_of, Begins, IsNextOf, IsUsedUp, CanBeDone}
 use Rattle.flat_machine.specs.Machine.{admitted, finished, past_piece}
 use Rattle.blk_world.specs.Progress.{Progress, ended_in, answered_in, done_by}
 use Rattle.blk_world.proofs.InStep.{ended-push}
 use Rattle.blk_world.proofs.Coherence.{length-change}
-use Rattle.qblk_run.specs.Tasks.{Task, ScriptTask, Tasks, IsTaskOf, IsTaskIn, IsScriptIn, CanGoOn, AreTasksIn, AreRestsOf, IsRestOf, KeepsTo, HasLine, HaveLines, guests_only}
+use Rattle.qblk_run.specs.Tasks.{Task, ScriptTask, IsTaskIn, IsScriptIn, CanGoOn, AreTasksIn}
 use Rattle.qblk_run.specs.Turns.{IsOwnMove, IsMove}
-use Rattle.qblk_run.proofs.Lists.{same_or_not, get-set, get-set-other, get-change, get-change-other, with-at, at-with, with-map, with-some, below-get, has-stays, has-own}
-use Rattle.qblk_run.proofs.History.{course-answered, course-push, traces-onward}
+use Rattle.qblk_run.proofs.Lists.{same_or_not, get-set, get-set-other, get-change-other, has-stays, has-own}
 use Rattle.qblk_run.proofs.Sums.{entries-set, bytes-set}
 
 -- ---- ends of actors

@@ -1,5 +1,5 @@
 -- The history keeps the order of script and traces, and its entries have lines, where a guest makes one more.
-use Rattle.std.proofs.Common.{◌≡◌, ◌≢◌, ◌⊎◌, ℕ, zero, suc, ◌+◌, ◌≤◌, ◌<◌, List, [], ◌∷◌, ◌++◌, length, set, refl, sym, ◌∙◌, ap, subst, arith, add-one, Option, Some, None, inl, inr}
+use Rattle.std.proofs.Common.{◌≡◌, ◌≢◌, ◌⊎◌, ℕ, zero, suc, ◌≤◌, ◌<◌, List, [], ◌∷◌, ◌++◌, length, set, refl, sym, ◌∙◌, ap, subst, arith, add-one, Option, Some, None, inl, inr}
 use Rattle.std.specs.Prelude.{slice_get, option_map}
 use Rattle.std.proofs.Math.ListN.{length-set}
 use Rattle.trace_codec.specs.declared.wish.Wish.{Wish}
@@ -10,12 +10,12 @@ use Rattle.blk_history.specs.Line.{HasName}
 use Rattle.blk_history.specs.declared.event.Event.{Event}
 use Rattle.blk_history.specs.declared.event.Event.TheVariants.{Admit, Refuse, Piece, Retire, Reply, Reached, Start, Ready, End, Done}
 use Rattle.blk_history.proofs.Folds.{each-push}
-use Rattle.flat_machine.specs.Courses.{Course, course_of, course_after, onward, IsOwn, KeepsOrder, past_waits, behind, rest_of, Begins, IsNextOf, IsUsedUp, CanBeDone}
+use Rattle.flat_machine.specs.Courses.{Course, course_of, course_after, onward, IsOwn, past_waits, behind, rest_of, IsNextOf, CanBeDone}
 use Rattle.blk_world.specs.Progress.{Progress, answered_in}
 use Rattle.qblk_run.specs.Tasks.{Task, ScriptTask, AreRestsOf, IsRestOf, KeepsTo, HasLine, HaveLines, guests_only}
 use Rattle.qblk_run.specs.Turns.{IsOwnMove, IsMove, Asks, Ends}
-use Rattle.qblk_run.proofs.Lists.{same_or_not, get-set, get-set-other, get-change, get-change-other, with-at, at-with, with-map, with-some, below-get}
-use Rattle.qblk_run.proofs.History.{course-answered, course-push, traces-onward}
+use Rattle.qblk_run.proofs.Lists.{same_or_not, get-set, get-set-other, get-change, get-change-other, with-map, below-get}
+use Rattle.qblk_run.proofs.History.{course-answered, course-push}
 
 -- ---- what a guest's entry does to what is left
 

@@ -1,13 +1,11 @@
 -- A run from its inputs on.
-use Rattle.std.proofs.Common.{◌≡◌, ◌⊎◌, ℕ, zero, suc, ◌+◌, ◌≤◌, ◌<◌, ◌^◌, Bool, true, false, List, [], ◌∷◌, length, map, refl, sym, ◌∙◌, ap, subst, arith, Option, Some, None, inl, inr}
-use Rattle.std.specs.Prelude.{codes, vec_len, IfSome}
+use Rattle.std.proofs.Common.{◌≡◌, ℕ, ◌≤◌, List, [], ◌∷◌, length, map, refl, sym, ◌∙◌, ap, subst, arith, Option, Some, None, inl, inr}
+use Rattle.std.specs.Prelude.{vec_len, IfSome}
 use Rattle.std.proofs.Common.{Vec, Global}
-use Rattle.std.proofs.lemmas.Bool.{false≢true}
 use Rattle.std.proofs.lemmas.List.{length-map}
-use Rattle.blk_base.specs.Files.{IfTold, is_out}
+use Rattle.blk_base.specs.Files.{IfTold}
 use Rattle.blk_base.specs.Written.{Written}
 use Rattle.blk_base.specs.declared.fault.FaultAt.{FaultAt}
-use Rattle.blk_base.specs.declared.file.Opened.{Opened}
 use Rattle.blk_base.specs.declared.memory.Room.{Room}
 use Rattle.trace_codec.specs.declared.waits.Waits.{Waits}
 use Rattle.trace_codec.specs.declared.wish.Wish.{Wish}
@@ -16,7 +14,7 @@ use Rattle.blk_history.specs.Recorded.{Recorded}
 use Rattle.flat_machine.specs.declared.opening.Opening.{Opening}
 use Rattle.blk_world.specs.Comes.{Comes}
 use Rattle.blk_world.specs.Face.{Face}
-use Rattle.blk_world.specs.Progress.{Progress, no_progress}
+use Rattle.blk_world.specs.Progress.{no_progress}
 use Rattle.blk_world.specs.Steps.{StoreSeen, IsOpeningOf, new_world}
 use Rattle.qblk_core.specs.declared.status.Status.{Status}
 use Rattle.qblk_core.specs.declared.status.Status.TheVariants.{NoMemory}
@@ -24,18 +22,20 @@ use Rattle.qblk_core.specs.declared.words.Format.{Format}
 use Rattle.qblk_core.specs.Words.{IsIo}
 use Rattle.qblk_inputs.specs.Inputs.{Work, HasWork, IsRefusedInput}
 use Rattle.qblk_inputs.specs.Reading.{StopsFor}
-use Rattle.qblk_inputs.specs.Words.{Cast, IsRunOf, Player, guests_of, cast_of, player_of}
+use Rattle.qblk_inputs.specs.Words.{Cast, IsRunOf, Player, guests_of, player_of}
 use Rattle.qblk_inputs.specs.declared.stop.InputStop.{InputStop}
 use Rattle.qblk_inputs.specs.declared.stop.InputStop.TheVariants as stops
 use Rattle.qblk_run.specs.Beginning.{new_task, new_tasks, IsReady}
-use Rattle.qblk_run.specs.Run.{Setting, Answers, IsUnsent, NothingWritten, status_of}
-use Rattle.qblk_run.specs.Session.{IsEnd, IsPlayed, IsGivenUp}
+use Rattle.qblk_run.specs.Run.{Setting, Answers, status_of}
+use Rattle.qblk_run.specs.Session.{IsPlayed, IsGivenUp}
 use Rattle.blk_history.specs.Transcript.{transcript}
 use Rattle.qblk_run.specs.Ending.{EndsAs}
-use Rattle.qblk_run.specs.Tasks.{Tasks, CanGoOn, HaveLines, guests_only}
+use Rattle.qblk_run.specs.Tasks.{Tasks, ScriptTask, AreDrainsOf, CanGoOn, HaveLines, guests_only}
 use Rattle.qblk_run.proofs.Answering.{run-answers}
 use Rattle.qblk_run.proofs.Accounts.{opening_by, opening-of, account, run-is}
 use Rattle.qblk_run.proofs.Beginnings.{start-can, start-keeps}
+use Rattle.qblk_run.proofs.Worlds.{come-first}
+use Rattle.qblk_run.specs.Worlds.{HasCome}
 
 -- ---- the beginning
 
@@ -47,6 +47,10 @@ play-can store guests its names script traces actors room world ready count few 
     let start : CanGoOn (no_progress (length traces) room) (new_tasks script traces) = start-can script traces room (omega arith) ready.room_is in
     let placed : CanGoOn (no_progress (length its) room) (new_tasks script traces) = subst (λ (n : ℕ). CanGoOn (no_progress n room) (new_tasks script traces)) (sym size) start in
     rw (is, ready.actors_are) placed
+
+-- and no drain stands
+pub play-drains : (store : StoreSeen) (guests : List (List ℕ)) (room : Room) (world : Face) (script : ScriptTask) → world ≡ new_world store guests room → AreDrainsOf world script
+play-drains store guests room world script is = subst (λ (w : Face). AreDrainsOf w script) (sym is) (record { jobs = refl; command = inl refl })
 
 -- ---- the end
 
@@ -64,16 +68,17 @@ pub given-up : (cast : Cast) (work : Work) (old new : Setting) (room : Room) →
     → new.sent ≡ old.sent → new.sink_faults ≡ old.sink_faults → Answers cast old new NoMemory
 given-up cast work old new room inputs count begins given sent sink =
     let o = opening_by old.store (guests_of cast) in
-    let comes = given.comes o (begins o (opening-of old.store (guests_of cast))) in
-    let w = new_world old.store (guests_of cast) room in (
+    let w = new_world old.store (guests_of cast) room in
+    let has : HasCome o w given.now = given.comes o w (come-first o w (begins o (opening-of old.store (guests_of cast))) refl) in (
       sent,
       sink,
       inr (
         work,
-        account old.store (guests_of cast) w given.now new.store given.fault refl refl refl refl comes.counted given.stays comes given.end,
+        given.fault,
+        account old.store (guests_of cast) w given.now new.store given.fault refl refl refl refl has.comes.counted given.stays has.comes given.end,
         inputs,
-        run-is old.store (guests_of cast) w given.now new.store given.fault refl refl refl refl comes.counted given.stays comes given.end cast work false refl count
-            (given.order work.script work.traces (start-keeps work.script work.traces)) (λ bad. absurd (false≢true bad)),
+        run-is old.store (guests_of cast) w given.now new.store given.fault refl refl refl refl has.comes.counted given.stays has.comes given.end cast work refl count
+            (given.order work.script work.traces (start-keeps work.script work.traces)) room has.through,
       ),
     )
 

@@ -1,19 +1,19 @@
 -- What each event of the script makes of its task.
-use Rattle.std.proofs.Common.{◌≡◌, ◌↔◌, ℕ, ◌+◌, ◌≤◌, ◌<◌, true, false, Bool, List, [], ◌∷◌, ◌++◌, length, refl, sym, ◌∙◌, ap, subst, arith, Option, Some, None, inl, inr}
-use Rattle.std.proofs.lemmas.Bool.{false≢true}
+use Rattle.std.proofs.Common.{◌≡◌, ℕ, ◌≤◌, ◌<◌, true, false, Bool, List, [], ◌∷◌, refl, ◌∙◌, ap, arith, inl, inr}
+use Rattle.std.specs.Prelude.{slice_get, IsSome}
 use Rattle.trace_codec.specs.declared.awaiting.Await.{Await}
 use Rattle.trace_codec.specs.declared.order.Order.TheVariants.{Give, Watch}
-use Rattle.blk_history.specs.declared.event.Event.TheVariants.{Reply, Reached, Done}
-use Rattle.flat_machine.specs.Blocked.{ScriptWaits, what_of}
+use Rattle.blk_history.specs.declared.event.Event.TheVariants.{Reached, Done}
+use Rattle.flat_machine.specs.Blocked.{what_of}
 use Rattle.flat_machine.specs.Legal.{IsMet, IsNotDone}
-use Rattle.blk_world.specs.Carrying.{IsReplied, reply_entry}
+use Rattle.blk_world.specs.Carrying.{IsReplied, IsPutOff, reply_entry}
 use Rattle.blk_world.specs.Saying.{Given}
 use Rattle.blk_world.specs.Face.{Face, seen_state}
-use Rattle.blk_world.specs.Progress.{Progress, with_entry, ended_in}
+use Rattle.blk_world.specs.Progress.{Progress, ended_in}
 use Rattle.blk_world.specs.Steps.{after_wait, after_end}
-use Rattle.qblk_run.specs.Tasks.{ScriptTask, IsScriptIn, ScriptRests, entries_of_script, end_of}
-use Rattle.qblk_run.specs.Turns.{IsScriptMove, IsScriptStill, IsScriptTurn}
-use Rattle.qblk_run.proofs.Lists.{none-has}
+use Rattle.qblk_run.specs.Tasks.{ScriptTask, IsScriptIn, entries_of_script, end_of}
+use Rattle.qblk_run.specs.Turns.{IsScriptTurn}
+use Rattle.qblk_run.proofs.Lists.{none-has, with-map}
 
 pub script-open : (w : Face) (s : ScriptTask) → IsScriptIn w.progress s → s.is_done ≡ false → IsNotDone (seen_state w) 0
 script-open w s is going = none-has (ended_in w.progress.log.events) 0 s.is_done is.ended going
@@ -33,6 +33,7 @@ module _ (w v : Face) (before after : ScriptTask) (going : before.is_done ≡ fa
       entries = omega arith;
       bytes = omega arith;
     }),
+    ap (λ (u : Face). u.drains) kept,
   )
 
   pub script-replies : (line : ℕ) (text : List ℕ) (given : Given) → given ≡ record { number = line; text = text } → before.orders ≡ Give line text ∷ after.orders
@@ -48,6 +49,7 @@ module _ (w v : Face) (before after : ScriptTask) (going : before.is_done ≡ fa
           entries = omega arith;
           bytes = omega arith;
         }),
+        replied.drains,
       )
 
   pub script-reaches : (line : ℕ) (what : Await (List ℕ)) → before.orders ≡ Watch line what ∷ after.orders → v ≡ after_wait w line what true
@@ -62,18 +64,34 @@ module _ (w v : Face) (before after : ScriptTask) (going : before.is_done ≡ fa
       entries = omega arith;
       bytes = omega arith;
     }),
+    ap (λ (u : Face). u.drains) kept,
   )
+
+  same-task : after.orders ≡ before.orders → after.is_done ≡ before.is_done → after ≡ before
+  same-task x y =
+      let one : after ≡ record after { orders = before.orders } = ap (λ (o : List _). record after { orders = o }) x in
+      let two : record after { orders = before.orders } ≡ before = ap (λ (d : Bool). record before { is_done = d }) y in
+      one ∙ two
 
   pub script-waits : (line : ℕ) (what : Await (List ℕ)) (rest : List _) → after.orders ≡ Watch line what ∷ rest → after.orders ≡ before.orders → after.is_done ≡ before.is_done
       → v ≡ w → (IsMet (seen_state w) what → ⊥) → IsScriptTurn w v before after false
-  script-waits line what rest first orders done kept unmet = record {
+  script-waits line what rest first orders done kept unmet = inl (record {
     world = kept;
-    task = same after before orders done;
+    task = same-task orders done;
     rests = inr (what_of what, rw first (unmet, refl));
-  }
-    where
-      same : (a b : ScriptTask) → a.orders ≡ b.orders → a.is_done ≡ b.is_done → a ≡ b
-      same a b x y =
-          let one : a ≡ record a { orders = b.orders } = ap (λ (o : List _). record a { orders = o }) x in
-          let two : record a { orders = b.orders } ≡ b = ap (λ (d : Bool). record b { is_done = d }) y in
-          one ∙ two
+  })
+
+  pub script-later : (line g r : ℕ) (text : List ℕ) (rest : List _) (given : Given) → after.orders ≡ Give line text ∷ rest → after.orders ≡ before.orders → after.is_done ≡ before.is_done
+      → IsPutOff w v given g r → IsScriptTurn w v before after false
+  script-later line g r text rest given first orders done off =
+      let progress : v.progress ≡ w.progress = ap (λ (u : Face). u.progress) off.left in
+      inr (record {
+        task = same-task orders done;
+        progress = progress;
+        jobs = ap (λ (u : Face). u.drains.jobs) off.left;
+        off = record {
+          gives = rw first tt;
+          guest = g;
+          flies = rw progress (with-map (slice_get w.progress.guests g) (λ row. (r ≡ row.done) × IsSome row.flight) (λ row. IsSome row.flight) (λ row both. both.1) off.waits.waits.waits.request);
+        };
+      })

@@ -1,20 +1,17 @@
 -- What holds of tasks and history stays so where the script makes an entry.
-use Rattle.std.proofs.Common.{◌≡◌, ◌≢◌, ℕ, zero, suc, ◌+◌, ◌≤◌, ◌<◌, true, false, List, [], ◌∷◌, ◌++◌, length, refl, sym, ◌∙◌, ap, subst, arith, Option, Some, None}
+use Rattle.std.proofs.Common.{◌≡◌, ℕ, ◌+◌, true, false, List, [], ◌∷◌, ◌++◌, length, refl, sym, ◌∙◌, ap, arith}
 use Rattle.std.specs.Prelude.{slice_get}
 use Rattle.std.proofs.lemmas.Bool.{false≢true}
-use Rattle.std.proofs.lemmas.List.Elements.{filter_map-append}
 use Rattle.trace_codec.specs.declared.wish.Wish.{Wish}
-use Rattle.trace_codec.specs.declared.order.Order.TheVariants.{Give, Watch}
 use Rattle.trace_codec.specs.Script.{Order}
 use Rattle.qmp_rules.specs.Chains.{has_id}
-use Rattle.blk_history.specs.Fold.{With}
 use Rattle.blk_history.specs.declared.event.Event.{Event}
 use Rattle.blk_history.specs.declared.event.Event.TheVariants.{Admit, Refuse, Piece, Retire, Reply, Reached, Start, Ready, End, Done}
 use Rattle.blk_history.proofs.Folds.{each-push}
-use Rattle.flat_machine.specs.Courses.{Course, course_of, course_after, onward, IsOwn, past_waits, rest_of}
+use Rattle.flat_machine.specs.Courses.{Course, course_of, course_after, onward, IsOwn}
 use Rattle.blk_world.specs.Progress.{Progress, ended_in}
 use Rattle.blk_world.proofs.InStep.{ended-push}
-use Rattle.qblk_run.specs.Tasks.{Task, ScriptTask, IsTaskIn, IsScriptIn, CanGoOn, AreRestsOf, IsRestOf, KeepsTo, HasLine, HaveLines, guests_only, entries_of_script, entries_of_all}
+use Rattle.qblk_run.specs.Tasks.{Task, ScriptTask, CanGoOn, AreRestsOf, KeepsTo, HasLine, HaveLines, entries_of_script}
 use Rattle.qblk_run.specs.Turns.{IsOwnOrder, IsScriptMove}
 use Rattle.qblk_run.proofs.Lists.{with-map, has-stays, has-own}
 use Rattle.qblk_run.proofs.Waits.{Grows, grows-same, grows-more, alike-later}

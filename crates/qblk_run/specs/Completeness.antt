@@ -1,12 +1,37 @@
--- Runs that can't end stuck.
-use Rattle.std.specs.Prelude.{◌≡◌, ℕ, ◌<◌, true, List, [], ◌∷◌, length, All, IsSome}
+-- Runs that can't end stuck, and runs that meet no fault.
+use Rattle.std.specs.Prelude.{◌≡◌, ℕ, ◌<◌, true, List, [], ◌∷◌, All, IsSome, Option, Some, None}
+use Rattle.std.specs.List.{filter_map}
+use Rattle.blk_base.specs.declared.fault.Fault.TheVariants as faults
+use Rattle.blk_base.specs.declared.file.Opened.{Opened}
 use Rattle.trace_codec.specs.declared.order.Order.TheVariants.{Give, Watch}
 use Rattle.trace_codec.specs.declared.wish.Wish.{Wish}
 use Rattle.trace_codec.specs.declared.wish.Wish.TheVariants.{Ask, Wait}
 use Rattle.trace_codec.specs.Script.{Order}
+use Rattle.qmp_codec.specs.Commands.{Cmd}
+use Rattle.qmp_codec.specs.Lines.{command_at}
+use Rattle.qmp_rules.specs.Chains.{disk_node}
 use Rattle.qmp_rules.specs.Table.{Table, device_at}
+use Rattle.blk_history.specs.Machine.{Flight}
+use Rattle.blk_history.specs.declared.entry.JobEnd.{JobEnd}
+use Rattle.blk_history.specs.declared.entry.JobEnd.TheVariants.{Failed}
+use Rattle.blk_history.specs.declared.event.Event.{Event}
+use Rattle.blk_history.specs.declared.event.Event.TheVariants.{Piece, Reply, End}
 use Rattle.flat_machine.specs.Courses.{is_answered}
+use Rattle.flat_machine.specs.EventLicence.{ReachesDevice, full_by, full_in_text}
+use Rattle.flat_machine.specs.Licence.{faults_of}
+use Rattle.flat_machine.specs.Replies.{command_in}
+use Rattle.flat_machine.specs.State.{drive_of}
+use Rattle.flat_machine.specs.declared.opening.Opening.{Opening}
+use Rattle.blk_world.specs.Carrying.{FitsAll}
+use Rattle.blk_world.specs.Counting.{sources_of}
+use Rattle.blk_world.specs.Face.{Face}
+use Rattle.blk_world.specs.Piecing.{piece_passes, part_of}
+use Rattle.blk_world.specs.Progress.{flight_at}
+use Rattle.qblk_core.specs.declared.status.Status.{Status}
+use Rattle.qblk_core.specs.declared.status.Status.TheVariants.{Fault}
 use Rattle.qblk_inputs.specs.Inputs.{Work}
+use Rattle.qblk_run.specs.Run.{Setting, HasOpened}
+use Rattle.qblk_run.specs.Worlds.{GoesThrough}
 
 -- the script has no await
 abbrev pub AwaitsNothing : List Order → Type 0
@@ -33,3 +58,53 @@ pub record CanBeWhole (work : Work) : Type 0 where
 -- each of so many guests has a device
 abbrev pub AreAttached : Table → ℕ → Type 0
 AreAttached t n = (g : ℕ) → g < n → IsSome (device_at t g)
+
+-- ---- runs that meet no fault
+
+-- the device that the end of a job says to be full, and that an entry does
+abbrev pub full_at_end : JobEnd → Option ℕ
+full_at_end (Failed (faults.NoSpace dev)) = Some dev.0
+full_at_end outcome = None
+
+abbrev pub full_in : Event → Option ℕ
+full_in (Piece g r k outcome got) = full_by outcome
+full_in (Reply line given command text) = full_in_text text
+full_in (End job outcome offset) = full_at_end outcome
+full_in e = None
+
+-- no entry names a fault, nor a device that is full: each piece is good, no command fails with a call of it, and no job does
+pub record MeetsNone (h : List Event) : Type 0 where
+  pub faults : faults_of h ≡ []
+  pub full : filter_map full_in h ≡ []
+
+-- No write of the event that was made in this world would pass the capacity of a device: of a piece, of one that the guest's
+-- disk leads to; of a command, of one that it calls.
+abbrev pub HasSpaceFor : Face → Event → Type 0
+HasSpaceFor w (Piece g r k outcome got) = (f : Flight) (drive dev : ℕ)
+    → flight_at w.progress.guests g ≡ Some f → drive_of w.table g ≡ Some drive
+    → ReachesDevice w.table (sources_of w) drive dev
+    → piece_passes w.nodes (disk_node w.table drive) f.op (part_of f) dev → ⊥
+HasSpaceFor w (Reply line given command text) =
+    (c : Cmd) → command_in (command_at given) ≡ Some c → FitsAll w c
+HasSpaceFor w e = Unit {0}
+
+-- so it is with each event, in the world before it
+abbrev pub HaveSpace : (o : Opening) (w : Face) (h : List Event) (v : Face) → GoesThrough o w h v → Type 0
+HaveSpace o w [] v through = Unit {0}
+HaveSpace o w (e ∷ h) v through =
+    HasSpaceFor through.0 e × HaveSpace o through.1 h v through.5
+
+-- a count has not risen, and can
+abbrev pub HasStood : ℕ → ℕ → Type 0
+HasStood before now = (before < 18446744073709551615) × (now ≡ before)
+
+-- no count has risen: of the store, of a device that was opened, or of the sink
+pub record NoneHasRisen (old new : Setting) : Type 0 where
+  pub store : HasStood old.store.faults new.store.faults
+  pub sink : HasStood old.sink_faults new.sink_faults
+  pub devices : (made : List Opened) → HasOpened old.store.opened new.store.opened made
+      → All (λ o. (count : ℕ) → o.returned ≡ Some count → HasStood o.faults count) made
+
+abbrev pub NamesNoFault : Status → Type 0
+NamesNoFault (Fault from count) = ⊥
+NamesNoFault status = Unit {0}

@@ -1,4 +1,6 @@
 pub mod Run
+pub mod Worlds
+pub mod Devices
 pub mod Tasks
 pub mod Turns
 pub mod Rounds

@@ -5,7 +5,7 @@ use Rattle.trace_codec.specs.declared.waits.Waits.{Waits}
 use Rattle.trace_codec.specs.Script.{Order}
 use Rattle.flat_machine.specs.Blocked.{ScriptWaits, TraceWaits}
 use Rattle.blk_world.specs.Face.{Face, seen_state}
-use Rattle.qblk_run.specs.Tasks.{Task, Tasks, CanGoOn, KeepsTo, HaveLines, Rests, ScriptRests, steps_of_tasks}
+use Rattle.qblk_run.specs.Tasks.{Task, Tasks, AreDrainsOf, CanGoOn, Halts, KeepsTo, HaveLines, Rests, ScriptHalts, ScriptRests, steps_of_tasks}
 use Rattle.qblk_run.specs.Turns.{IsTurn}
 
 -- The history still keeps the order of script and traces, and what is left of these are the tasks.
@@ -23,6 +23,7 @@ pub record Continues (w v : Face) (before after : Tasks) : Type 0 where
   pub can : CanGoOn v.progress after
   pub order : OrderStays w v before after
   pub lines : LinesStay w v before
+  pub drains : AreDrainsOf w before.script → AreDrainsOf v after.script
   pub steps : steps_of_tasks after ≤ steps_of_tasks before
   pub count : length after.guests ≡ length before.guests
 
@@ -34,10 +35,14 @@ pub record AllRest (w : Face) (tasks : Tasks) : Type 0 where
   pub script : ScriptRests w tasks.script
   pub guests : GuestsRest w (length tasks.guests) tasks.guests
 
--- An entry was made, and less is left to do; or none was, and the first n guests and the script are done or wait.
-abbrev pub Goes : Face → Face → Tasks → Tasks → ℕ → Bool → Type 0
-Goes w v before after n true = steps_of_tasks after < steps_of_tasks before
-Goes w v before after n false = (v ≡ w) × ScriptRests w after.script × GuestsRest w n after.guests
+-- each of the first n guests makes no entry
+abbrev pub GuestsHalt : Face → ℕ → List Task → Type 0
+GuestsHalt w n tasks = (g : ℕ) (task : Task) → g < n → slice_get tasks g ≡ Some task → Halts w g task
+
+-- An entry was made, and less is left to do; or none was by the script and the first n guests, which can make none now.
+abbrev pub Goes : Face → Tasks → Tasks → ℕ → Bool → Type 0
+Goes v before after n true = steps_of_tasks after < steps_of_tasks before
+Goes v before after n false = ScriptHalts v after.script × GuestsHalt v n after.guests
 
 -- a guest of a list had its turn
 pub record HasTurn (w v : Face) (before after : List Task) (g : ℕ) (moved : Bool) : Type 0 where

@@ -1,5 +1,5 @@
 -- What a run of a script and traces is, seen from outside.
-use Rattle.std.specs.Prelude.{◌≡◌, ◌⊎◌, ℕ, ◌<◌, ◌≤◌, Bool, true, false, List, [], ◌++◌, length, map, take, slice_get, All, Option, Some, IsSome, is_some, option_map}
+use Rattle.std.specs.Prelude.{◌≡◌, ◌⊎◌, ℕ, ◌<◌, ◌≤◌, Bool, true, List, [], ◌++◌, length, map, take, slice_get, All, Option, Some, None, IsSome, is_some, option_map}
 use Rattle.blk_base.specs.Counts.{Rose}
 use Rattle.blk_base.specs.Files.{IfTold}
 use Rattle.blk_base.specs.Written.{Written}
@@ -9,6 +9,7 @@ use Rattle.blk_base.specs.declared.fault.FaultFrom.{FaultFrom}
 use Rattle.blk_base.specs.declared.fault.FaultFrom.TheVariants.{Store, Dev, Sink}
 use Rattle.blk_base.specs.declared.file.File.{File}
 use Rattle.blk_base.specs.declared.file.Opened.{Opened}
+use Rattle.blk_base.specs.declared.memory.Room.{Room}
 use Rattle.trace_codec.specs.declared.waits.Waits.{Waits}
 use Rattle.trace_codec.specs.declared.waits.Waits.TheVariants as waits
 use Rattle.qmp_rules.specs.Table.{Table}
@@ -20,11 +21,14 @@ use Rattle.flat_machine.specs.Opening.{start}
 use Rattle.flat_machine.specs.Comes.{IsHistoryOf, IsInOrder, HasEnded, guests_after, transcript_of}
 use Rattle.flat_machine.specs.Courses.{Course, course_of, course_after}
 use Rattle.flat_machine.specs.Blocked.{IsStuck}
-use Rattle.flat_machine.specs.Licence.{Counts, AreLicensed, count_of, faults_of}
+use Rattle.flat_machine.specs.Licence.{Counts, AreLicensed, count_of, fault_at, faults_of}
 use Rattle.flat_machine.specs.Final.{AreLeftBy}
 use Rattle.flat_machine.specs.declared.opening.Opening.{Opening}
-use Rattle.blk_world.specs.Closing.{IsFlushedIn, count_back}
-use Rattle.blk_world.specs.Steps.{StoreSeen, IsOpeningOf, seen_store}
+use Rattle.blk_world.specs.Closing.{IsClosed, IsFlushedIn, count_back}
+use Rattle.blk_world.specs.Comes.{Comes}
+use Rattle.blk_world.specs.Counting.{HaveNotFallen}
+use Rattle.blk_world.specs.Face.{Face, counts_now}
+use Rattle.blk_world.specs.Steps.{StoreSeen, IsOpeningOf, new_world, seen_store}
 use Rattle.blk_world.specs.Tabling.{IsTableAfter}
 use Rattle.qblk_inputs.specs.Inputs.{Work, HasWork, IsRefusedInput}
 use Rattle.qblk_inputs.specs.Words.{Cast, guests_of}
@@ -36,6 +40,8 @@ use Rattle.qblk_core.specs.Run.{Outside}
 use Rattle.qblk_core.specs.declared.status.InputWhy.{InputWhy}
 use Rattle.qblk_core.specs.declared.status.InputWhy.TheVariants as whys
 use Rattle.qblk_core.specs.declared.status.Status.{Status}
+use Rattle.qblk_run.specs.Devices.{HaveDevices}
+use Rattle.qblk_run.specs.Worlds.{GoesThrough}
 use Rattle.qblk_core.specs.declared.status.Status.TheVariants.{Done, Usage, Input, Fault, Stuck, NoMemory}
 
 -- what is seen of a store and a sink
@@ -53,11 +59,13 @@ abbrev pub outside : Option (List File) → List Opened → ℕ → Option (List
 outside files opened faults sent sink_faults =
     record { files = files; opened = opened; store_faults = faults; sent = sent; sink_faults = sink_faults }
 
--- What a run was: what it began with, the openings of devices in it, and its history.
+-- What a run was: what it began with, the openings of devices in it, its history, and the counts of faults behind its last
+-- event.
 pub record Account : Type 0 where
   pub opening : Opening
   pub openings : List Opened
   pub events : List Event
+  pub counts : Counts
 
 -- ---- counts of faults
 
@@ -73,6 +81,11 @@ counts_at_first old a = record { store = old.faults; devices = map (λ o. o.faul
 abbrev pub counts_at_last : StoreSeen → Account → Counts
 counts_at_last new a =
     record { store = new.faults; devices = map count_back a.openings }
+
+-- none is lower
+pub record HaveNotSunk (first last : Counts) : Type 0 where
+  pub store : first.store ≤ last.store
+  pub devices : HaveNotFallen first.devices last.devices
 
 -- no count has risen
 abbrev pub HaveStood : Counts → Counts → Type 0
@@ -92,34 +105,67 @@ state_after o h = replay (start o) h
 -- The history is one of its opening: it is legal, and no mark of it splits a request. Each node of the last table that has a
 -- flat disk reads as it, by these files alone; left disks are what their drivers read; and files that no command named for
 -- writing are as they were.
-pub record LeavesFiles (a : Account) (is_flushed : Bool) (files : List File) : Type 0 where
+pub record LeavesFiles (a : Account) (fault : Option FaultAt) (files : List File) : Type 0 where
   pub history : IsHistoryOf a.opening a.events
   pub left : AreLeftBy a.opening.files (state_after a.opening a.events) files
-  pub flushed : is_flushed ≡ true → NodesAreFlushed (state_after a.opening a.events).table files
+  pub flushed : fault ≡ None → NodesAreFlushed (state_after a.opening a.events).table files
+
+-- ---- the last flush: each device that is still out, in the order in which they were opened
+
+-- It failed at this device, and at none before it: the count, which the device was given back with, rose behind the last event.
+pub record FailsToFlush (new : StoreSeen) (a : Account) (dev : DevNo) (count : ℕ) : Type 0 where
+  pub last : With (slice_get a.openings dev.0) (λ o. (o.returned ≡ Some count) × Rose o.faults count)
+  pub rose : With (slice_get a.counts.devices dev.0) (λ before. Rose before count)
+  pub first : (n : ℕ) → n < dev.0
+      → slice_get (counts_at_last new a).devices n ≡ slice_get a.counts.devices n
+
+-- no count rose in it, or its first fault is told
+abbrev pub IsFlushedAs : StoreSeen → Account → Option FaultAt → Type 0
+IsFlushedAs new a None = counts_at_last new a ≡ a.counts
+IsFlushedAs new a (Some fault) =
+    (dev : DevNo) × (fault.from ≡ Dev dev) × FailsToFlush new a dev fault.count
+
+-- ---- the worlds of a run
+
+-- A world was made over the store, the entries are its events, one after another, and it was closed.
+pub record IsPlayedBy (old new : StoreSeen) (a : Account) (fault : Option FaultAt) : Type 0 where
+  pub room : Room
+  pub last : Face
+  pub through : GoesThrough a.opening (new_world old a.opening.guests room) a.events last
+  pub comes : Comes a.opening last
+  pub counts_are : a.counts ≡ counts_now last
+  pub closed : IsClosed last new fault
 
 -- ---- a run
 
 -- Each guest's requests are its trace's, in order, and so it is with the script; each fault that the history names is a
--- rise of its count in this run, and is named once; where no count has risen, none is named. The rest speaks of a store that
--- tells its files.
-pub record IsRun (cast : Cast) (work : Work) (is_flushed : Bool) (old new : StoreSeen) (a : Account) : Type 0 where
+-- rise of its count in this run, and is named once; where no count has risen, none is named. Of the last flush the first fault is
+-- told. The files are spoken of where the store tells them.
+pub record IsRun (cast : Cast) (work : Work) (fault : Option FaultAt) (old new : StoreSeen) (a : Account) : Type 0 where
   pub opening : IsOpeningOf old (guests_of cast) a.opening
   pub openings : HasOpened old.opened new.opened a.openings
   pub room : new.room ≡ old.room
   pub order : IsInOrder a.opening work.script work.traces a.events
-  pub licensed : AreLicensed (counts_at_first old a) (counts_at_last new a) a.events
+  pub licensed : AreLicensed (counts_at_first old a) a.counts a.events
+  pub later : HaveNotSunk a.counts (counts_at_last new a)
   pub quiet : HaveStood (counts_at_first old a) (counts_at_last new a) → faults_of a.events ≡ []
-  pub files : IfTold old.files (λ told. With new.files (LeavesFiles a is_flushed))
+  pub flush : IsFlushedAs new a fault
+  pub worlds : IsPlayedBy old new a fault
+  pub files : IfTold old.files (λ told. With new.files (LeavesFiles a fault))
 
 -- what is left of script and traces behind the history
 abbrev pub course_in : Work → Account → Course
 course_in work a = course_after (course_of work.script work.traces) a.events
 
 -- Some actor is unfinished, and each of those is blocked; the first is named. The table in which that is so is one that the
--- entries make, and the state is the one that the history comes to, where the store tells its files.
+-- entries make, with what is dirty, and the state is the one that the history comes to, where the store tells its files. What
+-- blocked actors look at is fixed by the entries whatever the store tells: which guests have a device, how far each is, and that
+-- no job is there (no command starts one yet).
 pub record EndsStuck (is_told : Bool) (work : Work) (a : Account) (actor : ℕ) (what : Waits (List ℕ)) : Type 0 where
   pub state : State
-  pub table : IsTableAfter a.opening.guests a.events state.table
+  pub table : IsTableAfter a.opening.guests a.events state.table state.dirty
+  pub devices : HaveDevices a.opening.guests a.events state.table
+  pub jobs : state.table.jobs ≡ []
   pub told : is_told ≡ true → state ≡ state_after a.opening a.events
   pub guests : state.guests ≡ guests_after a.opening a.events
   pub ended : state.ended ≡ (course_in work a).ended
@@ -140,19 +186,19 @@ abbrev pub whole_transcript : Account → List ℕ
 whole_transcript a = transcript_of a.opening a.events
 
 -- script and traces are what the words name, they were run, and of the transcript the first n bytes went out
-pub record WasRun (cast : Cast) (work : Work) (is_flushed : Bool) (old new : Setting) (a : Account) (n : ℕ) : Type 0 where
+pub record WasRun (cast : Cast) (work : Work) (fault : Option FaultAt) (old new : Setting) (a : Account) (n : ℕ) : Type 0 where
   pub inputs : IfTold old.store.files (HasWork cast work)
-  pub run : IsRun cast work is_flushed old.store new.store a
+  pub run : IsRun cast work fault old.store new.store a
   pub sent : new.sent ≡ option_map (λ s. s ++ take n (whole_transcript a)) old.sent
 
 -- all of it did, and no call failed since the last event
 pub record WasRunWhole (cast : Cast) (work : Work) (old new : Setting) (a : Account) : Type 0 where
-  pub was : WasRun cast work true old new a (length (whole_transcript a))
+  pub was : WasRun cast work None old new a (length (whole_transcript a))
   pub sink : new.sink_faults ≡ old.sink_faults
 
 -- it stopped, whether or not all of it went out
-pub record WasStopped (cast : Cast) (work : Work) (is_flushed : Bool) (old new : Setting) (a : Account) (n : ℕ) : Type 0 where
-  pub was : WasRun cast work is_flushed old new a n
+pub record WasStopped (cast : Cast) (work : Work) (fault : Option FaultAt) (old new : Setting) (a : Account) (n : ℕ) : Type 0 where
+  pub was : WasRun cast work fault old new a n
   pub stopped : HasStopped (is_some old.store.files) work a
 
 -- nothing was written, neither to a file nor to the sink
@@ -163,13 +209,6 @@ pub record NothingWritten (old new : Setting) : Type 0 where
   pub sink : new.sink_faults ≡ old.sink_faults
 
 -- ---- faults
-
--- a device failed in the last flush: a rise above all that the history names of it
-pub record FailsToFlush (a : Account) (dev : DevNo) (count : ℕ) : Type 0 where
-  pub last : With (slice_get a.openings dev.0) (λ o. o.returned ≡ Some count)
-  pub before : ℕ
-  pub rose : Rose before count
-  pub named : All (λ f. f.from ≡ Dev dev → f.count ≤ before) (faults_of a.events)
 
 -- the transcript goes out nevertheless, or a put of it failed too
 abbrev pub GoesOut : Setting → Setting → Account → ℕ → Type 0
@@ -182,9 +221,9 @@ abbrev pub IsFaulty : Cast → Setting → Setting → FaultFrom → ℕ → Typ
 IsFaulty cast old new Store count =
     NothingWritten old new × Rose old.store.faults count × (count ≡ new.store.faults)
 IsFaulty cast old new (Dev dev) count = (work : Work) × (a : Account) × (n : ℕ)
-    × WasStopped cast work false old new a n × FailsToFlush a dev count × GoesOut old new a n
+    × WasStopped cast work (Some (fault_at (Dev dev) count)) old new a n × GoesOut old new a n
 IsFaulty cast old new Sink count = (work : Work) × (a : Account) × (n : ℕ)
-    × WasStopped cast work true old new a n × Rose old.sink_faults count × (count ≡ new.sink_faults)
+    × WasStopped cast work None old new a n × Rose old.sink_faults count × (count ≡ new.sink_faults)
 
 -- ---- statuses
 
@@ -213,8 +252,8 @@ IsRefusedFor cast old new name line why = NothingWritten old new
 abbrev pub IsUnsent : Cast → Setting → Setting → Type 0
 IsUnsent cast old new = (new.sent ≡ old.sent) × (new.sink_faults ≡ old.sink_faults)
     × ((new.store.files ≡ old.store.files)
-    ⊎ ((work : Work) × (a : Account) × IfTold old.store.files (HasWork cast work)
-    × IsRun cast work false old.store new.store a))
+    ⊎ ((work : Work) × (fault : Option FaultAt) × (a : Account) × IfTold old.store.files (HasWork cast work)
+    × IsRun cast work fault old.store new.store a))
 
 -- why a run of these words ended so
 abbrev pub Answers : Cast → Setting → Setting → Status → Type 0

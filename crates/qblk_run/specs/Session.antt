@@ -12,14 +12,13 @@ use Rattle.flat_machine.specs.Agreement.{ReadAsDisks}
 use Rattle.flat_machine.specs.Courses.{KeepsOrder, course_of}
 use Rattle.flat_machine.specs.Final.{AreDisks}
 use Rattle.flat_machine.specs.State.{State}
-use Rattle.flat_machine.specs.declared.opening.Opening.{Opening}
 use Rattle.blk_world.specs.Closing.{IsClosed, AreNodesFlushed}
-use Rattle.blk_world.specs.Comes.{Comes}
 use Rattle.blk_world.specs.Face.{Face, held, told_bytes, contents_of}
 use Rattle.blk_world.specs.Steps.{StoreSeen}
 use Rattle.qblk_run.specs.Run.{seen_waits}
 use Rattle.qblk_run.specs.Tasks.{Tasks, KeepsTo}
 use Rattle.qblk_run.specs.Turns.{StaysIn}
+use Rattle.qblk_run.specs.Worlds.{ComesOn}
 use Rattle.qblk_run.specs.Rounds.{Continues, AllRest, AreDone, IsFirst}
 
 -- the world was closed, and left its store so
@@ -42,7 +41,7 @@ pub record IsPlayed (w : Face) (before : Tasks) (store : StoreSeen) (log : Recor
   pub so : Continues w now before after
   pub rest : AllRest now after
   pub stays : StaysIn w now
-  pub comes : (o : Opening) → Comes o w → Comes o now
+  pub comes : ComesOn w now
   pub log_is : log ≡ now.progress.log
   pub end : IsEnd now store fault
   pub named : MatchOption waiting (AreDone after) (λ r. IsFirst now after r.0 (seen_waits r.1))
@@ -54,6 +53,6 @@ pub record IsGivenUp (w : Face) (before : Tasks) (store : StoreSeen) : Type 0 wh
       → KeepsTo script traces w.progress.log.events before
       → KeepsOrder (course_of script traces) now.progress.log.events
   pub stays : StaysIn w now
-  pub comes : (o : Opening) → Comes o w → Comes o now
+  pub comes : ComesOn w now
   pub fault : Option FaultAt
   pub end : IsEnd now store fault

@@ -1,7 +1,8 @@
 -- What the actors of a run have still to do.
-use Rattle.std.specs.Prelude.{◌≡◌, ◌⊎◌, ℕ, zero, suc, ◌+◌, ◌^◌, ◌<◌, ◌≤◌, Bool, true, false, if◌then◌else◌, List, [], ◌∷◌, length, slice_get, Option, Some, None}
+use Rattle.std.specs.Prelude.{◌≡◌, ◌⊎◌, ℕ, zero, suc, ◌+◌, ◌^◌, ◌<◌, ◌≤◌, Bool, true, false, if◌then◌else◌, List, [], ◌∷◌, length, slice_get, Option, Some, None, IsSome}
 use Rattle.trace_codec.specs.declared.wish.Wish.{Wish}
 use Rattle.trace_codec.specs.declared.waits.Waits.{Waits}
+use Rattle.trace_codec.specs.declared.order.Order.TheVariants.{Give}
 use Rattle.trace_codec.specs.Request.{pieces_of}
 use Rattle.trace_codec.specs.Script.{Order}
 use Rattle.qmp_rules.specs.Chains.{has_id}
@@ -14,6 +15,7 @@ use Rattle.blk_history.specs.declared.event.Event.{Event}
 use Rattle.flat_machine.specs.State.{Guest}
 use Rattle.flat_machine.specs.Blocked.{ScriptWaits, TraceWaits}
 use Rattle.flat_machine.specs.Courses.{Course, KeepsOrder, course_of, course_after, past_waits, rest_of}
+use Rattle.flat_machine.specs.Marks.{is_held}
 use Rattle.blk_world.specs.Face.{Face, seen_state}
 use Rattle.blk_world.specs.Progress.{Progress, ended_in, answered_in}
 use Rattle.qblk_inputs.specs.Room.{entries_for, bytes_for, HaveNumbers}
@@ -167,3 +169,34 @@ Rests w g task = (task.is_done ≡ true) ⊎ TaskWaits w g task
 
 abbrev pub ScriptRests : Face → ScriptTask → Type 0
 ScriptRests w script = (script.is_done ≡ true) ⊎ ((what : Waits (List ℕ)) × ScriptWaits (seen_state w) script.orders what)
+
+-- ---- drains
+
+-- a drain holds the guest, which asks for a request
+pub record IsHeldBack (w : Face) (g : ℕ) (task : Task) : Type 0 where
+  pub idle : task.left ≡ None
+  pub held : is_held (seen_state w) w.drains g ≡ true
+
+-- a guest makes no entry: it is done, or waits, or a drain holds it
+abbrev pub Halts : Face → ℕ → Task → Type 0
+Halts w g task = Rests w g task ⊎ IsHeldBack w g task
+
+-- the next line of the script is a command, or one that should be
+abbrev pub IsGiving : List Order → Type 0
+IsGiving (Give line given ∷ orders) = Unit {0}
+IsGiving orders = ⊥
+
+-- the script's line has to come again, for this guest's request in flight
+pub record IsPutOffFor (p : Progress) (script : ScriptTask) : Type 0 where
+  pub gives : IsGiving script.orders
+  pub guest : ℕ
+  pub flies : With (slice_get p.guests guest) (λ row. IsSome row.flight)
+
+-- the script makes no entry: it is done, or waits, or its line has to come again
+abbrev pub ScriptHalts : Face → ScriptTask → Type 0
+ScriptHalts w script = ScriptRests w script ⊎ IsPutOffFor w.progress script
+
+-- no drain stands but for the command that the script gives next
+pub record AreDrainsOf (w : Face) (script : ScriptTask) : Type 0 where
+  pub jobs : w.drains.jobs ≡ []
+  pub command : (w.drains.command ≡ []) ⊎ IsGiving script.orders

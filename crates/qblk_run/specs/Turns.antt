@@ -1,5 +1,5 @@
 -- What a turn of an actor does.
-use Rattle.std.specs.Prelude.{◌≡◌, ℕ, ◌+◌, ◌<◌, ◌≤◌, Bool, true, false, List, [], ◌∷◌, ◌++◌, length, slice_get, Option, Some, None, is_some}
+use Rattle.std.specs.Prelude.{◌≡◌, ◌⊎◌, ℕ, ◌+◌, ◌<◌, ◌≤◌, Bool, true, false, List, [], ◌∷◌, ◌++◌, length, slice_get, Option, Some, None, is_some}
 use Rattle.trace_codec.specs.declared.wish.Wish.{Wish}
 use Rattle.trace_codec.specs.declared.wish.Wish.TheVariants.{Ask, Wait}
 use Rattle.trace_codec.specs.declared.order.Order.TheVariants.{Give, Watch}
@@ -9,10 +9,11 @@ use Rattle.blk_history.specs.declared.event.Event.{Event}
 use Rattle.blk_history.specs.declared.event.Event.TheVariants.{Admit, Refuse, Piece, Retire, Reply, Reached, Done}
 use Rattle.flat_machine.specs.Comes.{guest_step}
 use Rattle.flat_machine.specs.Courses.{past_waits, is_answered}
+use Rattle.flat_machine.specs.Marks.{after_reply}
 use Rattle.blk_world.specs.Face.{Face}
 use Rattle.blk_world.specs.Progress.{Progress, answered_in}
 use Rattle.qblk_inputs.specs.Room.{bytes_for}
-use Rattle.qblk_run.specs.Tasks.{Task, ScriptTask, IsTaskOf, entries_of, steps_of, Rests, ScriptRests}
+use Rattle.qblk_run.specs.Tasks.{Task, ScriptTask, IsTaskOf, entries_of, steps_of, Halts, IsPutOffFor, ScriptRests}
 
 -- the world of the same run: its store tells as much, and began with the same count and openings
 pub record StaysIn (w v : Face) : Type 0 where
@@ -72,16 +73,21 @@ pub record IsMove (p q : Progress) (g : ℕ) (before after : Task) (e : Event) :
 abbrev pub MakesMove : Progress → Progress → ℕ → Task → Task → Type 0
 MakesMove p q g before after = (e : Event) × IsMove p q g before after e
 
--- it makes none: it is done, or waits; waits that are over are passed
+-- drains are as they were
+abbrev pub GuestMoves : Face → Face → ℕ → Task → Task → Type 0
+GuestMoves w v g before after =
+    MakesMove w.progress v.progress g before after × (v.drains ≡ w.drains)
+
+-- it makes none: it is done, waits or is held; waits that are over are passed
 pub record IsStill (w v : Face) (g : ℕ) (before after : Task) : Type 0 where
   pub world : v ≡ w
   pub wishes : after.wishes ≡ past_waits (answered_in w.progress.log.events) before.wishes
   pub left : after.left ≡ before.left
   pub is_done : after.is_done ≡ before.is_done
-  pub rests : Rests w g after
+  pub halts : Halts w g after
 
 abbrev pub IsTurn : Face → Face → ℕ → Task → Task → Bool → Type 0
-IsTurn w v g before after true = MakesMove w.progress v.progress g before after
+IsTurn w v g before after true = GuestMoves w v g before after
 IsTurn w v g before after false = IsStill w v g before after
 
 -- ---- the script
@@ -105,11 +111,28 @@ pub record IsScriptMove (p q : Progress) (before after : ScriptTask) (e : Event)
   pub entries : p.spare.entries ≤ q.spare.entries + 1
   pub bytes : p.spare.bytes ≤ q.spare.bytes
 
+-- a reply ends the drain for a command that had to come again, and no other entry changes drains
+abbrev pub DrainsAfter : Face → Face → Event → Type 0
+DrainsAfter w v (Reply line given command text) = v.drains ≡ after_reply w.drains
+DrainsAfter w v e = v.drains ≡ w.drains
+
+abbrev pub ScriptMoves : Face → Face → ScriptTask → ScriptTask → Type 0
+ScriptMoves w v before after =
+    (e : Event) × IsScriptMove w.progress v.progress before after e × DrainsAfter w v e
+
 pub record IsScriptStill (w v : Face) (before after : ScriptTask) : Type 0 where
   pub world : v ≡ w
   pub task : after ≡ before
   pub rests : ScriptRests w after
 
+-- its line has to come again: a drain stands for it now
+pub record IsScriptPutOff (w v : Face) (before after : ScriptTask) : Type 0 where
+  pub task : after ≡ before
+  pub progress : v.progress ≡ w.progress
+  pub jobs : v.drains.jobs ≡ w.drains.jobs
+  pub off : IsPutOffFor v.progress after
+
 abbrev pub IsScriptTurn : Face → Face → ScriptTask → ScriptTask → Bool → Type 0
-IsScriptTurn w v before after true = (e : Event) × IsScriptMove w.progress v.progress before after e
-IsScriptTurn w v before after false = IsScriptStill w v before after
+IsScriptTurn w v before after true = ScriptMoves w v before after
+IsScriptTurn w v before after false =
+    IsScriptStill w v before after ⊎ IsScriptPutOff w v before after

@@ -1,21 +1,22 @@
 //! What rounds ask of a world.
-ghost use Rattle.std.specs.Prelude.{◌≡◌, ◌↔◌, ◌+◌, ◌^◌, ◌<◌, ◌≤◌, ℕ, List, length, slice_get, Some, IsTrue, IsNone, IfSome, OnOk, OnErr, Contains, is_none};
-ghost use Rattle.std.specs.String.{string_bytes};
+ghost use Rattle.std.specs.Prelude.{◌≡◌, ◌↔◌, ◌+◌, ◌^◌, ◌<◌, ◌≤◌, ℕ, List, length, slice_get, Some, IsTrue, IsNone, IfOk, IfSome, OnErr, Contains, is_none};
 ghost use Rattle.blk_history.specs.Fold.{With};
 ghost use Rattle.blk_history.specs.Legal.{IsOver};
 ghost use Rattle.blk_history.specs.Machine.{Flight};
 ghost use Rattle.trace_codec.specs.Awaits.{seen_await};
 ghost use Rattle.flat_machine.specs.Legal.{IsMet, IsNotDone};
 ghost use Rattle.flat_machine.specs.declared.opening.Opening.{Opening};
-ghost use Rattle.blk_world.specs.Carrying.{IsReplied, IsPutBack};
+ghost use Rattle.blk_world.specs.Carrying.{IsExecuted, IsPutBack};
 ghost use Rattle.blk_world.specs.Comes.{Comes};
 ghost use Rattle.blk_world.specs.Face.{Face, seen_state};
-ghost use Rattle.blk_world.specs.Progress.{IsFree, HasNext, HasRoomFor, CanShow, flight_at, answered_in, with_piece, with_retirement};
+ghost use Rattle.blk_world.specs.Piecing.{IsPieceMade, HasPieceLicence};
+ghost use Rattle.blk_world.specs.Saying.{given_line};
+ghost use Rattle.blk_world.specs.Progress.{IsFree, HasNext, HasRoomFor, flight_at, answered_in, with_retirement};
 ghost use Rattle.blk_world.specs.Steps.{onward, after_admission, IsAnswered, after_wait, after_end, IsIdle};
 ghost use Rattle.qblk_run.specs.Turns.{StaysIn};
 
 use blk_base::{NoMemory, Outcome, Store};
-use blk_world::{Admission, World};
+use blk_world::{Admission, Executed, World};
 use std::alloc::Global;
 use trace_codec::{Await, Op};
 
@@ -24,7 +25,8 @@ pub(crate) trait Events {
     /// What contracts see of the world.
     ghost face: { Self → Face };
 
-    /// Admits a guest's next request, or refuses it. It is away where the guest has no device.
+    /// Admits a guest's next request, or refuses it. It is away where the guest has no device, and held where a drain holds the
+    /// guest.
     fn admit(&mut self, guest: u32, op: Op) -> Admission
         requires open { IsNotDone (seen_state (face self.old)) (guest + 1) }
         requires free { With (slice_get (face self.old).progress.guests guest) IsFree }
@@ -38,8 +40,8 @@ pub(crate) trait Events {
     fn piece(&mut self, guest: u32) -> Outcome
         requires { With (flight_at (face self.old).progress.guests guest) HasNext }
         ensures made { (f : Flight) → flight_at (face self.old).progress.guests guest ≡ Some f
-            → (got : List ℕ) × ((face self.new).progress
-            ≡ with_piece guest f.next result got (face self.old).progress) × CanShow (length got) f }
+            → (made : IsPieceMade (face self.old) (face self.new) guest f result)
+            × HasPieceLicence (face self.old) (face self.new) guest f result made }
         ensures stays { StaysIn (face self.old) (face self.new) }
         ensures comes { (o : Opening) → Comes o (face self.old) → Comes o (face self.new) };
 
@@ -50,12 +52,12 @@ pub(crate) trait Events {
         ensures stays { StaysIn (face self.old) (face self.new) }
         ensures comes { (o : Opening) → Comes o (face self.old) → Comes o (face self.new) };
 
-    /// Carries out a line of the script.
-    fn execute(&mut self, alloc: Global, line: u32, given: String) -> Result<(), NoMemory>
+    /// Answers a line of the script. It has to come again where a request is in flight on a disk that it must drain.
+    fn execute(&mut self, alloc: Global, line: u32, text: &str) -> Result<Executed, NoMemory>
         requires open { IsNotDone (seen_state (face self.old)) 0 }
         requires room { 0 < (face self.old).progress.spare.entries }
-        ensures replied { OnOk result (IsReplied (face self.old) (face self.new)
-            (record { number = line; text = string_bytes given })) }
+        ensures done { IfOk result (λ answer.
+            IsExecuted (face self.old) (face self.new) (given_line line text.now) answer) }
         ensures back { OnErr result (IsPutBack (face self.old) (face self.new)) }
         ensures stays { StaysIn (face self.old) (face self.new) }
         ensures comes { (o : Opening) → Comes o (face self.old) → Comes o (face self.new) };
@@ -101,8 +103,8 @@ impl<S: Store> Events for World<S> {
         World::retire(self, guest);
     }
 
-    fn execute(&mut self, alloc: Global, line: u32, given: String) -> Result<(), NoMemory> {
-        World::execute(self, alloc, line, given)
+    fn execute(&mut self, alloc: Global, line: u32, text: &str) -> Result<Executed, NoMemory> {
+        World::execute(self, alloc, line, text)
     }
 
     fn reach(&mut self, line: u32, what: Await) -> Option<Await> {

@@ -2,12 +2,11 @@
 ghost use Rattle.std.specs.Prelude.{◌≡◌, ◌+◌, ◌-◌, ◌^◌, ◌<◌, ◌≤◌, ◌++◌, [], ◌∷◌, None, Some, true, false, option_to_list};
 ghost use Rattle.blk_base.specs.Outcomes.{is_good};
 ghost use Rattle.flat_machine.specs.Courses.{past_waits};
-ghost use Rattle.flat_machine.specs.declared.opening.Opening.{Opening};
-ghost use Rattle.blk_world.specs.Comes.{Comes};
 ghost use Rattle.blk_world.specs.Progress.{answered_in};
 ghost use Rattle.qblk_inputs.specs.Room.{bytes_for};
 ghost use Rattle.qblk_run.specs.Tasks.{entries_of, IsTaskIn};
-ghost use Rattle.qblk_run.specs.Turns.{StaysIn, IsTurn, MakesMove, waited_in, is_over_in};
+ghost use Rattle.qblk_run.specs.Turns.{StaysIn, GuestMoves, IsTurn, waited_in, is_over_in};
+ghost use Rattle.qblk_run.specs.Worlds.{ComesOn};
 
 use crate::events::Events;
 use crate::task::{Task, look};
@@ -53,9 +52,9 @@ fn pass_waits<W: Events>(world: &W, next: &mut Option<Wish>, rest: &mut VecDeque
 fn retire<W: Events>(world: &mut W, guest: u32, task: &mut Task)
     requires task { IsTaskIn (W.face world.old).progress guest task.old }
     requires over { task.old.left ≡ Some 0 }
-    ensures moved { MakesMove (W.face world.old).progress (W.face world.new).progress guest task.old task.new }
+    ensures moved { GuestMoves (W.face world.old) (W.face world.new) guest task.old task.new }
     ensures stays { StaysIn (W.face world.old) (W.face world.new) }
-    ensures comes { (o : Opening) → Comes o (W.face world.old) → Comes o (W.face world.new) }
+    ensures comes { ComesOn (W.face world.old) (W.face world.new) }
 {
     world.retire(guest);
     task.left = None;
@@ -75,9 +74,9 @@ fn make_piece<W: Events>(world: &mut W, guest: u32, left: u32, task: &mut Task)
     requires task { IsTaskIn (W.face world.old).progress guest task.old }
     requires flying { task.old.left ≡ Some left }
     requires more { 0 < left }
-    ensures moved { MakesMove (W.face world.old).progress (W.face world.new).progress guest task.old task.new }
+    ensures moved { GuestMoves (W.face world.old) (W.face world.new) guest task.old task.new }
     ensures stays { StaysIn (W.face world.old) (W.face world.new) }
-    ensures comes { (o : Opening) → Comes o (W.face world.old) → Comes o (W.face world.new) }
+    ensures comes { ComesOn (W.face world.old) (W.face world.new) }
 {
     let outcome = world.piece(guest);
     task.left = Some(left_after(left, outcome));
@@ -91,15 +90,15 @@ fn end<W: Events>(world: &mut W, guest: u32, task: &mut Task)
     requires runs { task.old.is_done ≡ false }
     requires used { task.old.wishes ≡ [] }
     requires entries { entries_of task.old ≤ (W.face world.old).progress.spare.entries }
-    ensures moved { MakesMove (W.face world.old).progress (W.face world.new).progress guest task.old task.new }
+    ensures moved { GuestMoves (W.face world.old) (W.face world.new) guest task.old task.new }
     ensures stays { StaysIn (W.face world.old) (W.face world.new) }
-    ensures comes { (o : Opening) → Comes o (W.face world.old) → Comes o (W.face world.new) }
+    ensures comes { ComesOn (W.face world.old) (W.face world.new) }
 {
     world.finish(guest + 1);
     task.is_done = true;
 }
 
-/// Asks for what the guest wants next. It waits for a line that wasn't answered, or where its device is away.
+/// Asks for what the guest wants next. It waits for a line that wasn't answered, where its device is away, and where it is held.
 fn ask<W: Events>(world: &mut W, guest: u32, task: &mut Task) -> bool
     requires numbered { guest + 1 < 2 ^ 32 }
     requires task { IsTaskIn (W.face world.old).progress guest task.old }
@@ -109,7 +108,7 @@ fn ask<W: Events>(world: &mut W, guest: u32, task: &mut Task) -> bool
     requires bytes { bytes_for task.old.wishes ≤ (W.face world.old).progress.spare.bytes }
     ensures turn { IsTurn (W.face world.old) (W.face world.new) guest task.old task.new result }
     ensures stays { StaysIn (W.face world.old) (W.face world.new) }
-    ensures comes { (o : Opening) → Comes o (W.face world.old) → Comes o (W.face world.new) }
+    ensures comes { ComesOn (W.face world.old) (W.face world.new) }
 {
     pass_waits(world, &mut task.next, &mut task.rest);
     match task.next.take() {
@@ -129,6 +128,10 @@ fn ask<W: Events>(world: &mut W, guest: u32, task: &mut Task) -> bool
                     true
                 }
                 Admission::Refused(_) => true,
+                Admission::Held(op) => {
+                    task.next = Some(Wish::Ask(op));
+                    false
+                }
                 Admission::Away(op) => {
                     task.next = Some(Wish::Ask(op));
                     false
@@ -146,7 +149,7 @@ pub(crate) fn guest_turn<W: Events>(world: &mut W, guest: u32, task: &mut Task) 
     requires bytes { bytes_for task.old.wishes ≤ (W.face world.old).progress.spare.bytes }
     ensures turn { IsTurn (W.face world.old) (W.face world.new) guest task.old task.new result }
     ensures stays { StaysIn (W.face world.old) (W.face world.new) }
-    ensures comes { (o : Opening) → Comes o (W.face world.old) → Comes o (W.face world.new) }
+    ensures comes { ComesOn (W.face world.old) (W.face world.new) }
 {
     if task.is_done {
         return false;

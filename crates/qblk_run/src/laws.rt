@@ -1,10 +1,14 @@
 //! What follows from the statement of a run, as the contract of a function that does nothing.
-ghost use Rattle.std.specs.Prelude.{ℕ, Bool, List, length};
+ghost use Rattle.std.specs.Prelude.{ℕ, Bool, List, Option, length};
+ghost use Rattle.blk_base.specs.declared.fault.FaultAt.{FaultAt};
 ghost use Rattle.trace_codec.specs.declared.waits.Waits.{Waits};
 ghost use Rattle.flat_machine.specs.Comes.{IsInOrder};
+ghost use Rattle.blk_world.specs.Steps.{StoreSeen, new_world};
+ghost use Rattle.qblk_core.specs.declared.status.Status.{Status};
 ghost use Rattle.qblk_inputs.specs.Inputs.{Work};
-ghost use Rattle.qblk_run.specs.Completeness.{CanBeWhole, AreAttached};
-ghost use Rattle.qblk_run.specs.Run.{Account, EndsStuck};
+ghost use Rattle.qblk_inputs.specs.Words.{Cast};
+ghost use Rattle.qblk_run.specs.Completeness.{CanBeWhole, AreAttached, HaveSpace, MeetsNone, NamesNoFault, NoneHasRisen};
+ghost use Rattle.qblk_run.specs.Run.{Account, Answers, EndsStuck, HaveStood, IsRun, Setting, counts_at_first, counts_at_last};
 
 /// A run whose script awaits nothing, and whose traces wait for lines of the script alone, isn't stuck where each of its guests
 /// has a device at the end.
@@ -13,4 +17,20 @@ pub fn runs_that_await_nothing_are_whole()
         → CanBeWhole work → IsInOrder a.opening work.script work.traces a.events
         → (stuck : EndsStuck is_told work a actor what)
         → AreAttached stuck.state.table (length work.traces) → ⊥ }
+{}
+
+/// A run in which no count of store, device or sink rises names no fault.
+pub fn runs_without_a_rise_name_no_fault()
+    ensures { (cast : Cast) (old new : Setting) (status : Status)
+        → Answers cast old new status → NoneHasRisen old new → NamesNoFault status }
+{}
+
+/// In a run in which no count rises, and no write would pass a capacity in the world that it is made in, each piece is good, and
+/// no command fails with a call of it.
+pub fn runs_with_space_are_good()
+    ensures { (cast : Cast) (work : Work) (fault : Option FaultAt) (old new : StoreSeen) (a : Account)
+        → (run : IsRun cast work fault old new a)
+        → HaveStood (counts_at_first old a) (counts_at_last new a)
+        → HaveSpace a.opening (new_world old a.opening.guests run.worlds.room) a.events
+        run.worlds.last run.worlds.through → MeetsNone a.events }
 {}

@@ -16,6 +16,8 @@ mod stuck;
 mod task;
 mod transcript;
 
-pub use laws::runs_that_await_nothing_are_whole;
+pub use laws::{
+    runs_that_await_nothing_are_whole, runs_with_space_are_good, runs_without_a_rise_name_no_fault,
+};
 pub use program::qblk;
 pub use run::run_script;

@@ -1,17 +1,17 @@
 //! The script's turn: it makes at most one entry.
 ghost use Rattle.std.specs.Prelude.{◌≡◌, ◌≤◌, IfOk, OnErr};
-ghost use Rattle.flat_machine.specs.declared.opening.Opening.{Opening};
-ghost use Rattle.blk_world.specs.Comes.{Comes};
 ghost use Rattle.qblk_run.specs.Tasks.{IsScriptIn, entries_of_script};
 ghost use Rattle.qblk_run.specs.Turns.{StaysIn, IsScriptTurn};
+ghost use Rattle.qblk_run.specs.Worlds.{ComesOn};
 
 use crate::events::Events;
 use crate::task::{Script, look};
 use blk_base::NoMemory;
+use blk_world::Executed;
 use std::alloc::Global;
 use trace_codec::Order;
 
-/// Gives the script its turn: its next line is carried out, or was waited for. Says whether it made an entry.
+/// Gives the script its turn: its next line is answered, or was waited for, or has to come again. Says whether it made an entry.
 pub(crate) fn script_turn<W: Events>(
     alloc: Global,
     world: &mut W,
@@ -22,7 +22,7 @@ pub(crate) fn script_turn<W: Events>(
     ensures turn { IfOk result (IsScriptTurn (W.face world.old) (W.face world.new) script.old script.new) }
     ensures stop { OnErr result ((W.face world.new).progress ≡ (W.face world.old).progress) }
     ensures stays { StaysIn (W.face world.old) (W.face world.new) }
-    ensures comes { (o : Opening) → Comes o (W.face world.old) → Comes o (W.face world.new) }
+    ensures comes { ComesOn (W.face world.old) (W.face world.new) }
 {
     if script.is_done {
         return Ok(false);
@@ -35,8 +35,12 @@ pub(crate) fn script_turn<W: Events>(
             Ok(true)
         }
         Some(Order::Give(line, text)) => {
-            match world.execute(alloc, line, text.into_string()) {
-                Ok(()) => Ok(true),
+            match world.execute(alloc, line, text.as_str()) {
+                Ok(Executed::Replied) => Ok(true),
+                Ok(Executed::Later { .. }) => {
+                    script.next = Some(Order::Give(line, text));
+                    Ok(false)
+                }
                 Err(stop) => Err(stop),
             }
         }

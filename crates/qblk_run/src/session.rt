@@ -1,7 +1,7 @@
 //! A run of a world, from its first turn to its end.
 ghost use Rattle.std.specs.Prelude.{◌≡◌, None, IfSome};
 ghost use Rattle.blk_world.specs.Steps.{seen_store};
-ghost use Rattle.qblk_run.specs.Tasks.{CanGoOn};
+ghost use Rattle.qblk_run.specs.Tasks.{AreDrainsOf, CanGoOn};
 ghost use Rattle.qblk_run.specs.Session.{IsPlayed, IsGivenUp};
 
 use crate::rounds::run_rounds;
@@ -25,6 +25,7 @@ pub(crate) struct Made {
 /// Gives turns until no actor can go on, and closes the world. Nothing is told where memory wasn't had.
 pub(crate) fn play<S: Store>(alloc: Global, world: World<S>, actors: Actors) -> (Option<Made>, S)
     requires can { CanGoOn world.progress actors }
+    requires drains { AreDrainsOf world actors.script }
     ensures made { IfSome result.0 (λ made. IsPlayed world actors
         (seen_store (S.files result.1) (S.opened result.1) (S.room result.1) (S.faults result.1))
         made.history made.fault made.waiting) }

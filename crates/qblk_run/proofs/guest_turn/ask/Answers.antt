@@ -1,15 +1,17 @@
-use Rattle.std.proofs.Common.{◌≡◌, ◌++◌, ◌∷◌, List, refl, sym, ◌∙◌, ap, subst, arith, Option, Some, None}
+use Rattle.std.proofs.Common.{◌≡◌, ◌++◌, ◌∷◌, List, refl, sym, ◌∙◌, ap, subst, arith, Option, Some}
 use Rattle.std.specs.Prelude.{option_to_list}
 use Rattle.trace_codec.specs.declared.wish.Wish.{Wish}
 use Rattle.trace_codec.specs.declared.wish.Wish.TheVariants.{Ask, Wait}
 use Rattle.trace_codec.specs.declared.waits.Waits.TheVariants.{Line}
 use Rattle.flat_machine.specs.Courses.{past_waits}
 use Rattle.flat_machine.specs.Blocked.{TraceWaits}
-use Rattle.blk_world.specs.Face.{seen_state}
+use Rattle.blk_world.specs.Face.{Face, seen_state}
 use Rattle.blk_world.specs.Progress.{answered_in, HasRoomFor}
 use Rattle.qblk_run.specs.Tasks.{Task}
+use Rattle.qblk_run.specs.Worlds.{HasCome}
 use Rattle.qblk_run.proofs.Continuing.{Passes, passed-task}
-use Rattle.qblk_run.proofs.GuestTurns.{ask-room, ask-waits, ask-moves, admit-move, refuse-move, same-task, first-is}
+use Rattle.qblk_run.proofs.GuestTurns.{ask-room, ask-held, ask-waits, ask-moves, admit-move, refuse-move, same-task, first-is}
+use Rattle.qblk_run.proofs.Worlds.{come-admitted, come-refused}
 use Rattle.qblk_run.proofs.guest_turn.ask.Goals as goal
 
 pub admit-requires-clause-room : goal.admit-requires-clause-room
@@ -72,6 +74,7 @@ returns-in-Admitted-clause-turn g c =
     c.in-Some-Ask.op c.in-Admitted.field-0 (ap (λ (t : Task). t.left) c.task.view_is ∙ c.requires.idle)
     (first ∙ ap (λ (n : Option Wish). Ask c.in-Some-Ask.op ∷ (option_to_list n ++ c.pass_waits.new.rest.items)) (sym c.take.ensures.after)) room c.in-Admitted.ensures.kept
     (ap (λ (n : _). Some n) c.pieces-pieces.ensures) refl (ap (λ (t : Task). t.is_done) c.task.view_is ∙ c.requires.runs))
+    (ap (λ (u : Face). u.drains) c.in-Admitted.ensures.kept)
 
 pub returns-in-Refused-clause-turn : goal.returns-in-Refused-clause-turn
 returns-in-Refused-clause-turn g c =
@@ -91,3 +94,36 @@ returns-in-Refused-clause-turn g c =
     c.in-Some-Ask.op c.in-Refused.field-0 (ap (λ (t : Task). t.left) c.task.view_is ∙ c.requires.idle)
     (first ∙ ap (λ (n : Option Wish). Ask c.in-Some-Ask.op ∷ (option_to_list n ++ c.pass_waits.new.rest.items)) (sym c.take.ensures.after)) room c.in-Refused.ensures.kept
     (ap (λ (t : Task). t.left) c.task.view_is ∙ c.requires.idle) refl (ap (λ (t : Task). t.is_done) c.task.view_is ∙ c.requires.runs))
+    (ap (λ (u : Face). u.drains) c.in-Refused.ensures.kept)
+
+pub returns-in-Admitted-clause-comes : goal.returns-in-Admitted-clause-comes
+returns-in-Admitted-clause-comes g c = λ o first has.
+    come-admitted o first (g.W.Events.face c.args.world.now) (g.W.Events.face c.admit.new.self) has (c.admit.ensures.comes o)
+    c.args.guest c.in-Some-Ask.op c.in-Admitted.field-0 c.in-Admitted.ensures.answer c.in-Admitted.ensures.kept
+
+pub returns-in-Refused-clause-comes : goal.returns-in-Refused-clause-comes
+returns-in-Refused-clause-comes g c = λ o first has.
+    come-refused o first (g.W.Events.face c.args.world.now) (g.W.Events.face c.admit.new.self) has (c.admit.ensures.comes o)
+    c.args.guest c.in-Some-Ask.op c.in-Refused.field-0 c.in-Refused.ensures.answer c.in-Refused.ensures.kept
+
+pub returns-in-Away-clause-comes : goal.returns-in-Away-clause-comes
+returns-in-Away-clause-comes g c = λ o first has. subst (HasCome o first) (sym c.in-Away.ensures.kept) has
+
+pub returns-in-Held-clause-comes : goal.returns-in-Held-clause-comes
+returns-in-Held-clause-comes g c = λ o first has. subst (HasCome o first) (sym c.in-Held.ensures.kept) has
+
+pub returns-in-Held-clause-turn : goal.returns-in-Held-clause-turn
+returns-in-Held-clause-turn g c =
+    let w = g.W.Events.face c.args.world.now in
+    let view : Task = record { wishes = option_to_list c.pass_waits.new.next ++ c.pass_waits.new.rest.items; left = c.task.inside.left; is_done = c.task.inside.is_done } in
+    let passes : Passes (answered_in w.progress.log.events) c.args.task.now view = record {
+      wishes = c.pass_waits.ensures.passed ∙ ap (λ (t : Task). past_waits (answered_in w.progress.log.events) t.wishes) c.task.view_is;
+      left = ap (λ (t : Task). t.left) c.task.view_is;
+      is_done = ap (λ (t : Task). t.is_done) c.task.view_is;
+    } in
+    let next : c.pass_waits.new.next ≡ Some (Ask c.in-Some-Ask.op) = sym c.take.ensures.value ∙ c.in-Some-Ask.is ∙ ap (λ (x : Wish). Some x) c.in-Some-Ask.field-0-is in
+    let back : c.in-Held.op ≡ c.in-Some-Ask.op = c.in-Held.ensures.answer.2 in
+    let first = first-is c.pass_waits.new.next c.pass_waits.new.rest.items (Ask c.in-Some-Ask.op) next in
+    ask-held w (g.W.Events.face c.admit.new.self) c.args.guest c.args.task.now view _ passes
+    (same-task _ view (ap (λ (op : _). Ask op ∷ c.pass_waits.new.rest.items) back ∙ sym first) refl refl) c.in-Held.ensures.kept
+    (ap (λ (t : Task). t.left) c.task.view_is ∙ c.requires.idle) c.in-Held.ensures.answer.1

@@ -1,6 +1,8 @@
-use Rattle.std.proofs.Common.{refl, ap, ◌∙◌}
+use Rattle.std.proofs.Common.{refl, ap, ◌∙◌, ◌+◌}
+use Rattle.blk_world.specs.Face.{Face}
 use Rattle.qblk_run.specs.Tasks.{Task}
 use Rattle.qblk_run.proofs.GuestTurns.{is-open, is-idle, end-move, row-known, end-room}
+use Rattle.qblk_run.proofs.Worlds.{come-done}
 use Rattle.qblk_run.proofs.guest_turn.end.Goals as goal
 
 pub finish-requires-clause-known : goal.finish-requires-clause-known
@@ -16,7 +18,13 @@ pub finish-requires-clause-room : goal.finish-requires-clause-room
 finish-requires-clause-room g c = end-room (g.W.Events.face c.args.world.now).progress c.args.task.now c.requires.runs c.requires.entries
 
 pub returns-clause-moved : goal.returns-clause-moved
-returns-clause-moved g c =
-    end-move (g.W.Events.face c.args.world.now) (g.W.Events.face c.finish.new.self) c.args.guest c.args.task.now _ c.requires.task
-    c.requires.idle c.requires.runs c.requires.used c.requires.entries c.finish.ensures.kept
-    (ap (λ (t : Task). t.wishes) c.task.view_is ∙ c.requires.used) (ap (λ (t : Task). t.left) c.task.view_is ∙ c.requires.idle) refl
+returns-clause-moved g c = (
+  end-move (g.W.Events.face c.args.world.now) (g.W.Events.face c.finish.new.self) c.args.guest c.args.task.now _ c.requires.task
+      c.requires.idle c.requires.runs c.requires.used c.requires.entries c.finish.ensures.kept
+      (ap (λ (t : Task). t.wishes) c.task.view_is ∙ c.requires.used) (ap (λ (t : Task). t.left) c.task.view_is ∙ c.requires.idle) refl,
+  ap (λ (u : Face). u.drains) c.finish.ensures.kept,
+)
+
+pub returns-clause-comes : goal.returns-clause-comes
+returns-clause-comes g c = λ o first has.
+    come-done o first (g.W.Events.face c.args.world.now) (g.W.Events.face c.finish.new.self) has (c.finish.ensures.comes o) (c.args.guest + 1) c.finish.ensures.kept

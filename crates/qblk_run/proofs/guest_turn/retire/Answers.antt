@@ -1,12 +1,20 @@
 use Rattle.std.proofs.Common.{refl, ap}
+use Rattle.blk_world.specs.Face.{Face}
 use Rattle.qblk_run.specs.Tasks.{Task}
 use Rattle.qblk_run.proofs.GuestTurns.{is-over, retire-move}
+use Rattle.qblk_run.proofs.Worlds.{come-retired}
 use Rattle.qblk_run.proofs.guest_turn.retire.Goals as goal
 
 pub retire-requires : goal.retire-requires
 retire-requires g c = is-over (g.W.Events.face c.args.world.now).progress c.args.guest c.args.task.now c.requires.task c.requires.over
 
 pub returns-clause-moved : goal.returns-clause-moved
-returns-clause-moved g c =
-    retire-move (g.W.Events.face c.args.world.now) (g.W.Events.face c.retire.new.self) c.args.guest c.args.task.now _ c.requires.task c.requires.over c.retire.ensures.kept
-    (ap (λ (t : Task). t.wishes) c.task.view_is) refl (ap (λ (t : Task). t.is_done) c.task.view_is)
+returns-clause-moved g c = (
+  retire-move (g.W.Events.face c.args.world.now) (g.W.Events.face c.retire.new.self) c.args.guest c.args.task.now _ c.requires.task c.requires.over c.retire.ensures.kept
+      (ap (λ (t : Task). t.wishes) c.task.view_is) refl (ap (λ (t : Task). t.is_done) c.task.view_is),
+  ap (λ (u : Face). u.drains) c.retire.ensures.kept,
+)
+
+pub returns-clause-comes : goal.returns-clause-comes
+returns-clause-comes g c = λ o first has.
+    come-retired o first (g.W.Events.face c.args.world.now) (g.W.Events.face c.retire.new.self) has (c.retire.ensures.comes o) c.args.guest c.retire.ensures.kept

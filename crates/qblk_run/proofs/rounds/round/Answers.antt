@@ -18,9 +18,9 @@ loop-guest-preserved g c =
     ] in
     record {
       so = continues-then w v u a c.loop-guest.actors c.next_guest-turned.new.actors c.loop-guest.invariant.so c.next_guest-turned.ensures.goes;
-      goes = subst (λ (b : Bool). Goes w u a c.next_guest-turned.new.actors (c.loop-guest.guest + 1) b) (sym is)
+      goes = subst (λ (b : Bool). Goes u a c.next_guest-turned.new.actors (c.loop-guest.guest + 1) b) (sym is)
           (goes-on w v u a c.loop-guest.actors c.next_guest-turned.new.actors c.loop-guest.guest c.loop-guest.moved turned c.loop-guest.invariant.so c.loop-guest.invariant.goes
           c.next_guest-turned.ensures.goes c.next_guest-turned.ensures.script c.next_guest-turned.ensures.turn);
       stays = stays_then w v u c.loop-guest.invariant.stays c.next_guest-turned.ensures.stays;
-      comes = λ o was. c.next_guest-turned.ensures.comes o (c.loop-guest.invariant.comes o was);
+      comes = λ o first was. c.next_guest-turned.ensures.comes o first (c.loop-guest.invariant.comes o first was);
     }

@@ -1,7 +1,6 @@
-use Rattle.flat_machine.specs.declared.opening.Opening.{Opening}
-use Rattle.blk_world.specs.Comes.{Comes}
 use Rattle.qblk_run.specs.Tasks.{steps_of_tasks}
 use Rattle.qblk_run.specs.Turns.{StaysIn}
+use Rattle.qblk_run.specs.Worlds.{ComesOn}
 use Rattle.qblk_run.specs.Rounds.{Continues}
 use Rattle.qblk_run.proofs.rounds.run_rounds.Given as goal
 
@@ -10,7 +9,7 @@ abbrev pub invariant-loop-stop : goal.invariant-loop-stop
 invariant-loop-stop g l = record {
   so : Continues (g.W.Events.face l.fn.world) (g.W.Events.face l.world) l.fn.actors l.actors;
   stays : StaysIn (g.W.Events.face l.fn.world) (g.W.Events.face l.world);
-  comes : (o : Opening) → Comes o (g.W.Events.face l.fn.world) → Comes o (g.W.Events.face l.world);
+  comes : ComesOn (g.W.Events.face l.fn.world) (g.W.Events.face l.world);
 }
 
 abbrev pub decreases-loop-stop : goal.decreases-loop-stop

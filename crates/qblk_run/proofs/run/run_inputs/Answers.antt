@@ -4,7 +4,7 @@ use Rattle.trace_codec.specs.Script.{seen_order}
 use Rattle.blk_world.specs.Steps.{seen_store}
 use Rattle.qblk_inputs.specs.Inputs.{Work}
 use Rattle.qblk_run.specs.Run.{Setting, setting}
-use Rattle.qblk_run.proofs.Runs.{play-can, traces-count, played-here, given-here, if-some}
+use Rattle.qblk_run.proofs.Runs.{play-can, play-drains, traces-count, played-here, given-here, if-some}
 use Rattle.qblk_run.proofs.run.run_inputs.Goals as goal
 
 pub play-made-requires : goal.play-made-requires
@@ -13,6 +13,7 @@ play-made-requires g c = record {
       c.args.inputs.guests c.in-Ok.field-0.guests c.in-Ok.field-0.names (map seen_order c.args.inputs.script.items) (map (λ t. t.items) c.args.inputs.traces.items)
       c.in-Ok.field-0.actors c.in-Ok.field-0.room c.in-Ok-new.world c.in-Ok.ensures
       (traces-count c.args.inputs.traces _ c.requires.count) c.requires.few c.in-Ok-new.ensures.ok;
+  drains = play-drains _ _ _ _ _ c.in-Ok-new.ensures.ok;
 }
 
 pub returns-in-None-clause-ended : goal.returns-in-None-clause-ended

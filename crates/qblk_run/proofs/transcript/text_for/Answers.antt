@@ -1,4 +1,3 @@
-use Rattle.blk_base.specs.Written.{Written}
 use Rattle.qblk_run.proofs.Lines.{text-fits}
 use Rattle.qblk_run.proofs.transcript.text_for.Goals as goal
 
