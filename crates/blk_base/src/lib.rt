@@ -10,8 +10,6 @@ mod names;
 mod sink;
 mod span;
 mod store;
-#[cfg(test)]
-mod tests;
 mod text;
 mod writing;
 

@@ -4,8 +4,6 @@
 mod dirty_set;
 mod level;
 mod ratio;
-#[cfg(test)]
-mod tests;
 mod words;
 
 pub use dirty_set::DirtySet;

@@ -1,8 +1,6 @@
 //! Copies of clusters that jobs have in flight.
 #![tactic(auto)]
 
-#[cfg(test)]
-mod tests;
 mod transfers;
 
 pub use transfers::{Transfer, Transfers};

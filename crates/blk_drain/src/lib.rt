@@ -3,7 +3,5 @@
 #![tactic(auto)]
 
 mod drains;
-#[cfg(test)]
-mod tests;
 
 pub use drains::{Drains, Gate1, GuestRow, MOST_GUESTS, Readiness};

@@ -9,8 +9,6 @@ ghost use Rattle.blk_runs.specs.Runs.{Run, AreLongest, runs_of, bytes_of, run_te
 mod lanes;
 mod reading;
 mod singles;
-#[cfg(test)]
-mod tests;
 mod vectors;
 
 use blk_base::{NoMemory, Text};

@@ -4,8 +4,6 @@
 mod jobs;
 mod row;
 mod stop;
-#[cfg(test)]
-mod tests;
 
 pub use jobs::{Jobs, MOST_JOBS};
 pub use row::{JobRow, JobState};

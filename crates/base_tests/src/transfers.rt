@@ -1,4 +1,4 @@
-use crate::{Transfer, Transfers};
+use blk_copy::{Transfer, Transfers};
 use std::test::Fail;
 
 #[test]

@@ -1,4 +1,5 @@
-use super::*;
+use blk_base::Text;
+use blk_runs::{RunsStop, is_zero, push_runs, read_runs};
 use std::alloc::Global;
 use std::test::Fail;
 

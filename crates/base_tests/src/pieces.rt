@@ -1,4 +1,4 @@
-use super::*;
+use blk_base::{Names1, Span, Text, piece_at, piece_count};
 use std::test::Fail;
 
 // A span's pieces, each by its start and length.

@@ -1,4 +1,4 @@
-use crate::{DirtySet, Ratio};
+use blk_bits::{DirtySet, Ratio};
 use std::test::Fail;
 
 /// Whether these are the members, ascending.

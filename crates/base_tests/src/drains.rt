@@ -1,4 +1,4 @@
-use crate::drains::{Drains, Gate1, Readiness};
+use blk_drain::{Drains, Gate1, Readiness};
 use std::test::Fail;
 
 #[test]

@@ -1,5 +1,5 @@
-use crate::{JobState, JobStop, Jobs, MOST_JOBS};
 use blk_base::Text;
+use job_core::{JobState, JobStop, Jobs, MOST_JOBS};
 use std::test::Fail;
 
 #[test]

@@ -1,0 +1,16 @@
+//! Tests of the crates at the bottom, through public calls alone. They stand here and not in the crates that they test, each of
+//! which would be proved once more with them.
+#![tactic(auto)]
+
+#[cfg(test)]
+mod dirty_sets;
+#[cfg(test)]
+mod drains;
+#[cfg(test)]
+mod jobs;
+#[cfg(test)]
+mod pieces;
+#[cfg(test)]
+mod runs;
+#[cfg(test)]
+mod transfers;
