@@ -17,14 +17,14 @@ use Rattle.qmp_rules.specs.declared.told.Look.TheVariants as look
 use Rattle.qmp_rules.specs.declared.told.Told.{Told}
 use Rattle.flat_machine.specs.State.{State}
 use Rattle.flat_machine.specs.declared.opening.Opening.{Opening}
-use Rattle.blk_world.specs.Adding.{Adding, Opens, Taken}
-use Rattle.blk_world.specs.Carrying.{IsCaused, as_held, fault_told}
-use Rattle.blk_world.specs.Coherent.{DevicesTell, IsCoherent, IsWhole}
-use Rattle.blk_world.specs.Comes.{Shows}
-use Rattle.blk_world.specs.Counting.{HidesNoFault, RunsOn}
-use Rattle.blk_world.specs.Face.{Face}
-use Rattle.blk_world.specs.Looking.{AreIn, LooksAtImage, LooksAtPart, LooksBy, LooksOut, Site}
-use Rattle.blk_world.specs.Staging.{HasEnded, IsAdditionOf, opened_name, site_of, store_of}
+use Rattle.world_parts.specs.Adding.{Adding, Opens, Taken}
+use Rattle.world_commands.specs.Carrying.{IsCaused, as_held, fault_told}
+use Rattle.world_parts.specs.Coherent.{DevicesTell, IsCoherent, IsWhole}
+use Rattle.world_commands.specs.Comes.{Shows}
+use Rattle.world_commands.specs.Counting.{HidesNoFault, RunsOn}
+use Rattle.world_parts.specs.Face.{Face}
+use Rattle.world_parts.specs.Looking.{AreIn, LooksAtImage, LooksAtPart, LooksBy, LooksOut, Site}
+use Rattle.world_parts.specs.Staging.{HasEnded, IsAdditionOf, opened_name, site_of, store_of}
 use Rattle.blk_world.proofs.AddCarried.{sited}
 use Rattle.blk_world.proofs.AddCause.{causes}
 use Rattle.blk_world.proofs.AddClosed.{closed-in}
@@ -33,8 +33,8 @@ use Rattle.blk_world.proofs.AddEnds.{IsAccounted, some-files}
 use Rattle.blk_world.proofs.AddExact.{IsSeenHeld, expects-filter, expects-held, expects-nothing, expects-unknown, held-of, seen-store}
 use Rattle.blk_world.proofs.AddKinds.{IsLookedSo, looked-so}
 use Rattle.blk_world.proofs.AddRunsOn.{runs-added, runs-back}
-use Rattle.blk_world.proofs.AddSeen.{AsFile, AsImage, AsPart, OpensAs}
-use Rattle.blk_world.proofs.AddSights.{expects, seen-whole}
+use Rattle.world_parts.proofs.AddSeen.{AsFile, AsImage, AsPart, OpensAs}
+use Rattle.world_parts.proofs.AddSights.{expects, seen-whole}
 use Rattle.blk_world.proofs.AddUnder.{seen-under}
 
 -- ---- what was seen

@@ -11,18 +11,18 @@ use Rattle.blk_nodes.specs.Reading.{HaveRisen}
 use Rattle.qmp_codec.specs.declared.nodes.Added.{Added}
 use Rattle.qmp_rules.specs.Table.{Table, node_at}
 use Rattle.flat_machine.proofs.Tables.{pushed-cases}
-use Rattle.blk_world.specs.Adding.{Adding, Taken, of_node}
-use Rattle.blk_world.specs.Coherent.{AreAlike, AreNodesOf, AreOut, DevicesTell, IsCoherent}
-use Rattle.blk_world.specs.Face.{Face}
-use Rattle.blk_world.specs.Joining.{HasAdded}
-use Rattle.blk_world.specs.Looking.{HasCalled, Site, site}
-use Rattle.blk_world.specs.Progress.{Progress}
-use Rattle.blk_world.specs.Staging.{back_if, opened_name, site_of, store_of}
-use Rattle.blk_world.specs.Stores.{StoreInRun}
+use Rattle.world_parts.specs.Adding.{Adding, Taken, of_node}
+use Rattle.world_parts.specs.Coherent.{AreAlike, AreNodesOf, AreOut, DevicesTell, IsCoherent}
+use Rattle.world_parts.specs.Face.{Face}
+use Rattle.world_parts.specs.Joining.{HasAdded}
+use Rattle.world_parts.specs.Looking.{HasCalled, Site, site}
+use Rattle.world_parts.specs.Progress.{Progress}
+use Rattle.world_parts.specs.Staging.{back_if, opened_name, site_of, store_of}
+use Rattle.world_parts.specs.Stores.{StoreInRun}
 use Rattle.blk_world.proofs.AddKinds.{IsLookedSo, has-device, no-device-more}
-use Rattle.blk_world.proofs.AddOut.{get-before, get-cases}
-use Rattle.blk_world.proofs.AddRuns.{back-is, closed-opening}
-use Rattle.blk_world.proofs.CountLemmas.{out-same, same-risen}
+use Rattle.world_commands.proofs.AddOut.{get-before, get-cases}
+use Rattle.world_commands.proofs.AddRuns.{back-is, closed-opening}
+use Rattle.world_commands.proofs.CountLemmas.{out-same, same-risen}
 
 -- ---- openings that are over
 

@@ -24,24 +24,24 @@ use Rattle.qmp_rules.specs.declared.told.Look.TheVariants as look
 use Rattle.qmp_rules.specs.declared.told.Told.{Told}
 use Rattle.flat_machine.specs.Performing.{AllPerformed, IsQuiet}
 use Rattle.flat_machine.specs.State.{State}
-use Rattle.blk_world.specs.Adding.{Adding, IsTakenOut, Taken, Tells, TellsInside, TellsLength}
-use Rattle.blk_world.specs.Coherent.{IsCoherent}
-use Rattle.blk_world.specs.Face.{Face, contents_of, told_bytes}
-use Rattle.blk_world.specs.Joining.{HasAdded, HasAddedBy, HasAddedFile, HasAddedImage, HasAddedPart}
-use Rattle.blk_world.specs.Looking.{HasLooked, LooksAtImage, LooksAtPart, LooksBy, Site}
-use Rattle.blk_world.specs.Staging.{site_of, store_of}
-use Rattle.blk_world.specs.Stores.{StoreInRun}
-use Rattle.blk_world.proofs.AddAsked.{known-driver, taken-out}
+use Rattle.world_parts.specs.Adding.{Adding, IsTakenOut, Taken, Tells, TellsInside, TellsLength}
+use Rattle.world_parts.specs.Coherent.{IsCoherent}
+use Rattle.world_parts.specs.Face.{Face, contents_of, told_bytes}
+use Rattle.world_parts.specs.Joining.{HasAdded, HasAddedBy, HasAddedFile, HasAddedImage, HasAddedPart}
+use Rattle.world_parts.specs.Looking.{HasLooked, LooksAtImage, LooksAtPart, LooksBy, Site}
+use Rattle.world_parts.specs.Staging.{site_of, store_of}
+use Rattle.world_parts.specs.Stores.{StoreInRun}
+use Rattle.world_parts.proofs.AddAsked.{known-driver, taken-out}
 use Rattle.blk_world.proofs.AddBack.{alike-called, coherent-put}
 use Rattle.blk_world.proofs.AddDid.{did-sooner}
-use Rattle.blk_world.proofs.AddImages.{image-inside, image-there}
+use Rattle.world_parts.proofs.AddImages.{image-inside, image-there}
 use Rattle.blk_world.proofs.AddLooks.{holds-file}
 use Rattle.blk_world.proofs.AddMiddle.{middle-of}
 use Rattle.blk_world.proofs.AddQuiet.{quiet-called}
-use Rattle.blk_world.proofs.AddSeen.{AsFile, AsImage, AsPart}
+use Rattle.world_parts.proofs.AddSeen.{AsFile, AsImage, AsPart}
 use Rattle.blk_world.proofs.AddShown.{shown-file, shown-filter, shown-inline, shown-named, shown-part}
 use Rattle.blk_world.proofs.AddWhole.{fresh-of}
-use Rattle.blk_world.proofs.CountLemmas.{out-same, same-risen}
+use Rattle.world_commands.proofs.CountLemmas.{out-same, same-risen}
 
 -- the world with this store, these nodes and this table
 abbrev pub sited : Face → Site → Table → Face

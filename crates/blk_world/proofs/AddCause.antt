@@ -32,20 +32,20 @@ use Rattle.qmp_rules.specs.declared.told.Look.{Look}
 use Rattle.qmp_rules.specs.declared.told.Look.TheVariants as look
 use Rattle.qmp_rules.specs.declared.told.Stopped.{Stopped}
 use Rattle.qmp_rules.specs.declared.told.Told.{Told}
-use Rattle.blk_world.specs.Adding.{Adding, CountFits, HasFailed, IsAbsent, IsTakenOut, Looks, LooksBadly, LooksUnder, Opens, Taken, LooksAtFile, LooksInVain, Tells, TellsInside, TellsLength, look_in_vain, of_node, opened_sight, put_back, unopened}
-use Rattle.blk_world.specs.Carrying.{IsCaused, is_failed}
-use Rattle.blk_world.specs.Coherent.{IsCoherent}
-use Rattle.blk_world.specs.Counting.{RunsOn, counts_within}
-use Rattle.blk_world.specs.Face.{Face, count_of_opening, counts_from, counts_now, first_counts}
-use Rattle.blk_world.specs.Looking.{AreIn, HasLooked, LooksAtImage, LooksAtPart, LooksBy, LooksIn, LooksOut, Site, site}
-use Rattle.blk_world.specs.Staging.{back_if, opened_name, site_of, store_of}
-use Rattle.blk_world.specs.Stores.{StoreInRun}
+use Rattle.world_parts.specs.Adding.{Adding, CountFits, HasFailed, IsAbsent, IsTakenOut, Looks, LooksBadly, LooksUnder, Opens, Taken, LooksAtFile, LooksInVain, Tells, TellsInside, TellsLength, look_in_vain, of_node, opened_sight, put_back, unopened}
+use Rattle.world_commands.specs.Carrying.{IsCaused, is_failed}
+use Rattle.world_parts.specs.Coherent.{IsCoherent}
+use Rattle.world_commands.specs.Counting.{RunsOn, counts_within}
+use Rattle.world_parts.specs.Face.{Face, count_of_opening, counts_from, counts_now, first_counts}
+use Rattle.world_parts.specs.Looking.{AreIn, HasLooked, LooksAtImage, LooksAtPart, LooksBy, LooksIn, LooksOut, Site, site}
+use Rattle.world_parts.specs.Staging.{back_if, opened_name, site_of, store_of}
+use Rattle.world_parts.specs.Stores.{StoreInRun}
 use Rattle.blk_world.proofs.AddFailed.{calm-inside, calm-long, calm-not, calm-part, IsCalm, refused-of, unopened-of}
-use Rattle.blk_world.proofs.AddImages.{opened-risen}
-use Rattle.blk_world.proofs.AddOut.{get-last}
-use Rattle.blk_world.proofs.AddRuns.{back-is, closed-opening}
-use Rattle.blk_world.proofs.CountsKept.{length-counts, one-behind}
-use Rattle.blk_world.proofs.CountLemmas.{counts-at, out-same, reached-held, same-risen, with-of}
+use Rattle.world_parts.proofs.AddImages.{opened-risen}
+use Rattle.world_commands.proofs.AddOut.{get-last}
+use Rattle.world_commands.proofs.AddRuns.{back-is, closed-opening}
+use Rattle.world_commands.proofs.CountsKept.{length-counts, one-behind}
+use Rattle.world_commands.proofs.CountLemmas.{counts-at, out-same, reached-held, same-risen, with-of}
 
 -- ---- counts of an opening that is over
 

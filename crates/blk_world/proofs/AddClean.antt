@@ -22,10 +22,10 @@ use Rattle.qmp_rules.specs.declared.rows.NodeRecord.{NodeRecord}
 use Rattle.qmp_rules.specs.declared.told.Look.TheVariants as look
 use Rattle.qmp_rules.specs.declared.told.Stopped.{Stopped}
 use Rattle.qmp_rules.specs.declared.told.Told.{Told}
-use Rattle.blk_world.specs.Adding.{Adding, HasFailed, IsAbsent, Looks, LooksUnder, Opens, Taken, Tells, TellsInside, opened_sight, unopened}
-use Rattle.blk_world.specs.Carrying.{IsOfFiles, StopsByFiles}
-use Rattle.blk_world.specs.Looking.{HasLooked, LooksAtImage, LooksAtPart, LooksBy, Site}
-use Rattle.blk_world.specs.Stores.{StoreInRun}
+use Rattle.world_parts.specs.Adding.{Adding, HasFailed, IsAbsent, Looks, LooksUnder, Opens, Taken, Tells, TellsInside, opened_sight, unopened}
+use Rattle.world_commands.specs.Carrying.{IsOfFiles, StopsByFiles}
+use Rattle.world_parts.specs.Looking.{HasLooked, LooksAtImage, LooksAtPart, LooksBy, Site}
+use Rattle.world_parts.specs.Stores.{StoreInRun}
 use Rattle.blk_nodes.specs.Nodes.{Nodes}
 
 -- ---- refusals of files

@@ -13,8 +13,8 @@ use Rattle.qmp_rules.specs.Table.{Table, file_state, node_at}
 use Rattle.qmp_rules.specs.declared.rows.NodeRecord.{NodeRecord}
 use Rattle.flat_machine.specs.State.{filename_of}
 use Rattle.flat_machine.proofs.Finds.{bytes_eq-same, same-bytes_eq}
-use Rattle.blk_world.specs.Coherent.{AreOut}
-use Rattle.blk_world.specs.Face.{Face, device_numbered, held, held_by, told_bytes}
+use Rattle.world_parts.specs.Coherent.{AreOut}
+use Rattle.world_parts.specs.Face.{Face, device_numbered, held, held_by, told_bytes}
 
 -- an opening of that name that isn't back
 record IsOpening (name : List ℕ) (opened : List Opened) : Type 0 where

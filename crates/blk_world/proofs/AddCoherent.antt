@@ -20,19 +20,19 @@ use Rattle.qmp_rules.specs.Table.{Table}
 use Rattle.qmp_rules.specs.declared.told.Look.TheVariants as look
 use Rattle.qmp_rules.specs.declared.told.Told.{Told}
 use Rattle.flat_machine.proofs.TableRests.{command_rests}
-use Rattle.blk_world.specs.Adding.{Adding, Taken, Tells, TellsInside, TellsLength}
-use Rattle.blk_world.specs.Coherent.{IsCoherent}
-use Rattle.blk_world.specs.Joining.{HasAdded, HasAddedBy, HasAddedFile, HasAddedImage, HasAddedPart}
-use Rattle.blk_world.specs.Looking.{HasCalled, HasLooked, LooksAtImage, LooksAtPart, LooksBy, Site}
-use Rattle.blk_world.specs.Progress.{Progress}
-use Rattle.blk_world.specs.Stores.{StoreInRun}
-use Rattle.blk_world.proofs.AddAsked.{known-driver, taken-out}
-use Rattle.blk_world.proofs.AddImages.{image-inside, image-there}
-use Rattle.blk_world.proofs.AddLooked.{called-alike}
+use Rattle.world_parts.specs.Adding.{Adding, Taken, Tells, TellsInside, TellsLength}
+use Rattle.world_parts.specs.Coherent.{IsCoherent}
+use Rattle.world_parts.specs.Joining.{HasAdded, HasAddedBy, HasAddedFile, HasAddedImage, HasAddedPart}
+use Rattle.world_parts.specs.Looking.{HasCalled, HasLooked, LooksAtImage, LooksAtPart, LooksBy, Site}
+use Rattle.world_parts.specs.Progress.{Progress}
+use Rattle.world_parts.specs.Stores.{StoreInRun}
+use Rattle.world_parts.proofs.AddAsked.{known-driver, taken-out}
+use Rattle.world_parts.proofs.AddImages.{image-inside, image-there}
+use Rattle.world_parts.proofs.AddLooked.{called-alike}
 use Rattle.blk_world.proofs.AddMiddle.{Middle, coherent-of, middle-of}
-use Rattle.blk_world.proofs.AddSeen.{AsFile, AsImage, AsPart}
+use Rattle.world_parts.proofs.AddSeen.{AsFile, AsImage, AsPart}
 use Rattle.blk_world.proofs.AddWhole.{fresh-of, whole-file, whole-filter, whole-image, whole-part}
-use Rattle.blk_world.proofs.CountLemmas.{out-same, same-risen}
+use Rattle.world_commands.proofs.CountLemmas.{out-same, same-risen}
 
 module _ (t : Table) (told : Told) (c : Adding) (none : refusal_of t told (command.BlockdevAdd c) ≡ None) (old now new : Site) (out : Option Taken)
     (image : Option Known) (p : Progress) (was : IsCoherent t old.nodes old.store.opened p) (joined : IsJoined now.nodes) where

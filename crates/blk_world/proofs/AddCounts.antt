@@ -36,25 +36,25 @@ use Rattle.qmp_rules.specs.declared.told.Look.TheVariants as look
 use Rattle.qmp_rules.specs.declared.told.Stopped.{Stopped}
 use Rattle.qmp_rules.specs.declared.told.Told.{Told}
 use Rattle.flat_machine.specs.Licence.{fault_at}
-use Rattle.blk_world.specs.Adding.{Adding, HasFailed, IsAbsent, IsBack, IsLookReached, IsTakenOut, Looks, LooksAtFile, LooksBadly, LooksInVain, LooksUnder, Opens, Taken, Tells, TellsInside, TellsRefusal, look_in_vain, of_node, opened_sight, opening_of, opens, put_back, unopened}
-use Rattle.blk_world.specs.Carrying.{fault_named, is_failed}
-use Rattle.blk_world.specs.Coherent.{AreOut, IsWhole}
-use Rattle.blk_world.specs.Counting.{HidesNoFault}
-use Rattle.blk_world.specs.Face.{Face, count_of_opening, counts_from, counts_now, device_numbered}
-use Rattle.blk_world.specs.Joining.{HasAdded}
-use Rattle.blk_world.specs.Looking.{AreIn, HasLooked, LooksAtImage, LooksAtPart, LooksBy, LooksNowhere, Site, StoreIsBack, site}
-use Rattle.blk_world.specs.Staging.{IsNotAdded, back_if, opened_name, site_of, store_of}
-use Rattle.blk_world.specs.Stores.{StoreInRun}
+use Rattle.world_parts.specs.Adding.{Adding, HasFailed, IsAbsent, IsBack, IsLookReached, IsTakenOut, Looks, LooksAtFile, LooksBadly, LooksInVain, LooksUnder, Opens, Taken, Tells, TellsInside, TellsRefusal, look_in_vain, of_node, opened_sight, opening_of, opens, put_back, unopened}
+use Rattle.world_commands.specs.Carrying.{fault_named, is_failed}
+use Rattle.world_parts.specs.Coherent.{AreOut, IsWhole}
+use Rattle.world_commands.specs.Counting.{HidesNoFault}
+use Rattle.world_parts.specs.Face.{Face, count_of_opening, counts_from, counts_now, device_numbered}
+use Rattle.world_parts.specs.Joining.{HasAdded}
+use Rattle.world_parts.specs.Looking.{AreIn, HasLooked, LooksAtImage, LooksAtPart, LooksBy, LooksNowhere, Site, StoreIsBack, site}
+use Rattle.world_parts.specs.Staging.{IsNotAdded, back_if, opened_name, site_of, store_of}
+use Rattle.world_parts.specs.Stores.{StoreInRun}
 use Rattle.blk_world.proofs.AddCarried.{sited}
 use Rattle.blk_world.proofs.AddClosed.{closed-in}
 use Rattle.blk_world.proofs.AddFailed.{IsCalm, calm-inside, calm-long, calm-not, calm-part, refused-of, unopened-of}
 use Rattle.blk_world.proofs.AddKinds.{has-device, no-device-more}
-use Rattle.blk_world.proofs.AddRefused.{has-named, image-told, looks-named, stop-told}
-use Rattle.blk_world.proofs.AddRuns.{back-is, closed-opening, counts-more}
-use Rattle.blk_world.proofs.AddSeen.{AsFile, AsImage, AsPart, OpensAs, has-at, looks-as}
-use Rattle.blk_world.proofs.CarryPlain.{quiet_named}
-use Rattle.blk_world.proofs.CountLemmas.{out-same, same-risen}
-use Rattle.blk_world.proofs.CountsKept.{hides-failed, hides-opened, hides-same, hides-stopped, hides-store}
+use Rattle.world_parts.proofs.AddRefused.{has-named, image-told, looks-named, stop-told}
+use Rattle.world_commands.proofs.AddRuns.{back-is, closed-opening, counts-more}
+use Rattle.world_parts.proofs.AddSeen.{AsFile, AsImage, AsPart, OpensAs, has-at, looks-as}
+use Rattle.world_commands.proofs.CarryPlain.{quiet_named}
+use Rattle.world_commands.proofs.CountLemmas.{out-same, same-risen}
+use Rattle.world_commands.proofs.CountsKept.{hides-failed, hides-opened, hides-same, hides-stopped, hides-store}
 use Rattle.blk_world.proofs.PieceFits.{same_in}
 
 -- ---- stops of images

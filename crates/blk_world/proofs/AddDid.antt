@@ -23,9 +23,9 @@ use Rattle.flat_machine.specs.State.{State, filename_of}
 use Rattle.flat_machine.specs.Wiring.{StandAlone}
 use Rattle.flat_machine.proofs.Finds.{bytes_eq-same, same-bytes_eq}
 use Rattle.flat_machine.proofs.Fresh.{found-new}
-use Rattle.blk_world.specs.Adding.{Taken}
-use Rattle.blk_world.specs.Face.{Face, contents_of, node_over, told_bytes}
-use Rattle.blk_world.specs.Joining.{HasFile, HasOver}
+use Rattle.world_parts.specs.Adding.{Taken}
+use Rattle.world_parts.specs.Face.{Face, contents_of, node_over, told_bytes}
+use Rattle.world_parts.specs.Joining.{HasFile, HasOver}
 use Rattle.blk_world.proofs.AddClosed.{closed-rows}
 use Rattle.blk_world.proofs.AddPerformed.{performed-file, performed-filter, performed-image, performed-part}
 use Rattle.blk_world.proofs.AddQuiet.{over-added, over-filtered}

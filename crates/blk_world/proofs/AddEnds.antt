@@ -15,16 +15,16 @@ use Rattle.qmp_rules.specs.declared.told.Told.{Told}
 use Rattle.flat_machine.specs.Performing.{AllPerformed}
 use Rattle.flat_machine.specs.State.{State}
 use Rattle.flat_machine.specs.declared.opening.Opening.{Opening}
-use Rattle.blk_world.specs.Adding.{Adding}
-use Rattle.blk_world.specs.Carrying.{IsCarriedAs, IsCaused, fault_told}
-use Rattle.blk_world.specs.Coherent.{DevicesTell, IsCoherent}
-use Rattle.blk_world.specs.Comes.{Shows}
-use Rattle.blk_world.specs.Face.{Face, contents_of, seen_state}
-use Rattle.blk_world.specs.Counting.{HidesNoFault}
-use Rattle.blk_world.specs.Looking.{AreIn, Site}
-use Rattle.blk_world.specs.Saying.{IsSaid}
-use Rattle.blk_world.specs.Staging.{HasEnded, IsAddedSo, IsAdditionOf, IsRefusedSo, opened_name, site_of}
-use Rattle.blk_world.specs.Stores.{StoreInRun}
+use Rattle.world_parts.specs.Adding.{Adding}
+use Rattle.world_commands.specs.Carrying.{IsCarriedAs, IsCaused, fault_told}
+use Rattle.world_parts.specs.Coherent.{DevicesTell, IsCoherent}
+use Rattle.world_commands.specs.Comes.{Shows}
+use Rattle.world_parts.specs.Face.{Face, contents_of, seen_state}
+use Rattle.world_commands.specs.Counting.{HidesNoFault}
+use Rattle.world_parts.specs.Looking.{AreIn, Site}
+use Rattle.world_parts.specs.Saying.{IsSaid}
+use Rattle.world_parts.specs.Staging.{HasEnded, IsAddedSo, IsAdditionOf, IsRefusedSo, opened_name, site_of}
+use Rattle.world_parts.specs.Stores.{StoreInRun}
 use Rattle.blk_world.proofs.AddBack.{added-tell, back-both}
 use Rattle.blk_world.proofs.AddCarried.{did-all, sited}
 use Rattle.blk_world.proofs.AddClean.{told-clean}
@@ -36,8 +36,8 @@ use Rattle.blk_world.proofs.AddKinds.{IsLookedSo, looked-so}
 use Rattle.blk_world.proofs.AddQuiet.{quiet-back}
 use Rattle.blk_world.proofs.AddRunsOn.{runs-added, runs-back}
 use Rattle.flat_machine.specs.Bitmaps.{AreBitmapsOf}
-use Rattle.blk_world.proofs.BitmapsLeft.{left-dirty}
-use Rattle.blk_world.proofs.Placed.{answer-is}
+use Rattle.world_commands.proofs.BitmapsLeft.{left-dirty}
+use Rattle.world_commands.proofs.Placed.{answer-is}
 
 -- why the failed calls of an addition failed, that none is hidden, and that what was told is what files hold
 pub record IsAccounted (w v : Face) (c : Adding) (told : Told) : Type 0 where

@@ -19,15 +19,15 @@ use Rattle.flat_machine.specs.Sights.{Fails, IsTold}
 use Rattle.flat_machine.specs.State.{State, Known, Content, Bytes, content_in}
 use Rattle.flat_machine.specs.declared.opening.Opening.{Opening}
 use Rattle.flat_machine.proofs.Finds.{find-map}
-use Rattle.blk_world.specs.Adding.{Adding, Looks, Opens, Taken}
-use Rattle.blk_world.specs.Carrying.{IsCarriedIn, StopsExactly, as_held, held_known, known_as}
-use Rattle.blk_world.specs.Comes.{Shows}
-use Rattle.blk_world.specs.Face.{Face, contents_of, held, told_bytes}
-use Rattle.blk_world.specs.Stores.{StoreInRun}
+use Rattle.world_parts.specs.Adding.{Adding, Looks, Opens, Taken}
+use Rattle.world_commands.specs.Carrying.{IsCarriedIn, StopsExactly, as_held, held_known, known_as}
+use Rattle.world_commands.specs.Comes.{Shows}
+use Rattle.world_parts.specs.Face.{Face, contents_of, held, told_bytes}
+use Rattle.world_parts.specs.Stores.{StoreInRun}
 use Rattle.blk_world.proofs.AddClosed.{closed-held}
 use Rattle.blk_world.proofs.AddLooks.{seen-looks}
-use Rattle.blk_world.proofs.AddSeen.{AsFile, AsImage, AsPart, OpensAs, expects-closed}
-use Rattle.blk_world.proofs.AddSights.{IsExact, IsSeenAs, expects, known-absent, known-there}
+use Rattle.world_parts.proofs.AddSeen.{AsFile, AsImage, AsPart, OpensAs, expects-closed}
+use Rattle.world_parts.proofs.AddSights.{IsExact, IsSeenAs, expects, known-absent, known-there}
 
 -- ---- what is known as it is held
 

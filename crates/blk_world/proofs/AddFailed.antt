@@ -29,10 +29,10 @@ use Rattle.qmp_rules.specs.declared.told.Look.TheVariants as look
 use Rattle.qmp_rules.specs.declared.told.Stopped.{Stopped}
 use Rattle.qmp_rules.specs.declared.told.Told.{Told}
 use Rattle.qmp_rules.proofs.PlaceLemmas.{has_place}
-use Rattle.blk_world.specs.Adding.{Adding, unopened}
-use Rattle.blk_world.specs.Carrying.{is_failed}
-use Rattle.blk_world.proofs.AddRefused.{refusal-is}
-use Rattle.blk_world.proofs.CarryNames.{either-of}
+use Rattle.world_parts.specs.Adding.{Adding, unopened}
+use Rattle.world_commands.specs.Carrying.{is_failed}
+use Rattle.world_parts.proofs.AddRefused.{refusal-is}
+use Rattle.world_commands.proofs.CarryNames.{either-of}
 
 -- ---- a refusal for a failed call is what was told
 

@@ -17,7 +17,7 @@ use Rattle.blk_history.specs.Disk.{span_of}
 use Rattle.blk_history.specs.Fold.{With}
 use Rattle.flat_machine.specs.Agreement.{HasDisk}
 use Rattle.flat_machine.specs.State.{Guest as GuestRow, disk_of_guest, drive_of, filename_of, size_of}
-use Rattle.blk_world.specs.Coherent.{AreOnDisks, AreWithin, HaveDrives}
+use Rattle.world_parts.specs.Coherent.{AreOnDisks, AreWithin, HaveDrives}
 
 -- what stays of a row that was there
 pub record StaysRow (old new : NodeRecord) : Type 0 where

@@ -6,18 +6,18 @@ use Rattle.qmp_codec.specs.Commands.{Cmd}
 use Rattle.qmp_codec.specs.declared.command.Command.TheVariants as command
 use Rattle.qmp_rules.specs.Table.{Table}
 use Rattle.flat_machine.specs.Bitmaps.{AreBitmapsOf}
-use Rattle.blk_world.specs.Carrying.{IsCarriedAs, IsPutBack}
-use Rattle.blk_world.specs.Coherent.{IsWhole}
-use Rattle.blk_world.specs.Face.{Face}
-use Rattle.blk_world.specs.Looking.{Site}
-use Rattle.blk_world.specs.Staging.{CanLook, IsAdditionBy, IsNotAddedBy, is_addition, site_of}
+use Rattle.world_commands.specs.Carrying.{IsCarriedAs, IsPutBack}
+use Rattle.world_parts.specs.Coherent.{IsWhole}
+use Rattle.world_parts.specs.Face.{Face}
+use Rattle.world_parts.specs.Looking.{Site}
+use Rattle.world_parts.specs.Staging.{CanLook, IsAdditionBy, IsNotAddedBy, is_addition, site_of}
 use Rattle.blk_world.proofs.AddAccount.{accounted, runs-so}
 use Rattle.blk_world.proofs.AddCarried.{sited}
 use Rattle.blk_world.proofs.AddClosed.{closed-in}
 use Rattle.blk_world.proofs.AddCounts.{put-hides}
 use Rattle.blk_world.proofs.AddEnds.{carried-as, carried-both}
 use Rattle.blk_world.proofs.AddPut.{put-back, put-both, put-so}
-use Rattle.blk_world.proofs.BitmapsLeft.{left-listed}
+use Rattle.world_commands.proofs.BitmapsLeft.{left-listed}
 
 pub can-look : (w : Face) → IsWhole w → CanLook w.table (site_of w)
 can-look w whole = record {

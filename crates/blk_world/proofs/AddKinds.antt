@@ -12,12 +12,12 @@ use Rattle.qmp_codec.specs.declared.nodes.FileRef.TheVariants as file_ref
 use Rattle.qmp_rules.specs.Table.{Table}
 use Rattle.qmp_rules.specs.declared.told.Look.TheVariants as look
 use Rattle.qmp_rules.specs.declared.told.Told.{Told}
-use Rattle.blk_world.specs.Adding.{Adding, HasFailed, IsAbsent, IsTakenOut, Looks, Opens, Taken, Tells, TellsInside, of_node}
-use Rattle.blk_world.specs.Joining.{HasAdded, HasAddedBy, HasAddedImage, HasAddedPart}
-use Rattle.blk_world.specs.Looking.{AreIn, HasCalled, HasLooked, IsRead, LooksAtImage, LooksAtPart, LooksBy, Site}
-use Rattle.blk_world.specs.Staging.{opened_name}
-use Rattle.blk_world.specs.Stores.{StoreInRun}
-use Rattle.blk_world.proofs.AddLooked.{called_itself}
+use Rattle.world_parts.specs.Adding.{Adding, HasFailed, IsAbsent, IsTakenOut, Looks, Opens, Taken, Tells, TellsInside, of_node}
+use Rattle.world_parts.specs.Joining.{HasAdded, HasAddedBy, HasAddedImage, HasAddedPart}
+use Rattle.world_parts.specs.Looking.{AreIn, HasCalled, HasLooked, IsRead, LooksAtImage, LooksAtPart, LooksBy, Site}
+use Rattle.world_parts.specs.Staging.{opened_name}
+use Rattle.world_parts.specs.Stores.{StoreInRun}
+use Rattle.world_parts.proofs.AddLooked.{called_itself}
 
 -- no device is out for it, and counts may have risen
 pub record IsCalled (old now : Site) (out : Option Taken) : Type 0 where

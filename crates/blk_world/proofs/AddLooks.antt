@@ -40,12 +40,12 @@ use Rattle.flat_machine.specs.Agreement.{Agrees, Contents}
 use Rattle.flat_machine.specs.Final.{bytes_of}
 use Rattle.flat_machine.specs.Sights.{IsFailure, IsReached, calls_at, image_sight, is_opened, order_of, stop_for}
 use Rattle.flat_machine.specs.Standing.{Stands}
-use Rattle.blk_world.specs.Adding.{Adding, HasFailed, IsAbsent, IsTakenOut, Looks, LooksInVain, Opens, Taken, Tells, TellsImage, TellsInside, TellsLength, TellsLong, TellsRefusal, look_in_vain, opened_sight, probe, unopened}
-use Rattle.blk_world.specs.Stores.{StoreInRun}
-use Rattle.blk_world.proofs.AddSights.{IsSeenAs, expects, fails, known-absent, known-there, seen-stopped, seen-unreached, seen-whole}
-use Rattle.blk_world.proofs.AddSeen.{AsFile, AsImage, AsPart, OpensAs, expects-absent, expects-closed, expects-file, expects-image, expects-part, has-at, looks-as}
-use Rattle.blk_world.proofs.AddRefused.{has-opened}
-use Rattle.blk_world.proofs.AddTold.{has_look}
+use Rattle.world_parts.specs.Adding.{Adding, HasFailed, IsAbsent, IsTakenOut, Looks, LooksInVain, Opens, Taken, Tells, TellsImage, TellsInside, TellsLength, TellsLong, TellsRefusal, look_in_vain, opened_sight, probe, unopened}
+use Rattle.world_parts.specs.Stores.{StoreInRun}
+use Rattle.world_parts.proofs.AddSights.{IsSeenAs, expects, fails, known-absent, known-there, seen-stopped, seen-unreached, seen-whole}
+use Rattle.world_parts.proofs.AddSeen.{AsFile, AsImage, AsPart, OpensAs, expects-absent, expects-closed, expects-file, expects-image, expects-part, has-at, looks-as}
+use Rattle.world_parts.proofs.AddRefused.{has-opened}
+use Rattle.world_parts.proofs.AddTold.{has_look}
 
 -- ---- refusals of files that were opened
 

@@ -15,12 +15,12 @@ use Rattle.flat_machine.specs.Legal.{IsForbidden}
 use Rattle.flat_machine.specs.State.{drive_of, filename_of}
 use Rattle.flat_machine.specs.Wiring.{TableAtRest}
 use Rattle.flat_machine.proofs.Finds.{bytes_eq-same}
-use Rattle.blk_world.specs.Adding.{Taken, of_node, opening_of}
-use Rattle.blk_world.specs.Coherent.{AreAllowed, AreNodesOf, AreOnDisks, AreOnWritable, AreOut, AreWithin, AskToWrite, HaveDrives, IsCoherent, NamesAreOutOnce}
-use Rattle.blk_world.specs.Progress.{Progress}
+use Rattle.world_parts.specs.Adding.{Taken, of_node, opening_of}
+use Rattle.world_parts.specs.Coherent.{AreAllowed, AreNodesOf, AreOnDisks, AreOnWritable, AreOut, AreWithin, AskToWrite, HaveDrives, IsCoherent, NamesAreOutOnce}
+use Rattle.world_parts.specs.Progress.{Progress}
 use Rattle.blk_world.proofs.AddGrown.{Grows, device-same, disks-grown, drive-other, drive-same, drives-grown, within-grown}
-use Rattle.blk_world.proofs.AddOut.{all-out, each-out, get-cases, once-out, order-out}
-use Rattle.blk_world.proofs.DeletedLists.{out_there}
+use Rattle.world_commands.proofs.AddOut.{all-out, each-out, get-cases, once-out, order-out}
+use Rattle.world_parts.proofs.DeletedLists.{out_there}
 
 pub record Middle (t : Table) (nodes : Nodes) (opened : List Opened) (p : Progress) : Type 0 where
   pub drives : HaveDrives t

@@ -13,13 +13,13 @@ use Rattle.qmp_codec.specs.declared.nodes.FileRef.TheVariants as file_ref
 use Rattle.qmp_rules.specs.Table.{Table}
 use Rattle.qmp_rules.specs.declared.told.Look.TheVariants as look
 use Rattle.qmp_rules.specs.declared.told.Told.{Told}
-use Rattle.blk_world.specs.Adding.{Adding, Opens, Taken, opening_of, opens, opens_by}
-use Rattle.blk_world.specs.Carrying.{AreOpenedBy, OpensFor, opened_names}
-use Rattle.blk_world.specs.Looking.{HasLooked, LooksAtImage, LooksAtPart, LooksBy, Site}
-use Rattle.blk_world.specs.Staging.{HasEnded, back_if, opened_name}
-use Rattle.blk_world.specs.Stores.{StoreInRun}
+use Rattle.world_parts.specs.Adding.{Adding, Opens, Taken, opening_of, opens, opens_by}
+use Rattle.world_commands.specs.Carrying.{AreOpenedBy, OpensFor, opened_names}
+use Rattle.world_parts.specs.Looking.{HasLooked, LooksAtImage, LooksAtPart, LooksBy, Site}
+use Rattle.world_parts.specs.Staging.{HasEnded, back_if, opened_name}
+use Rattle.world_parts.specs.Stores.{StoreInRun}
 use Rattle.blk_world.proofs.AddKinds.{IsCalled, IsLookedSo, IsOpenedFor}
-use Rattle.blk_world.proofs.AddRuns.{back-is, closed-opening}
+use Rattle.world_commands.proofs.AddRuns.{back-is, closed-opening}
 
 -- ---- where a device is out, a file was opened
 

@@ -21,8 +21,8 @@ use Rattle.flat_machine.specs.Performing.{Performed, Puts, backing_reads, format
 use Rattle.flat_machine.specs.State.{State, filename_of}
 use Rattle.flat_machine.proofs.Finds.{same-bytes_eq}
 use Rattle.flat_machine.proofs.Fresh.{found-longer, found-new}
-use Rattle.blk_world.specs.Adding.{Taken, of_node}
-use Rattle.blk_world.specs.Face.{Face, contents_of, held, held_by, node_over, told_bytes}
+use Rattle.world_parts.specs.Adding.{Taken, of_node}
+use Rattle.world_parts.specs.Face.{Face, contents_of, held, held_by, node_over, told_bytes}
 
 -- ---- nodes
 

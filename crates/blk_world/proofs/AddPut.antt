@@ -6,22 +6,22 @@ use Rattle.blk_base.specs.declared.file.File.{File}
 use Rattle.blk_base.specs.declared.file.Opened.{Opened}
 use Rattle.qmp_codec.specs.declared.nodes.Added.{Added}
 use Rattle.qmp_rules.specs.Table.{Table}
-use Rattle.blk_world.specs.Adding.{Adding, IsBack, Opens, Taken, opens}
-use Rattle.blk_world.specs.Carrying.{IsPutBack}
-use Rattle.blk_world.specs.Coherent.{DevicesTell, IsCoherent}
-use Rattle.blk_world.specs.Counting.{HidesNoFault, LeavesNoneOut, RunsOn}
-use Rattle.blk_world.specs.Face.{Face}
-use Rattle.blk_world.specs.Looking.{HasCalled, IsLookedBack, Site, StoreIsBack, site}
-use Rattle.blk_world.specs.Staging.{IsNotAdded, back_if, opened_name, site_of, store_of}
-use Rattle.blk_world.specs.Stores.{StoreInRun}
+use Rattle.world_parts.specs.Adding.{Adding, IsBack, Opens, Taken, opens}
+use Rattle.world_commands.specs.Carrying.{IsPutBack}
+use Rattle.world_parts.specs.Coherent.{DevicesTell, IsCoherent}
+use Rattle.world_commands.specs.Counting.{HidesNoFault, LeavesNoneOut, RunsOn}
+use Rattle.world_parts.specs.Face.{Face}
+use Rattle.world_parts.specs.Looking.{HasCalled, IsLookedBack, Site, StoreIsBack, site}
+use Rattle.world_parts.specs.Staging.{IsNotAdded, back_if, opened_name, site_of, store_of}
+use Rattle.world_parts.specs.Stores.{StoreInRun}
 use Rattle.blk_world.proofs.AddBack.{alike-called, coherent-put, out-closed, told-risen}
 use Rattle.blk_world.proofs.AddCarried.{sited}
 use Rattle.blk_world.proofs.AddClosed.{closed-in}
 use Rattle.blk_world.proofs.AddKinds.{IsLookedSo, looked-so}
-use Rattle.blk_world.proofs.AddLooked.{called_itself}
-use Rattle.blk_world.proofs.AddRuns.{back-is, closed-opening, runs-opened}
+use Rattle.world_parts.proofs.AddLooked.{called_itself}
+use Rattle.world_commands.proofs.AddRuns.{back-is, closed-opening, runs-opened}
 use Rattle.blk_world.proofs.AddRunsOn.{runs-still}
-use Rattle.blk_world.proofs.CountLemmas.{not-fallen, out-same, same-risen}
+use Rattle.world_commands.proofs.CountLemmas.{not-fallen, out-same, same-risen}
 
 -- the store, but for its count
 pub record IsCounted (old new : StoreInRun) : Type 0 where

@@ -11,14 +11,14 @@ use Rattle.qmp_rules.specs.Table.{Table}
 use Rattle.qmp_rules.specs.declared.rows.NodeRecord.{NodeRecord}
 use Rattle.flat_machine.specs.Performing.{IsQuiet}
 use Rattle.flat_machine.proofs.Finds.{find-map}
-use Rattle.blk_world.specs.Adding.{Taken}
-use Rattle.blk_world.specs.Face.{Face, contents_of, held_by, node_over, told_bytes}
-use Rattle.blk_world.specs.Looking.{HasCalled, Site, site}
-use Rattle.blk_world.specs.Staging.{back_if, opened_name, site_of, store_of}
-use Rattle.blk_world.specs.Stores.{StoreInRun}
+use Rattle.world_parts.specs.Adding.{Taken}
+use Rattle.world_parts.specs.Face.{Face, contents_of, held_by, node_over, told_bytes}
+use Rattle.world_parts.specs.Looking.{HasCalled, Site, site}
+use Rattle.world_parts.specs.Staging.{back_if, opened_name, site_of, store_of}
+use Rattle.world_parts.specs.Stores.{StoreInRun}
 use Rattle.blk_world.proofs.AddKinds.{IsLookedSo}
-use Rattle.blk_world.proofs.AddLooked.{called_itself}
-use Rattle.blk_world.proofs.AddRuns.{back-is}
+use Rattle.world_parts.proofs.AddLooked.{called_itself}
+use Rattle.world_commands.proofs.AddRuns.{back-is}
 
 -- ---- devices of which counts have risen
 

@@ -8,17 +8,17 @@ use Rattle.blk_nodes.specs.Nodes.{AreTold, DeviceState, Nodes}
 use Rattle.q2_image.specs.Image.{Known}
 use Rattle.qmp_codec.specs.declared.nodes.Added.{Added}
 use Rattle.qmp_rules.specs.Table.{Table}
-use Rattle.blk_world.specs.Adding.{Adding, Taken, of_node, opening_of}
-use Rattle.blk_world.specs.Coherent.{DevicesTell}
-use Rattle.blk_world.specs.Counting.{AreSameDevices, HaveNotFallen, IsLater, RunsOn}
-use Rattle.blk_world.specs.Face.{Face, counts_from, counts_now}
-use Rattle.blk_world.specs.Joining.{HasAdded}
-use Rattle.blk_world.specs.Looking.{Site, site}
-use Rattle.blk_world.specs.Staging.{back_if, opened_name, site_of, store_of}
-use Rattle.blk_world.specs.Stores.{StoreInRun}
+use Rattle.world_parts.specs.Adding.{Adding, Taken, of_node, opening_of}
+use Rattle.world_parts.specs.Coherent.{DevicesTell}
+use Rattle.world_commands.specs.Counting.{AreSameDevices, HaveNotFallen, IsLater, RunsOn}
+use Rattle.world_parts.specs.Face.{Face, counts_from, counts_now}
+use Rattle.world_parts.specs.Joining.{HasAdded}
+use Rattle.world_parts.specs.Looking.{Site, site}
+use Rattle.world_parts.specs.Staging.{back_if, opened_name, site_of, store_of}
+use Rattle.world_parts.specs.Stores.{StoreInRun}
 use Rattle.blk_world.proofs.AddKinds.{IsLookedSo, has-device, no-device-more}
-use Rattle.blk_world.proofs.AddRuns.{back-is, closed-opening, counts-more, not-fallen-itself, runs-opened}
-use Rattle.blk_world.proofs.CountLemmas.{not-fallen, same-risen, with-of}
+use Rattle.world_commands.proofs.AddRuns.{back-is, closed-opening, counts-more, not-fallen-itself, runs-opened}
+use Rattle.world_commands.proofs.CountLemmas.{not-fallen, same-risen, with-of}
 
 -- ---- no opening more
 

@@ -35,20 +35,20 @@ use Rattle.flat_machine.specs.State.{State, filename_of}
 use Rattle.flat_machine.specs.Wiring.{TableAtRest}
 use Rattle.flat_machine.proofs.Accepted.{free_fresh, is_protocol}
 use Rattle.flat_machine.proofs.Asked.{room-left, takes-driver}
-use Rattle.blk_world.specs.Adding.{Adding, Taken}
-use Rattle.blk_world.specs.Coherent.{AreOut}
-use Rattle.blk_world.specs.Face.{Face, contents_of, told_bytes}
-use Rattle.blk_world.specs.Joining.{HasAddedImage, HasAddedPart, HasFile, HasInline, HasOver, backing_for, part_in}
-use Rattle.blk_world.specs.Stores.{StoreInRun}
-use Rattle.blk_world.proofs.AddAsked.{rest-asked, unopened-not}
+use Rattle.world_parts.specs.Adding.{Adding, Taken}
+use Rattle.world_parts.specs.Coherent.{AreOut}
+use Rattle.world_parts.specs.Face.{Face, contents_of, told_bytes}
+use Rattle.world_parts.specs.Joining.{HasAddedImage, HasAddedPart, HasFile, HasInline, HasOver, backing_for, part_in}
+use Rattle.world_parts.specs.Stores.{StoreInRun}
+use Rattle.world_parts.proofs.AddAsked.{rest-asked, unopened-not}
 use Rattle.blk_world.proofs.AddClosed.{closed-in}
 use Rattle.blk_world.proofs.AddDid.{did-file, did-filter, did-image, did-part, over-new, over-one}
-use Rattle.blk_world.proofs.AddFacts.{filed-filename}
+use Rattle.world_parts.proofs.AddFacts.{filed-filename}
 use Rattle.blk_world.proofs.AddMiddle.{Middle}
-use Rattle.blk_world.proofs.AddReady.{backing-same}
-use Rattle.blk_world.proofs.AddSeen.{AsFile, AsImage, AsPart}
+use Rattle.world_parts.proofs.AddReady.{backing-same}
+use Rattle.world_parts.proofs.AddSeen.{AsFile, AsImage, AsPart}
 use Rattle.blk_world.proofs.AddWhole.{FreshFor, IsFresh, id-is, next1}
-use Rattle.blk_world.proofs.CarryPlain.{quiet-self}
+use Rattle.world_commands.proofs.CarryPlain.{quiet-self}
 
 -- what is told of the bytes of the device that was opened
 abbrev pub HoldsFor : Face → FileRef (List ℕ) → Option Taken → Type 0

@@ -22,15 +22,15 @@ use Rattle.qmp_rules.specs.Table.{Table, kinds_of, node_at}
 use Rattle.qmp_rules.specs.declared.change.Change.TheVariants.{AddFile, AddFilter, AddFormat}
 use Rattle.qmp_rules.specs.declared.rows.NodeRecord.{NodeRecord}
 use Rattle.flat_machine.specs.State.{filename_of}
-use Rattle.blk_world.specs.Adding.{Taken, opening_of}
-use Rattle.blk_world.specs.Coherent.{IsRowOf}
-use Rattle.blk_world.specs.Joining.{HasFile, HasOver}
-use Rattle.blk_world.specs.Progress.{Progress}
-use Rattle.blk_world.proofs.AddFacts.{alike-filed, alike-filtered, alike-formatted, filed-filename, held-other}
+use Rattle.world_parts.specs.Adding.{Taken, opening_of}
+use Rattle.world_parts.specs.Coherent.{IsRowOf}
+use Rattle.world_parts.specs.Joining.{HasFile, HasOver}
+use Rattle.world_parts.specs.Progress.{Progress}
+use Rattle.world_parts.proofs.AddFacts.{alike-filed, alike-filtered, alike-formatted, filed-filename, held-other}
 use Rattle.blk_world.proofs.AddGrown.{Grows, filename-same}
 use Rattle.blk_world.proofs.AddMiddle.{HasMore, Middle, grown-middle, out-more, out-over}
 use Rattle.blk_world.proofs.AddTables.{grows-filed, grows-filtered, grows-formatted}
-use Rattle.blk_world.proofs.GuestEdges.{guest_edge}
+use Rattle.world_commands.proofs.GuestEdges.{guest_edge}
 
 -- ---- edges of guests
 

@@ -20,8 +20,8 @@ use Rattle.qmp_rules.specs.Table.{Table, first_into, kinds_of, node_at}
 use Rattle.qmp_rules.specs.declared.change.Change.TheVariants.{AddFile, AddFilter, AddFormat}
 use Rattle.qmp_rules.specs.declared.rows.NodeRecord.{NodeRecord}
 use Rattle.flat_machine.proofs.Finds.{find-map}
-use Rattle.blk_world.specs.Coherent.{AreNodesOf}
-use Rattle.blk_world.proofs.AddAlike.{find-behind}
+use Rattle.world_parts.specs.Coherent.{AreNodesOf}
+use Rattle.world_parts.proofs.AddAlike.{find-behind}
 use Rattle.blk_world.proofs.AddGrown.{Grows, StaysRow}
 
 -- ---- edges of nodes that are there

@@ -52,18 +52,18 @@ use Rattle.flat_machine.proofs.Accepted.{is_protocol}
 use Rattle.flat_machine.proofs.Asked.{NoneHolds, none-behind}
 use Rattle.flat_machine.proofs.Finds.{same-bytes_eq}
 use Rattle.blk_nodes.specs.Nodes.{Nodes, DeviceState, device_in, is_of}
-use Rattle.blk_world.specs.Adding.{Adding, IsFreeFile, LooksUnder, opened_sight, probe, unopened}
-use Rattle.blk_world.specs.Carrying.{StopsExactly, as_held, held_known, known_as}
-use Rattle.blk_world.specs.Coherent.{IsCoherent, DevicesTell}
-use Rattle.blk_world.specs.Comes.{Shows}
-use Rattle.blk_world.specs.Face.{Face, held, held_by, node_over}
+use Rattle.world_parts.specs.Adding.{Adding, IsFreeFile, LooksUnder, opened_sight, probe, unopened}
+use Rattle.world_commands.specs.Carrying.{StopsExactly, as_held, held_known, known_as}
+use Rattle.world_parts.specs.Coherent.{IsCoherent, DevicesTell}
+use Rattle.world_commands.specs.Comes.{Shows}
+use Rattle.world_parts.specs.Face.{Face, held, held_by, node_over}
 use Rattle.blk_world.proofs.AddBlank.{header-is, image-large}
 use Rattle.blk_world.proofs.AddDid.{over-one}
 use Rattle.blk_world.proofs.AddExact.{IsSeenHeld, held-none}
 use Rattle.blk_world.proofs.AddLooks.{AreThere, IsBehind, behind-inside, is-io, named-stop, not-io, reach-image, sight-open, there-inside}
-use Rattle.blk_world.proofs.AddRefused.{answer-dirty, answer-refused, broken, has-named, looks-named, refusal-is, refusal-told, stop-refused, unreached-refused}
-use Rattle.blk_world.proofs.AddSights.{expects}
-use Rattle.blk_world.proofs.AddTold.{has_look, quiet_part, reached, stop-refuses}
+use Rattle.world_parts.proofs.AddRefused.{answer-dirty, answer-refused, broken, has-named, looks-named, refusal-is, refusal-told, stop-refused, unreached-refused}
+use Rattle.world_parts.proofs.AddSights.{expects}
+use Rattle.world_parts.proofs.AddTold.{has_look, quiet_part, reached, stop-refuses}
 
 -- ---- what may be told, by what stops it
 

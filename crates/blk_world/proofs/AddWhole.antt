@@ -38,20 +38,20 @@ use Rattle.flat_machine.specs.Wiring.{AreApart}
 use Rattle.flat_machine.proofs.Accepted.{free_fresh, next_fresh}
 use Rattle.flat_machine.proofs.Asked.{lone-node, room-left}
 use Rattle.flat_machine.proofs.Tables.{refreshed-old}
-use Rattle.blk_world.specs.Adding.{Adding, IsTakenOut, Opens, Taken, opening_of}
-use Rattle.blk_world.specs.Coherent.{AreOut}
-use Rattle.blk_world.specs.Joining.{HasAddedImage, HasAddedPart, HasFile, HasInline, HasOver, backing_for, part_in}
-use Rattle.blk_world.specs.Progress.{Progress}
-use Rattle.blk_world.specs.Stores.{StoreInRun}
-use Rattle.blk_world.proofs.AddAlike.{id_of}
-use Rattle.blk_world.proofs.AddAsked.{rest-asked, unopened-not}
+use Rattle.world_parts.specs.Adding.{Adding, IsTakenOut, Opens, Taken, opening_of}
+use Rattle.world_parts.specs.Coherent.{AreOut}
+use Rattle.world_parts.specs.Joining.{HasAddedImage, HasAddedPart, HasFile, HasInline, HasOver, backing_for, part_in}
+use Rattle.world_parts.specs.Progress.{Progress}
+use Rattle.world_parts.specs.Stores.{StoreInRun}
+use Rattle.world_parts.proofs.AddAlike.{id_of}
+use Rattle.world_parts.proofs.AddAsked.{rest-asked, unopened-not}
 use Rattle.blk_world.proofs.AddClosed.{closed-in}
 use Rattle.blk_world.proofs.AddMiddle.{Middle}
-use Rattle.blk_world.proofs.AddPlaces.{free-lowest}
-use Rattle.blk_world.proofs.AddReady.{backing-same, size-alike}
-use Rattle.blk_world.proofs.AddSeen.{AsFile, AsImage, AsPart, OpensAs}
+use Rattle.world_parts.proofs.AddPlaces.{free-lowest}
+use Rattle.world_parts.proofs.AddReady.{backing-same, size-alike}
+use Rattle.world_parts.proofs.AddSeen.{AsFile, AsImage, AsPart, OpensAs}
 use Rattle.blk_world.proofs.AddSteps.{file-step, filter-step, format-step}
-use Rattle.blk_world.proofs.AddStops.{lowest-same}
+use Rattle.world_parts.proofs.AddStops.{lowest-same}
 use Rattle.blk_world.proofs.AddTables.{edges-apart, edges-away}
 
 -- ---- the device that is out

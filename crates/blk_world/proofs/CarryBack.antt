@@ -15,14 +15,14 @@ use Rattle.flat_machine.specs.Licence.{AreLicensed, IsBetween, faults_of}
 use Rattle.flat_machine.specs.declared.opening.Opening.{Opening}
 use Rattle.flat_machine.proofs.Kept.{changes_keep}
 use Rattle.flat_machine.proofs.ImagesChanged.{all_images_keep}
-use Rattle.blk_world.specs.Progress.{Progress, ended_in}
-use Rattle.blk_world.specs.Face.{Face, first_counts, counts_now, contents_of, dirty_of}
-use Rattle.blk_world.specs.Comes.{Comes, Shows}
-use Rattle.blk_world.specs.Tabling.{IsTableAfter}
-use Rattle.blk_world.specs.Carrying.{IsPutBack}
+use Rattle.world_parts.specs.Progress.{Progress, ended_in}
+use Rattle.world_parts.specs.Face.{Face, first_counts, counts_now, contents_of, dirty_of}
+use Rattle.world_commands.specs.Comes.{Comes, Shows}
+use Rattle.world_commands.specs.Tabling.{IsTableAfter}
+use Rattle.world_commands.specs.Carrying.{IsPutBack}
 use Rattle.blk_world.proofs.AddQuiet.{quiet-called}
-use Rattle.blk_world.proofs.CountLemmas.{between-on}
-use Rattle.blk_world.proofs.Placed.{put_back}
+use Rattle.world_commands.proofs.CountLemmas.{between-on}
+use Rattle.world_commands.proofs.Placed.{put_back}
 
 module _ (w v : Face) (is : IsPutBack w v) (o : Opening) (comes : Comes o w) where
   still-shows : is_some w.files ≡ true → (s : State) → Shows o s w → Shows o s v

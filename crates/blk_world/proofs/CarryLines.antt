@@ -25,24 +25,24 @@ use Rattle.flat_machine.specs.EventLicence.{IsLicensedBy, IsCommandsFault, IsCom
 use Rattle.flat_machine.specs.Performing.{AllPerformed}
 use Rattle.flat_machine.specs.Recording.{dirty_after}
 use Rattle.flat_machine.specs.declared.opening.Opening.{Opening}
-use Rattle.blk_world.specs.Progress.{Progress, with_entry}
-use Rattle.blk_world.specs.Face.{Face, counts_now, contents_of, dirty_of, seen_state}
-use Rattle.blk_world.specs.Counting.{sources_of, counts_within, RunsOn, HidesNoFault}
-use Rattle.blk_world.specs.Comes.{Comes, Shows}
-use Rattle.blk_world.specs.Saying.{Given, IsSaid}
-use Rattle.blk_world.specs.Carrying.{IsCarried, IsCarriedIn, IsCarriedAs, HasCause, HasFitted, IsReplied, counted, counts_of, reply_entry, would_pass, IsLate, IsPutOff, fault_named, fault_told}
-use Rattle.blk_world.specs.Steps.{onward, lifted}
-use Rattle.blk_world.proofs.InStep.{ended-push}
-use Rattle.blk_world.proofs.Coherence.{coherent-same}
-use Rattle.blk_world.proofs.CountLemmas.{same-devices, runs-devices}
-use Rattle.blk_world.proofs.CountsKept.{hides-same}
-use Rattle.blk_world.proofs.Quiet.{quiet, undone, shows-onward}
-use Rattle.blk_world.proofs.Pushing.{comes-drains}
-use Rattle.blk_world.proofs.CarryWords.{IsTellable, full_named}
-use Rattle.blk_world.proofs.CarrySaid.{fault_of, full_of, CanBeTold, said_fault, said_full}
-use Rattle.blk_world.proofs.CarryPlain.{quiet-self}
-use Rattle.blk_world.proofs.Counted.{answer-counted, refusal-counted}
-use Rattle.blk_world.proofs.CarryComes.{can_tell, runs-onward, carried_comes}
+use Rattle.world_parts.specs.Progress.{Progress, with_entry}
+use Rattle.world_parts.specs.Face.{Face, counts_now, contents_of, dirty_of, seen_state}
+use Rattle.world_commands.specs.Counting.{sources_of, counts_within, RunsOn, HidesNoFault}
+use Rattle.world_commands.specs.Comes.{Comes, Shows}
+use Rattle.world_parts.specs.Saying.{Given, IsSaid}
+use Rattle.world_commands.specs.Carrying.{IsCarried, IsCarriedIn, IsCarriedAs, HasCause, HasFitted, IsReplied, counted, counts_of, reply_entry, would_pass, IsLate, IsPutOff, fault_named, fault_told}
+use Rattle.world_parts.specs.Steps.{onward, lifted}
+use Rattle.world_parts.proofs.InStep.{ended-push}
+use Rattle.world_commands.proofs.Coherence.{coherent-same}
+use Rattle.world_commands.proofs.CountLemmas.{same-devices, runs-devices}
+use Rattle.world_commands.proofs.CountsKept.{hides-same}
+use Rattle.world_commands.proofs.Quiet.{quiet, undone, shows-onward}
+use Rattle.world_commands.proofs.Pushing.{comes-drains}
+use Rattle.world_commands.proofs.CarryWords.{IsTellable, full_named}
+use Rattle.world_commands.proofs.CarrySaid.{fault_of, full_of, CanBeTold, said_fault, said_full}
+use Rattle.world_commands.proofs.CarryPlain.{quiet-self}
+use Rattle.world_commands.proofs.Counted.{answer-counted, refusal-counted}
+use Rattle.world_commands.proofs.CarryComes.{can_tell, runs-onward, carried_comes}
 
 -- ---- texts
 

@@ -32,8 +32,8 @@ use Rattle.flat_machine.specs.Agreement.{ReadAsDisks}
 use Rattle.flat_machine.specs.Final.{bytes_of, bytes_under, below_as, row_bytes, node_bytes_in, node_bytes, AreDisks}
 use Rattle.flat_machine.specs.State.{State, filename_of, bytes_in}
 use Rattle.flat_machine.specs.Wiring.{IsDiskOf}
-use Rattle.blk_world.specs.Coherent.{IsCoherent, AreAlike, IsRowOf, offset_of}
-use Rattle.blk_world.specs.Face.{Face, held, held_by, told_bytes, contents_of}
+use Rattle.world_parts.specs.Coherent.{IsCoherent, AreAlike, IsRowOf, offset_of}
+use Rattle.world_parts.specs.Face.{Face, held, held_by, told_bytes, contents_of}
 use Rattle.blk_world.proofs.CloseHeld.{none-passes}
 
 -- the node stands for the file of its name, and for no other

@@ -15,11 +15,11 @@ use Rattle.blk_nodes.specs.declared.row.Driver.TheVariants as drivers
 use Rattle.blk_nodes.specs.declared.row.Row.{Row}
 use Rattle.qmp_rules.specs.declared.rows.NodeRecord.{NodeRecord}
 use Rattle.qmp_rules.specs.Table.{Table, node_at}
-use Rattle.blk_world.specs.Closing.{IsClosed, AreFlushed, AreNodesFlushed, IsFlushedIn}
-use Rattle.blk_world.specs.Coherent.{IsCoherent, AreNodesOf, AreAlike}
-use Rattle.blk_world.specs.Face.{Face, held, told_bytes}
-use Rattle.blk_world.specs.Steps.{StoreSeen}
-use Rattle.blk_world.proofs.CloseLemmas.{back-files}
+use Rattle.world_commands.specs.Closing.{IsClosed, AreFlushed, AreNodesFlushed, IsFlushedIn}
+use Rattle.world_parts.specs.Coherent.{IsCoherent, AreNodesOf, AreAlike}
+use Rattle.world_parts.specs.Face.{Face, held, told_bytes}
+use Rattle.world_parts.specs.Steps.{StoreSeen}
+use Rattle.world_commands.proofs.CloseLemmas.{back-files}
 use Rattle.blk_world.proofs.CloseHeld.{held-is}
 
 is-file : (driver : Driver) → kind_of driver ≡ Protocol → driver ≡ drivers.File

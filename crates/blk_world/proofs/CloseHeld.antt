@@ -11,11 +11,11 @@ use Rattle.qmp_rules.specs.declared.rows.NodeRecord.{NodeRecord}
 use Rattle.qmp_rules.specs.Asks.{stands_for}
 use Rattle.qmp_rules.specs.Table.{Table, node_at}
 use Rattle.flat_machine.specs.State.{filename_of}
-use Rattle.blk_world.specs.Closing.{is_file_of, held_left}
-use Rattle.blk_world.specs.Coherent.{AreHeld}
-use Rattle.blk_world.specs.Face.{Face, held, held_by, device_numbered}
-use Rattle.blk_world.proofs.CloseLemmas.{AreOther, left-other}
-use Rattle.blk_world.proofs.CountLemmas.{numbered}
+use Rattle.world_commands.specs.Closing.{is_file_of, held_left}
+use Rattle.world_parts.specs.Coherent.{AreHeld}
+use Rattle.world_parts.specs.Face.{Face, held, held_by, device_numbered}
+use Rattle.world_commands.proofs.CloseLemmas.{AreOther, left-other}
+use Rattle.world_commands.proofs.CountLemmas.{numbered}
 
 pub none-passes : {A : Type 0} (p : A → Bool) (xs : List A) (x : A) → find p xs ≡ None → Contains xs x → p x ≡ true → ⊥
 none-passes p [] x none there passes = Contains-nil x there

@@ -16,20 +16,20 @@ use Rattle.flat_machine.specs.State.{State}
 use Rattle.flat_machine.specs.declared.opening.Opening.{Opening}
 use Rattle.blk_nodes.specs.Joined.{IsJoined}
 use Rattle.blk_nodes.specs.Nodes.{Nodes}
-use Rattle.blk_world.specs.declared.carried.Carried.{Carried}
-use Rattle.blk_world.specs.declared.carried.Carried.TheVariants as carried
-use Rattle.blk_world.specs.Carrying.{IsCarried, IsCarriedAs, IsCarriedOut, IsLate, IsPutBack, held_for}
-use Rattle.blk_world.specs.Coherent.{IsWhole}
-use Rattle.blk_world.specs.Comes.{Shows}
-use Rattle.blk_world.specs.Detaching.{Scene, scene}
-use Rattle.blk_world.specs.Face.{Face, seen_state}
-use Rattle.blk_world.specs.Handling.{DoneIf}
-use Rattle.blk_world.specs.Saying.{IsSaid}
-use Rattle.blk_world.specs.Snapshots.{HasCovered, HasToBeLater, IsCoveredBy, IsSnapshot, IsToldOf, is_snapshot}
-use Rattle.blk_world.proofs.BitmapsLeft.{left-dirty}
-use Rattle.blk_world.proofs.CoverCarried.{by_files, clean, covering_done, late_in, refused_covered}
+use Rattle.world_parts.specs.declared.carried.Carried.{Carried}
+use Rattle.world_parts.specs.declared.carried.Carried.TheVariants as carried
+use Rattle.world_commands.specs.Carrying.{IsCarried, IsCarriedAs, IsCarriedOut, IsLate, IsPutBack, held_for}
+use Rattle.world_parts.specs.Coherent.{IsWhole}
+use Rattle.world_commands.specs.Comes.{Shows}
+use Rattle.world_commands.specs.Detaching.{Scene, scene}
+use Rattle.world_parts.specs.Face.{Face, seen_state}
+use Rattle.world_parts.specs.Handling.{DoneIf}
+use Rattle.world_parts.specs.Saying.{IsSaid}
+use Rattle.world_commands.specs.Snapshots.{HasCovered, HasToBeLater, IsCoveredBy, IsSnapshot, IsToldOf, is_snapshot}
+use Rattle.world_commands.proofs.BitmapsLeft.{left-dirty}
+use Rattle.world_commands.proofs.CoverCarried.{by_files, clean, covering_done, late_in, refused_covered}
 use Rattle.blk_world.proofs.DetachedCarried.{staged, whole-drains}
-use Rattle.blk_world.proofs.Placed.{answer-is, put_back}
+use Rattle.world_commands.proofs.Placed.{answer-is, put_back}
 
 module _ (w : Face) (whole : IsWhole w) (joined : IsJoined w.nodes) (given : List ℕ) (y : Scene)
     (may : (c : Snapshot (List ℕ)) (told : Told) → IsToldOf w.table w.nodes (command.BlockdevSnapshot c) told → (o : Opening) (s : State)

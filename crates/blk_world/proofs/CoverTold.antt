@@ -12,10 +12,10 @@ use Rattle.flat_machine.specs.State.{State}
 use Rattle.flat_machine.specs.declared.opening.Opening.{Opening}
 use Rattle.blk_nodes.specs.Joined.{IsJoined}
 use Rattle.blk_nodes.specs.Overlays.{IsFresh}
-use Rattle.blk_world.specs.Coherent.{IsWhole}
-use Rattle.blk_world.specs.Comes.{Shows}
-use Rattle.blk_world.specs.Face.{Face}
-use Rattle.blk_world.specs.Snapshots.{IsToldOf}
+use Rattle.world_parts.specs.Coherent.{IsWhole}
+use Rattle.world_commands.specs.Comes.{Shows}
+use Rattle.world_parts.specs.Face.{Face}
+use Rattle.world_commands.specs.Snapshots.{IsToldOf}
 use Rattle.blk_world.proofs.ImageTold.{may_map}
 
 pub may_be_told : (w : Face) → IsWhole w → IsJoined w.nodes → (c : Snapshot (List ℕ)) (told : Told)

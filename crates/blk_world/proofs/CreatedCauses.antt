@@ -23,13 +23,13 @@ use Rattle.qmp_rules.specs.declared.refusal.Refusal.{Refusal}
 use Rattle.qmp_rules.specs.declared.refusal.Refusal.TheVariants as refusal
 use Rattle.flat_machine.specs.EventLicence.{IsOfCreation}
 use Rattle.flat_machine.specs.Licence.{fault_at}
-use Rattle.blk_world.specs.Carrying.{IsCaused, IsNumbered}
-use Rattle.blk_world.specs.Coherent.{AreOut}
-use Rattle.blk_world.specs.Counting.{RunsOn, IsReached, sources_of}
-use Rattle.blk_world.specs.Creating.{CanCreate, CanFormat, HasFailed, HasStopped, IsFailed, creation_for}
-use Rattle.blk_world.specs.Deleting.{ground_of}
-use Rattle.blk_world.specs.Face.{Face, counts_now}
-use Rattle.blk_world.proofs.CountLemmas.{numbered, reached-held}
+use Rattle.world_commands.specs.Carrying.{IsCaused, IsNumbered}
+use Rattle.world_parts.specs.Coherent.{AreOut}
+use Rattle.world_commands.specs.Counting.{RunsOn, IsReached, sources_of}
+use Rattle.world_parts.specs.Creating.{CanCreate, CanFormat, HasFailed, HasStopped, IsFailed, creation_for}
+use Rattle.world_parts.specs.Deleting.{ground_of}
+use Rattle.world_parts.specs.Face.{Face, counts_now}
+use Rattle.world_commands.proofs.CountLemmas.{numbered, reached-held}
 
 -- numbers of devices have 32 bits, and counts 64
 abbrev pub FitsSo : Refusal → Type 0

@@ -14,10 +14,10 @@ use Rattle.blk_nodes.specs.Formatting.{IsFormatAt, HoldsAfter, HoldsImage}
 use Rattle.blk_nodes.specs.Nodes.{Nodes, DeviceState, AreTold, is_of, device_in}
 use Rattle.blk_nodes.specs.declared.stop.FormatStop.{FormatStop}
 use Rattle.blk_graph.proofs.Members.{find-Some}
-use Rattle.blk_world.specs.Creating.{with_made}
-use Rattle.blk_world.specs.Deleting.{ground_of}
-use Rattle.blk_world.specs.Face.{Face, node_over, told_bytes, held_by, held, contents_of}
-use Rattle.blk_world.proofs.DeletedContents.{file_at-put, file_at-put_other}
+use Rattle.world_parts.specs.Creating.{with_made}
+use Rattle.world_parts.specs.Deleting.{ground_of}
+use Rattle.world_parts.specs.Face.{Face, node_over, told_bytes, held_by, held, contents_of}
+use Rattle.world_commands.proofs.DeletedContents.{file_at-put, file_at-put_other}
 
 -- ---- files of a store
 

@@ -15,13 +15,13 @@ use Rattle.qmp_codec.specs.declared.nodes.Created.TheVariants as created
 use Rattle.qmp_rules.specs.Asks.{id_or}
 use Rattle.qmp_rules.specs.Table.{id_named}
 use Rattle.flat_machine.specs.EventLicence.{IsOfCreation}
-use Rattle.blk_world.specs.Carrying.{FitsAll, creation_passes}
-use Rattle.blk_world.specs.Counting.{sources_of}
-use Rattle.blk_world.specs.Creating.{HasCreated, creation_for}
-use Rattle.blk_world.specs.Deleting.{Ground, ground_of}
-use Rattle.blk_world.specs.Face.{Face, counts_now, device_numbered}
-use Rattle.blk_world.proofs.CountLemmas.{DifferInNumber, numbered}
-use Rattle.blk_world.proofs.InStep.{with-at}
+use Rattle.world_commands.specs.Carrying.{FitsAll, creation_passes}
+use Rattle.world_commands.specs.Counting.{sources_of}
+use Rattle.world_parts.specs.Creating.{HasCreated, creation_for}
+use Rattle.world_parts.specs.Deleting.{Ground, ground_of}
+use Rattle.world_parts.specs.Face.{Face, counts_now, device_numbered}
+use Rattle.world_commands.proofs.CountLemmas.{DifferInNumber, numbered}
+use Rattle.world_parts.proofs.InStep.{with-at}
 
 module _ (w : Face) (now : Ground) (once : AllPairs DifferInNumber w.nodes.devices) where
   -- the device that was written is the one that is called

@@ -42,17 +42,17 @@ use Rattle.blk_nodes.specs.Adding.{without_guest}
 use Rattle.blk_nodes.specs.Contents.{disk_of}
 use Rattle.blk_nodes.specs.Joined.{IsJoined}
 use Rattle.blk_nodes.specs.Nodes.{Nodes, row_at}
-use Rattle.blk_world.specs.Coherent.{AreAlike, AreAllowed, AreHeld, AreNodesOf, AreOnDisks, AreOnWritable, AreWithin, AskToWrite, HaveDrives, IsCoherent, IsWhole, node_row}
-use Rattle.blk_world.specs.Detaching.{IsDetached}
-use Rattle.blk_world.specs.Face.{Face, contents_of, seen_state, held_by}
-use Rattle.blk_world.specs.Progress.{flight_at}
-use Rattle.blk_world.proofs.BitmapsLeft.{left-listed}
-use Rattle.blk_world.proofs.CarryPlain.{quiet-self}
-use Rattle.blk_world.proofs.CountLemmas.{runs-devices, same-devices}
-use Rattle.blk_world.proofs.CountsKept.{hides-same}
-use Rattle.blk_world.proofs.GuestEdges.{guest_edge}
-use Rattle.blk_world.proofs.Placed.{answer-is, CarriedUntold, carried_by, rests_by}
-use Rattle.blk_world.proofs.TableKinds.{kinds_alike}
+use Rattle.world_parts.specs.Coherent.{AreAlike, AreAllowed, AreHeld, AreNodesOf, AreOnDisks, AreOnWritable, AreWithin, AskToWrite, HaveDrives, IsCoherent, IsWhole, node_row}
+use Rattle.world_commands.specs.Detaching.{IsDetached}
+use Rattle.world_parts.specs.Face.{Face, contents_of, seen_state, held_by}
+use Rattle.world_parts.specs.Progress.{flight_at}
+use Rattle.world_commands.proofs.BitmapsLeft.{left-listed}
+use Rattle.world_commands.proofs.CarryPlain.{quiet-self}
+use Rattle.world_commands.proofs.CountLemmas.{runs-devices, same-devices}
+use Rattle.world_commands.proofs.CountsKept.{hides-same}
+use Rattle.world_commands.proofs.GuestEdges.{guest_edge}
+use Rattle.world_commands.proofs.Placed.{answer-is, CarriedUntold, carried_by, rests_by}
+use Rattle.world_parts.proofs.TableKinds.{kinds_alike}
 
 passes : (b : Bool) → not b ≡ true → b ≡ false
 passes true e = absurd cc

@@ -17,20 +17,20 @@ use Rattle.flat_machine.specs.Recording.{dirty_after}
 use Rattle.flat_machine.specs.State.{State, drive_of}
 use Rattle.blk_nodes.specs.Joined.{IsJoined}
 use Rattle.blk_nodes.specs.Nodes.{Nodes}
-use Rattle.blk_world.specs.declared.carried.Carried.{Carried}
-use Rattle.blk_world.specs.declared.carried.Carried.TheVariants as carried
-use Rattle.blk_world.specs.Carrying.{IsCarriedAs, IsCarriedOut, IsLate, IsPutBack, held_for, prints_counts}
-use Rattle.blk_world.specs.Coherent.{AreNodesOf, IsWhole}
-use Rattle.blk_world.specs.Deleting.{ground_of}
-use Rattle.blk_world.specs.Detaching.{HasDetached, HasToWaitFor, IsDetachedBy, IsDetachment, Scene, is_detachment, scene}
-use Rattle.blk_world.specs.Face.{Face, dirty_of, seen_state}
-use Rattle.blk_world.specs.Handling.{DoneIf, IsHandled}
-use Rattle.blk_world.proofs.BitmapsLeft.{left-dirty}
-use Rattle.blk_world.proofs.CarryPlain.{late_nothing, opens_nothing, maps_nothing}
+use Rattle.world_parts.specs.declared.carried.Carried.{Carried}
+use Rattle.world_parts.specs.declared.carried.Carried.TheVariants as carried
+use Rattle.world_commands.specs.Carrying.{IsCarriedAs, IsCarriedOut, IsLate, IsPutBack, held_for, prints_counts}
+use Rattle.world_parts.specs.Coherent.{AreNodesOf, IsWhole}
+use Rattle.world_parts.specs.Deleting.{ground_of}
+use Rattle.world_commands.specs.Detaching.{HasDetached, HasToWaitFor, IsDetachedBy, IsDetachment, Scene, is_detachment, scene}
+use Rattle.world_parts.specs.Face.{Face, dirty_of, seen_state}
+use Rattle.world_parts.specs.Handling.{DoneIf, IsHandled}
+use Rattle.world_commands.proofs.BitmapsLeft.{left-dirty}
+use Rattle.world_commands.proofs.CarryPlain.{late_nothing, opens_nothing, maps_nothing}
 use Rattle.blk_world.proofs.Detached.{detachment_done}
-use Rattle.blk_world.proofs.Handled.{refused_placed, said_as}
-use Rattle.blk_world.proofs.HandledDevices.{ground_with}
-use Rattle.blk_world.proofs.Placed.{put_back}
+use Rattle.world_commands.proofs.Handled.{refused_placed, said_as}
+use Rattle.world_commands.proofs.HandledDevices.{ground_with}
+use Rattle.world_commands.proofs.Placed.{put_back}
 
 kept_ground : (w : Face) (now : Nodes) → now ≡ w.nodes → ground_with w now ≡ ground_of w
 kept_ground w now same = ap (ground_with w) same

@@ -29,9 +29,9 @@ use Rattle.flat_machine.specs.Wiring.{TableStands}
 use Rattle.flat_machine.specs.Imaging.{maps_some, is_qcow2_at}
 use Rattle.flat_machine.proofs.Mapping.{clusters_of_file, maps-none, none-mapped}
 use Rattle.flat_machine.proofs.ImagesKept.{image_in_file, qcow2_row}
-use Rattle.blk_world.specs.Coherent.{AreNodesOf, AreAlike, IsRowOf}
-use Rattle.blk_world.specs.Face.{node_over}
-use Rattle.blk_world.proofs.DeletedContents.{over}
+use Rattle.world_parts.specs.Coherent.{AreNodesOf, AreAlike, IsRowOf}
+use Rattle.world_parts.specs.Face.{node_over}
+use Rattle.world_commands.proofs.DeletedContents.{over}
 
 -- ---- an image and its file
 

@@ -19,8 +19,8 @@ use Rattle.flat_machine.specs.Writing.{written_file}
 use Rattle.flat_machine.specs.Wiring.{TableStands}
 use Rattle.flat_machine.specs.Imaging.{maps_some, is_qcow2_at, ShowsImages, KeepsMapping}
 use Rattle.flat_machine.proofs.ImagesKept.{nothing_said}
-use Rattle.blk_world.specs.Coherent.{AreNodesOf}
-use Rattle.blk_world.specs.Face.{Face, node_over, held, held_by, contents_of}
+use Rattle.world_parts.specs.Coherent.{AreNodesOf}
+use Rattle.world_parts.specs.Face.{Face, node_over, held, held_by, contents_of}
 use Rattle.blk_world.proofs.PieceNodes.{AreAfter, alike_after}
 use Rattle.blk_world.proofs.ImageRows.{HasImageFile, image_file, image_written, IsEmpty, empty_file, file_empty, still_mapped}
 

@@ -28,18 +28,18 @@ use Rattle.blk_nodes.specs.Joined.{IsJoined}
 use Rattle.blk_nodes.specs.Nodes.{AreTold, DeviceState, Nodes, device_in}
 use Rattle.blk_nodes.specs.Reading.{OnlyAt}
 use Rattle.blk_nodes.specs.declared.stop.FormatStop.{FormatStop}
-use Rattle.blk_world.specs.Coherent.{IsWhole}
-use Rattle.blk_world.specs.Counting.{AreSameDevices}
-use Rattle.blk_world.specs.Creating.{HasFailed, HasFormatted, with_made}
-use Rattle.blk_world.specs.Deleting.{Ground, ground_of}
-use Rattle.blk_world.specs.Face.{Face}
-use Rattle.blk_world.specs.Steps.{StoreSeen}
-use Rattle.blk_world.proofs.CountLemmas.{found-before, same-devices, same-only}
-use Rattle.blk_world.proofs.CreatedAsked.{FormatsNode, file_asked, format_asked}
+use Rattle.world_parts.specs.Coherent.{IsWhole}
+use Rattle.world_commands.specs.Counting.{AreSameDevices}
+use Rattle.world_parts.specs.Creating.{HasFailed, HasFormatted, with_made}
+use Rattle.world_parts.specs.Deleting.{Ground, ground_of}
+use Rattle.world_parts.specs.Face.{Face}
+use Rattle.world_parts.specs.Steps.{StoreSeen}
+use Rattle.world_commands.proofs.CountLemmas.{found-before, same-devices, same-only}
+use Rattle.world_commands.proofs.CreatedAsked.{FormatsNode, file_asked, format_asked}
 use Rattle.blk_world.proofs.MadeMoves.{IsEasedTo, IsLoneFile, Moves, eased_shape, shape_made, shape_spoiled}
 use Rattle.blk_world.proofs.PieceNodes.{AreAfter, after_devices}
 use Rattle.blk_world.proofs.PieceTold.{noded, only_told}
-use Rattle.blk_world.proofs.Placed.{placed}
+use Rattle.world_commands.proofs.Placed.{placed}
 
 some-map : {A B : Type 0} (f : A → B) (x : Option A) → is_some (option_map f x) ≡ is_some x
 some-map f None = refl

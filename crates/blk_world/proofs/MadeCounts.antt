@@ -14,16 +14,16 @@ use Rattle.blk_nodes.specs.Joined.{IsJoined}
 use Rattle.blk_nodes.specs.Nodes.{DeviceState, Nodes}
 use Rattle.blk_nodes.specs.declared.stop.FormatStop.{FormatStop}
 use Rattle.blk_nodes.specs.declared.stop.FormatStop.TheVariants as stop
-use Rattle.blk_world.specs.Carrying.{fault_named}
-use Rattle.blk_world.specs.Coherent.{IsWhole}
-use Rattle.blk_world.specs.Counting.{AreSameDevices, HidesNoFault}
-use Rattle.blk_world.specs.Creating.{HasFailed, HasFormatted, unformatted}
-use Rattle.blk_world.specs.Deleting.{Ground, ground_of}
-use Rattle.blk_world.specs.Face.{Face, counts_from}
-use Rattle.blk_world.specs.Steps.{StoreSeen}
-use Rattle.blk_world.proofs.CountLemmas.{out-same, same-only}
-use Rattle.blk_world.proofs.CountsKept.{counts-same, hides-none, hides-stopped, hides-store, only-same}
-use Rattle.blk_world.proofs.Placed.{placed}
+use Rattle.world_commands.specs.Carrying.{fault_named}
+use Rattle.world_parts.specs.Coherent.{IsWhole}
+use Rattle.world_commands.specs.Counting.{AreSameDevices, HidesNoFault}
+use Rattle.world_parts.specs.Creating.{HasFailed, HasFormatted, unformatted}
+use Rattle.world_parts.specs.Deleting.{Ground, ground_of}
+use Rattle.world_parts.specs.Face.{Face, counts_from}
+use Rattle.world_parts.specs.Steps.{StoreSeen}
+use Rattle.world_commands.proofs.CountLemmas.{out-same, same-only}
+use Rattle.world_commands.proofs.CountsKept.{counts-same, hides-none, hides-stopped, hides-store, only-same}
+use Rattle.world_commands.proofs.Placed.{placed}
 
 module _ (w : Face) (whole : IsWhole w) (joined : IsJoined w.nodes) (x : Ground) (u : Table) where
   abbrev v : Face

@@ -21,23 +21,23 @@ use Rattle.qmp_rules.specs.declared.told.Look.TheVariants as look
 use Rattle.qmp_rules.specs.declared.told.Told.{Told}
 use Rattle.flat_machine.specs.Performing.{AllPerformed}
 use Rattle.blk_nodes.specs.Joined.{IsJoined}
-use Rattle.blk_world.specs.Carrying.{IsCarried, IsCarriedAs, IsCaused, StopsByFiles, is_failed}
-use Rattle.blk_world.specs.Coherent.{IsWhole}
-use Rattle.blk_world.specs.Counting.{HidesNoFault}
-use Rattle.blk_world.specs.Deleting.{Ground, ground_of}
-use Rattle.blk_world.specs.Face.{Face, contents_of, seen_state}
-use Rattle.blk_world.specs.Handling.{IsUntouched}
-use Rattle.blk_world.specs.Making.{IsMade, MadeSo, is_creation}
-use Rattle.blk_world.specs.Saying.{IsSaid}
-use Rattle.blk_world.proofs.CarryPlain.{quiet_named, quiet-self}
-use Rattle.blk_world.proofs.CountLemmas.{runs-devices, same-devices}
-use Rattle.blk_world.proofs.CountsKept.{hides-same}
-use Rattle.blk_world.proofs.Handled.{untouched_whole}
-use Rattle.blk_world.proofs.MadeHandled.{creation-quiet, first-quiet, left-none, left-some}
+use Rattle.world_commands.specs.Carrying.{IsCarried, IsCarriedAs, IsCaused, StopsByFiles, is_failed}
+use Rattle.world_parts.specs.Coherent.{IsWhole}
+use Rattle.world_commands.specs.Counting.{HidesNoFault}
+use Rattle.world_parts.specs.Deleting.{Ground, ground_of}
+use Rattle.world_parts.specs.Face.{Face, contents_of, seen_state}
+use Rattle.world_parts.specs.Handling.{IsUntouched}
+use Rattle.world_commands.specs.Making.{IsMade, MadeSo, is_creation}
+use Rattle.world_parts.specs.Saying.{IsSaid}
+use Rattle.world_commands.proofs.CarryPlain.{quiet_named, quiet-self}
+use Rattle.world_commands.proofs.CountLemmas.{runs-devices, same-devices}
+use Rattle.world_commands.proofs.CountsKept.{hides-same}
+use Rattle.world_commands.proofs.Handled.{untouched_whole}
+use Rattle.world_commands.proofs.MadeHandled.{creation-quiet, first-quiet, left-none, left-some}
 use Rattle.blk_world.proofs.MadeTold.{told_by_room}
 use Rattle.blk_world.proofs.MadeWorld.{CarriedTold, changes-created, made_world, spoiled_world}
-use Rattle.blk_world.proofs.BitmapsLeft.{keeps_bitmaps, left-dirty}
-use Rattle.blk_world.proofs.Placed.{answer-is, placed, placed_same}
+use Rattle.world_commands.proofs.BitmapsLeft.{keeps_bitmaps, left-dirty}
+use Rattle.world_commands.proofs.Placed.{answer-is, placed, placed_same}
 
 first-files : (options : Created (List ℕ)) (room : ℕ) → StopsByFiles (create_told options room).stopped
 unfolding create_told

@@ -19,17 +19,17 @@ use Rattle.qmp_rules.specs.declared.rows.NodeRecord.{NodeRecord}
 use Rattle.flat_machine.specs.Wiring.{TableAtRest, TableStands}
 use Rattle.flat_machine.proofs.Finds.{same-bytes_eq, bytes_eq-same}
 use Rattle.flat_machine.specs.Bitmaps.{AreBitmapsOf}
-use Rattle.blk_world.specs.Coherent.{DevicesTell, IsCoherent, IsWhole}
-use Rattle.blk_world.specs.Counting.{RunsOn}
-use Rattle.blk_world.specs.Face.{Face, node_over}
-use Rattle.blk_world.proofs.CarryPlain.{HasShape}
-use Rattle.blk_world.proofs.CountLemmas.{runs-devices}
-use Rattle.blk_world.proofs.DeletedLists.{find_none, find_there}
-use Rattle.blk_world.proofs.EasedTables.{IsEased, kept_rows, entered_eased}
-use Rattle.blk_world.proofs.KeptDrives.{IsEntered, KeepsEntered, disks_kept}
+use Rattle.world_parts.specs.Coherent.{DevicesTell, IsCoherent, IsWhole}
+use Rattle.world_commands.specs.Counting.{RunsOn}
+use Rattle.world_parts.specs.Face.{Face, node_over}
+use Rattle.world_commands.proofs.CarryPlain.{HasShape}
+use Rattle.world_commands.proofs.CountLemmas.{runs-devices}
+use Rattle.world_parts.proofs.DeletedLists.{find_none, find_there}
+use Rattle.world_commands.proofs.EasedTables.{IsEased, kept_rows, entered_eased}
+use Rattle.world_commands.proofs.KeptDrives.{IsEntered, KeepsEntered, disks_kept}
 use Rattle.blk_world.proofs.PieceNodes.{AreAfter}
 use Rattle.blk_world.proofs.PieceTables.{coherent_moved}
-use Rattle.blk_world.proofs.Placed.{entered_shape}
+use Rattle.world_commands.proofs.Placed.{entered_shape}
 
 -- ---- tables
 

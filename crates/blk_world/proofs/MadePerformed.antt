@@ -8,7 +8,7 @@ use Rattle.blk_history.specs.Fold.{With}
 use Rattle.blk_nodes.specs.declared.stop.FormatStop.{FormatStop}
 use Rattle.flat_machine.specs.Changed.{format_name}
 use Rattle.flat_machine.proofs.Finds.{find-map}
-use Rattle.blk_world.proofs.EasedTables.{IsEased}
+use Rattle.world_commands.proofs.EasedTables.{IsEased}
 use Rattle.blk_world.proofs.PieceTables.{row_same}
 use Rattle.blk_base.specs.Stored.{LeavesOthers}
 use Rattle.blk_base.specs.declared.file.File.{File as StoreFile}
@@ -27,17 +27,17 @@ use Rattle.qmp_rules.specs.declared.rows.NodeRecord.{NodeRecord}
 use Rattle.flat_machine.specs.Performing.{AllPerformed, IsFormatted, Makes, held_bytes}
 use Rattle.flat_machine.specs.State.{State, filename_of}
 use Rattle.blk_nodes.specs.Contents.{disk_of}
-use Rattle.blk_world.specs.Creating.{HasFormatted}
-use Rattle.blk_world.specs.Deleting.{Ground, ground_of}
-use Rattle.blk_world.specs.Face.{Face, contents_of, held, node_over}
-use Rattle.blk_world.specs.Steps.{StoreSeen}
-use Rattle.blk_world.proofs.CarryPlain.{quiet-self}
+use Rattle.world_parts.specs.Creating.{HasFormatted}
+use Rattle.world_parts.specs.Deleting.{Ground, ground_of}
+use Rattle.world_parts.specs.Face.{Face, contents_of, held, node_over}
+use Rattle.world_parts.specs.Steps.{StoreSeen}
+use Rattle.world_commands.proofs.CarryPlain.{quiet-self}
 use Rattle.blk_world.proofs.CreatedContents.{holds_image, makes_file, makes_image, spoils_file}
 use Rattle.blk_world.proofs.MadeCarried.{made_ground, made_table, failed_table}
 use Rattle.blk_world.proofs.MadeMoves.{IsLoneFile, node_over_it, over_none, shape_made, shape_spoiled, stands-name}
-use Rattle.blk_world.proofs.Placed.{placed}
+use Rattle.world_commands.proofs.Placed.{placed}
 use Rattle.std.specs.List.{list_any}
-use Rattle.blk_world.specs.Coherent.{IsWhole}
+use Rattle.world_parts.specs.Coherent.{IsWhole}
 
 -- ---- files
 

@@ -23,14 +23,14 @@ use Rattle.flat_machine.specs.State.{State}
 use Rattle.flat_machine.specs.declared.opening.Opening.{Opening}
 use Rattle.blk_nodes.specs.declared.stop.FormatStop.{FormatStop}
 use Rattle.blk_nodes.specs.declared.stop.FormatStop.TheVariants as stop
-use Rattle.blk_world.specs.Carrying.{IsCarriedIn, counted}
-use Rattle.blk_world.specs.Comes.{Shows}
-use Rattle.blk_world.specs.Creating.{IsFailed, unformatted}
-use Rattle.blk_world.specs.Deleting.{Ground}
-use Rattle.blk_world.specs.Face.{Face, contents_of}
-use Rattle.blk_world.proofs.Counted.{answer-counted}
-use Rattle.blk_world.specs.Making.{look_of}
-use Rattle.blk_world.proofs.CreatedAsked.{file_asked}
+use Rattle.world_commands.specs.Carrying.{IsCarriedIn, counted}
+use Rattle.world_commands.specs.Comes.{Shows}
+use Rattle.world_parts.specs.Creating.{IsFailed, unformatted}
+use Rattle.world_parts.specs.Deleting.{Ground}
+use Rattle.world_parts.specs.Face.{Face, contents_of}
+use Rattle.world_commands.proofs.Counted.{answer-counted}
+use Rattle.world_commands.specs.Making.{look_of}
+use Rattle.world_commands.proofs.CreatedAsked.{file_asked}
 
 -- ---- all but why it stops is nothing
 

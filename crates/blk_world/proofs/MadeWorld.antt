@@ -27,29 +27,29 @@ use Rattle.flat_machine.specs.Wiring.{TableAtRest}
 use Rattle.flat_machine.specs.declared.opening.Opening.{Opening}
 use Rattle.flat_machine.proofs.TableRests.{command_rests, spoiled_rests}
 use Rattle.blk_nodes.specs.Joined.{IsJoined}
-use Rattle.blk_world.specs.Carrying.{IsCarried, IsOfFiles, StopsByFiles, fault_named, opened_names}
-use Rattle.blk_world.specs.Coherent.{IsWhole}
-use Rattle.blk_world.specs.Comes.{Shows}
-use Rattle.blk_world.specs.Counting.{HidesNoFault}
-use Rattle.blk_world.specs.Creating.{HasCreated, HasFormatted, creation_for}
-use Rattle.blk_world.specs.Deleting.{Ground, ground_of}
-use Rattle.blk_world.specs.Face.{Face, contents_of, seen_state}
-use Rattle.blk_world.specs.Making.{FitsWords, HasEndedSo, told_failed}
-use Rattle.blk_world.proofs.Belonging.{belong_of}
-use Rattle.blk_world.proofs.CountLemmas.{out-same}
-use Rattle.blk_world.proofs.CountsKept.{hides-same}
-use Rattle.blk_world.proofs.CreatedAsked.{file_asked}
+use Rattle.world_commands.specs.Carrying.{IsCarried, IsOfFiles, StopsByFiles, fault_named, opened_names}
+use Rattle.world_parts.specs.Coherent.{IsWhole}
+use Rattle.world_commands.specs.Comes.{Shows}
+use Rattle.world_commands.specs.Counting.{HidesNoFault}
+use Rattle.world_parts.specs.Creating.{HasCreated, HasFormatted, creation_for}
+use Rattle.world_parts.specs.Deleting.{Ground, ground_of}
+use Rattle.world_parts.specs.Face.{Face, contents_of, seen_state}
+use Rattle.world_commands.specs.Making.{FitsWords, HasEndedSo, told_failed}
+use Rattle.world_commands.proofs.Belonging.{belong_of}
+use Rattle.world_commands.proofs.CountLemmas.{out-same}
+use Rattle.world_commands.proofs.CountsKept.{hides-same}
+use Rattle.world_commands.proofs.CreatedAsked.{file_asked}
 use Rattle.blk_world.proofs.CreatedCauses.{FitsSo, created_causes}
 use Rattle.blk_world.proofs.CreatedFits.{created_fits}
-use Rattle.blk_world.proofs.CreatedReady.{can_create}
-use Rattle.blk_world.proofs.MadeHandled.{fails-so, left-some}
+use Rattle.world_commands.proofs.CreatedReady.{can_create}
+use Rattle.world_commands.proofs.MadeHandled.{fails-so, left-some}
 use Rattle.blk_world.proofs.MadeCarried.{id_is, its, lone_file, made_ground, moves_failed, moves_image, moves_made}
 use Rattle.blk_world.proofs.MadeCounts.{hides_failed, hides_formatted, hides_unformatted}
 use Rattle.blk_world.proofs.MadeMoves.{IsEasedTo, Moves, eased_image, eased_spoiled, moved_coherent, moved_runs, moved_whole}
 use Rattle.blk_world.proofs.MadePerformed.{performed_failed, performed_image, performed_made, performed_stopped}
 use Rattle.blk_world.proofs.MadeTold.{stopped-none, told_by_failure, told_by_room}
-use Rattle.blk_world.proofs.BitmapsLeft.{left-listed}
-use Rattle.blk_world.proofs.Placed.{placed, answer-is}
+use Rattle.world_commands.proofs.BitmapsLeft.{left-listed}
+use Rattle.world_commands.proofs.Placed.{placed, answer-is}
 
 -- carried out, and told this
 abbrev pub CarriedTold : Face → Face → Cmd → Option Refusal → Told → Type 0

@@ -16,14 +16,14 @@ use Rattle.flat_machine.specs.State.{drive_of}
 use Rattle.flat_machine.specs.declared.opening.Opening.{Opening}
 use Rattle.blk_nodes.specs.Joined.{IsJoined}
 use Rattle.blk_nodes.specs.Nodes.{Nodes}
-use Rattle.blk_world.specs.Coherent.{IsCoherent, IsWhole}
-use Rattle.blk_world.specs.Comes.{Comes}
-use Rattle.blk_world.specs.Face.{Face, dirty_of}
-use Rattle.blk_world.specs.Piecing.{CanTransfer, IsMadeOn, IsPieceMade, HasPieceLicence, Transfers, part_of, table_after}
-use Rattle.blk_world.specs.Progress.{Progress, HasNext, flight_at}
-use Rattle.blk_world.proofs.CountLemmas.{IsThere, there}
+use Rattle.world_parts.specs.Coherent.{IsCoherent, IsWhole}
+use Rattle.world_commands.specs.Comes.{Comes}
+use Rattle.world_parts.specs.Face.{Face, dirty_of}
+use Rattle.world_commands.specs.Piecing.{CanTransfer, IsMadeOn, IsPieceMade, HasPieceLicence, Transfers, part_of, table_after}
+use Rattle.world_parts.specs.Progress.{Progress, HasNext, flight_at}
+use Rattle.world_commands.proofs.CountLemmas.{IsThere, there}
 use Rattle.blk_world.proofs.PieceComes.{piece_comes, piece_licence, piece_whole}
-use Rattle.blk_world.proofs.InStep.{with-at}
+use Rattle.world_parts.proofs.InStep.{with-at}
 use Rattle.blk_world.proofs.PieceReady.{can_transfer}
 
 -- ---- a request in flight

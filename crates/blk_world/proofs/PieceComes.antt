@@ -32,20 +32,20 @@ use Rattle.blk_nodes.specs.Nodes.{DeviceState, AreTold, device_in, is_of}
 use Rattle.blk_nodes.specs.Reading.{StoppedAt, StoppedBy}
 use Rattle.blk_nodes.specs.Writing.{IsApart}
 use Rattle.blk_nodes.specs.declared.row.Row.{Row}
-use Rattle.blk_world.specs.Coherent.{IsCoherent, IsWhole, DevicesTell}
-use Rattle.blk_world.specs.Comes.{Comes, Shows}
-use Rattle.blk_world.specs.Counting.{RunsOn, IsReached, IsReachedBy, sources_of, counts_within, HidesNoFault}
-use Rattle.blk_world.specs.Face.{Face, dirty_of, held, counts_now, device_numbered, node_over, contents_of}
-use Rattle.blk_world.specs.Piecing.{Transfers, IsPieceMade, HasPieceLicence, CanTransfer, CountFits, PassesBy, table_after, part_of, piece_entry, piece_passes, shown_by}
-use Rattle.blk_world.specs.Progress.{Progress, HasNext, flight_at, done_at, ended_in, with_piece}
+use Rattle.world_parts.specs.Coherent.{IsCoherent, IsWhole, DevicesTell}
+use Rattle.world_commands.specs.Comes.{Comes, Shows}
+use Rattle.world_commands.specs.Counting.{RunsOn, IsReached, IsReachedBy, sources_of, counts_within, HidesNoFault}
+use Rattle.world_parts.specs.Face.{Face, dirty_of, held, counts_now, device_numbered, node_over, contents_of}
+use Rattle.world_commands.specs.Piecing.{Transfers, IsPieceMade, HasPieceLicence, CanTransfer, CountFits, PassesBy, table_after, part_of, piece_entry, piece_passes, shown_by}
+use Rattle.world_parts.specs.Progress.{Progress, HasNext, flight_at, done_at, ended_in, with_piece}
 use Rattle.flat_machine.specs.Bitmaps.{AreBitmapsOf}
-use Rattle.blk_world.specs.Tabling.{piece_table, piece_dirty}
-use Rattle.blk_world.proofs.Coherence.{coherent-past}
-use Rattle.blk_world.proofs.CountLemmas.{runs-devices, reached-held, licensed-on, numbered, out-same}
-use Rattle.blk_world.proofs.CountsKept.{counts-same, hides-none, hides-stopped}
-use Rattle.blk_world.proofs.DeletedContents.{over-row}
+use Rattle.world_commands.specs.Tabling.{piece_table, piece_dirty}
+use Rattle.world_commands.proofs.Coherence.{coherent-past}
+use Rattle.world_commands.proofs.CountLemmas.{runs-devices, reached-held, licensed-on, numbered, out-same}
+use Rattle.world_commands.proofs.CountsKept.{counts-same, hides-none, hides-stopped}
+use Rattle.world_commands.proofs.DeletedContents.{over-row}
 use Rattle.blk_world.proofs.ImageTold.{mapping_kept}
-use Rattle.blk_world.proofs.InStep.{ended-push}
+use Rattle.world_parts.proofs.InStep.{ended-push}
 use Rattle.blk_world.proofs.PieceCounts.{AreCounted, piece-counted}
 use Rattle.blk_world.proofs.PieceContents.{content_after, else_by, over_same, held_after, payload_length}
 use Rattle.blk_world.proofs.PieceFits.{piece_fits, stop_reached, same_in}
@@ -54,7 +54,7 @@ use Rattle.blk_world.proofs.PieceReady.{IsGuestDisk, disk_is, writer, can_transf
 use Rattle.blk_world.proofs.PieceShows.{piece_done, piece_shows}
 use Rattle.blk_world.proofs.PieceTold.{told_after}
 use Rattle.blk_world.proofs.PieceTables.{coherent_moved, eased_after, rests_after, disks_after}
-use Rattle.blk_world.proofs.Pushing.{comes-push}
+use Rattle.world_commands.proofs.Pushing.{comes-push}
 
 -- ---- a device by its number
 

@@ -30,10 +30,10 @@ use Rattle.blk_nodes.specs.Writing.{WritesFile, WritesImage, WritesBy, ZerosBy, 
 use Rattle.blk_nodes.specs.declared.row.Driver.{Driver}
 use Rattle.blk_nodes.specs.declared.row.Driver.TheVariants as drivers
 use Rattle.blk_nodes.specs.declared.row.Row.{Row}
-use Rattle.blk_world.specs.Coherent.{AreNodesOf, IsRowOf}
-use Rattle.blk_world.specs.Face.{Face, held, held_by, node_over, told_bytes}
-use Rattle.blk_world.specs.Piecing.{Transfers}
-use Rattle.blk_world.proofs.EasedTables.{IsEased}
+use Rattle.world_parts.specs.Coherent.{AreNodesOf, IsRowOf}
+use Rattle.world_parts.specs.Face.{Face, held, held_by, node_over, told_bytes}
+use Rattle.world_commands.specs.Piecing.{Transfers}
+use Rattle.world_commands.proofs.EasedTables.{IsEased}
 use Rattle.blk_world.proofs.PieceTables.{row_same}
 
 -- ---- bytes of devices

@@ -13,8 +13,8 @@ use Rattle.blk_nodes.specs.Reading.{IsReadBelow, StoppedAt}
 use Rattle.blk_nodes.specs.Writing.{IsWriteAt, WritesImage, WritesBy, ZerosBy, HasCauseOf, HasPieceCause}
 use Rattle.blk_nodes.specs.declared.row.Driver.{Driver}
 use Rattle.blk_nodes.specs.declared.row.Driver.TheVariants as drivers
-use Rattle.blk_world.specs.Piecing.{Transfers}
-use Rattle.blk_world.proofs.CountsKept.{AreSame, faults_at, only-same}
+use Rattle.world_commands.specs.Piecing.{Transfers}
+use Rattle.world_commands.proofs.CountsKept.{AreSame, faults_at, only-same}
 
 -- no count rose, or that of the device which stopped it
 abbrev pub AreCounted : Outcome → List DeviceState → List DeviceState → Type 0

@@ -39,17 +39,17 @@ use Rattle.blk_nodes.specs.Writing.{WritesBy, ZerosBy, IsTornAt, HasCauseOf}
 use Rattle.blk_nodes.specs.declared.row.Driver.{Driver}
 use Rattle.blk_nodes.specs.declared.row.Driver.TheVariants as drivers
 use Rattle.blk_nodes.proofs.Leading.{leads_on}
-use Rattle.blk_world.specs.Coherent.{AreNodesOf}
-use Rattle.blk_world.specs.Comes.{Shows}
-use Rattle.blk_world.specs.Counting.{AreSameDevices, IsSameDevice, sources_of}
-use Rattle.blk_world.specs.Face.{Face}
-use Rattle.blk_world.specs.Piecing.{Transfers, part_of, shown_of, shown_by, piece_entry}
-use Rattle.blk_world.specs.Progress.{HasNext, flight_at, done_at}
+use Rattle.world_parts.specs.Coherent.{AreNodesOf}
+use Rattle.world_commands.specs.Comes.{Shows}
+use Rattle.world_commands.specs.Counting.{AreSameDevices, IsSameDevice, sources_of}
+use Rattle.world_parts.specs.Face.{Face}
+use Rattle.world_commands.specs.Piecing.{Transfers, part_of, shown_of, shown_by, piece_entry}
+use Rattle.world_parts.specs.Progress.{HasNext, flight_at, done_at}
 use Rattle.blk_world.proofs.PieceContents.{payload_length}
 use Rattle.blk_world.proofs.PieceNodes.{StoppedOn}
 use Rattle.blk_world.proofs.PiecePaths.{short, or-right}
 use Rattle.blk_world.proofs.PieceWriters.{filter_edge, down_disk}
-use Rattle.blk_world.proofs.Quiet.{in-flight}
+use Rattle.world_commands.proofs.Quiet.{in-flight}
 
 -- ---- torn pieces
 

@@ -24,10 +24,10 @@ use Rattle.blk_nodes.specs.declared.row.Driver.TheVariants as drivers
 use Rattle.blk_nodes.specs.declared.row.Row.{Row}
 use Rattle.blk_nodes.proofs.Alike.{alike_but, row_refl}
 use Rattle.blk_nodes.proofs.Leading.{leads_on, child_leads}
-use Rattle.blk_world.specs.Coherent.{AreNodesOf, AreAlike, IsRowOf, offset_of}
-use Rattle.blk_world.specs.Counting.{AreSameDevices}
-use Rattle.blk_world.specs.Piecing.{Transfers, PassesBy}
-use Rattle.blk_world.proofs.CountLemmas.{same-risen, same-only}
+use Rattle.world_parts.specs.Coherent.{AreNodesOf, AreAlike, IsRowOf, offset_of}
+use Rattle.world_commands.specs.Counting.{AreSameDevices}
+use Rattle.world_commands.specs.Piecing.{Transfers, PassesBy}
+use Rattle.world_commands.proofs.CountLemmas.{same-risen, same-only}
 
 -- ---- nodes after it
 

@@ -28,7 +28,7 @@ use Rattle.flat_machine.proofs.Kept.{own_disk}
 use Rattle.blk_nodes.specs.Joined.{IsJoined}
 use Rattle.blk_nodes.specs.Nodes.{Nodes}
 use Rattle.blk_nodes.specs.Reading.{LeadsTo}
-use Rattle.blk_world.specs.Coherent.{AreNodesOf}
+use Rattle.world_parts.specs.Coherent.{AreNodesOf}
 
 -- ---- a parent has one child of a role
 

@@ -35,11 +35,11 @@ use Rattle.blk_nodes.specs.declared.row.Driver.{Driver}
 use Rattle.blk_nodes.specs.declared.row.Driver.TheVariants as drivers
 use Rattle.blk_nodes.specs.declared.row.Row.{Row}
 use Rattle.blk_nodes.proofs.Leading.{leads_on}
-use Rattle.blk_world.specs.Coherent.{AreNodesOf, IsRowOf, IsCoherent}
-use Rattle.blk_world.specs.Piecing.{CanTransfer, part_of}
-use Rattle.blk_world.specs.Progress.{Progress, HasNext, flight_at}
+use Rattle.world_parts.specs.Coherent.{AreNodesOf, IsRowOf, IsCoherent}
+use Rattle.world_commands.specs.Piecing.{CanTransfer, part_of}
+use Rattle.world_parts.specs.Progress.{Progress, HasNext, flight_at}
 use Rattle.flat_machine.proofs.WritingKept.{RoleEdge, role_edge}
-use Rattle.blk_world.proofs.InStep.{with-at}
+use Rattle.world_parts.proofs.InStep.{with-at}
 use Rattle.blk_world.proofs.PiecePaths.{row_there, acyclic, or-left, OnlyFilters, leads_reads}
 use Rattle.blk_world.proofs.PieceWriters.{own_row}
 

@@ -28,14 +28,14 @@ use Rattle.flat_machine.specs.Imaging.{ShowsImages, KeepsMapping}
 use Rattle.blk_nodes.specs.Contents.{disk_of}
 use Rattle.blk_nodes.specs.Nodes.{AreTold}
 use Rattle.blk_nodes.specs.Writing.{IsApart}
-use Rattle.blk_world.specs.Comes.{Shows}
+use Rattle.world_commands.specs.Comes.{Shows}
 use Rattle.flat_machine.specs.Recording.{dirty_by}
 use Rattle.flat_machine.proofs.Recorded.{part-dirty}
-use Rattle.blk_world.specs.Face.{Face, dirty_of, held, contents_of}
-use Rattle.blk_world.specs.Piecing.{Transfers, PutsPart, table_after}
-use Rattle.blk_world.specs.Progress.{ended_in}
+use Rattle.world_parts.specs.Face.{Face, dirty_of, held, contents_of}
+use Rattle.world_commands.specs.Piecing.{Transfers, PutsPart, table_after}
+use Rattle.world_parts.specs.Progress.{ended_in}
 use Rattle.blk_world.proofs.PieceContents.{taken_is}
-use Rattle.blk_world.proofs.Quiet.{stands-onward}
+use Rattle.world_commands.proofs.Quiet.{stands-onward}
 
 -- ---- what stands beside the disks
 

@@ -28,11 +28,11 @@ use Rattle.flat_machine.proofs.Rows.{disk_node-same}
 use Rattle.flat_machine.proofs.TableRests.{written_rests}
 use Rattle.blk_nodes.specs.Joined.{IsJoined}
 use Rattle.blk_nodes.specs.Nodes.{Nodes}
-use Rattle.blk_world.specs.Coherent.{IsCoherent, AreOnDisks}
-use Rattle.blk_world.specs.Piecing.{table_after}
-use Rattle.blk_world.specs.Progress.{Progress}
-use Rattle.blk_world.proofs.CountLemmas.{out-same}
-use Rattle.blk_world.proofs.EasedTables.{IsEased, eased_at, kept_rows, nodes_of_eased, out_eased}
+use Rattle.world_parts.specs.Coherent.{IsCoherent, AreOnDisks}
+use Rattle.world_commands.specs.Piecing.{table_after}
+use Rattle.world_parts.specs.Progress.{Progress}
+use Rattle.world_commands.proofs.CountLemmas.{out-same}
+use Rattle.world_commands.proofs.EasedTables.{IsEased, eased_at, kept_rows, nodes_of_eased, out_eased}
 use Rattle.blk_world.proofs.PieceNodes.{AreAfter, alike_after}
 use Rattle.blk_world.proofs.PieceWriters.{none_over}
 

@@ -16,9 +16,9 @@ use Rattle.blk_nodes.specs.Reading.{OnlyAt}
 use Rattle.blk_nodes.specs.Writing.{WritesFile, WritesImage, WritesBy, ZerosBy}
 use Rattle.blk_nodes.specs.declared.row.Driver.{Driver}
 use Rattle.blk_nodes.specs.declared.row.Driver.TheVariants as drivers
-use Rattle.blk_world.specs.Counting.{AreSameDevices}
-use Rattle.blk_world.specs.Piecing.{Transfers}
-use Rattle.blk_world.proofs.CountLemmas.{found-before}
+use Rattle.world_commands.specs.Counting.{AreSameDevices}
+use Rattle.world_commands.specs.Piecing.{Transfers}
+use Rattle.world_commands.proofs.CountLemmas.{found-before}
 use Rattle.blk_world.proofs.PieceContents.{content_in, risen_content, only_content}
 use Rattle.blk_world.proofs.PieceNodes.{nodes_after}
 

@@ -28,7 +28,7 @@ use Rattle.blk_nodes.specs.Nodes.{Nodes, row_at, kind_of}
 use Rattle.blk_nodes.specs.declared.row.Driver.{Driver}
 use Rattle.blk_nodes.specs.declared.row.Driver.TheVariants as drivers
 use Rattle.blk_nodes.specs.declared.row.Row.{Row}
-use Rattle.blk_world.specs.Coherent.{AreNodesOf, AreAlike, IsRowOf, AskToWrite}
+use Rattle.world_parts.specs.Coherent.{AreNodesOf, AreAlike, IsRowOf, AskToWrite}
 use Rattle.flat_machine.proofs.WritingKept.{role_edge}
 use Rattle.blk_world.proofs.PiecePaths.{row_there}
 

@@ -2,16 +2,16 @@
 ghost use Rattle.std.specs.Prelude.{◌≡◌, IfOk, Some, vec_len};
 ghost use Rattle.blk_history.specs.Fold.{With};
 ghost use Rattle.blk_history.specs.Machine.{Flight};
-ghost use Rattle.blk_world.specs.Piecing.{CanTransfer, IsMadeOn, part_of};
-ghost use Rattle.blk_world.specs.Progress.{HasNext, flight_at};
+ghost use Rattle.world_commands.specs.Piecing.{CanTransfer, IsMadeOn, part_of};
+ghost use Rattle.world_parts.specs.Progress.{HasNext, flight_at};
 
-use crate::progress::Progress;
 use crate::transfer::make_next;
 use blk_base::{Device, NoMemory, Outcome};
 use blk_graph::NodeId;
 use blk_nodes::Nodes;
 use std::alloc::Global;
 use std::marker::Model;
+use world_parts::Progress;
 
 /// The bytes of a piece while it is made. A piece has at most 65,536.
 #[derive(Drop)]

@@ -4,15 +4,15 @@ ghost use Rattle.blk_base.specs.Counts.{Rose};
 ghost use Rattle.blk_base.specs.declared.fault.FaultFrom.{FaultFrom};
 ghost use Rattle.blk_nodes.specs.Handing.{device_state};
 ghost use Rattle.flat_machine.specs.State.{filename_of};
-ghost use Rattle.blk_world.specs.Closing.{AreBack, IsBack, IsOutFor, flushed_by};
-ghost use Rattle.blk_world.specs.Coherent.{AreHeld};
-ghost use Rattle.blk_world.specs.Steps.{seen_in_run};
+ghost use Rattle.world_commands.specs.Closing.{AreBack, IsBack, IsOutFor, flushed_by};
+ghost use Rattle.world_parts.specs.Coherent.{AreHeld};
+ghost use Rattle.world_parts.specs.Steps.{seen_in_run};
 
-use crate::run_store::RunStore;
 use blk_base::{DevNo, Device, FaultAt, FaultFrom, Store};
 use blk_graph::NodeId;
 use blk_nodes::DevicesLeft;
 use qmp_rules::Names;
+use world_parts::RunStore;
 
 /// The name of the file that a `file` node stands for.
 fn filename(names: &Names, node: NodeId) -> &str

@@ -5,17 +5,17 @@ ghost use Rattle.blk_history.specs.Fold.{With};
 ghost use Rattle.qmp_rules.specs.Chains.{filter_role, filtered};
 ghost use Rattle.flat_machine.specs.Bitmaps.{noted_rows};
 ghost use Rattle.flat_machine.specs.Machine.{is_noted, path};
-ghost use Rattle.blk_world.specs.Piecing.{part_of};
-ghost use Rattle.blk_world.specs.Progress.{HasNext, flight_at};
-ghost use Rattle.blk_world.specs.Recorded.{noted_after, noted_where, written_in};
+ghost use Rattle.world_commands.specs.Piecing.{part_of};
+ghost use Rattle.world_parts.specs.Progress.{HasNext, flight_at};
+ghost use Rattle.world_commands.specs.Recorded.{noted_after, noted_where, written_in};
 
-use crate::progress::Progress;
 use crate::transfer::request_piece;
 use blk_base::{Outcome, Span};
 use blk_bitmaps::Bitmaps;
 use blk_graph::{Kind, NodeId, Role};
 use qmp_rules::Names;
 use trace_codec::Op;
+use world_parts::Progress;
 
 /// What a piece of a request writes.
 fn written_in(op: &Op, part: Span) -> Option<Span>

@@ -7,14 +7,14 @@ ghost use Rattle.q2_image.specs.Reading.{IsWithinCluster};
 ghost use Rattle.blk_history.specs.Disk.{span_of, piece};
 ghost use Rattle.blk_history.specs.Fold.{With};
 ghost use Rattle.blk_history.specs.Machine.{Flight};
-ghost use Rattle.blk_world.specs.Piecing.{IsPart, CanTransfer, CountFits, IsMadeOn, Transfers, part_of, shown_of};
-ghost use Rattle.blk_world.specs.Progress.{HasNext, flight_at, shows_in};
+ghost use Rattle.world_commands.specs.Piecing.{IsPart, CanTransfer, CountFits, IsMadeOn, Transfers, part_of, shown_of};
+ghost use Rattle.world_parts.specs.Progress.{HasNext, flight_at, shows_in};
 
-use crate::progress::Progress;
 use blk_base::{Device, Outcome, Span, piece_at};
 use blk_graph::NodeId;
 use blk_nodes::Nodes;
 use trace_codec::{Op, Payload};
+use world_parts::Progress;
 
 /// Piece `k` of a request.
 pub(crate) fn request_piece(op: &Op, k: u64) -> Span

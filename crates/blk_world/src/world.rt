@@ -2,7 +2,7 @@
 ghost use Rattle.std.specs.Prelude.{◌≡◌, ℕ, ◌+◌, ◌≤◌, ◌<◌, List, [], map, length, slice_get, IfOk, IfErr, IsSome, is_some};
 ghost use Rattle.blk_nodes.specs.Nodes.{no_nodes};
 ghost use Rattle.qmp_rules.specs.Table.{opening_table};
-ghost use Rattle.blk_world.specs.Progress.{no_progress};
+ghost use Rattle.world_parts.specs.Progress.{no_progress};
 
 mod adding;
 mod alone;
@@ -16,11 +16,7 @@ mod execute;
 mod making;
 mod piece;
 
-use crate::admission::{Admission, refusal_of, seat_of};
 use crate::buffer::Buffer;
-use crate::drained::{Drained, is_held};
-use crate::progress::Progress;
-use crate::run_store::RunStore;
 use crate::turned::Turned;
 use blk_base::{Device, Names1, NoMemory, Room, Store};
 use blk_bitmaps::Bitmaps;
@@ -29,6 +25,7 @@ use qmp_rules::{Name, Names};
 use std::alloc::Global;
 use std::marker::Model;
 use trace_codec::{Await, Op};
+use world_parts::{Admission, Drained, Progress, RunStore, is_held, refusal_of, seat_of};
 
 /// A store and all that stands on it: nodes over its files, the table of names, the guests and the history.
 pub struct World<S: Store> {
@@ -44,8 +41,8 @@ pub struct World<S: Store> {
 }
 
 impl<S: Store> Model for World<S> {
-    ghost use Rattle.blk_world.specs.Face.{Face, face_of};
-    ghost use Rattle.blk_world.specs.Coherent.{IsWhole};
+    ghost use Rattle.world_parts.specs.Face.{Face, face_of};
+    ghost use Rattle.world_parts.specs.Coherent.{IsWhole};
 
     ghost Value = { Face };
 
@@ -101,10 +98,10 @@ impl<S: Store> World<S> {
     ghost use Rattle.qmp_rules.specs.Table.{job_in};
     ghost use Rattle.flat_machine.specs.Legal.{IsMet, IsNotDone, AllDone};
     ghost use Rattle.flat_machine.specs.declared.opening.Opening.{Opening};
-    ghost use Rattle.blk_world.specs.Face.{seen_state};
-    ghost use Rattle.blk_world.specs.Comes.{Comes};
-    ghost use Rattle.blk_world.specs.Progress.{IsFree, HasRoomFor, flight_at, answered_in, with_retirement};
-    ghost use Rattle.blk_world.specs.Steps.{new_world, seen_store, IsOpeningOf, onward, after_admission, IsAnswered, after_wait, after_end, IsIdle};
+    ghost use Rattle.world_parts.specs.Face.{seen_state};
+    ghost use Rattle.world_commands.specs.Comes.{Comes};
+    ghost use Rattle.world_parts.specs.Progress.{IsFree, HasRoomFor, flight_at, answered_in, with_retirement};
+    ghost use Rattle.world_parts.specs.Steps.{new_world, seen_store, IsOpeningOf, onward, after_admission, IsAnswered, after_wait, after_end, IsIdle};
 
     /// A world over a store, with guests that have asked for nothing yet and room for what a run adds to its history.
     fn put_world(alloc: Global, store: S, guests: Names1, room: Room) -> Result<Self, (NoMemory, S)>

@@ -21,12 +21,12 @@ use Rattle.flat_machine.specs.Blocked.{IsStuck, ActorWaits}
 use Rattle.flat_machine.specs.Courses.{Course, KeepsOrder, course_of}
 use Rattle.flat_machine.specs.Licence.{Counts, AreLicensed}
 use Rattle.flat_machine.specs.declared.opening.Opening.{Opening}
-use Rattle.blk_world.specs.Closing.{IsToldBack, count_back, store_in}
-use Rattle.blk_world.specs.Comes.{Comes}
-use Rattle.blk_world.specs.Face.{Face, seen_state, first_counts, counts_now}
-use Rattle.blk_world.specs.Progress.{ended_in}
-use Rattle.blk_world.specs.Steps.{StoreSeen, IsOpeningOf, new_world}
-use Rattle.blk_world.specs.Tabling.{IsTableAfter}
+use Rattle.world_commands.specs.Closing.{IsToldBack, count_back, store_in}
+use Rattle.world_commands.specs.Comes.{Comes}
+use Rattle.world_parts.specs.Face.{Face, seen_state, first_counts, counts_now}
+use Rattle.world_parts.specs.Progress.{ended_in}
+use Rattle.world_parts.specs.Steps.{StoreSeen, IsOpeningOf, new_world}
+use Rattle.world_commands.specs.Tabling.{IsTableAfter}
 use Rattle.qblk_inputs.specs.Inputs.{Work}
 use Rattle.qblk_inputs.specs.Words.{Cast, guests_of}
 use Rattle.qblk_run.specs.Run.{Account, HasOpened, IsRun, HaveNotSunk, IsFlushedAs, LeavesFiles, EndsDone, EndsStuck, HasStopped, FailsToFlush, counts_at_first, counts_at_last, course_in, seen_waits}

@@ -3,7 +3,7 @@ use Rattle.std.proofs.Common.{◌≡◌, ◌↔◌, ℕ, true, false, Bool, List
 use Rattle.std.specs.Prelude.{Contains}
 use Rattle.std.proofs.lemmas.Bool.{false≢true}
 use Rattle.qmp_rules.specs.Chains.{has_id}
-use Rattle.blk_world.proofs.Ends.{has-is, is-has}
+use Rattle.world_parts.proofs.Ends.{has-is, is-has}
 use Rattle.flat_machine.specs.Courses.{is_answered}
 use Rattle.trace_codec.specs.declared.wish.Wish.{Wish}
 use Rattle.trace_codec.specs.declared.wish.Wish.TheVariants.{Ask, Wait}

@@ -20,9 +20,9 @@ use Rattle.flat_machine.specs.Opening.{start}
 use Rattle.flat_machine.specs.Comes.{jobs_from, transcript_of}
 use Rattle.flat_machine.specs.Licence.{fault_at}
 use Rattle.flat_machine.specs.declared.opening.Opening.{Opening}
-use Rattle.blk_world.specs.Comes.{Comes}
-use Rattle.blk_world.specs.Face.{Face}
-use Rattle.blk_world.specs.Steps.{IsOpeningOf, new_world}
+use Rattle.world_commands.specs.Comes.{Comes}
+use Rattle.world_parts.specs.Face.{Face}
+use Rattle.world_parts.specs.Steps.{IsOpeningOf, new_world}
 use Rattle.qblk_core.specs.Output.{SendsFront}
 use Rattle.qblk_core.specs.declared.status.Status.{Status}
 use Rattle.qblk_core.specs.declared.status.Status.TheVariants.{Done, Fault, Stuck, NoMemory}

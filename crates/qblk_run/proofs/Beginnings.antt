@@ -9,7 +9,7 @@ use Rattle.blk_history.specs.Fold.{With}
 use Rattle.flat_machine.specs.State.{Guest}
 use Rattle.flat_machine.specs.Opening.{new_guest}
 use Rattle.flat_machine.specs.Courses.{past_waits}
-use Rattle.blk_world.specs.Progress.{Progress, no_progress}
+use Rattle.world_parts.specs.Progress.{Progress, no_progress}
 use Rattle.qblk_inputs.specs.Room.{IsRoomFor, AllCanCount, entries_for_all, bytes_for_all}
 use Rattle.qblk_run.specs.Beginning.{new_task, new_tasks}
 use Rattle.qblk_run.specs.Tasks.{Task, CanGoOn, KeepsTo, IsTaskOf, entries_of_all, bytes_of_all}

@@ -19,10 +19,10 @@ use Rattle.flat_machine.specs.Agreement.{Contents, IsLeftAs}
 use Rattle.flat_machine.specs.Final.{bytes_of, read_as, IsLeftIn, AreDisks}
 use Rattle.flat_machine.specs.Licence.{Counts, IsBetween, AreLicensed, faults_of, count_of}
 use Rattle.flat_machine.specs.declared.opening.Opening.{Opening}
-use Rattle.blk_world.specs.Comes.{Comes}
-use Rattle.blk_world.specs.Counting.{HaveNotFallen}
-use Rattle.blk_world.specs.Face.{Face, held, told_bytes, contents_of}
-use Rattle.blk_world.specs.Steps.{StoreSeen}
+use Rattle.world_commands.specs.Comes.{Comes}
+use Rattle.world_commands.specs.Counting.{HaveNotFallen}
+use Rattle.world_parts.specs.Face.{Face, held, told_bytes, contents_of}
+use Rattle.world_parts.specs.Steps.{StoreSeen}
 use Rattle.qblk_run.specs.Run.{HaveStood, LeavesFiles, Account}
 use Rattle.qblk_run.specs.Session.{IsEnd}
 use Rattle.qblk_run.proofs.Lists.{with-some, with-map}

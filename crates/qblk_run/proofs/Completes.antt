@@ -13,7 +13,7 @@ use Rattle.qmp_rules.specs.Table.{device_at}
 use Rattle.blk_history.specs.Fold.{change}
 use Rattle.blk_history.specs.declared.event.Event.{Event}
 use Rattle.blk_history.specs.declared.event.Event.TheVariants.{Admit, Refuse, Piece, Retire, Reply, Reached, Start, Ready, End, Done}
-use Rattle.blk_world.proofs.Ends.{is-has}
+use Rattle.world_parts.proofs.Ends.{is-has}
 use Rattle.flat_machine.specs.State.{State}
 use Rattle.flat_machine.specs.Blocked.{ScriptWaits, TraceWaits, ActorWaits, IsStuck}
 use Rattle.flat_machine.specs.Courses.{Course, course_of, course_after, onward, IsOwn, IsGiven, IsWatched, KeepsOrder, past_waits, behind, rest_of, is_answered}

@@ -13,8 +13,8 @@ use Rattle.flat_machine.specs.Blocked.{ScriptWaits}
 use Rattle.flat_machine.specs.Marks.{Drained, holds, is_held}
 use Rattle.flat_machine.specs.State.{disk_of_guest}
 use Rattle.flat_machine.specs.Courses.{course_of, course_after, past_waits, rest_of}
-use Rattle.blk_world.specs.Face.{Face, seen_state}
-use Rattle.blk_world.specs.Progress.{Progress, answered_in}
+use Rattle.world_parts.specs.Face.{Face, seen_state}
+use Rattle.world_parts.specs.Progress.{Progress, answered_in}
 use Rattle.qblk_inputs.specs.Room.{bytes_for}
 use Rattle.qblk_run.specs.Tasks.{Task, ScriptTask, Tasks, IsTaskOf, IsTaskIn, IsFlying, IsScriptIn, AreDrainsOf, CanGoOn, KeepsTo, IsRestOf, Halts, IsGiving, IsPutOffFor, Rests, ScriptHalts, ScriptRests, entries_of, entries_of_script, steps_of, steps_of_all, in_flight, entries_in_flight}
 use Rattle.qblk_run.specs.Turns.{StaysIn, DrainsAfter, IsOwnOrder, IsScriptPutOff, IsScriptTurn}

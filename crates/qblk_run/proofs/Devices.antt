@@ -41,10 +41,10 @@ use Rattle.trace_codec.specs.declared.op.Op.TheVariants.{Read, Write, Zero, Flus
 use Rattle.qmp_rules.specs.Chains.{disk_node, written_under}
 use Rattle.flat_machine.specs.declared.opening.Opening.{Opening}
 use Rattle.std.proofs.lemmas.List.{append_assoc}
-use Rattle.blk_world.specs.Comes.{Comes}
-use Rattle.blk_world.specs.Face.{Face}
-use Rattle.blk_world.specs.Piecing.{table_after}
-use Rattle.blk_world.specs.Steps.{StoreSeen, new_world}
+use Rattle.world_commands.specs.Comes.{Comes}
+use Rattle.world_parts.specs.Face.{Face}
+use Rattle.world_commands.specs.Piecing.{table_after}
+use Rattle.world_parts.specs.Steps.{StoreSeen, new_world}
 use Rattle.qblk_run.specs.Worlds.{GoesThrough, IsEventOf, IsPieceOf}
 use Rattle.qblk_run.proofs.LeftDevices.{IsOfDevice, SameDevices, all-leave, leave-command, leave-device-uses, leave-left}
 

@@ -8,8 +8,8 @@ use Rattle.trace_codec.specs.Script.{Order}
 use Rattle.flat_machine.specs.State.{Guest, guest_at}
 use Rattle.flat_machine.specs.Blocked.{ScriptWaits, TraceWaits, ActorWaits, IsUnfinished, IsStuck, SlotWaits}
 use Rattle.flat_machine.specs.Courses.{Course, course_of, course_after, past_waits, rest_of, IsUsedUp, AreAllDone, IsWhole}
-use Rattle.blk_world.specs.Face.{Face, seen_state}
-use Rattle.blk_world.specs.Progress.{ended_in, answered_in}
+use Rattle.world_parts.specs.Face.{Face, seen_state}
+use Rattle.world_parts.specs.Progress.{ended_in, answered_in}
 use Rattle.qblk_run.specs.Tasks.{Task, Tasks, CanGoOn, KeepsTo, IsTaskOf, IsFlying, Rests, TaskWaits, ScriptRests}
 use Rattle.qblk_run.specs.Rounds.{AllRest, AreDone, IsFirst, IsFirstGuest}
 use Rattle.qblk_run.proofs.Lists.{get-below, below-get, at-with, with-map, with-some, none-has, some-has}

@@ -3,7 +3,7 @@ use Rattle.std.proofs.Common.{◌≡◌, ◌≢◌, ◌⊎◌, ℕ, ◌+◌, ◌
 use Rattle.std.specs.Prelude.{slice_get, MatchOption}
 use Rattle.blk_base.specs.Written.{Written}
 use Rattle.trace_codec.specs.declared.waits.Waits.{Waits}
-use Rattle.blk_world.specs.Face.{Face}
+use Rattle.world_parts.specs.Face.{Face}
 use Rattle.qblk_run.specs.Run.{seen_waits}
 use Rattle.qblk_run.specs.Rounds.{AllAreDone, AreDone, IsFirst, IsFirstGuest}
 use Rattle.qblk_run.specs.Tasks.{Task, Tasks}

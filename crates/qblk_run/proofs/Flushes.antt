@@ -13,13 +13,13 @@ use Rattle.blk_graph.proofs.RoleLemmas.{head_pairs}
 use Rattle.blk_history.specs.Fold.{With}
 use Rattle.blk_nodes.specs.Nodes.{DeviceState}
 use Rattle.qmp_rules.specs.Table.{Table}
-use Rattle.blk_world.specs.Closing.{AreBack, HasFlushFault, IsBack, count_back, first_of}
-use Rattle.blk_world.specs.Coherent.{AreHeld, IsOut}
-use Rattle.blk_world.specs.Face.{count_of_opening, counts_from}
-use Rattle.blk_world.specs.Steps.{StoreSeen}
-use Rattle.blk_world.proofs.CloseCounts.{same-back}
-use Rattle.blk_world.proofs.CloseLemmas.{held-back, now, set-other, set-same}
-use Rattle.blk_world.proofs.CountLemmas.{with-of}
+use Rattle.world_commands.specs.Closing.{AreBack, HasFlushFault, IsBack, count_back, first_of}
+use Rattle.world_parts.specs.Coherent.{AreHeld, IsOut}
+use Rattle.world_parts.specs.Face.{count_of_opening, counts_from}
+use Rattle.world_parts.specs.Steps.{StoreSeen}
+use Rattle.world_commands.proofs.CloseCounts.{same-back}
+use Rattle.world_commands.proofs.CloseLemmas.{held-back, now, set-other, set-same}
+use Rattle.world_commands.proofs.CountLemmas.{with-of}
 
 -- ---- counts by place
 

@@ -26,10 +26,10 @@ use Rattle.flat_machine.specs.Legal.{IsNotDone}
 use Rattle.flat_machine.specs.Blocked.{TraceWaits}
 use Rattle.flat_machine.specs.Marks.{is_held}
 use Rattle.blk_world.specs.declared.admission.Admission.TheVariants.{Admitted, Refused as NotAdmitted, Away}
-use Rattle.blk_world.specs.Face.{Face, seen_state}
-use Rattle.blk_world.specs.Piecing.{IsPieceMade, HasPieceLicence, shown_by}
-use Rattle.blk_world.specs.Progress.{Progress, ended_in, answered_in, done_at, flight_at, with_piece, with_retirement, IsFree, HasNext, CanShow, HasRoomFor, shows_in}
-use Rattle.blk_world.specs.Steps.{onward, after_admission, after_end, IsAnswered, IsIdle}
+use Rattle.world_parts.specs.Face.{Face, seen_state}
+use Rattle.world_commands.specs.Piecing.{IsPieceMade, HasPieceLicence, shown_by}
+use Rattle.world_parts.specs.Progress.{Progress, ended_in, answered_in, done_at, flight_at, with_piece, with_retirement, IsFree, HasNext, CanShow, HasRoomFor, shows_in}
+use Rattle.world_parts.specs.Steps.{onward, after_admission, after_end, IsAnswered, IsIdle}
 use Rattle.qblk_inputs.specs.Room.{entries_for, bytes_for, HaveNumbers}
 use Rattle.qblk_run.specs.Tasks.{Task, IsTaskOf, IsTaskIn, HasLeft, IsFlying, in_flight, entries_of, steps_of, end_of}
 use Rattle.qblk_run.specs.Turns.{IsOwnMove, MakesMove, IsTurn}

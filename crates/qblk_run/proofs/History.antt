@@ -6,8 +6,8 @@ use Rattle.blk_history.specs.declared.event.Event.{Event}
 use Rattle.blk_history.specs.declared.event.Event.TheVariants.{Admit, Refuse, Piece, Retire, Reply, Reached, Start, Ready, End, Done}
 use Rattle.blk_history.proofs.Folds.{run-push}
 use Rattle.flat_machine.specs.Courses.{Course, course_after, onward, past_waits, behind}
-use Rattle.blk_world.specs.Progress.{answered_in, ended_in}
-use Rattle.blk_world.proofs.Coherence.{length-change}
+use Rattle.world_parts.specs.Progress.{answered_in, ended_in}
+use Rattle.world_commands.proofs.Coherence.{length-change}
 
 pub course-answered : (c : Course) (h : List Event) → (course_after c h).answered ≡ c.answered ++ answered_in h
 course-answered c [] = sym (append-nil c.answered)

@@ -4,7 +4,7 @@ use Rattle.std.specs.Prelude.{◌==◌, ◌||◌, slice_get, get_or, slice_index
 use Rattle.std.proofs.lemmas.Bool.{false≢true, ne_eqb}
 use Rattle.qmp_rules.specs.Chains.{has_id}
 use Rattle.blk_history.specs.Fold.{change, With}
-use Rattle.blk_world.proofs.Ends.{has-is, is-has}
+use Rattle.world_parts.proofs.Ends.{has-is, is-has}
 
 -- two numbers are the same or not
 pub same_or_not : (a b : ℕ) → (a ≡ b) ⊎ (a ≢ b)

@@ -9,9 +9,9 @@ use Rattle.blk_history.specs.declared.event.Event.TheVariants.{Admit, Refuse, Pi
 use Rattle.flat_machine.specs.State.{Guest}
 use Rattle.flat_machine.specs.Comes.{guest_step}
 use Rattle.flat_machine.specs.Machine.{admitted, finished, past_piece}
-use Rattle.blk_world.specs.Progress.{Progress, ended_in, answered_in, done_by}
-use Rattle.blk_world.proofs.InStep.{ended-push}
-use Rattle.blk_world.proofs.Coherence.{length-change}
+use Rattle.world_parts.specs.Progress.{Progress, ended_in, answered_in, done_by}
+use Rattle.world_parts.proofs.InStep.{ended-push}
+use Rattle.world_commands.proofs.Coherence.{length-change}
 use Rattle.qblk_run.specs.Tasks.{Task, ScriptTask, IsTaskIn, IsScriptIn, CanGoOn, AreTasksIn}
 use Rattle.qblk_run.specs.Turns.{IsOwnMove, IsMove}
 use Rattle.qblk_run.proofs.Lists.{same_or_not, get-set, get-set-other, get-change-other, has-stays, has-own}

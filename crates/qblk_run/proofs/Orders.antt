@@ -11,7 +11,7 @@ use Rattle.blk_history.specs.declared.event.Event.{Event}
 use Rattle.blk_history.specs.declared.event.Event.TheVariants.{Admit, Refuse, Piece, Retire, Reply, Reached, Start, Ready, End, Done}
 use Rattle.blk_history.proofs.Folds.{each-push}
 use Rattle.flat_machine.specs.Courses.{Course, course_of, course_after, onward, IsOwn, past_waits, behind, rest_of, IsNextOf, CanBeDone}
-use Rattle.blk_world.specs.Progress.{Progress, answered_in}
+use Rattle.world_parts.specs.Progress.{Progress, answered_in}
 use Rattle.qblk_run.specs.Tasks.{Task, ScriptTask, AreRestsOf, IsRestOf, KeepsTo, HasLine, HaveLines, guests_only}
 use Rattle.qblk_run.specs.Turns.{IsOwnMove, IsMove, Asks, Ends}
 use Rattle.qblk_run.proofs.Lists.{same_or_not, get-set, get-set-other, get-change, get-change-other, with-map, below-get}

@@ -12,10 +12,10 @@ use Rattle.trace_codec.specs.declared.wish.Wish.{Wish}
 use Rattle.trace_codec.specs.Script.{Order}
 use Rattle.blk_history.specs.Recorded.{Recorded}
 use Rattle.flat_machine.specs.declared.opening.Opening.{Opening}
-use Rattle.blk_world.specs.Comes.{Comes}
-use Rattle.blk_world.specs.Face.{Face}
-use Rattle.blk_world.specs.Progress.{no_progress}
-use Rattle.blk_world.specs.Steps.{StoreSeen, IsOpeningOf, new_world}
+use Rattle.world_commands.specs.Comes.{Comes}
+use Rattle.world_parts.specs.Face.{Face}
+use Rattle.world_parts.specs.Progress.{no_progress}
+use Rattle.world_parts.specs.Steps.{StoreSeen, IsOpeningOf, new_world}
 use Rattle.qblk_core.specs.declared.status.Status.{Status}
 use Rattle.qblk_core.specs.declared.status.Status.TheVariants.{NoMemory}
 use Rattle.qblk_core.specs.declared.words.Format.{Format}

@@ -6,11 +6,11 @@ use Rattle.trace_codec.specs.declared.order.Order.TheVariants.{Give, Watch}
 use Rattle.blk_history.specs.declared.event.Event.TheVariants.{Reached, Done}
 use Rattle.flat_machine.specs.Blocked.{what_of}
 use Rattle.flat_machine.specs.Legal.{IsMet, IsNotDone}
-use Rattle.blk_world.specs.Carrying.{IsReplied, IsPutOff, reply_entry}
-use Rattle.blk_world.specs.Saying.{Given}
-use Rattle.blk_world.specs.Face.{Face, seen_state}
-use Rattle.blk_world.specs.Progress.{Progress, ended_in}
-use Rattle.blk_world.specs.Steps.{after_wait, after_end}
+use Rattle.world_commands.specs.Carrying.{IsReplied, IsPutOff, reply_entry}
+use Rattle.world_parts.specs.Saying.{Given}
+use Rattle.world_parts.specs.Face.{Face, seen_state}
+use Rattle.world_parts.specs.Progress.{Progress, ended_in}
+use Rattle.world_parts.specs.Steps.{after_wait, after_end}
 use Rattle.qblk_run.specs.Tasks.{ScriptTask, IsScriptIn, entries_of_script, end_of}
 use Rattle.qblk_run.specs.Turns.{IsScriptTurn}
 use Rattle.qblk_run.proofs.Lists.{none-has, with-map}

@@ -9,8 +9,8 @@ use Rattle.blk_history.specs.declared.event.Event.{Event}
 use Rattle.blk_history.specs.declared.event.Event.TheVariants.{Admit, Refuse, Piece, Retire, Reply, Reached, Start, Ready, End, Done}
 use Rattle.blk_history.proofs.Folds.{each-push}
 use Rattle.flat_machine.specs.Courses.{Course, course_of, course_after, onward, IsOwn}
-use Rattle.blk_world.specs.Progress.{Progress, ended_in}
-use Rattle.blk_world.proofs.InStep.{ended-push}
+use Rattle.world_parts.specs.Progress.{Progress, ended_in}
+use Rattle.world_parts.proofs.InStep.{ended-push}
 use Rattle.qblk_run.specs.Tasks.{Task, ScriptTask, CanGoOn, AreRestsOf, KeepsTo, HasLine, HaveLines, entries_of_script}
 use Rattle.qblk_run.specs.Turns.{IsOwnOrder, IsScriptMove}
 use Rattle.qblk_run.proofs.Lists.{with-map, has-stays, has-own}

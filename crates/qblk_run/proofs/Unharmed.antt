@@ -14,9 +14,9 @@ use Rattle.flat_machine.specs.EventLicence.{IsCommandsFull, ReachesDevice, full_
 use Rattle.flat_machine.specs.Replies.{command_in}
 use Rattle.flat_machine.specs.State.{drive_of}
 use Rattle.flat_machine.specs.declared.opening.Opening.{Opening}
-use Rattle.blk_world.specs.Carrying.{would_pass}
-use Rattle.blk_world.specs.Counting.{sources_of}
-use Rattle.blk_world.specs.Face.{Face, counts_now}
+use Rattle.world_commands.specs.Carrying.{would_pass}
+use Rattle.world_commands.specs.Counting.{sources_of}
+use Rattle.world_parts.specs.Face.{Face, counts_now}
 use Rattle.qblk_core.specs.declared.status.Status.{Status}
 use Rattle.qblk_core.specs.declared.status.Status.TheVariants.{Done, Usage, Input, Fault, Stuck, NoMemory}
 use Rattle.qblk_inputs.specs.Words.{Cast}

@@ -15,15 +15,15 @@ use Rattle.flat_machine.specs.State.{Guest}
 use Rattle.blk_history.specs.Fold.{With}
 use Rattle.blk_world.specs.declared.executed.Executed.{Executed}
 use Rattle.blk_world.specs.declared.executed.Executed.TheVariants.{Replied, Later}
-use Rattle.blk_world.specs.Carrying.{IsExecuted, IsReplied, IsPutBack, IsPutOff, reply_entry}
-use Rattle.blk_world.specs.Comes.{Comes}
-use Rattle.blk_world.specs.Counting.{RunsOn}
-use Rattle.blk_world.specs.Face.{Face, seen_state}
-use Rattle.blk_world.specs.Piecing.{IsPieceMade, HasPieceLicence, piece_entry}
-use Rattle.blk_world.specs.Progress.{Progress, flight_at, done_at, with_retirement}
-use Rattle.blk_world.specs.Saying.{Given}
-use Rattle.blk_world.specs.Steps.{onward, after_admission, IsAnswered, after_wait, after_end}
-use Rattle.blk_world.proofs.CountLemmas.{runs-devices, same-devices, runs-then}
+use Rattle.world_commands.specs.Carrying.{IsExecuted, IsReplied, IsPutBack, IsPutOff, reply_entry}
+use Rattle.world_commands.specs.Comes.{Comes}
+use Rattle.world_commands.specs.Counting.{RunsOn}
+use Rattle.world_parts.specs.Face.{Face, seen_state}
+use Rattle.world_commands.specs.Piecing.{IsPieceMade, HasPieceLicence, piece_entry}
+use Rattle.world_parts.specs.Progress.{Progress, flight_at, done_at, with_retirement}
+use Rattle.world_parts.specs.Saying.{Given}
+use Rattle.world_parts.specs.Steps.{onward, after_admission, IsAnswered, after_wait, after_end}
+use Rattle.world_commands.proofs.CountLemmas.{runs-devices, same-devices, runs-then}
 use Rattle.qblk_run.specs.Turns.{StaysIn}
 use Rattle.qblk_run.specs.Worlds.{IsEventOf, IsUneventful, GoesThrough, HasCome}
 

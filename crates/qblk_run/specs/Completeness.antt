@@ -22,11 +22,11 @@ use Rattle.flat_machine.specs.Licence.{faults_of}
 use Rattle.flat_machine.specs.Replies.{command_in}
 use Rattle.flat_machine.specs.State.{drive_of}
 use Rattle.flat_machine.specs.declared.opening.Opening.{Opening}
-use Rattle.blk_world.specs.Carrying.{FitsAll}
-use Rattle.blk_world.specs.Counting.{sources_of}
-use Rattle.blk_world.specs.Face.{Face}
-use Rattle.blk_world.specs.Piecing.{piece_passes, part_of}
-use Rattle.blk_world.specs.Progress.{flight_at}
+use Rattle.world_commands.specs.Carrying.{FitsAll}
+use Rattle.world_commands.specs.Counting.{sources_of}
+use Rattle.world_parts.specs.Face.{Face}
+use Rattle.world_commands.specs.Piecing.{piece_passes, part_of}
+use Rattle.world_parts.specs.Progress.{flight_at}
 use Rattle.qblk_core.specs.declared.status.Status.{Status}
 use Rattle.qblk_core.specs.declared.status.Status.TheVariants.{Fault}
 use Rattle.qblk_inputs.specs.Inputs.{Work}

@@ -4,7 +4,7 @@ use Rattle.trace_codec.specs.declared.wish.Wish.{Wish}
 use Rattle.trace_codec.specs.declared.waits.Waits.{Waits}
 use Rattle.trace_codec.specs.Script.{Order}
 use Rattle.flat_machine.specs.Blocked.{ScriptWaits, TraceWaits}
-use Rattle.blk_world.specs.Face.{Face, seen_state}
+use Rattle.world_parts.specs.Face.{Face, seen_state}
 use Rattle.qblk_run.specs.Tasks.{Task, Tasks, AreDrainsOf, CanGoOn, Halts, KeepsTo, HaveLines, Rests, ScriptHalts, ScriptRests, steps_of_tasks}
 use Rattle.qblk_run.specs.Turns.{IsTurn}
 

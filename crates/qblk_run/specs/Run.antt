@@ -24,12 +24,12 @@ use Rattle.flat_machine.specs.Blocked.{IsStuck}
 use Rattle.flat_machine.specs.Licence.{Counts, AreLicensed, count_of, fault_at, faults_of}
 use Rattle.flat_machine.specs.Final.{AreLeftBy}
 use Rattle.flat_machine.specs.declared.opening.Opening.{Opening}
-use Rattle.blk_world.specs.Closing.{IsClosed, IsFlushedIn, count_back}
-use Rattle.blk_world.specs.Comes.{Comes}
-use Rattle.blk_world.specs.Counting.{HaveNotFallen}
-use Rattle.blk_world.specs.Face.{Face, counts_now}
-use Rattle.blk_world.specs.Steps.{StoreSeen, IsOpeningOf, new_world, seen_store}
-use Rattle.blk_world.specs.Tabling.{IsTableAfter}
+use Rattle.world_commands.specs.Closing.{IsClosed, IsFlushedIn, count_back}
+use Rattle.world_commands.specs.Comes.{Comes}
+use Rattle.world_commands.specs.Counting.{HaveNotFallen}
+use Rattle.world_parts.specs.Face.{Face, counts_now}
+use Rattle.world_parts.specs.Steps.{StoreSeen, IsOpeningOf, new_world, seen_store}
+use Rattle.world_commands.specs.Tabling.{IsTableAfter}
 use Rattle.qblk_inputs.specs.Inputs.{Work, HasWork, IsRefusedInput}
 use Rattle.qblk_inputs.specs.Words.{Cast, guests_of}
 use Rattle.qblk_inputs.specs.declared.stop.InputFlaw.{InputFlaw}

@@ -12,9 +12,9 @@ use Rattle.flat_machine.specs.Agreement.{ReadAsDisks}
 use Rattle.flat_machine.specs.Courses.{KeepsOrder, course_of}
 use Rattle.flat_machine.specs.Final.{AreDisks}
 use Rattle.flat_machine.specs.State.{State}
-use Rattle.blk_world.specs.Closing.{IsClosed, AreNodesFlushed}
-use Rattle.blk_world.specs.Face.{Face, held, told_bytes, contents_of}
-use Rattle.blk_world.specs.Steps.{StoreSeen}
+use Rattle.world_commands.specs.Closing.{IsClosed, AreNodesFlushed}
+use Rattle.world_parts.specs.Face.{Face, held, told_bytes, contents_of}
+use Rattle.world_parts.specs.Steps.{StoreSeen}
 use Rattle.qblk_run.specs.Run.{seen_waits}
 use Rattle.qblk_run.specs.Tasks.{Tasks, KeepsTo}
 use Rattle.qblk_run.specs.Turns.{StaysIn}

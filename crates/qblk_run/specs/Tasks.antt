@@ -16,8 +16,8 @@ use Rattle.flat_machine.specs.State.{Guest}
 use Rattle.flat_machine.specs.Blocked.{ScriptWaits, TraceWaits}
 use Rattle.flat_machine.specs.Courses.{Course, KeepsOrder, course_of, course_after, past_waits, rest_of}
 use Rattle.flat_machine.specs.Marks.{is_held}
-use Rattle.blk_world.specs.Face.{Face, seen_state}
-use Rattle.blk_world.specs.Progress.{Progress, ended_in, answered_in}
+use Rattle.world_parts.specs.Face.{Face, seen_state}
+use Rattle.world_parts.specs.Progress.{Progress, ended_in, answered_in}
 use Rattle.qblk_inputs.specs.Room.{entries_for, bytes_for, HaveNumbers}
 
 -- Of a guest: its wishes, how many pieces of its request in flight are left, where one is, and whether it is done.

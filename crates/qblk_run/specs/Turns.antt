@@ -10,8 +10,8 @@ use Rattle.blk_history.specs.declared.event.Event.TheVariants.{Admit, Refuse, Pi
 use Rattle.flat_machine.specs.Comes.{guest_step}
 use Rattle.flat_machine.specs.Courses.{past_waits, is_answered}
 use Rattle.flat_machine.specs.Marks.{after_reply}
-use Rattle.blk_world.specs.Face.{Face}
-use Rattle.blk_world.specs.Progress.{Progress, answered_in}
+use Rattle.world_parts.specs.Face.{Face}
+use Rattle.world_parts.specs.Progress.{Progress, answered_in}
 use Rattle.qblk_inputs.specs.Room.{bytes_for}
 use Rattle.qblk_run.specs.Tasks.{Task, ScriptTask, IsTaskOf, entries_of, steps_of, Halts, IsPutOffFor, ScriptRests}
 

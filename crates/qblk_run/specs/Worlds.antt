@@ -7,14 +7,14 @@ use Rattle.blk_base.specs.declared.fault.Outcome.{Outcome}
 use Rattle.qmp_rules.specs.Answers.{line_text}
 use Rattle.flat_machine.specs.declared.opening.Opening.{Opening}
 use Rattle.blk_world.specs.declared.admission.Admission.TheVariants.{Admitted, Refused as NotAdmitted}
-use Rattle.blk_world.specs.Carrying.{IsReplied}
-use Rattle.blk_world.specs.Comes.{Comes}
-use Rattle.blk_world.specs.Counting.{RunsOn}
-use Rattle.blk_world.specs.Face.{Face}
-use Rattle.blk_world.specs.Piecing.{IsPieceMade, HasPieceLicence}
-use Rattle.blk_world.specs.Progress.{flight_at, with_retirement}
-use Rattle.blk_world.specs.Saying.{given_line}
-use Rattle.blk_world.specs.Steps.{onward, after_admission, IsAnswered, after_wait, after_end}
+use Rattle.world_commands.specs.Carrying.{IsReplied}
+use Rattle.world_commands.specs.Comes.{Comes}
+use Rattle.world_commands.specs.Counting.{RunsOn}
+use Rattle.world_parts.specs.Face.{Face}
+use Rattle.world_commands.specs.Piecing.{IsPieceMade, HasPieceLicence}
+use Rattle.world_parts.specs.Progress.{flight_at, with_retirement}
+use Rattle.world_parts.specs.Saying.{given_line}
+use Rattle.world_parts.specs.Steps.{onward, after_admission, IsAnswered, after_wait, after_end}
 
 -- a piece of the guest's request in flight was made, with its cause
 pub record IsPieceOf (w v : Face) (g : ℕ) (outcome : Outcome) : Type 0 where

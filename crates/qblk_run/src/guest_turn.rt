@@ -2,7 +2,7 @@
 ghost use Rattle.std.specs.Prelude.{◌≡◌, ◌+◌, ◌-◌, ◌^◌, ◌<◌, ◌≤◌, ◌++◌, [], ◌∷◌, None, Some, true, false, option_to_list};
 ghost use Rattle.blk_base.specs.Outcomes.{is_good};
 ghost use Rattle.flat_machine.specs.Courses.{past_waits};
-ghost use Rattle.blk_world.specs.Progress.{answered_in};
+ghost use Rattle.world_parts.specs.Progress.{answered_in};
 ghost use Rattle.qblk_inputs.specs.Room.{bytes_for};
 ghost use Rattle.qblk_run.specs.Tasks.{entries_of, IsTaskIn};
 ghost use Rattle.qblk_run.specs.Turns.{StaysIn, GuestMoves, IsTurn, waited_in, is_over_in};

@@ -3,7 +3,7 @@ ghost use Rattle.std.specs.Prelude.{ℕ, Bool, List, Option, length};
 ghost use Rattle.blk_base.specs.declared.fault.FaultAt.{FaultAt};
 ghost use Rattle.trace_codec.specs.declared.waits.Waits.{Waits};
 ghost use Rattle.flat_machine.specs.Comes.{IsInOrder};
-ghost use Rattle.blk_world.specs.Steps.{StoreSeen, new_world};
+ghost use Rattle.world_parts.specs.Steps.{StoreSeen, new_world};
 ghost use Rattle.qblk_core.specs.declared.status.Status.{Status};
 ghost use Rattle.qblk_inputs.specs.Inputs.{Work};
 ghost use Rattle.qblk_inputs.specs.Words.{Cast};

@@ -1,6 +1,6 @@
 //! A run of a world, from its first turn to its end.
 ghost use Rattle.std.specs.Prelude.{◌≡◌, None, IfSome};
-ghost use Rattle.blk_world.specs.Steps.{seen_store};
+ghost use Rattle.world_parts.specs.Steps.{seen_store};
 ghost use Rattle.qblk_run.specs.Tasks.{AreDrainsOf, CanGoOn};
 ghost use Rattle.qblk_run.specs.Session.{IsPlayed, IsGivenUp};
 

@@ -1,7 +1,7 @@
 //! Who is named where no actor can go on.
 ghost use Rattle.std.specs.Prelude.{◌≡◌, ◌+◌, ◌^◌, ◌<◌, ℕ, length, MatchOption, true, false};
 ghost use Rattle.trace_codec.specs.Awaits.{seen_await};
-ghost use Rattle.blk_world.specs.Face.{Face, seen_state};
+ghost use Rattle.world_parts.specs.Face.{Face, seen_state};
 ghost use Rattle.flat_machine.specs.Blocked.{what_of, ScriptWaits, TraceWaits};
 ghost use Rattle.qblk_run.specs.Run.{seen_waits};
 ghost use Rattle.qblk_run.specs.Tasks.{Rests, ScriptRests};

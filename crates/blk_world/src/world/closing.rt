@@ -5,9 +5,9 @@ ghost use Rattle.blk_history.specs.Fold.{With};
 ghost use Rattle.flat_machine.specs.Agreement.{ReadAsDisks};
 ghost use Rattle.flat_machine.specs.Final.{AreDisks};
 ghost use Rattle.flat_machine.specs.State.{State};
-ghost use Rattle.blk_world.specs.Closing.{AreFlushed, AreNodesFlushed, IsClosed};
-ghost use Rattle.blk_world.specs.Face.{held, told_bytes, contents_of};
-ghost use Rattle.blk_world.specs.Steps.{seen_store};
+ghost use Rattle.world_commands.specs.Closing.{AreFlushed, AreNodesFlushed, IsClosed};
+ghost use Rattle.world_parts.specs.Face.{held, told_bytes, contents_of};
+ghost use Rattle.world_parts.specs.Steps.{seen_store};
 
 use crate::closing::give_all_back;
 use crate::world::World;

@@ -1,15 +1,15 @@
 //! Snapshots in a world.
 ghost use Rattle.std.specs.Prelude.{◌≡◌, true, IfOk, OnErr};
 ghost use Rattle.qmp_codec.specs.Commands.{seen_command};
-ghost use Rattle.blk_world.specs.Carrying.{IsCarriedOut, IsPutBack};
-ghost use Rattle.blk_world.specs.Snapshots.{is_snapshot};
+ghost use Rattle.world_commands.specs.Carrying.{IsCarriedOut, IsPutBack};
+ghost use Rattle.world_commands.specs.Snapshots.{is_snapshot};
 
-use crate::carried::Carried;
-use crate::covering::cover;
 use crate::world::World;
 use blk_base::{NoMemory, Store};
 use qmp_codec::Command;
 use std::alloc::Global;
+use world_commands::cover;
+use world_parts::Carried;
 
 impl<S: Store> World<S> {
     /// Carries out `blockdev-snapshot`, or refuses it, or says which request it has to wait for.

@@ -1,15 +1,15 @@
 //! Devices of guests in a world that go.
 ghost use Rattle.std.specs.Prelude.{◌≡◌, true, IfOk, OnErr};
 ghost use Rattle.qmp_codec.specs.Commands.{seen_command};
-ghost use Rattle.blk_world.specs.Carrying.{IsCarriedOut, IsPutBack};
-ghost use Rattle.blk_world.specs.Detaching.{is_detachment};
+ghost use Rattle.world_commands.specs.Carrying.{IsCarriedOut, IsPutBack};
+ghost use Rattle.world_commands.specs.Detaching.{is_detachment};
 
-use crate::carried::Carried;
-use crate::detaching::detach;
 use crate::world::World;
 use blk_base::{NoMemory, Store};
 use qmp_codec::Command;
 use std::alloc::Global;
+use world_commands::detach;
+use world_parts::Carried;
 
 impl<S: Store> World<S> {
     /// Carries out `device_del`, or refuses it, or says which request it has to wait for.

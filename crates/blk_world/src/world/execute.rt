@@ -5,21 +5,19 @@ ghost use Rattle.qmp_codec.specs.Lines.{command_at, seen_stop};
 ghost use Rattle.blk_history.specs.declared.event.Event.{Event};
 ghost use Rattle.flat_machine.specs.Legal.{IsNotDone};
 ghost use Rattle.flat_machine.specs.declared.opening.Opening.{Opening};
-ghost use Rattle.blk_world.specs.Face.{seen_state};
-ghost use Rattle.blk_world.specs.Comes.{Comes};
-ghost use Rattle.blk_world.specs.Draining.{is_drain};
-ghost use Rattle.blk_world.specs.Progress.{with_entry};
-ghost use Rattle.blk_world.specs.Saying.{given_line};
-ghost use Rattle.blk_world.specs.Steps.{lifted, onward};
-ghost use Rattle.blk_world.specs.Carrying.{IsCarriedAs, IsCarriedOut, IsExecuted, IsPutBack};
+ghost use Rattle.world_parts.specs.Face.{seen_state};
+ghost use Rattle.world_commands.specs.Comes.{Comes};
+ghost use Rattle.world_parts.specs.Draining.{is_drain};
+ghost use Rattle.world_parts.specs.Progress.{with_entry};
+ghost use Rattle.world_parts.specs.Saying.{given_line};
+ghost use Rattle.world_parts.specs.Steps.{lifted, onward};
+ghost use Rattle.world_commands.specs.Carrying.{IsCarriedAs, IsCarriedOut, IsExecuted, IsPutBack};
 
-use crate::carried::Carried;
-use crate::executed::Executed;
-use crate::line::{Line, read_line, stopped_text};
 use crate::world::World;
 use blk_base::{NoMemory, Store};
 use qmp_codec::{CodecStop, Command};
 use std::alloc::Global;
+use world_parts::{Carried, Executed, Line, read_line, stopped_text};
 
 /// A copy of the text of a line.
 fn copied(alloc: Global, text: &str) -> Result<String, NoMemory>

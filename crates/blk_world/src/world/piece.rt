@@ -4,10 +4,10 @@ ghost use Rattle.blk_history.specs.Fold.{With};
 ghost use Rattle.blk_history.specs.Machine.{Flight};
 ghost use Rattle.blk_nodes.specs.Joined.{IsJoined};
 ghost use Rattle.flat_machine.specs.declared.opening.Opening.{Opening};
-ghost use Rattle.blk_world.specs.Coherent.{IsWhole};
-ghost use Rattle.blk_world.specs.Comes.{Comes};
-ghost use Rattle.blk_world.specs.Piecing.{IsPieceMade, HasPieceLicence, table_after};
-ghost use Rattle.blk_world.specs.Progress.{HasNext, flight_at};
+ghost use Rattle.world_parts.specs.Coherent.{IsWhole};
+ghost use Rattle.world_commands.specs.Comes.{Comes};
+ghost use Rattle.world_commands.specs.Piecing.{IsPieceMade, HasPieceLicence, table_after};
+ghost use Rattle.world_parts.specs.Progress.{HasNext, flight_at};
 
 use crate::recording::{next_written, note_written};
 use crate::world::World;

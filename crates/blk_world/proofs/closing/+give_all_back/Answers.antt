@@ -1,7 +1,7 @@
 use Rattle.std.proofs.Common.{rules, ◌≡◌, ◌-◌, List, length, ap, subst, arith}
 use Rattle.blk_nodes.specs.Nodes.{DeviceState}
-use Rattle.blk_world.specs.Coherent.{AreHeld}
-use Rattle.blk_world.proofs.CloseLemmas.{out-of-held, held-back}
+use Rattle.world_parts.specs.Coherent.{AreHeld}
+use Rattle.world_commands.proofs.CloseLemmas.{out-of-held, held-back}
 use Rattle.blk_world.proofs.closing.+give_all_back.Goals as goal
 
 pub give_back-first-requires : goal.give_back-first-requires

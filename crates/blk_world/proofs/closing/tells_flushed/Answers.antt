@@ -1,4 +1,4 @@
-use Rattle.blk_world.proofs.CloseLemmas.{tells-of}
+use Rattle.world_commands.proofs.CloseLemmas.{tells-of}
 use Rattle.blk_world.proofs.closing.tells_flushed.Goals as goal
 
 pub returns : goal.returns

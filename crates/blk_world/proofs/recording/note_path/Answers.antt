@@ -1,7 +1,7 @@
 use Rattle.std.proofs.Common.{◌≡◌, ◌<◌, ◌+◌, ◌-◌, sym, ◌∙◌, ap, arith}
 use Rattle.flat_machine.specs.Bitmaps.{noted_rows}
 use Rattle.flat_machine.specs.Machine.{path_from}
-use Rattle.blk_world.proofs.BitmapsChanged.{path_end, path_none, path_some, path_start}
+use Rattle.world_commands.proofs.BitmapsChanged.{path_end, path_none, path_some, path_start}
 use Rattle.blk_world.proofs.recording.note_path.Goals as goal
 
 pub loop-init : goal.loop-init

@@ -5,8 +5,8 @@ use Rattle.trace_codec.specs.declared.wish.Wish.TheVariants.{Ask, Wait}
 use Rattle.trace_codec.specs.declared.waits.Waits.TheVariants.{Line}
 use Rattle.flat_machine.specs.Courses.{past_waits}
 use Rattle.flat_machine.specs.Blocked.{TraceWaits}
-use Rattle.blk_world.specs.Face.{Face, seen_state}
-use Rattle.blk_world.specs.Progress.{answered_in, HasRoomFor}
+use Rattle.world_parts.specs.Face.{Face, seen_state}
+use Rattle.world_parts.specs.Progress.{answered_in, HasRoomFor}
 use Rattle.qblk_run.specs.Tasks.{Task}
 use Rattle.qblk_run.specs.Worlds.{HasCome}
 use Rattle.qblk_run.proofs.Continuing.{Passes, passed-task}

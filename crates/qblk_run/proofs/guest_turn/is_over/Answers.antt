@@ -1,5 +1,5 @@
 use Rattle.std.proofs.Common.{sym, ◌∙◌}
-use Rattle.blk_world.specs.Progress.{answered_in}
+use Rattle.world_parts.specs.Progress.{answered_in}
 use Rattle.qblk_run.proofs.Answered.{answered-is, waits-over, none-over}
 use Rattle.qblk_run.proofs.guest_turn.is_over.Goals as goal
 

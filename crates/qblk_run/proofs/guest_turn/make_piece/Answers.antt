@@ -1,6 +1,6 @@
 use Rattle.std.proofs.Common.{◌≡◌, ℕ, List, length, refl, ap, Some}
 use Rattle.blk_history.specs.Machine.{Flight}
-use Rattle.blk_world.specs.Progress.{CanShow, flight_at, with_piece}
+use Rattle.world_parts.specs.Progress.{CanShow, flight_at, with_piece}
 use Rattle.qblk_run.specs.Tasks.{Task}
 use Rattle.qblk_run.proofs.GuestTurns.{can-go, flight-of, piece-drains, piece-move, piece-noted}
 use Rattle.qblk_run.proofs.Worlds.{come-piece}

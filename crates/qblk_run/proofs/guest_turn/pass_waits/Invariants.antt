@@ -1,7 +1,7 @@
 use Rattle.std.proofs.Common.{◌≡◌, ◌++◌, [], None, length}
 use Rattle.std.specs.Prelude.{option_to_list}
 use Rattle.flat_machine.specs.Courses.{past_waits}
-use Rattle.blk_world.specs.Progress.{answered_in}
+use Rattle.world_parts.specs.Progress.{answered_in}
 use Rattle.qblk_run.proofs.guest_turn.pass_waits.Given as goal
 
 -- what is left is the same but for waits that are over

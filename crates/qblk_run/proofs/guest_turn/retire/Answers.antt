@@ -1,5 +1,5 @@
 use Rattle.std.proofs.Common.{refl, ap}
-use Rattle.blk_world.specs.Face.{Face}
+use Rattle.world_parts.specs.Face.{Face}
 use Rattle.qblk_run.specs.Tasks.{Task}
 use Rattle.qblk_run.proofs.GuestTurns.{is-over, retire-move}
 use Rattle.qblk_run.proofs.Worlds.{come-retired}

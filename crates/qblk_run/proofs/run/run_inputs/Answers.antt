@@ -1,7 +1,7 @@
 use Rattle.std.proofs.Common.{refl}
 use Rattle.std.specs.Prelude.{map}
 use Rattle.trace_codec.specs.Script.{seen_order}
-use Rattle.blk_world.specs.Steps.{seen_store}
+use Rattle.world_parts.specs.Steps.{seen_store}
 use Rattle.qblk_inputs.specs.Inputs.{Work}
 use Rattle.qblk_run.specs.Run.{Setting, setting}
 use Rattle.qblk_run.proofs.Runs.{play-can, play-drains, traces-count, played-here, given-here, if-some}

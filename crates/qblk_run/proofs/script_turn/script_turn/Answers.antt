@@ -1,8 +1,8 @@
 use Rattle.std.proofs.Common.{◌∙◌, ap, Bool}
 use Rattle.std.specs.Prelude.{is_none}
 use Rattle.trace_codec.specs.Awaits.{seen_await}
-use Rattle.blk_world.specs.Saying.{given_line}
-use Rattle.blk_world.specs.Steps.{after_wait}
+use Rattle.world_parts.specs.Saying.{given_line}
+use Rattle.world_parts.specs.Steps.{after_wait}
 use Rattle.qblk_run.proofs.Worlds.{come-done, come-executed, come-reached}
 use Rattle.qblk_run.proofs.script_turn.script_turn.Goals as goal
 

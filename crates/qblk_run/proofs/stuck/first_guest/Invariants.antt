@@ -1,6 +1,6 @@
 use Rattle.std.proofs.Common.{◌≡◌, ℕ, ◌<◌, length, true, Some}
 use Rattle.std.specs.Prelude.{slice_get}
-use Rattle.blk_world.specs.Face.{Face}
+use Rattle.world_parts.specs.Face.{Face}
 use Rattle.qblk_run.specs.Tasks.{Task}
 use Rattle.qblk_run.specs.Rounds.{GuestsRest}
 use Rattle.qblk_run.proofs.stuck.first_guest.Given as goal

@@ -1,5 +1,5 @@
-use Rattle.blk_world.specs.Progress.{answered_in}
-use Rattle.blk_world.proofs.Ends.{has-is, is-has}
+use Rattle.world_parts.specs.Progress.{answered_in}
+use Rattle.world_parts.proofs.Ends.{has-is, is-has}
 use Rattle.blk_world.proofs.world.World.answered.Goals as goal
 
 pub returns : goal.returns

@@ -1,7 +1,7 @@
 use Rattle.std.specs.Prelude.{string_bytes}
 use Rattle.qmp_codec.specs.Commands.{seen_command}
-use Rattle.blk_world.specs.Face.{Face, face_of}
-use Rattle.blk_world.specs.Looking.{site}
+use Rattle.world_parts.specs.Face.{Face, face_of}
+use Rattle.world_parts.specs.Looking.{site}
 use Rattle.blk_world.proofs.AddHandled.{addition-back, addition-texts, addition-whole, can-look}
 use Rattle.blk_world.proofs.world.World.carry_addition.Goals as goal
 

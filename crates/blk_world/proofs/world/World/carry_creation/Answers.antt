@@ -1,9 +1,9 @@
 use Rattle.std.specs.Prelude.{string_bytes}
 use Rattle.qmp_codec.specs.Commands.{seen_command}
-use Rattle.blk_world.specs.Deleting.{Ground, ground_in}
-use Rattle.blk_world.specs.Face.{Face}
-use Rattle.blk_world.proofs.Belonging.{belong_of}
-use Rattle.blk_world.proofs.Handled.{untouched_back}
+use Rattle.world_parts.specs.Deleting.{Ground, ground_in}
+use Rattle.world_parts.specs.Face.{Face}
+use Rattle.world_commands.proofs.Belonging.{belong_of}
+use Rattle.world_commands.proofs.Handled.{untouched_back}
 use Rattle.blk_world.proofs.MadeEnd.{creation_texts, creation_whole}
 use Rattle.blk_world.proofs.world.World.carry_creation.Goals as goal
 

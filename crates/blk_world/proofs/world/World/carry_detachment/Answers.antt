@@ -1,6 +1,6 @@
 use Rattle.qmp_codec.specs.Commands.{seen_command}
-use Rattle.blk_world.specs.Detaching.{scene}
-use Rattle.blk_world.specs.Face.{Face, face_of}
+use Rattle.world_commands.specs.Detaching.{scene}
+use Rattle.world_parts.specs.Face.{Face, face_of}
 use Rattle.blk_world.proofs.DetachedCarried.{few_drives, detachment_carried, detachment_whole, detachment_back}
 use Rattle.blk_world.proofs.world.World.carry_detachment.Goals as goal
 

@@ -2,9 +2,9 @@ use Rattle.std.proofs.Common.{◌≡◌, refl, sym, ap, subst}
 use Rattle.qmp_codec.specs.Commands.{seen_command}
 use Rattle.flat_machine.specs.State.{drive_of}
 use Rattle.flat_machine.specs.Wiring.{TableStands}
-use Rattle.blk_world.specs.Coherent.{AreNodesOf}
-use Rattle.blk_world.specs.Detaching.{scene}
-use Rattle.blk_world.specs.Face.{Face}
+use Rattle.world_parts.specs.Coherent.{AreNodesOf}
+use Rattle.world_commands.specs.Detaching.{scene}
+use Rattle.world_parts.specs.Face.{Face}
 use Rattle.blk_world.proofs.CoverHandled.{snapshot_carried, snapshot_whole, snapshot_back}
 use Rattle.blk_world.proofs.CoverTold.{may_be_told}
 use Rattle.blk_world.proofs.DetachedCarried.{few_drives}

@@ -2,13 +2,13 @@ use Rattle.std.proofs.Common.{List, sym, ◌∙◌, ap, subst}
 use Rattle.blk_nodes.specs.Contents.{Unfolds}
 use Rattle.blk_nodes.specs.Joined.{IsJoined}
 use Rattle.blk_nodes.specs.Nodes.{DeviceState}
-use Rattle.blk_world.specs.Closing.{AreBack, IsClosed}
-use Rattle.blk_world.specs.Coherent.{AreHeld, IsWhole}
-use Rattle.blk_world.specs.Face.{Face}
-use Rattle.blk_world.specs.Steps.{StoreSeen, seen_store, seen_in_run}
-use Rattle.blk_world.specs.Stores.{StoreInRun}
-use Rattle.blk_world.proofs.CloseLemmas.{closed-by, back-held, none-out, none-behind, flushed-then}
-use Rattle.blk_world.proofs.CloseCounts.{given-back, faults-kept, room-kept}
+use Rattle.world_commands.specs.Closing.{AreBack, IsClosed}
+use Rattle.world_parts.specs.Coherent.{AreHeld, IsWhole}
+use Rattle.world_parts.specs.Face.{Face}
+use Rattle.world_parts.specs.Steps.{StoreSeen, seen_store, seen_in_run}
+use Rattle.world_parts.specs.Stores.{StoreInRun}
+use Rattle.world_commands.proofs.CloseLemmas.{closed-by, back-held, none-out, none-behind, flushed-then}
+use Rattle.world_commands.proofs.CloseCounts.{given-back, faults-kept, room-kept}
 use Rattle.blk_world.proofs.CloseFiles.{held-then, told-then, nodes-flushed}
 use Rattle.blk_world.proofs.CloseDisks.{all-disks}
 use Rattle.blk_world.proofs.world.World.close_world.Goals as goal

@@ -1,4 +1,4 @@
-use Rattle.blk_world.specs.Saying.{given_line}
+use Rattle.world_parts.specs.Saying.{given_line}
 use Rattle.std.specs.Prelude.{string_bytes}
 use Rattle.qmp_codec.specs.Commands.{seen_command}
 use Rattle.blk_world.proofs.CarryBack.{put_back_comes, put_back_on}

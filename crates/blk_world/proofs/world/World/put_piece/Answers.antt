@@ -1,12 +1,12 @@
 use Rattle.std.proofs.Common.{◌≡◌, Some, None, sym, ◌∙◌}
 use Rattle.blk_history.specs.Machine.{Flight}
 use Rattle.flat_machine.specs.State.{drive_of}
-use Rattle.blk_world.specs.Face.{Face}
-use Rattle.blk_world.specs.Piecing.{IsPieceMade, part_of}
-use Rattle.blk_world.specs.Progress.{flight_at}
+use Rattle.world_parts.specs.Face.{Face}
+use Rattle.world_commands.specs.Piecing.{IsPieceMade, part_of}
+use Rattle.world_parts.specs.Progress.{flight_at}
 use Rattle.blk_world.proofs.PieceCalls.{can_next, drive_there, made_of, made_whole}
-use Rattle.blk_world.proofs.BitmapsChanged.{noted-follow, noted-listed}
-use Rattle.blk_world.proofs.InStep.{with-at}
+use Rattle.world_commands.proofs.BitmapsChanged.{noted-follow, noted-listed}
+use Rattle.world_parts.proofs.InStep.{with-at}
 use Rattle.blk_world.proofs.world.World.put_piece.Goals as goal
 
 pub unreachable-requires : goal.unreachable-requires

@@ -1,6 +1,6 @@
 use Rattle.std.specs.Prelude.{string_bytes}
 use Rattle.qmp_codec.specs.Lines.{seen_stop}
-use Rattle.blk_world.specs.Saying.{given_line}
+use Rattle.world_parts.specs.Saying.{given_line}
 use Rattle.blk_world.proofs.CarryBack.{put_back_on}
 use Rattle.blk_world.proofs.CarryLines.{no_command_replied, no_command_comes}
 use Rattle.blk_world.proofs.world.World.put_stop.Goals as goal

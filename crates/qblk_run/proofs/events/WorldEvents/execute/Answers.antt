@@ -1,4 +1,4 @@
-use Rattle.blk_world.specs.Saying.{given_line}
+use Rattle.world_parts.specs.Saying.{given_line}
 use Rattle.qblk_run.proofs.Worlds.{executed_stay}
 use Rattle.qblk_run.proofs.events.WorldEvents.execute.Goals as goal
 

@@ -1,0 +1,288 @@
+-- A world whose store, nodes and table are others: what stays belonging together, and what an answer says of it.
+use Rattle.std.proofs.Common.{◌≡◌, ◌≤◌, ℕ, ◌==◌, true, false, List, [], ◌++◌, length, Option, Some, None, refl, sym, ◌∙◌, ap, subst, inl}
+use Rattle.std.specs.Prelude.{Contains, find, is_some}
+use Rattle.std.proofs.lemmas.Bool.{false≢true}
+use Rattle.flat_machine.specs.Marks.{AreCalm, drained_by}
+use Rattle.blk_graph.specs.declared.edge.Parent.TheVariants.{Node, Guest as GuestOf}
+use Rattle.blk_graph.specs.declared.edge.Role.TheVariants.{Drive}
+use Rattle.blk_graph.specs.Edits.{child_of}
+use Rattle.blk_history.specs.Fold.{With}
+use Rattle.qmp_codec.specs.Commands.{Cmd}
+use Rattle.qmp_rules.specs.Answers.{Answer, answer, answer_by, command_edits, left_by, refusal_of, untold}
+use Rattle.qmp_rules.specs.Changes.{changed, all_changed}
+use Rattle.qmp_rules.specs.Edits.{uses}
+use Rattle.qmp_rules.specs.Table.{Table, device_at}
+use Rattle.qmp_rules.specs.declared.change.Change.{Change}
+use Rattle.qmp_rules.specs.declared.change.Change.TheVariants.{UseFile}
+use Rattle.qmp_rules.specs.declared.refusal.Refusal.{Refusal}
+use Rattle.qmp_rules.specs.declared.rows.Device.{Device}
+use Rattle.qmp_rules.specs.declared.rows.NodeRecord.{NodeRecord}
+use Rattle.qmp_rules.specs.declared.told.Told.{Told}
+use Rattle.flat_machine.specs.Agreement.{Contents}
+use Rattle.flat_machine.specs.Changed.{stepped}
+use Rattle.flat_machine.specs.Legal.{IsForbidden}
+use Rattle.flat_machine.specs.Performing.{IsQuiet, AllPerformed}
+use Rattle.flat_machine.specs.State.{Guest, State}
+use Rattle.flat_machine.specs.Wiring.{AreFileNodes, StandAlone, StandsFor, TableAtRest}
+use Rattle.flat_machine.specs.declared.opening.Opening.{Opening}
+use Rattle.flat_machine.proofs.TableRests.{command_rests}
+use Rattle.blk_nodes.specs.Contents.{Unfolds}
+use Rattle.blk_nodes.specs.Joined.{IsJoined}
+use Rattle.world_commands.specs.Carrying.{IsCarried, IsPutBack, opened_names, prints_counts}
+use Rattle.world_parts.specs.Coherent.{HaveDrives, AreOnDisks, AskToWrite, AreOnWritable, AreWithin, AreAllowed, DevicesTell, IsCoherent, IsWhole}
+use Rattle.world_commands.specs.Comes.{Shows}
+use Rattle.world_commands.specs.Counting.{HidesNoFault, RunsOn}
+use Rattle.world_parts.specs.Deleting.{Ground, ground_of}
+use Rattle.world_parts.specs.Face.{Face, contents_of, seen_state}
+use Rattle.world_commands.proofs.CarryPlain.{HasShape, fits_all, opens_nothing, plain_opens, quiet_cause, quiet-self, table_quiet, told_nothing, quiet_fault, maps_nothing}
+use Rattle.world_commands.proofs.CountLemmas.{runs-devices, same-devices}
+use Rattle.world_parts.proofs.AddLooked.{called_itself}
+use Rattle.world_commands.proofs.CountsKept.{hides-same}
+use Rattle.world_commands.proofs.DeletedSteps.{Parts}
+use Rattle.world_commands.proofs.EasedTables.{IsEased, nodes_of_eased, out_eased}
+use Rattle.world_commands.proofs.GuestEdges.{asks_eased}
+use Rattle.world_commands.proofs.KeptDrives.{KeepsEntered, drives_kept, disks_kept, within_kept, writable_kept}
+
+-- the world on other ground, with another table
+abbrev pub placed : Face → Ground → Table → Face
+placed w x t = record w {
+  files = x.store.files;
+  opened = x.store.opened;
+  room = x.store.room;
+  faults = x.store.faults;
+  nodes = x.nodes;
+  table = t;
+}
+
+-- ---- answers
+
+pub answer-is : (t : Table) (told : Told) (c : Cmd) (first : Option Refusal) → refusal_of t told c ≡ first → answer t told c ≡ answer_by t told c first
+unfolding answer
+answer-is t told c first is = ap (answer_by t told c) is
+
+-- what is accepted leaves a table at rest
+pub rests_by : (w : Face) (u : Table) (c : Cmd) → refusal_of w.table untold c ≡ None → u ≡ all_changed w.table (answer w.table untold c).changes
+    → TableAtRest w.table → TableAtRest u
+rests_by w u c none is was =
+    let changes : u ≡ all_changed w.table (command_edits w.table untold c) =
+    is ∙ ap (λ (a : Answer). all_changed w.table a.changes) (answer-is w.table untold c None none) in
+    subst TableAtRest (sym changes) (command_rests w.table untold untold c was none).1
+
+-- ---- commands that open and make no file
+
+-- it is carried out, and was told nothing
+abbrev pub CarriedUntold : Face → Face → Cmd → Option Refusal → Type 0
+CarriedUntold w v c refusal = (carried : IsCarried w v c refusal) × (carried.told ≡ untold)
+
+pub carried_by : (w v : Face) (c : Cmd) → opens_nothing c ≡ true → prints_counts c ≡ false → refusal_of w.table untold c ≡ None
+    → v.table ≡ all_changed w.table (answer w.table untold c).changes → v.progress ≡ w.progress → v.drains ≡ w.drains
+    → AreCalm (seen_state w) (drained_by w.table c) → opened_names v.opened ≡ opened_names w.opened → RunsOn w v
+    → HidesNoFault w v None
+    → (IsCoherent w.table w.nodes w.opened w.progress → IsCoherent v.table v.nodes v.opened v.progress)
+    → ((o : Opening) (s : State) → is_some w.files ≡ true → Shows o s w → AllPerformed s (answer w.table untold c).changes (contents_of w) (contents_of v))
+    → CarriedUntold w v c None
+carried_by w v c opens silent none table progress drains calm names runs hides coherent performed =
+    let carried : IsCarried w v c None = record {
+      told = untold;
+      counts = λ prints. absurd (false≢true (sym silent ∙ prints));
+      by_files = tt;
+      maps = maps_nothing w.table w.nodes c [] opens;
+      answered = none;
+      table = table;
+      progress = progress;
+      drains = drains;
+      calm = λ is. calm;
+      runs = runs;
+      hides = hides;
+      opens = plain_opens c opens w.opened v.opened names;
+      cause = fits_all w c opens;
+      coherent = coherent;
+      shows = λ told o s shows. told_nothing o s w v c opens (λ prints. absurd (false≢true (sym silent ∙ prints))) shows (performed o s told shows);
+    } in
+    (carried, refl)
+
+-- a refusal that leaves nothing behind
+pub refused_by : (w : Face) (c : Cmd) (cause : Refusal) → opens_nothing c ≡ true → prints_counts c ≡ false → refusal_of w.table untold c ≡ Some cause → left_by w.table c cause ≡ []
+    → CarriedUntold w w c (Some cause)
+refused_by w c cause opens silent some nothing =
+    let changes : (answer w.table untold c).changes ≡ [] = ap (λ (a : Answer). a.changes) (answer-is w.table untold c (Some cause) some) ∙ nothing in
+    let carried : IsCarried w w c (Some cause) = record {
+      told = untold;
+      counts = λ prints. absurd (false≢true (sym silent ∙ prints));
+      by_files = tt;
+      maps = maps_nothing w.table w.nodes c [] opens;
+      answered = some;
+      table = sym (ap (all_changed w.table) changes);
+      progress = refl;
+      drains = refl;
+      calm = λ is. absurd (let bad : ⊥ = cc is in bad);
+      runs = runs-devices w w refl refl refl refl refl refl (same-devices w.nodes.devices);
+      hides = subst (HidesNoFault w w) (sym (quiet_fault (Some cause) (λ other is. table_quiet w.table c other (some ∙ is)))) (hides-same w w refl refl refl);
+      opens = plain_opens c opens w.opened w.opened refl;
+      cause = quiet_cause w w c (Some cause) opens (λ other is. table_quiet w.table c other (some ∙ is));
+      coherent = λ was. was;
+      shows = λ told o s shows. told_nothing o s w w c opens (λ prints. absurd (false≢true (sym silent ∙ prints))) shows
+          (subst (λ (cs : List Change). AllPerformed s cs (contents_of w) (contents_of w)) (sym changes) (quiet-self (contents_of w)));
+    } in
+    (carried, refl)
+
+-- want of memory
+pub put_back : (w : Face) → IsPutBack w w
+put_back w = record {
+  table = refl;
+  progress = refl;
+  bitmaps = refl;
+  drains = refl;
+  runs = runs-devices w w refl refl refl refl refl refl (same-devices w.nodes.devices);
+  files = refl;
+  called = called_itself w.nodes;
+  opens = inl refl;
+  fault = None;
+  hides = hides-same w w refl refl refl;
+  coherent = λ was. was;
+}
+
+pub placed_same : (w : Face) (x : Ground) (u : Table) → x ≡ ground_of w → u ≡ w.table → w ≡ placed w x u
+placed_same w x u ground table = ap (λ (y : Ground). placed w y w.table) (sym ground) ∙ ap (placed w x) (sym table)
+
+-- ---- between events and within them
+
+-- what belongs together while nodes go, too
+pub record Goes (w : Face) : Type 0 where
+  pub parts : Parts w.table (ground_of w)
+  pub unfolds : Unfolds w.nodes
+  pub tell : DevicesTell w.files w.nodes.devices
+  pub counted : w.first_faults ≤ w.faults
+  pub drives : HaveDrives w.table
+  pub disks : AreOnDisks w.table
+  pub asks : AskToWrite w.table
+  pub writable : AreOnWritable w.table
+  pub within : AreWithin w.table w.progress.guests
+  pub allowed : AreAllowed w.table w.progress.guests
+  pub count : length w.progress.guests ≡ length w.table.guests
+  pub jobs : w.table.jobs ≡ []
+  pub alone : StandAlone w.table
+  pub drivers : AreFileNodes w.table
+
+pub goes_of : (w : Face) → IsWhole w → IsJoined w.nodes → Unfolds w.nodes → Goes w
+goes_of w whole joined unfolds =
+    let is = whole.coherent in
+    record {
+      parts = record { joined = joined; alike = is.alike; apart = is.table.stands.apart; out = is.out };
+      unfolds = unfolds;
+      tell = whole.tell;
+      counted = whole.counted;
+      drives = is.drives;
+      disks = is.disks;
+      asks = is.asks;
+      writable = is.writable;
+      within = is.within;
+      allowed = is.allowed;
+      count = is.count;
+      jobs = is.jobs;
+      alone = is.table.stands.alone;
+      drivers = is.table.stands.drivers;
+    }
+
+pub coherent_of : (w : Face) → Goes w → TableAtRest w.table → IsCoherent w.table w.nodes w.opened w.progress
+coherent_of w goes rest = record {
+  table = rest;
+  drives = goes.drives;
+  disks = goes.disks;
+  alike = goes.parts.alike;
+  asks = goes.asks;
+  writable = goes.writable;
+  within = goes.within;
+  allowed = goes.allowed;
+  count = goes.count;
+  jobs = goes.jobs;
+  out = goes.parts.out;
+}
+
+-- a guest's device is the same
+pub allowed_same : (t now : Table) (guests : List Guest) → ((g : ℕ) → device_at now g ≡ device_at t g) → AreAllowed t guests → AreAllowed now guests
+allowed_same t now guests same are g f flies =
+    subst (λ (device : Option Device). With device (λ d. IsForbidden f.op d.read_only → ⊥)) (sym (same g)) (are g f flies)
+
+-- ---- a file is used
+
+pub shape_used : (t : Table) (name : List ℕ) → HasShape t (changed t (UseFile name))
+unfolding changed
+shape_used t name = record { nodes = refl; edges = refl; devices = refl; guests = refl; jobs = refl }
+
+pub shape_same : (t : Table) → HasShape t t
+shape_same t = record { nodes = refl; edges = refl; devices = refl; guests = refl; jobs = refl }
+
+module _ (t now : Table) (shape : HasShape t now) where
+  pub entered_shape : KeepsEntered t now
+  entered_shape = record {
+    devices = λ g. ap (find (λ (device : Device). device.number == g)) shape.devices;
+    drives = λ g. ap (child_of (GuestOf g) Drive) shape.edges;
+    rows = λ node here. ap (find (λ (row : NodeRecord). row.id == node)) shape.nodes;
+    children = λ node role here. ap (child_of (Node node) role) shape.edges;
+  }
+
+  -- nodes read and files hold the same
+  pub quiet_shape : (w : Face) → w.table ≡ t → IsQuiet (contents_of w) (contents_of (record w { table = now }))
+  quiet_shape w is = record {
+    nodes = λ node but. refl;
+    files = λ name but. rw (shape.nodes, is) refl;
+  }
+
+-- the table and the state behind these changes
+abbrev pub used : Table → Option (List ℕ) → Table
+used t None = t
+used t (Some file) = changed t (UseFile file)
+
+abbrev pub state_used : State → Option (List ℕ) → State
+state_used s None = s
+state_used s (Some file) = stepped s (UseFile file)
+
+pub shape_by : (t : Table) (file : Option (List ℕ)) → HasShape t (used t file)
+shape_by t None = shape_same t
+shape_by t (Some file) = shape_used t file
+
+pub table_used : (s : State) (t : Table) (file : Option (List ℕ)) → s.table ≡ t → (state_used s file).table ≡ used t file
+table_used s t None same = same
+table_used s t (Some file) same = ap (λ (u : Table). changed u (UseFile file)) same
+
+pub changed_used : (t : Table) (file : Option (List ℕ)) (changes : List Change) → all_changed t (uses file ++ changes) ≡ all_changed (used t file) changes
+changed_used t None changes = refl
+changed_used t (Some file) changes = refl
+
+pub performed_used : (w : Face) (s : State) (file : Option (List ℕ)) (changes : List Change) (now : Contents)
+    → AllPerformed (state_used s file) changes (contents_of (record w { table = used w.table file })) now → AllPerformed s (uses file ++ changes) (contents_of w) now
+performed_used w s None changes now did = did
+performed_used w s (Some file) changes now did =
+    (contents_of (record w { table = changed w.table (UseFile file) }), quiet_shape w.table (changed w.table (UseFile file)) (shape_used w.table file) w refl, did)
+
+pub goes_shape : (w : Face) (now : Table) → HasShape w.table now → IsEased w.table now → Goes w → Goes (record w { table = now })
+goes_shape w now shape e goes =
+    let keeps = entered_shape w.table now shape in
+    record {
+      parts = record {
+        joined = goes.parts.joined;
+        alike = nodes_of_eased w.table now e w.nodes goes.parts.alike;
+        apart = subst AreApartIn (sym shape.nodes) goes.parts.apart;
+        out = out_eased w.table now e w.nodes w.opened goes.parts.out;
+      };
+      unfolds = goes.unfolds;
+      tell = goes.tell;
+      counted = goes.counted;
+      drives = drives_kept w.table now keeps goes.drives;
+      disks = disks_kept w.table now keeps goes.disks;
+      asks = asks_eased w.table now e goes.asks;
+      writable = writable_kept w.table now keeps goes.writable;
+      within = within_kept w.table now keeps w.progress.guests goes.within;
+      allowed = allowed_same w.table now w.progress.guests keeps.devices goes.allowed;
+      count = goes.count ∙ ap length (sym shape.guests);
+      jobs = shape.jobs ∙ goes.jobs;
+      alone = λ name a b over over'. goes.alone name a b (stood name a over) (stood name b over');
+      drivers = λ name row over. goes.drivers name row (stood name row over);
+    }
+  where
+    AreApartIn : List NodeRecord → Type 0
+    AreApartIn rows = (row : NodeRecord) → Contains rows row → find (λ (r : NodeRecord). r.id == row.id) rows ≡ Some row
+
+    stood : (name : List ℕ) (row : NodeRecord) → StandsFor now name row → StandsFor w.table name row
+    stood name row is = record { there = subst (λ (rows : List NodeRecord). Contains rows row) shape.nodes is.there; filename = is.filename }

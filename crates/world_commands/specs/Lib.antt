@@ -1,0 +1,10 @@
+pub mod Comes
+pub mod Counting
+pub mod Closing
+pub mod Carrying
+pub mod Detaching
+pub mod Snapshots
+pub mod Making
+pub mod Piecing
+pub mod Tabling
+pub mod Recorded

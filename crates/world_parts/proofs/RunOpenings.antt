@@ -1,0 +1,181 @@
+-- The openings of a run are the last ones of its store.
+use Rattle.std.proofs.Common.{◌≡◌, ℕ, zero, suc, ◌+◌, ◌-◌, Bool, true, false, List, [], ◌∷◌, ◌++◌, length, take, drop, refl, sym, ◌∙◌, ap, subst, arith, IsTrue}
+use Rattle.std.specs.Prelude.{◌||◌, Err, Ok, Option, Result}
+use Rattle.std.proofs.lemmas.Bool.{false≢true}
+use Rattle.std.proofs.lemmas.List.{length-append, take-append-drop, drop-append-le, take-append-le}
+use Rattle.std.proofs.lemmas.List.Folds.{list_any-append}
+use Rattle.std.proofs.Math.Seq.{drop-append_seam, take-append_seam}
+use Rattle.blk_base.specs.Answers.{CreateAnswers, IsIn, OpenAnswers}
+use Rattle.blk_base.specs.Files.{is_out, is_out_as, given_back}
+use Rattle.blk_base.specs.declared.file.File.{File}
+use Rattle.blk_base.specs.declared.store.StoreStop.{StoreStop}
+use Rattle.blk_base.specs.declared.store.StoreStop.TheVariants.{Absent, InUse, TooLong, Failed, NoMemory}
+use Rattle.blk_base.specs.declared.file.Opened.{Opened}
+use Rattle.world_parts.specs.Stores.{AreLast, StopsOpening, StoreInRun, last_opened, first_opened}
+
+-- ---- none of a store is a new run's
+
+length-less : (n : ℕ) → n - 0 ≡ n
+length-less n = omega arith
+
+take-length : (xs : List Opened) → take (length xs) xs ≡ xs
+take-length [] = refl
+take-length (x ∷ xs) = ap (λ (rest : List Opened). x ∷ rest) (take-length xs)
+
+drop-length : (xs : List Opened) → drop (length xs) xs ≡ []
+drop-length [] = refl
+drop-length (x ∷ xs) = drop-length xs
+
+pub last-none : (opened : List Opened) → last_opened 0 opened ≡ []
+last-none opened = ap (λ (n : ℕ). drop n opened) (length-less (length opened)) ∙ drop-length opened
+
+pub first-all : (opened : List Opened) → first_opened 0 opened ≡ opened
+first-all opened = ap (λ (n : ℕ). take n opened) (length-less (length opened)) ∙ take-length opened
+
+pub are-last-none : (opened : List Opened) → ((name : List ℕ) → is_out name opened ≡ false) → AreLast 0 opened
+are-last-none opened none = record { many = omega arith; back = λ name. ap (is_out name) (first-all opened) ∙ none name }
+
+-- ---- one more
+
+after-push : (n : ℕ) (opened : List Opened) (o : Opened) → length (opened ++ o ∷ []) - (n + 1) ≡ length opened - n
+after-push n opened o = let more : length (opened ++ o ∷ []) ≡ length opened + 1 = length-append opened (o ∷ []) in omega (arith, more)
+
+pub last-push : (n : ℕ) (opened : List Opened) (o : Opened) → last_opened (n + 1) (opened ++ o ∷ []) ≡ last_opened n opened ++ o ∷ []
+last-push n opened o =
+    ap (λ (k : ℕ). drop k (opened ++ o ∷ [])) (after-push n opened o)
+    ∙ drop-append-le (length opened - n) opened (o ∷ []) (omega arith)
+
+pub first-push : (n : ℕ) (opened : List Opened) (o : Opened) → first_opened (n + 1) (opened ++ o ∷ []) ≡ first_opened n opened
+first-push n opened o =
+    ap (λ (k : ℕ). take k (opened ++ o ∷ [])) (after-push n opened o)
+    ∙ take-append-le (length opened - n) opened (o ∷ []) (omega arith)
+
+pub are-last-push : (n : ℕ) (opened : List Opened) (o : Opened) → AreLast n opened → AreLast (n + 1) (opened ++ o ∷ [])
+are-last-push n opened o last =
+    let more : length (opened ++ o ∷ []) ≡ length opened + 1 = length-append opened (o ∷ []) in
+    record { many = omega (arith, more, last.many); back = λ name. ap (is_out name) (first-push n opened o) ∙ last.back name }
+
+-- ---- how many there are
+
+length-drop : (k : ℕ) (xs : List Opened) → length (drop k xs) ≡ length xs - k
+length-drop zero xs = sym (length-less (length xs))
+length-drop (suc k) [] = let none : 0 ≡ 0 - suc k = omega arith in none
+length-drop (suc k) (x ∷ xs) =
+    let same : suc (length xs) - suc k ≡ length xs - k = omega arith in
+    length-drop k xs ∙ sym same
+
+pub length-last : (n : ℕ) (opened : List Opened) → AreLast n opened → length (last_opened n opened) ≡ n
+length-last n opened last =
+    let all = length-drop (length opened - n) opened in
+    omega (arith, all, last.many)
+
+-- ---- what is out
+
+pub out-last : (n : ℕ) (opened : List Opened) → AreLast n opened → (name : List ℕ) → is_out name opened ≡ is_out name (last_opened n opened)
+out-last n opened last name =
+    ap (is_out name) (sym (take-append-drop (length opened - n) opened))
+    ∙ list_any-append (is_out_as name) (first_opened n opened) (last_opened n opened)
+    ∙ ap (λ (b : Bool). b || is_out name (last_opened n opened)) (last.back name)
+
+-- ---- one that comes back
+
+back-behind : (name : List ℕ) (count : ℕ) (xs ys : List Opened) → is_out name xs ≡ false → given_back name count (xs ++ ys) ≡ xs ++ given_back name count ys
+back-behind name count [] ys none = refl
+back-behind name count (x ∷ xs) ys none = by_test (is_out_as name x) refl (back-behind name count xs ys)
+  where
+    by_test : (b : Bool) → is_out_as name x ≡ b → (is_out name xs ≡ false → given_back name count (xs ++ ys) ≡ xs ++ given_back name count ys)
+        → given_back name count (x ∷ xs ++ ys) ≡ x ∷ xs ++ given_back name count ys
+    by_test true is rest = absurd (let bad : true ≡ false = rw is at none in false≢true (sym bad))
+    by_test false is rest =
+        let later : is_out name xs ≡ false = rw is at none in
+        rw is (ap (λ (more : List Opened). x ∷ more) (rest later))
+
+-- openings are as many once one is back
+pub length-back : (name : List ℕ) (count : ℕ) (xs : List Opened) → length (given_back name count xs) ≡ length xs
+length-back name count [] = refl
+length-back name count (x ∷ xs) = by_test (is_out_as name x) refl (length-back name count xs)
+  where
+    by_test : (b : Bool) → is_out_as name x ≡ b → length (given_back name count xs) ≡ length xs → length (given_back name count (x ∷ xs)) ≡ length (x ∷ xs)
+    by_test true is rest = rw is refl
+    by_test false is rest = rw is (ap suc rest)
+
+module _ (n : ℕ) (opened : List Opened) (last : AreLast n opened) (name : List ℕ) (count : ℕ) where
+  abbrev seam : ℕ
+  seam = length opened - n
+
+  split : given_back name count opened ≡ first_opened n opened ++ given_back name count (last_opened n opened)
+  split =
+      ap (given_back name count) (sym (take-append-drop seam opened))
+      ∙ back-behind name count (first_opened n opened) (last_opened n opened) (last.back name)
+
+  length-first : length (first_opened n opened) ≡ seam
+  length-first =
+      let all : length (first_opened n opened) + length (last_opened n opened) ≡ length opened =
+      sym (length-append (first_opened n opened) (last_opened n opened)) ∙ ap length (take-append-drop seam opened) in
+      let rest = length-last n opened last in
+      omega (arith, all, rest)
+
+  seam-back : length (given_back name count opened) - n ≡ length (first_opened n opened)
+  seam-back = let same = length-back name count opened in let first = length-first in omega (arith, same, first)
+
+  pub last-back : last_opened n (given_back name count opened) ≡ given_back name count (last_opened n opened)
+  last-back =
+      ap (λ (k : ℕ). drop k (given_back name count opened)) seam-back
+      ∙ ap (drop (length (first_opened n opened))) split
+      ∙ drop-append_seam (first_opened n opened) (given_back name count (last_opened n opened))
+
+  pub first-back : first_opened n (given_back name count opened) ≡ first_opened n opened
+  first-back =
+      ap (λ (k : ℕ). take k (given_back name count opened)) seam-back
+      ∙ ap (take (length (first_opened n opened))) split
+      ∙ take-append_seam (first_opened n opened) (given_back name count (last_opened n opened))
+
+  pub are-last-back : AreLast n (given_back name count opened)
+  are-last-back =
+      let same = length-back name count opened in
+      record { many = omega (arith, same, last.many); back = λ other. ap (is_out other) first-back ∙ last.back other }
+
+-- ---- answers of the store, by the openings of the run
+
+module _ (name : List ℕ) (whole part : List Opened) (same : is_out name whole ≡ is_out name part) where
+  pub in-last : IsIn name whole → IsIn name part
+  in-last inside = λ is. inside (same ∙ is)
+
+  out-whole : IsTrue (is_out name whole) → IsTrue (is_out name part)
+  out-whole is = sym same ∙ is
+
+  pub create-last : {A : Type 0} (len room before now : ℕ) (result : Result A StoreStop)
+      → CreateAnswers name len room whole before now result → CreateAnswers name len room part before now result
+  create-last len room before now (Ok done) is = (in-last is.0, is.1)
+  create-last len room before now (Err Absent) is = is
+  create-last len room before now (Err InUse) is = out-whole is
+  create-last len room before now (Err TooLong) is = (in-last is.0, is.1)
+  create-last len room before now (Err Failed) is = (in-last is.0, is.1, is.2)
+  create-last len room before now (Err NoMemory) is = tt
+
+stops-by : (name : List ℕ) (store : StoreInRun) (whole : List Opened) (now : ℕ) (stop : StoreStop) → is_out name whole ≡ is_out name store.opened
+    → OpenAnswers {A = Unit {0}} name store.files whole store.faults now (Err stop) → StopsOpening name store now stop
+stops-by name store whole now Absent same is = (in-last name whole store.opened same is.0, is.1)
+stops-by name store whole now InUse same is = out-whole name whole store.opened same is
+stops-by name store whole now TooLong same is = is
+stops-by name store whole now Failed same is = ((in-last name whole store.opened same is.0, is.1), is.2)
+stops-by name store whole now NoMemory same is = tt
+
+-- a stop is answered for the same cause, whatever would be opened
+stop-only : {A : Type 0} (name : List ℕ) (files : Option (List File)) (opened : List Opened) (before now : ℕ) (result : Result A StoreStop) (stop : StoreStop)
+    → result ≡ Err stop → OpenAnswers name files opened before now result → OpenAnswers {A = Unit {0}} name files opened before now (Err stop)
+stop-only {A} name files opened before now result stop is answers =
+    by_stop stop (subst (OpenAnswers {A = A} name files opened before now) is answers)
+  where
+    by_stop : (other : StoreStop) → OpenAnswers {A = A} name files opened before now (Err other) → OpenAnswers {A = Unit {0}} name files opened before now (Err other)
+    by_stop Absent a = a
+    by_stop InUse a = a
+    by_stop TooLong a = a
+    by_stop Failed a = a
+    by_stop NoMemory a = a
+
+pub stops-last : {A : Type 0} (name : List ℕ) (store : StoreInRun) (whole : List Opened) (now : ℕ) (result : Result A StoreStop) (stop : StoreStop)
+    → is_out name whole ≡ is_out name store.opened → result ≡ Err stop → OpenAnswers name store.files whole store.faults now result
+    → StopsOpening name store now stop
+stops-last name store whole now result stop same is answers =
+    stops-by name store whole now stop same (stop-only name store.files whole store.faults now result stop is answers)

@@ -1,0 +1,23 @@
+use Rattle.world_parts.specs.Progress.{Progress}
+use Rattle.qmp_codec.specs.Commands.{seen_command}
+use Rattle.blk_history.specs.declared.event.Event.{Event}
+use Rattle.blk_history.specs.declared.event.Event.TheVariants.{Reply}
+use Rattle.std.proofs.Common.{[], ◌∷◌, ◌≡◌, ◌<◌, refl, ap, arith}
+use Rattle.std.specs.Prelude.{option_map, string_bytes}
+use Rattle.world_parts.proofs.InStep.{in-step-answer}
+use Rattle.world_parts.proofs.Rows.{guests-append}
+use Rattle.world_parts.proofs.progress.Progress.reply.Goals as goal
+
+pub invariant_of-self : goal.invariant_of-self
+invariant_of-self c =
+    let has = c.requires in
+    let viewed : c.self.inside.spare.entries ≡ c.args.self.now.spare.entries = ap (λ (p : Progress). p.spare.entries) c.self.view_is in
+    let spared : 0 < c.self.inside.spare.entries = omega arith in
+    rw (c.push_reserved.ensures.items, c.push_reserved.ensures.capacity) (in-step-answer c.self.inside.history c.note_reply.new.history c.self.inside.spare c.less-spare.result c.self.inside.rows.items
+    c.self.inside.script_is_done c.self.inside.lines.items _ c.args.line _ c.note_reply.ensures c.less-spare.ensures spared refl refl c.self.invariant)
+
+pub returns : goal.returns
+returns c =
+    let e : Event = Reply c.args.line (string_bytes c.args.given) (option_map seen_command c.args.command) (string_bytes c.args.text) in
+    let stays = guests-append c.self.inside.history.events (e ∷ []) c.self.inside.rows.items c.self.invariant.placed in
+    rw (c.note_reply.ensures, c.less-spare.ensures, stays, ← c.self.view_is) refl

@@ -1,0 +1,141 @@
+-- How the parts of the world belong together between events.
+use Rattle.std.specs.Prelude.{◌≡◌, ◌≢◌, ℕ, ◌<◌, ◌≤◌, true, false, List, [], length, slice_get, AllPairs, map, Contains, Option, Some, None, IsSome, is_some}
+use Rattle.blk_base.specs.Pieces.{end_of}
+use Rattle.blk_base.specs.declared.file.File.{File}
+use Rattle.blk_base.specs.declared.file.Opened.{Opened}
+use Rattle.blk_history.specs.Disk.{span_of}
+use Rattle.blk_history.specs.Fold.{With}
+use Rattle.blk_history.specs.Machine.{Flight}
+use Rattle.blk_graph.specs.Graph.{NodeRow}
+use Rattle.blk_graph.specs.declared.edge.Edge.{Edge}
+use Rattle.blk_graph.specs.declared.edge.Parent.TheVariants.{Guest as GuestOf}
+use Rattle.blk_nodes.specs.Nodes.{Nodes, DeviceState, AreTold, row_at, kind_of}
+use Rattle.blk_nodes.specs.declared.row.Driver.{Driver}
+use Rattle.blk_nodes.specs.declared.row.Driver.TheVariants.{Raw}
+use Rattle.blk_nodes.specs.declared.row.Row.{Row}
+use Rattle.qmp_rules.specs.declared.rows.Device.{Device}
+use Rattle.qmp_rules.specs.declared.rows.NodeRecord.{NodeRecord}
+use Rattle.qmp_rules.specs.Table.{Table, node_at, device_at}
+use Rattle.qmp_rules.specs.Chains.{disk_node}
+use Rattle.flat_machine.specs.Agreement.{HasDisk}
+use Rattle.flat_machine.specs.Bitmaps.{AreBitmapsOf}
+use Rattle.flat_machine.specs.Legal.{IsForbidden}
+use Rattle.flat_machine.specs.Wiring.{TableAtRest}
+use Rattle.flat_machine.specs.State.{Guest, drive_of, disk_of_guest, size_of, filename_of}
+use Rattle.world_parts.specs.Progress.{Progress, flight_at}
+use Rattle.world_parts.specs.Face.{Face, device_numbered}
+
+-- ---- the table
+
+-- a device that is there is on a node
+abbrev pub HaveDrives : Table → Type 0
+HaveDrives t = (g : ℕ) → IsSome (device_at t g) → IsSome (drive_of t g)
+
+-- and that node has a flat disk: it is settled, or is a filter over such a node
+abbrev pub AreOnDisks : Table → Type 0
+AreOnDisks t = (g node : ℕ) → drive_of t g ≡ Some node → With (node_at t (disk_node t node)) HasDisk
+
+-- ---- table and nodes
+
+-- where a part begins
+abbrev pub offset_of : Driver → ℕ
+offset_of (Raw part) = part.offset
+offset_of other = 0
+
+-- a node's row says what the node is
+pub record IsRowOf (record' : NodeRecord) (row : Row) : Type 0 where
+  pub kind : record'.kind ≡ kind_of row.driver
+  pub size : record'.size ≡ row.size
+  pub access : record'.read_only ≡ row.is_read_only
+  pub place : record'.offset ≡ offset_of row.driver
+
+abbrev pub AreAlike : Option NodeRecord → Option Row → Type 0
+AreAlike None None = Unit {0}
+AreAlike (Some a) (Some b) = IsRowOf a b
+AreAlike _ _ = ⊥
+
+-- a row's id and name
+abbrev pub node_row : NodeRecord → NodeRow
+node_row row = record { id = row.id; name = row.name }
+
+pub record AreNodesOf (t : Table) (nodes : Nodes) : Type 0 where
+  pub listed : nodes.graph.nodes ≡ map node_row t.nodes
+  pub edges : nodes.graph.edges ≡ t.edges
+  pub rows : (id : ℕ) → AreAlike (node_at t id) (row_at nodes id)
+
+-- ---- guests
+
+-- a request in flight lies within its guest's disk
+abbrev pub AreWithin : Table → List Guest → Type 0
+AreWithin t guests = (g : ℕ) (f : Flight) → flight_at guests g ≡ Some f
+    → With (disk_of_guest t g) (λ node. end_of (span_of f.op) ≤ size_of t node)
+
+-- and its guest has a device, which allows it
+abbrev pub AreAllowed : Table → List Guest → Type 0
+AreAllowed t guests = (g : ℕ) (f : Flight) → flight_at guests g ≡ Some f
+    → With (device_at t g) (λ device. IsForbidden f.op device.read_only → ⊥)
+
+-- the edge of a device that may write asks to write
+abbrev pub AskToWrite : Table → Type 0
+AskToWrite t = (g : ℕ) (device : Device) (edge : Edge) → device_at t g ≡ Some device → device.read_only ≡ false
+    → Contains t.edges edge → edge.parent ≡ GuestOf g → edge.perm.write ≡ true
+
+-- and the node that it is on isn't read-only
+abbrev pub AreOnWritable : Table → Type 0
+AreOnWritable t = (g node : ℕ) (device : Device) → device_at t g ≡ Some device → device.read_only ≡ false
+    → drive_of t g ≡ Some node → With (node_at t node) (λ row. row.read_only ≡ false)
+
+-- ---- openings
+
+-- a device that is held is that of an opening of its node's file, and not back yet
+pub record IsOut (t : Table) (opened : List Opened) (device : DeviceState) : Type 0 where
+  pub opening : Opened
+  pub there : slice_get opened device.number.0 ≡ Some opening
+  pub out : opening.returned ≡ None
+  pub named : filename_of t device.node ≡ Some opening.name
+  pub faults : opening.faults ≤ device.faults
+
+-- no file is out twice
+abbrev pub NamesAreOutOnce : List Opened → Type 0
+NamesAreOutOnce opened = (a b : ℕ) (o p : Opened) → slice_get opened a ≡ Some o → slice_get opened b ≡ Some p
+    → o.returned ≡ None → p.returned ≡ None → o.name ≡ p.name → a ≡ b
+
+-- these devices are the openings that are not back yet, in the order in which they were opened
+pub record AreHeld (t : Table) (devices : List DeviceState) (opened : List Opened) : Type 0 where
+  pub each : (device : DeviceState) → Contains devices device → IsOut t opened device
+  pub once : AllPairs (λ a b. a.number ≢ b.number) devices
+  pub order : AllPairs (λ a b. a.number.0 < b.number.0) devices
+  pub all : (n : ℕ) (o : Opened) → slice_get opened n ≡ Some o → o.returned ≡ None
+      → IsSome (device_numbered devices n)
+  pub names : NamesAreOutOnce opened
+
+abbrev pub AreOut : Table → Nodes → List Opened → Type 0
+AreOut t nodes opened = AreHeld t nodes.devices opened
+
+-- where the store tells its files, each device tells its bytes
+abbrev pub DevicesTell : Option (List File) → List DeviceState → Type 0
+DevicesTell files devices = is_some files ≡ true → AreTold devices
+
+-- ---- whatever the store tells; no command that starts a job is carried out yet
+
+pub record IsCoherent (t : Table) (nodes : Nodes) (opened : List Opened)
+    (p : Progress) : Type 0 where
+  pub table : TableAtRest t
+  pub drives : HaveDrives t
+  pub disks : AreOnDisks t
+  pub alike : AreNodesOf t nodes
+  pub asks : AskToWrite t
+  pub writable : AreOnWritable t
+  pub within : AreWithin t p.guests
+  pub allowed : AreAllowed t p.guests
+  pub count : length p.guests ≡ length t.guests
+  pub jobs : t.jobs ≡ []
+  pub out : AreOut t nodes opened
+
+-- ---- all of it
+
+pub record IsWhole (w : Face) : Type 0 where
+  pub coherent : IsCoherent w.table w.nodes w.opened w.progress
+  pub tell : DevicesTell w.files w.nodes.devices
+  pub counted : w.first_faults ≤ w.faults
+  pub bitmaps : AreBitmapsOf w.table.bitmaps w.bitmaps

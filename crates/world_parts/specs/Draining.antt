@@ -1,0 +1,33 @@
+-- Requests in flight on the disks that are to be drained.
+use Rattle.std.specs.Prelude.{ℕ, List, Bool, true, false, Option, Some, None, option_map}
+use Rattle.qmp_codec.specs.Commands.{Cmd}
+use Rattle.qmp_codec.specs.declared.command.Command.TheVariants as command
+use Rattle.flat_machine.specs.Marks.{AreCalm, Drained, IsInTheWay, MustWait, after_later}
+use Rattle.flat_machine.specs.State.{State, Guest}
+use Rattle.world_parts.specs.declared.in_the_way.InTheWay.{InTheWay}
+
+-- the number of a guest's request in flight
+abbrev pub request_in : Option Guest → Option ℕ
+request_in None = None
+request_in (Some row) = option_map (λ flight. row.done) row.flight
+
+-- the request of this guest that is in flight on one of these disks, if any
+abbrev pub IsOneOf : State → List ℕ → ℕ → Option ℕ → Type 0
+IsOneOf s disks g None = (r : ℕ) → IsInTheWay s disks g r → ⊥
+IsOneOf s disks g (Some r) = IsInTheWay s disks g r
+
+-- the first of all guests' requests that are, if any
+abbrev pub IsFirstOf : State → List ℕ → Option InTheWay → Type 0
+IsFirstOf s disks None = AreCalm s disks
+IsFirstOf s disks (Some found) = MustWait s disks found.guest found.request
+
+-- those disks are held where there is one
+abbrev pub held_if : Option InTheWay → List ℕ → Drained → Drained
+held_if None disks drains = drains
+held_if (Some found) disks drains = after_later disks drains
+
+-- the commands that are carried out and drain a disk
+abbrev pub is_drain : Cmd → Bool
+is_drain (command.DeviceDel id) = true
+is_drain (command.BlockdevSnapshot c) = true
+is_drain c = false

@@ -1,0 +1,107 @@
+-- What is left of table, store and nodes by a command that opens and makes no file, with the text that answers it.
+use Rattle.std.specs.Prelude.{◌≡◌, ◌<◌, ℕ, Bool, true, false, List, [], ◌∷◌, Option, Some, None, Err}
+use Rattle.blk_bitmaps.specs.declared.row.Bitmap.{Bitmap}
+use Rattle.blk_bitmaps.specs.Calls.{after, RemoveAll}
+use Rattle.qmp_codec.specs.Commands.{Cmd}
+use Rattle.qmp_codec.specs.declared.command.Command.TheVariants as command
+use Rattle.qmp_codec.specs.declared.nodes.DeviceAdd.{DeviceAdd}
+use Rattle.qmp_rules.specs.Answers.{answer, refusal_of, untold}
+use Rattle.qmp_rules.specs.Changes.{all_changed}
+use Rattle.qmp_rules.specs.Table.{Table, device_named, id_named}
+use Rattle.qmp_rules.specs.declared.judge.PrepareStop.{PrepareStop}
+use Rattle.qmp_rules.specs.declared.judge.PrepareStop.TheVariants.{Refused, NoMemory}
+use Rattle.qmp_rules.specs.declared.refusal.Refusal.{Refusal}
+use Rattle.qmp_rules.specs.declared.rows.Device.{Device}
+use Rattle.blk_graph.specs.Graph.{HasNode, ids}
+use Rattle.blk_graph.specs.Rule.{first_conflict}
+use Rattle.blk_nodes.specs.Adding.{guest_edge, with_below}
+use Rattle.blk_nodes.specs.Contents.{disk_of}
+use Rattle.blk_nodes.specs.Nodes.{Nodes}
+use Rattle.world_parts.specs.Deleting.{Ground, IsDeleted, going}
+use Rattle.world_parts.specs.Saying.{IsSaid}
+
+-- accepted, this was done; refused, that holds
+abbrev pub DoneIf : Option Refusal → Type 0 → Type 0 → Type 0
+DoneIf None done undone = done
+DoneIf (Some cause) done undone = undone
+
+-- The command is answered by the table alone. Its changes are made, and what they say was done to store and nodes.
+pub record IsHandled (given : List ℕ) (t : Table) (c : Cmd) (u : Table) (done undone : Type 0) (text : List ℕ) : Type 0 where
+  pub refusal : Option Refusal
+  pub judged : refusal_of t untold c ≡ refusal
+  pub done_is : DoneIf refusal done undone
+  pub table : u ≡ all_changed t (answer t untold c).changes
+  pub said : IsSaid given (answer t untold c).reply text
+
+-- for want of memory nothing has changed
+pub record IsUntouched (t u : Table) (undone : Type 0) : Type 0 where
+  pub table : u ≡ t
+  pub kept : undone
+
+-- the text of a refusal, where there is one
+abbrev pub SaysRefusal : List ℕ → PrepareStop → List ℕ → Type 0
+SaysRefusal given (Refused cause) text = IsSaid given (Err cause) text
+SaysRefusal given NoMemory text = ⊥
+
+-- ---- deletions
+
+abbrev pub is_deletion : Cmd → Bool
+is_deletion (command.BlockdevDel name) = true
+is_deletion c = false
+
+abbrev pub IsDeletedBy : Table → Cmd → Ground → Ground → Type 0
+IsDeletedBy t (command.BlockdevDel name) old now = IsDeleted t name old now
+IsDeletedBy t c old now = ⊥
+
+-- ---- guests' devices
+
+-- the bitmaps of nodes that go
+abbrev pub bitmaps_but : List ℕ → List Bitmap → List Bitmap
+bitmaps_but [] bitmaps = bitmaps
+bitmaps_but (node ∷ nodes) bitmaps = bitmaps_but nodes (after bitmaps (RemoveAll node))
+
+-- A deletion takes the bitmaps of the node with it, and those of the `file` node that goes too.
+abbrev pub bitmaps_named : Table → Option ℕ → List Bitmap → List Bitmap
+bitmaps_named t None bitmaps = bitmaps
+bitmaps_named t (Some node) bitmaps = bitmaps_but (going t node) bitmaps
+
+abbrev pub bitmaps_deleted : Table → Cmd → List Bitmap → List Bitmap
+bitmaps_deleted t (command.BlockdevDel name) bitmaps = bitmaps_named t (id_named t name) bitmaps
+bitmaps_deleted t c bitmaps = bitmaps
+
+-- accepted, these are left; refused, all
+abbrev pub bitmaps_left : Option Refusal → Table → Cmd → List Bitmap → List Bitmap
+bitmaps_left None t c bitmaps = bitmaps_deleted t c bitmaps
+bitmaps_left (Some cause) t c bitmaps = bitmaps
+
+abbrev pub is_attachment : Cmd → Bool
+is_attachment (command.DeviceAdd c) = true
+is_attachment c = false
+
+-- The table has the new device, and the node of its drive. That its edge is drawn to the node breaks no rule.
+pub record CanAttach (u : Table) (c : DeviceAdd (List ℕ)) (nodes : Nodes) : Type 0 where
+  pub device : Device
+  pub named : device_named u c.id ≡ Some device
+  pub node : ℕ
+  pub found : id_named u c.drive ≡ Some node
+  pub there : HasNode nodes.graph node
+  pub small : device.number < 80
+  pub keeps : first_conflict (ids nodes.graph)
+      (with_below nodes (guest_edge nodes device.number node device.share_rw)).graph.edges ≡ None
+
+-- the edge is drawn
+pub record IsAttached (u : Table) (c : DeviceAdd (List ℕ)) (nodes now : Nodes) : Type 0 where
+  pub device : Device
+  pub named : device_named u c.id ≡ Some device
+  pub node : ℕ
+  pub found : id_named u c.drive ≡ Some node
+  pub drawn : now ≡ with_below nodes (guest_edge nodes device.number node device.share_rw)
+  pub disks : (other : ℕ) → disk_of now other ≡ disk_of nodes other
+
+abbrev pub CanAttachBy : Table → Cmd → Nodes → Type 0
+CanAttachBy u (command.DeviceAdd c) nodes = CanAttach u c nodes
+CanAttachBy u c nodes = ⊥
+
+abbrev pub IsAttachedBy : Table → Cmd → Nodes → Nodes → Type 0
+IsAttachedBy u (command.DeviceAdd c) nodes now = IsAttached u c nodes now
+IsAttachedBy u c nodes now = ⊥

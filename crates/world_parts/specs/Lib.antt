@@ -1,0 +1,15 @@
+pub mod Progress
+pub mod Stores
+pub mod Face
+pub mod Looking
+pub mod Joining
+pub mod Staging
+pub mod Coherent
+pub mod Steps
+pub mod Saying
+pub mod Lines
+pub mod Deleting
+pub mod Creating
+pub mod Adding
+pub mod Handling
+pub mod Draining
