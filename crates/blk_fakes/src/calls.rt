@@ -13,7 +13,7 @@ pub struct FailAt {
 }
 
 /// The calls of one object that may fail.
-#[derive(Debug, Drop)]
+#[derive(Drop)]
 pub(crate) struct Calls {
     fails: Vec<FailAt>,
     made: u64,

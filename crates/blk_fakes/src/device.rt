@@ -10,7 +10,7 @@ use std::alloc::Global;
 use std::marker::Model;
 
 /// A device in memory. Its reads, writes and flushes are the calls that may fail; a write of no bytes can't.
-#[derive(Debug, Drop)]
+#[derive(Drop)]
 pub struct MemDevice {
     disk: Disk,
     calls: Calls,

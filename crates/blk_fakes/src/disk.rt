@@ -7,7 +7,7 @@ use std::alloc::Global;
 use std::marker::Model;
 
 /// Bytes, and the log of the writes to them. The whole capacity is taken when it is made.
-#[derive(Debug, Drop)]
+#[derive(Drop)]
 pub(crate) struct Disk {
     bytes: Vec<u8>,
     log: WriteLog,

@@ -1,12 +1,12 @@
 //! A log of writes, in room that is taken beforehand.
 
-use crate::bytes::{append, part};
+use crate::bytes::{append, part, with_room};
 use blk_base::NoMemory;
 use std::alloc::Global;
 use std::marker::Model;
 
 /// A write of the log: its bytes stand from `from` up to `to` among those of the log.
-#[derive(Clone, Copy, Debug, PartialEq, Eq)]
+#[derive(Clone, Copy)]
 pub(crate) struct Row {
     off: u64,
     from: usize,
@@ -14,14 +14,14 @@ pub(crate) struct Row {
 }
 
 /// A number of writes, and of bytes in them, that a log has room for.
-#[derive(Clone, Copy, Debug, PartialEq, Eq)]
+#[derive(Clone, Copy)]
 pub(crate) struct LogRoom {
     pub writes: u64,
     pub bytes: u64,
 }
 
 /// The bytes before the first write, and the writes since. It ends with a write past its room.
-#[derive(Debug, Drop)]
+#[derive(Drop)]
 pub(crate) struct WriteLog {
     is_kept: bool,
     before: Vec<u8>,
@@ -62,9 +62,9 @@ impl WriteLog {
     {
         Ok(WriteLog {
             is_kept: true,
-            before: Vec::from_slice(alloc, before)?,
-            rows: Vec::with_capacity(alloc, room.writes as usize)?,
-            bytes: Vec::with_capacity(alloc, room.bytes as usize)?,
+            before: with_room(alloc, before, before.len() as u64)?,
+            rows: rows_with_room(alloc, &[], room.writes)?,
+            bytes: with_room(alloc, &[], room.bytes)?,
             left: room,
         })
     }
@@ -72,15 +72,13 @@ impl WriteLog {
     pub fn copied(&self, alloc: Global) -> Result<Self, NoMemory>
         ensures { IfOk result (λ l. l ≡ self.now) }
     {
-        let mut rows = Vec::with_capacity(alloc, self.rows.len() + self.left.writes as usize)?;
-        rows.extend_from_slice(&self.rows).unwrap();
-        let mut bytes = Vec::with_capacity(alloc, self.bytes.len() + self.left.bytes as usize)?;
-        bytes.extend_from_slice(&self.bytes).unwrap();
+        let writes = self.rows.len() as u64 + self.left.writes;
+        let bytes = self.bytes.len() as u64 + self.left.bytes;
         Ok(WriteLog {
             is_kept: self.is_kept,
-            before: Vec::from_slice(alloc, &self.before)?,
-            rows,
-            bytes,
+            before: with_room(alloc, &self.before, self.before.len() as u64)?,
+            rows: rows_with_room(alloc, &self.rows, writes)?,
+            bytes: with_room(alloc, &self.bytes, bytes)?,
             left: self.left,
         })
     }
@@ -137,4 +135,17 @@ impl WriteLog {
             self.is_kept = false;
         }
     }
+}
+
+ghost use Rattle.std.specs.Prelude.{◌≡◌, ◌≤◌, length, vec_capacity, IfOk};
+
+/// A vector of these rows, with room for so many in all.
+fn rows_with_room(alloc: Global, rows: &[Row], room: u64) -> Result<Vec<Row>, NoMemory>
+    requires { length rows.now ≤ room }
+    ensures rows { IfOk result (λ v. v.items ≡ rows.now) }
+    ensures room { IfOk result (λ v. room ≤ vec_capacity v) }
+{
+    let mut all = Vec::with_capacity(alloc, room as usize)?;
+    all.extend_from_slice(rows).unwrap();
+    Ok(all)
 }

@@ -6,7 +6,7 @@ use std::alloc::Global;
 use std::marker::Model;
 
 /// A file: its device as it is while it is not out, and as it was opened while it is.
-#[derive(Debug, Drop)]
+#[derive(Drop)]
 pub(crate) struct Held {
     name: Text,
     dev: MemDevice,
@@ -56,7 +56,7 @@ impl Held {
 }
 
 /// An opening of a file: the device's count of faults then, and once it was given back.
-#[derive(Debug, Drop)]
+#[derive(Drop)]
 pub(crate) struct Opening {
     name: Text,
     faults: u64,

@@ -9,7 +9,7 @@ use std::marker::Model;
 
 /// Files in memory. Openings, creations and readings of whole files are the calls that may fail. A file that is out
 /// stands here as it was opened, and its device is a copy.
-#[derive(Debug, Drop)]
+#[derive(Drop)]
 pub struct MemStore {
     files: Vec<Held>,
     openings: Vec<Opening>,
@@ -150,9 +150,19 @@ impl MemStore {
         ensures err { OnErr result (self.new ≡ self.old) }
     {
         let dev = self.files[at].device().copied(self.alloc)?;
-        let opening = Opening::new(self.alloc, name, dev.faults())?;
-        self.openings.push(opening)?;
+        self.note_opening(name, dev.faults())?;
         Ok(dev)
+    }
+
+    /// Notes that the device of a file is out, which has failed so often.
+    fn note_opening(&mut self, name: &str, faults: u64) -> Result<(), NoMemory>
+        requires { IsTrue (is_held name.now self.old.files) }
+        ensures ok { OnOk result (self.new ≡ record self.old { opened = self.old.opened ++ record { name = name.now; faults = faults; returned = None } ∷ [] }) }
+        ensures err { OnErr result (self.new ≡ self.old) }
+    {
+        let opening = Opening::new(self.alloc, name, faults)?;
+        self.openings.push(opening)?;
+        Ok(())
     }
 
     /// Makes a file hold zeros that is there.

@@ -6,7 +6,7 @@ use std::alloc::Global;
 use std::marker::Model;
 
 /// A device in memory whose count of faults is the constant 0. All that it refuses is a write past its capacity.
-#[derive(Debug, Drop)]
+#[derive(Drop)]
 pub struct SureDevice {
     dev: MemDevice,
 }

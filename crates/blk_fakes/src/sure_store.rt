@@ -6,7 +6,7 @@ use std::alloc::Global;
 use std::marker::Model;
 
 /// Files in memory whose count of faults is the constant 0, and that of each of their devices too.
-#[derive(Debug, Drop)]
+#[derive(Drop)]
 pub struct SureStore {
     store: MemStore,
 }

@@ -1,7 +1,7 @@
 //! As many nodes and edges as there may be, names, and lists of edges apart from a graph.
 use crate::graphs::{Answer, hold, kinds, link, nodes, nth, remove};
 use blk_base::Text;
-use blk_graph::{EdgeList, Graph, GraphStop, JobUse, Kind, NO_KIND, NodeId, Parent, Role};
+use blk_graph::{EdgeList, Graph, GraphStop, JobUse, Kind, NO_KIND, Parent, Role};
 use std::alloc::Global;
 use std::test::Fail;
 
@@ -12,8 +12,25 @@ const TAKEN: [(&str, Result<(), GraphStop>); 3] = [
     ("", Err(GraphStop::TooManyNodes)),
 ];
 
-fn added(alloc: Global, graph: &mut Graph, name: &str) -> Result<Result<NodeId, GraphStop>, Fail> {
-    Ok(graph.add_node(Text::copied(alloc, name)?, NO_KIND))
+/// Whether a node of this name is added, or refused so.
+fn is_answered(
+    alloc: Global,
+    graph: &mut Graph,
+    name: &str,
+    answer: Result<(), GraphStop>,
+) -> Result<bool, Fail> {
+    match graph.add_node(Text::copied(alloc, name)?, NO_KIND) {
+        Ok(_) => Ok(answer.is_ok()),
+        Err(stop) => Ok(answer == Err(stop)),
+    }
+}
+
+/// Whether the node at a place has this name.
+fn has_name(graph: &Graph, place: usize, name: &str) -> bool {
+    match (graph.node_named(name), nth(graph, place)) {
+        (Some(named), Some(node)) => named == node,
+        _ => false,
+    }
 }
 
 #[test]
@@ -21,20 +38,24 @@ fn nodes_have_names(rt: HostRuntime) -> Result<(), Fail> {
     let mut graph = nodes(rt.alloc(), 64)?;
     for (name, answer) in &TAKEN {
         assert!(rt;
-            added(rt.alloc(), &mut graph, *name)?.map(|_| ()) == *answer,
+            is_answered(rt.alloc(), &mut graph, *name, *answer)?,
             "{name}"
         );
     }
-    assert!(rt; graph.node_named("n7") == nth(&graph, 7));
-    assert!(rt; graph.node_named("n64").is_none());
+    assert!(rt; has_name(&graph, 7, "n7") && graph.node_named("n64").is_none());
     Ok(())
 }
 
-/// The id of a node that is added.
-fn id_of(alloc: Global, graph: &mut Graph, name: &str) -> Result<Option<usize>, Fail> {
+/// Whether these nodes can be removed.
+fn are_removed(graph: &mut Graph, first: usize, second: usize) -> bool {
+    remove(graph, first) == Answer::Done && remove(graph, second) == Answer::Done
+}
+
+/// Whether a node that is added gets this id.
+fn gets(alloc: Global, graph: &mut Graph, name: &str, id: usize) -> Result<bool, Fail> {
     match graph.add_node(Text::copied(alloc, name)?, NO_KIND) {
-        Ok(node) => Ok(Some(node.index())),
-        Err(_) => Ok(None),
+        Ok(node) => Ok(node.index() == id),
+        Err(_) => Ok(false),
     }
 }
 
@@ -42,11 +63,8 @@ fn id_of(alloc: Global, graph: &mut Graph, name: &str) -> Result<Option<usize>, 
 #[test]
 fn ids_are_given_again(rt: HostRuntime) -> Result<(), Fail> {
     let mut graph = nodes(rt.alloc(), 64)?;
-    assert!(rt; remove(&mut graph, 7) == Answer::Done);
-    assert!(rt; remove(&mut graph, 3) == Answer::Done);
-    assert!(rt; graph.node_named("n7").is_none());
-    assert!(rt; id_of(rt.alloc(), &mut graph, "a")? == Some(3));
-    assert!(rt; id_of(rt.alloc(), &mut graph, "b")? == Some(7));
+    assert!(rt; are_removed(&mut graph, 7, 3) && graph.node_named("n7").is_none());
+    assert!(rt; gets(rt.alloc(), &mut graph, "a", 3)? && gets(rt.alloc(), &mut graph, "b", 7)?);
     Ok(())
 }
 

@@ -1,8 +1,27 @@
-//! Bytes of files, and what a device in memory logged.
+//! Bytes of files, and devices in memory: what they hold, and what they logged.
 
-use blk_fakes::MemDevice;
+use blk_base::NoMemory;
+use blk_fakes::{FailAt, MemDevice};
+use std::alloc::Global;
 
 pub(crate) const CLUSTER: usize = 65_536;
+
+/// A call that doesn't come.
+pub(crate) const NEVER: FailAt = FailAt {
+    call: u64::MAX,
+    done: 0,
+};
+
+/// The header of an image of 1 MiB.
+pub(crate) const HEADER: [u8; 112] = [
+    0x51, 0x46, 0x49, 0xfb, 0, 0, 0, 3, 0, 0, 0, 0, 0, 0, 0, 0, //
+    0, 0, 0, 0, 0, 0, 0, 0x10, 0, 0, 0, 0, 0, 0x10, 0, 0, //
+    0, 0, 0, 0, 0, 0, 0, 1, 0, 0, 0, 0, 0, 3, 0, 0, //
+    0, 0, 0, 0, 0, 1, 0, 0, 0, 0, 0, 1, 0, 0, 0, 0, //
+    0, 0, 0, 0, 0, 0, 0, 0, 0, 0, 0, 0, 0, 0, 0, 0, //
+    0, 0, 0, 0, 0, 0, 0, 0, 0, 0, 0, 0, 0, 0, 0, 0, //
+    0, 0, 0, 4, 0, 0, 0, 0x70, 0, 0, 0, 0, 0, 0, 0, 0,
+];
 
 /// Bytes that are put at places of others.
 pub(crate) type Edits<'a> = &'a [(usize, &'a [u8])];
@@ -13,6 +32,17 @@ pub(crate) fn put(bytes: &mut [u8], edits: Edits) {
             *to = *byte;
         }
     }
+}
+
+/// A device of these bytes, of which a call fails.
+pub(crate) fn device(
+    alloc: Global,
+    bytes: &[u8],
+    capacity: u64,
+    fails: FailAt,
+) -> Result<MemDevice, NoMemory> {
+    let capacity = capacity.max(bytes.len() as u64);
+    MemDevice::new(alloc, bytes, capacity, &[fails], 16, 1_048_576)
 }
 
 /// A write of the log: its offset and its bytes.

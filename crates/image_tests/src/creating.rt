@@ -1,17 +1,16 @@
 //! Created images byte for byte, on short and longer devices, and writes that fail.
 
+use crate::bytes::{Edits, NEVER, device, put, wrote};
+use blk_base::Device;
 use blk_fakes::{FailAt, MemDevice};
-use q2_image::{CreateStop, create_image, open_image};
-use std::alloc::{AllocError, Global};
+use q2_image::{CreateStop, Image, create_image, open_image};
+use std::alloc::Global;
 use std::test::Fail;
 
 /// Four clusters: the header, the refcount table, its block, the L1 table.
 const CREATED: usize = 4 * 65_536;
 
 const DISK: u64 = 1_048_576;
-
-/// Bytes that are put at places of zeros.
-type Edits<'a> = &'a [(usize, &'a [u8])];
 
 /// What isn't 0 in a created image of 1 MiB, by the published text.
 const IMAGE: [(usize, &[u8]); 7] = [
@@ -33,154 +32,154 @@ const NAMED: [(usize, &[u8]); 5] = [
     (32_768, b"base.qcow2"),
 ];
 
-fn put(bytes: &mut [u8], edits: Edits) {
-    for (at, edit) in edits {
-        for (to, byte) in bytes.iter_mut().skip(*at).zip(edit.iter()) {
-            *to = *byte;
-        }
-    }
+/// A device of so many bytes 0xff, with a capacity that is no less, of which a call fails.
+fn blank(alloc: Global, len: usize, capacity: u64, fails: FailAt) -> Result<MemDevice, Fail> {
+    let bytes = vec![in alloc; 0xff; len]?;
+    let dev = device(alloc, &bytes, capacity, fails)?;
+    Ok(dev)
 }
 
-/// The image with these bytes put over it, and so many bytes 0xff behind it.
-fn image(alloc: Global, edits: Edits, behind: usize) -> Result<Vec<u8>, AllocError> {
+/// Whether the device holds the image with these bytes put over it, and so many bytes 0xff behind it.
+fn holds(alloc: Global, dev: &MemDevice, edits: Edits, behind: usize) -> Result<bool, Fail> {
     let mut bytes = vec![in alloc; 0; CREATED]?;
     put(&mut bytes, &IMAGE);
     put(&mut bytes, edits);
     for _ in 0..behind {
         bytes.push(0xff)?;
     }
-    Ok(bytes)
+    Ok(dev.bytes() == bytes.as_slice())
 }
 
-/// A device of so many bytes 0xff, with a capacity that is no less, whose calls of these numbers fail.
-fn device(
-    alloc: Global,
-    len: usize,
-    capacity: u64,
-    fails: &[FailAt],
-) -> Result<MemDevice, CreateStop> {
-    let Ok(bytes) = vec![in alloc; 0xff; len] else {
-        return Err(CreateStop::NoMemory);
-    };
-    let capacity = capacity.max(bytes.len() as u64);
-    let made = MemDevice::new(alloc, &bytes, capacity, fails, 16, 524_288);
-    Ok(made?)
+/// Whether so many bytes from a place on, or as many as there are, are all this one.
+fn has(dev: &MemDevice, from: usize, count: usize, byte: u8) -> bool {
+    dev.bytes()
+        .iter()
+        .skip(from)
+        .take(count)
+        .all(|it| *it == byte)
 }
 
-/// Creates on a device of so many bytes 0xff, and compares all its bytes.
-fn creates(alloc: Global, len: usize, want: &[u8]) -> Result<bool, CreateStop> {
-    let mut dev = device(alloc, len, 524_288, &[])?;
-    create_image(alloc, &mut dev, DISK, None, None)?;
-    Ok(dev.bytes() == want)
+/// Creates on a device of so many bytes 0xff, and looks at all its bytes.
+fn creates(alloc: Global, len: usize, behind: usize) -> Result<bool, Fail> {
+    let mut dev = blank(alloc, len, 524_288, NEVER)?;
+    Ok(
+        create_image(alloc, &mut dev, DISK, None, None).is_ok()
+            && dev.length() as usize == CREATED.saturating_add(behind)
+            && holds(alloc, &dev, &[], behind)?,
+    )
 }
 
-/// Where a write of the log is, and its length.
-fn logged(dev: &MemDevice, k: u64) -> Option<(u64, usize)> {
-    match dev.logged() {
-        Some(count) if k < count => {
-            let (at, bytes) = dev.log_at(k);
-            Some((at, bytes.len()))
-        }
-        _ => None,
-    }
-}
+/// The length of a file, and how much of it lies behind the image.
+const LENGTHS: [(usize, usize); 4] = [(0, 0), (1, 0), (262_144, 0), (263_144, 1_000)];
 
 #[test]
 fn creates_images(rt: HostRuntime) -> Result<(), Fail> {
-    let alloc = rt.alloc();
-    let plain = image(alloc, &[], 0)?;
-    assert_eq!(rt; plain.len(), 262_144);
-    for len in [0, 1, 262_144] {
-        assert_eq!(rt; creates(alloc, len, &plain), Ok(true), "{len}");
+    for (len, behind) in &LENGTHS {
+        assert!(rt; creates(rt.alloc(), *len, *behind)?, "{len}");
     }
-    let longer = image(alloc, &[], 1_000)?;
-    assert_eq!(rt; creates(alloc, 263_144, &longer), Ok(true));
     Ok(())
 }
 
 #[test]
 fn creates_a_named_image(rt: HostRuntime) -> Result<(), Fail> {
-    let alloc = rt.alloc();
-    let mut dev = device(alloc, 0, 262_144, &[]).ok().ok_or("no device")?;
-    let created = create_image(alloc, &mut dev, DISK, Some("base.qcow2"), Some("qcow2"));
-    assert_eq!(rt; created, Ok(()));
-    assert_eq!(rt; dev.bytes(), image(alloc, &NAMED, 0)?.as_slice());
+    let mut dev = blank(rt.alloc(), 0, 262_144, NEVER)?;
+    let created = create_image(
+        rt.alloc(),
+        &mut dev,
+        DISK,
+        Some("base.qcow2"),
+        Some("qcow2"),
+    );
+    assert!(rt; created.is_ok() && holds(rt.alloc(), &dev, &NAMED, 0)?);
     Ok(())
+}
+
+/// Whether an image is an overlay that maps nothing.
+fn is_new_overlay(image: &Image) -> bool {
+    image.size() == DISK && image.has_backing_name() && image.is_empty()
 }
 
 #[test]
 fn opens_what_it_created(rt: HostRuntime) -> Result<(), Fail> {
-    let alloc = rt.alloc();
-    let mut dev = device(alloc, 300_000, 300_000, &[])
-        .ok()
-        .ok_or("no device")?;
-    let created = create_image(alloc, &mut dev, DISK, Some("b"), None);
-    assert_eq!(rt; created, Ok(()));
-    let image = open_image(alloc, &mut dev).ok().ok_or("refused")?;
-    assert_eq!(rt; image.size(), DISK);
-    assert!(rt; image.has_backing_name());
-    assert!(rt; image.is_empty());
+    let mut dev = blank(rt.alloc(), 300_000, 300_000, NEVER)?;
+    let created = create_image(rt.alloc(), &mut dev, DISK, Some("b"), None);
+    assert!(rt; created.is_ok());
+    match open_image(rt.alloc(), &mut dev) {
+        Ok(image) => assert!(rt; is_new_overlay(&image)),
+        Err(stop) => assert!(rt; false, "{stop}"),
+    }
     Ok(())
 }
 
+/// The first sector is written first and last.
+const WRITES: [(u64, usize); 6] = [
+    (0, 512),
+    (0x30000, 65_536),
+    (0x20000, 65_536),
+    (0x10000, 65_536),
+    (512, 65_024),
+    (0, 512),
+];
+
 #[test]
 fn writes_the_first_sector_first_and_last(rt: HostRuntime) -> Result<(), Fail> {
-    let alloc = rt.alloc();
-    let mut dev = device(alloc, 0, 262_144, &[]).ok().ok_or("no device")?;
-    assert_eq!(rt; create_image(alloc, &mut dev, DISK, None, None), Ok(()));
-    let writes = [
-        (0, 512),
-        (0x30000, 65_536),
-        (0x20000, 65_536),
-        (0x10000, 65_536),
-        (512, 65_024),
-        (0, 512),
-    ];
-    assert_eq!(rt; dev.logged(), Some(6));
-    for (k, write) in (0..).zip(writes) {
-        assert_eq!(rt; logged(&dev, k), Some(write), "{k}");
-    }
+    let mut dev = blank(rt.alloc(), 0, 262_144, NEVER)?;
+    let created = create_image(rt.alloc(), &mut dev, DISK, None, None);
+    assert!(rt; created.is_ok() && wrote(&dev, &WRITES));
     Ok(())
+}
+
+/// Whether no image is left where this call fails: the first sector is gone, or was not written yet.
+fn leaves_no_image(alloc: Global, fails: FailAt) -> Result<bool, Fail> {
+    let mut dev = blank(alloc, 263_000, 524_288, fails)?;
+    let created = create_image(alloc, &mut dev, DISK, None, None);
+    let first = if fails.call == 0 { 0xff } else { 0 };
+    Ok(
+        created == Err(CreateStop::Io { count: 1 })
+            && has(&dev, 0, 512, first)
+            && has(&dev, CREATED, usize::MAX, 0xff)
+            && open_image(alloc, &mut dev).is_err(),
+    )
 }
 
 #[test]
 fn leaves_no_image_where_a_write_fails(rt: HostRuntime) -> Result<(), Fail> {
-    let alloc = rt.alloc();
     for call in 0..6 {
-        for done in [0, 600] {
-            let fails = [FailAt { call, done }];
-            let mut dev = device(alloc, 263_000, 524_288, &fails)
-                .ok()
-                .ok_or("no device")?;
-            let created = create_image(alloc, &mut dev, DISK, None, None);
-            assert_eq!(rt; created, Err(CreateStop::Io { count: 1 }), "{call}");
-            let first = if call == 0 { 0xff } else { 0 };
-            assert!(rt; dev.bytes().iter().take(512).all(|byte| *byte == first));
-            assert!(rt; dev.bytes().iter().skip(CREATED).all(|byte| *byte == 0xff));
-            assert!(rt; open_image(alloc, &mut dev).is_err());
-        }
+        let whole = FailAt { call, done: 0 };
+        let torn = FailAt { call, done: 600 };
+        assert!(rt; leaves_no_image(rt.alloc(), whole)?, "{call}");
+        assert!(rt; leaves_no_image(rt.alloc(), torn)?, "{call}");
     }
     Ok(())
 }
 
-#[test]
-fn needs_room_for_all_its_clusters(rt: HostRuntime) -> Result<(), Fail> {
-    let alloc = rt.alloc();
-    let mut dev = device(alloc, 1_000, 262_143, &[]).ok().ok_or("no device")?;
+/// Whether nothing is written on a device of this capacity.
+fn has_no_room(alloc: Global, len: usize, capacity: u64) -> Result<bool, Fail> {
+    let mut dev = blank(alloc, len, capacity, NEVER)?;
     let created = create_image(alloc, &mut dev, DISK, None, None);
-    assert_eq!(rt; created, Err(CreateStop::NoSpace));
-    assert_eq!(rt; dev.logged(), Some(0));
-    assert_eq!(rt; dev.bytes().len(), 1_000);
-    assert!(rt; dev.bytes().iter().all(|byte| *byte == 0xff));
-    Ok(())
+    Ok(
+        created == Err(CreateStop::NoSpace)
+            && wrote(&dev, &[])
+            && dev.length() == len as u64
+            && has(&dev, 0, len, 0xff),
+    )
 }
 
 #[test]
+fn needs_room_for_all_its_clusters(rt: HostRuntime) -> Result<(), Fail> {
+    assert!(rt; has_no_room(rt.alloc(), 1_000, 262_143)?);
+    Ok(())
+}
+
+const NAMES: [(CreateStop, &str); 2] = [
+    (CreateStop::Io { count: 7 }, "Io(7)"),
+    (CreateStop::NoSpace, "NoSpace"),
+];
+
+#[test]
 fn names_its_stops(rt: HostRuntime) -> Result<(), Fail> {
-    let alloc = rt.alloc();
-    let io = CreateStop::Io { count: 7 };
-    assert_eq!(rt; format!(in alloc; "{io}")?.as_str(), "Io(7)");
-    let room = CreateStop::NoSpace;
-    assert_eq!(rt; format!(in alloc; "{room}")?.as_str(), "NoSpace");
+    for (stop, name) in &NAMES {
+        assert!(rt; format!(in rt.alloc(); "{stop}")?.as_str() == *name);
+    }
     Ok(())
 }

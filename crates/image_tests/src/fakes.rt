@@ -3,11 +3,8 @@
 use crate::bytes::{logged, wrote};
 use blk_base::{DevFault, Device, Sink, SinkFault, Stop, Store, StoreStop, WriteStop};
 use blk_fakes::{FailAt, MemDevice, MemSink, MemStore, SureDevice, SureStore};
+use std::alloc::Global;
 use std::test::Fail;
-
-fn failing(call: u64, done: u64) -> [FailAt; 1] {
-    [FailAt { call, done }]
-}
 
 /// A call on a device, and its answer.
 #[derive(Clone, Copy)]
@@ -95,13 +92,28 @@ const DEVICES: [Row; 3] = [
     ),
 ];
 
+/// Whether a device of this capacity, or of that of its bytes, answers so, and what it holds then.
+fn goes(
+    alloc: Global,
+    device: (&[u8], u64),
+    fails: &[FailAt],
+    calls: &[Call],
+    then: &[u8],
+) -> Result<bool, Fail> {
+    let (bytes, capacity) = device;
+    let capacity = capacity.max(bytes.len() as u64);
+    let mut dev = MemDevice::new(alloc, bytes, capacity, fails, 4, 16)?;
+    Ok(first_wrong(&mut dev, calls).is_none() && dev.bytes() == then)
+}
+
 #[test]
 fn devices_in_memory(rt: HostRuntime) -> Result<(), Fail> {
     for (bytes, capacity, fails, calls, then) in &DEVICES {
-        let capacity = (*capacity).max(bytes.len() as u64);
-        let mut dev = MemDevice::new(rt.alloc(), *bytes, capacity, *fails, 4, 16)?;
-        assert_eq!(rt; first_wrong(&mut dev, *calls), None, "{capacity}");
-        assert_eq!(rt; dev.bytes(), *then, "{capacity}");
+        let device = (*bytes, *capacity);
+        assert!(rt;
+            goes(rt.alloc(), device, *fails, *calls, *then)?,
+            "{capacity}"
+        );
     }
     Ok(())
 }
@@ -115,22 +127,44 @@ const TORN: [(u64, u64, u64); 5] = [
     (5, 500, 0),
 ];
 
+const SEVENS: [u8; 1_024] = [7; 1_024];
+
+/// Whether so much is done of a write that fails, and the next goes well.
+fn is_torn(alloc: Global, wanted: u64, off: u64, done: u64) -> Result<bool, Fail> {
+    let fails = [FailAt {
+        call: 0,
+        done: wanted,
+    }];
+    let mut dev = MemDevice::new(alloc, &[], 2_048, &fails, 1, 1_024)?;
+    let failed = WriteStop {
+        done,
+        why: Stop::Failed,
+    };
+    let calls = [
+        Call::Write(off, &SEVENS, Err(failed)),
+        Call::Write(off, &SEVENS, Ok(())),
+        Call::Has(off.saturating_add(1_024), 2_048, 1),
+    ];
+    Ok(first_wrong(&mut dev, &calls).is_none())
+}
+
 #[test]
 fn a_write_is_torn_between_sectors(rt: HostRuntime) -> Result<(), Fail> {
     for (wanted, off, done) in &TORN {
-        let mut dev = MemDevice::new(rt.alloc(), &[], 2_048, &failing(0, *wanted), 1, 1_024)?;
-        let failed = WriteStop {
-            done: *done,
-            why: Stop::Failed,
-        };
-        let calls = [
-            Call::Write(*off, &[7; 1_024], Err(failed)),
-            Call::Write(*off, &[7; 1_024], Ok(())),
-            Call::Has((*off).saturating_add(1_024), 2_048, 1),
-        ];
-        assert_eq!(rt; first_wrong(&mut dev, &calls), None, "{wanted} at {off}");
+        assert!(rt;
+            is_torn(rt.alloc(), *wanted, *off, *done)?,
+            "{wanted} at {off}"
+        );
     }
     Ok(())
+}
+
+/// Whether a write of the log is this.
+fn has_logged(dev: &MemDevice, k: u64, at: u64, want: &[u8]) -> bool {
+    match logged(dev, k) {
+        Some((off, bytes)) => off == at && bytes == want,
+        None => false,
+    }
 }
 
 /// Writes of which the log keeps those that aren't empty.
@@ -143,11 +177,10 @@ const KEPT: [Call; 3] = [
 #[test]
 fn a_log_ends_past_its_room(rt: HostRuntime) -> Result<(), Fail> {
     let mut dev = MemDevice::new(rt.alloc(), &[], 64, &[], 2, 3)?;
-    assert_eq!(rt; first_wrong(&mut dev, &KEPT), None);
-    assert!(rt; wrote(&dev, &[(4, 2), (0, 1)]));
-    assert_eq!(rt; logged(&dev, 0), Some((4, b"ab".as_slice())));
+    assert!(rt; first_wrong(&mut dev, &KEPT).is_none());
+    assert!(rt; wrote(&dev, &[(4, 2), (0, 1)]) && has_logged(&dev, 0, 4, b"ab"));
     assert!(rt; answers(&mut dev, Call::Write(0, b"d", Ok(()))));
-    assert_eq!(rt; dev.logged(), None);
+    assert!(rt; dev.logged().is_none());
     Ok(())
 }
 
@@ -259,20 +292,27 @@ const SURE: [Ask; 8] = [
 
 #[test]
 fn a_store_in_memory(rt: HostRuntime) -> Result<(), Fail> {
-    let mut store = MemStore::new(rt.alloc(), 4, &failing(5, 0))?;
-    assert_eq!(rt; first_unlike(&mut store, &STORE), None);
-    assert_eq!(rt; (store.name_at(0), store.name_at(1)), (Some("a"), None));
+    let fails = [FailAt { call: 5, done: 0 }];
+    let mut store = MemStore::new(rt.alloc(), 4, &fails)?;
+    assert!(rt; first_unlike(&mut store, &STORE).is_none());
+    assert!(rt; store.name_at(0) == Some("a") && store.name_at(1).is_none());
     Ok(())
+}
+
+/// Whether a device counts so many failed calls, and has no write in its log.
+fn has_failed(dev: &MemDevice, faults: u64) -> bool {
+    dev.faults() == faults && dev.logged() == Some(0)
 }
 
 #[test]
 fn a_file_that_is_made_again_keeps_its_list(rt: HostRuntime) -> Result<(), Fail> {
     let mut store = MemStore::new(rt.alloc(), 8, &[])?;
-    let dev = MemDevice::new(rt.alloc(), b"old", 3, &failing(0, 0), 1, 1)?;
-    store.add_file("a", dev)?;
-    assert_eq!(rt; first_unlike(&mut store, &AGAIN), None);
+    let fails = [FailAt { call: 0, done: 0 }];
+    let dev = MemDevice::new(rt.alloc(), b"old", 3, &fails, 1, 1)?;
+    assert!(rt; store.add_file("a", dev).is_ok());
+    assert!(rt; first_unlike(&mut store, &AGAIN).is_none());
     let dev = store.file("a").ok_or("no file")?;
-    assert_eq!(rt; (dev.faults(), dev.logged()), (1, Some(0)));
+    assert!(rt; has_failed(dev, 1));
     Ok(())
 }
 
@@ -286,7 +326,7 @@ fn a_file_is_out_until_it_is_given_back(rt: HostRuntime) -> Result<(), Fail> {
         store.create_file("a", 3).err(),
         store.read_all("a", 16).err(),
     ];
-    assert_eq!(rt; refused, [Some(StoreStop::InUse); 3]);
+    assert!(rt; refused == [Some(StoreStop::InUse); 3]);
     assert!(rt; store.file("a").is_none());
     store.give_back("a", dev);
     assert!(rt; store.file("a").is_some());
@@ -297,11 +337,11 @@ fn a_file_is_out_until_it_is_given_back(rt: HostRuntime) -> Result<(), Fail> {
 fn the_sure_kinds_count_no_fault(rt: HostRuntime) -> Result<(), Fail> {
     let mut store = SureStore::new(rt.alloc(), 4)?;
     let dev = SureDevice::new(rt.alloc(), b"abc", 5, 2, 8)?;
-    store.add_file("a", dev)?;
-    assert_eq!(rt; first_unlike(&mut store, &SURE), None);
-    assert_eq!(rt; store.name_at(1), Some("b"));
+    assert!(rt; store.add_file("a", dev).is_ok());
+    assert!(rt; first_unlike(&mut store, &SURE).is_none());
+    assert!(rt; store.name_at(1) == Some("b"));
     let file = store.file("a").ok_or("no file")?;
-    assert_eq!(rt; logged(file, 0), Some((3, b"xy".as_slice())));
+    assert!(rt; has_logged(file, 0, 3, b"xy"));
     Ok(())
 }
 
@@ -310,23 +350,12 @@ fn the_sure_kinds_count_no_fault(rt: HostRuntime) -> Result<(), Fail> {
 fn a_sure_device(rt: HostRuntime) -> Result<(), Fail> {
     let mut dev = SureDevice::new(rt.alloc(), b"abc", 5, 2, 8)?;
     assert!(rt; answers(&mut dev, Call::Write(3, b"xy", Ok(()))));
-    assert_eq!(rt; dev.bytes(), b"abcxy".as_slice());
-    let log = match dev.logged() {
-        Some(1) => Some(dev.log_at(0)),
-        _ => None,
+    assert!(rt; dev.bytes() == b"abcxy".as_slice());
+    let is_logged = match dev.logged() {
+        Some(1) => dev.log_at(0) == (3, b"xy".as_slice()),
+        _ => false,
     };
-    assert_eq!(rt; log, Some((3, b"xy".as_slice())));
-    Ok(())
-}
-
-#[test]
-fn a_sink_sends_what_fits(rt: HostRuntime) -> Result<(), Fail> {
-    let mut out = MemSink::new(rt.alloc(), 6, &failing(1, 1))?;
-    for (bytes, answer, sent) in &SENT {
-        assert_eq!(rt; out.put(*bytes), *answer);
-        assert_eq!(rt; out.bytes(), *sent);
-    }
-    assert_eq!(rt; out.faults(), 2);
+    assert!(rt; is_logged);
     Ok(())
 }
 
@@ -336,3 +365,19 @@ const SENT: [(&[u8], Result<(), SinkFault>, &[u8]); 3] = [
     (b"de", Err(SinkFault::Failed), b"abcd"),
     (b"efg", Err(SinkFault::Failed), b"abcdef"),
 ];
+
+/// Whether a put is answered so, and all that was sent then.
+fn sends(out: &mut MemSink, bytes: &[u8], answer: Result<(), SinkFault>, sent: &[u8]) -> bool {
+    out.put(bytes) == answer && out.bytes() == sent
+}
+
+#[test]
+fn a_sink_sends_what_fits(rt: HostRuntime) -> Result<(), Fail> {
+    let fails = [FailAt { call: 1, done: 1 }];
+    let mut out = MemSink::new(rt.alloc(), 6, &fails)?;
+    for (bytes, answer, sent) in &SENT {
+        assert!(rt; sends(&mut out, *bytes, *answer, *sent));
+    }
+    assert!(rt; out.faults() == 2);
+    Ok(())
+}

@@ -75,7 +75,7 @@ fn reads_a_created_header(rt: HostRuntime) -> Result<(), Fail> {
         ext_end: 120,
         ended: true,
     };
-    assert_eq!(rt; read_header(&cluster, CREATED_LENGTH), Ok(want));
+    assert!(rt; read_header(&cluster, CREATED_LENGTH) == Ok(want));
     Ok(())
 }
 
@@ -83,23 +83,9 @@ fn reads_a_created_header(rt: HostRuntime) -> Result<(), Fail> {
 fn reads_what_qemu_writes(rt: HostRuntime) -> Result<(), Fail> {
     let cluster = edited(rt.alloc(), &QEMU_OVERLAY)?;
     let header = read_header(&cluster, 196_616).ok().ok_or("refused")?;
-    let want = (
-        Some(Place { at: 528, len: 10 }),
-        Some(Place { at: 120, len: 5 }),
-        528,
-        true,
-        1_048_576,
-    );
-    assert_eq!(rt;
-        (
-            header.name,
-            header.format,
-            header.ext_end,
-            header.ended,
-            header.size
-        ),
-        want
-    );
+    assert!(rt; header.name == Some(Place { at: 528, len: 10 }));
+    assert!(rt; header.format == Some(Place { at: 120, len: 5 }));
+    assert!(rt; header.ext_end == 528 && header.ended && header.size == 1_048_576);
     Ok(())
 }
 
@@ -116,7 +102,7 @@ fn a_second_name_goes_behind_the_first(rt: HostRuntime) -> Result<(), Fail> {
     let name: Edits = &[(14, &[0x80, 0, 0, 0, 0, 9]), (CLUSTER / 2, b"mid.qcow2")];
     let cluster = edited(rt.alloc(), name)?;
     let want = [0, 0, 0, 0, 0, 0, 0xc0, 0, 0, 0, 0, 10];
-    assert_eq!(rt; new_fields(&cluster), Some(want));
+    assert!(rt; new_fields(&cluster) == Some(want));
     Ok(())
 }
 
@@ -182,11 +168,19 @@ const ROWS: [Row; 20] = [
     (&[], 549_755_813_888, None),
 ];
 
+/// Why a created header with these bytes written over it is refused, in a file of this length.
+fn refusal(alloc: Global, edits: Edits, len: u64) -> Result<Option<HeaderStop>, Fail> {
+    let cluster = edited(alloc, edits)?;
+    match read_header(&cluster, len) {
+        Ok(_) => Ok(None),
+        Err(stop) => Ok(Some(stop)),
+    }
+}
+
 #[test]
 fn refuses_in_order(rt: HostRuntime) -> Result<(), Fail> {
     for (edits, len, stop) in &ROWS {
-        let cluster = edited(rt.alloc(), *edits)?;
-        assert_eq!(rt; read_header(&cluster, *len).err(), *stop, "{len}");
+        assert!(rt; refusal(rt.alloc(), *edits, *len)? == *stop, "{len}");
     }
     Ok(())
 }
@@ -196,41 +190,51 @@ fn passes_over_other_extensions(rt: HostRuntime) -> Result<(), Fail> {
     let edits: [(usize, &[u8]); 1] = [(112, &[0x11, 0x11, 0x11, 0x11, 0, 0, 0x80, 0])];
     let cluster = edited(rt.alloc(), &edits)?;
     let header = read_header(&cluster, CREATED_LENGTH).ok().ok_or("refused")?;
-    assert_eq!(rt; (header.ext_end, header.ended), (32_896, true));
+    assert!(rt; header.ext_end == 32_896 && header.ended);
     Ok(())
+}
+
+/// What a name and a format add.
+const NAMED: [(usize, &[u8]); 5] = [
+    (14, &[0x80, 0]),
+    (19, &[10]),
+    (112, &[0xe2, 0x79, 0x2a, 0xca, 0, 0, 0, 5]),
+    (120, b"qcow2"),
+    (32_768, b"base.qcow2"),
+];
+
+/// Whether this is the header cluster of a created image with these bytes written over it.
+fn is_edited(alloc: Global, cluster: &[u8], edits: Edits) -> Result<bool, Fail> {
+    Ok(edited(alloc, edits)?.as_slice() == cluster)
+}
+
+/// Whether these bytes stand at the beginning of a cluster of zeros.
+fn begins(cluster: &[u8], bytes: &[u8]) -> bool {
+    cluster.len() == CLUSTER
+        && cluster.starts_with(bytes)
+        && cluster.iter().skip(bytes.len()).all(|byte| *byte == 0)
 }
 
 #[test]
 fn writes_a_created_header(rt: HostRuntime) -> Result<(), Fail> {
     let mut cluster = edited(rt.alloc(), &[(500, b"old")])?;
-    assert_eq!(rt; cluster.len(), CLUSTER);
+    assert!(rt; cluster.len() == CLUSTER);
     write_header(1_048_576, None, None, &mut cluster);
-    assert_eq!(rt; cluster.as_slice(), edited(rt.alloc(), &[])?.as_slice());
+    assert!(rt; is_edited(rt.alloc(), &cluster, &[])?);
 
     write_header(1_048_576, Some("base.qcow2"), Some("qcow2"), &mut cluster);
-    let edits: [(usize, &[u8]); 5] = [
-        (14, &[0x80, 0]),
-        (19, &[10]),
-        (112, &[0xe2, 0x79, 0x2a, 0xca, 0, 0, 0, 5]),
-        (120, b"qcow2"),
-        (32_768, b"base.qcow2"),
-    ];
-    assert_eq!(rt; cluster.as_slice(), edited(rt.alloc(), &edits)?.as_slice());
+    assert!(rt; is_edited(rt.alloc(), &cluster, &NAMED)?);
     Ok(())
 }
 
 #[test]
 fn writes_created_refcounts(rt: HostRuntime) -> Result<(), Fail> {
     let mut cluster = edited(rt.alloc(), &[(500, b"old")])?;
-    let mut want = zeros(rt.alloc())?;
-    assert_eq!(rt; (cluster.len(), want.len()), (CLUSTER, CLUSTER));
+    assert!(rt; cluster.len() == CLUSTER);
     write_refcount_table(&mut cluster);
-    put(&mut want, &[(0, &[0, 0, 0, 0, 0, 2, 0, 0])]);
-    assert_eq!(rt; cluster.as_slice(), want.as_slice());
-
+    assert!(rt; begins(&cluster, &[0, 0, 0, 0, 0, 2, 0, 0]));
     write_refcount_block(&mut cluster);
-    put(&mut want, &[(0, &[0, 1, 0, 1, 0, 1, 0, 1])]);
-    assert_eq!(rt; cluster.as_slice(), want.as_slice());
+    assert!(rt; begins(&cluster, &[0, 1, 0, 1, 0, 1, 0, 1]));
     Ok(())
 }
 
@@ -251,7 +255,7 @@ const ENTRIES: [(u64, L2Entry); 10] = [
 #[test]
 fn reads_l2_entries(rt: HostRuntime) {
     for (word, entry) in &ENTRIES {
-        assert_eq!(rt; read_l2(*word), *entry, "{word}");
+        assert!(rt; read_l2(*word) == *entry, "{word}");
     }
 }
 
@@ -259,12 +263,9 @@ fn reads_l2_entries(rt: HostRuntime) {
 fn writes_l2_entries(rt: HostRuntime) {
     let host = L2Entry::Host { host: 0x50000 };
     let zero = L2Entry::Zero { host: 0x50000 };
-    let words = [
-        l2_word(L2Entry::Unallocated, false),
-        l2_word(host, true),
-        l2_word(zero, true),
-    ];
-    assert_eq!(rt; words, [0, 0x8000_0000_0005_0000, 0x8000_0000_0005_0001]);
+    assert!(rt; l2_word(L2Entry::Unallocated, false) == 0);
+    assert!(rt; l2_word(host, true) == 0x8000_0000_0005_0000);
+    assert!(rt; l2_word(zero, true) == 0x8000_0000_0005_0001);
 }
 
 const NAMES: [(HeaderStop, &str); 2] = [
@@ -275,7 +276,7 @@ const NAMES: [(HeaderStop, &str); 2] = [
 #[test]
 fn names_its_refusals(rt: HostRuntime) -> Result<(), Fail> {
     for (stop, name) in &NAMES {
-        assert_eq!(rt; format!(in rt.alloc(); "{stop}")?.as_str(), *name);
+        assert!(rt; format!(in rt.alloc(); "{stop}")?.as_str() == *name);
     }
     Ok(())
 }

@@ -3,6 +3,10 @@
 #![tactic(auto)]
 
 #[cfg(test)]
+mod images;
+#[cfg(test)]
+mod play;
+#[cfg(test)]
 mod runs;
 #[cfg(test)]
 mod writing;
