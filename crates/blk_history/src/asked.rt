@@ -6,7 +6,7 @@ use std::marker::Model;
 use trace_codec::{Await, Op};
 
 /// A request, as an entry keeps it. Contracts see the request itself.
-#[derive(Debug, Drop)]
+#[derive(Drop)]
 pub struct Asked {
     op: Op,
 }
@@ -41,7 +41,7 @@ impl Asked {
 
 /// The command of a line, as an entry keeps it; none where the line could not be read as one. Contracts see the command
 /// itself, its texts as bytes.
-#[derive(Debug, Drop)]
+#[derive(Drop)]
 pub struct Understood {
     command: Option<Command>,
 }
@@ -66,7 +66,7 @@ impl Understood {
 }
 
 /// What a line of the script waits for, as an entry keeps it. Contracts see the wait itself, its texts as bytes.
-#[derive(Debug, Drop)]
+#[derive(Drop)]
 pub struct Awaited {
     what: Await,
 }

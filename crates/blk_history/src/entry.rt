@@ -15,7 +15,7 @@ pub enum Refused {
 }
 
 /// Why a job was cancelled.
-#[derive(Clone, Copy, Debug, PartialEq, Eq)]
+#[derive(Clone, Copy)]
 pub enum Cause {
     /// A command named it.
     Command,
@@ -26,7 +26,7 @@ pub enum Cause {
 }
 
 /// How a job ended.
-#[derive(Clone, Copy, Debug, PartialEq, Eq)]
+#[derive(Clone, Copy)]
 pub enum JobEnd {
     Completed,
     /// It was told to complete, and its source's parents moved to the target.
@@ -41,7 +41,7 @@ pub enum JobEnd {
 /// stand among the bytes of the history, and empty for every other piece. `job` counts the starts of jobs from 0, and
 /// `offset` is how far the job is: the size of its source once it is ready and at an end without error, and else 0. The
 /// script is actor 0, and guest `g` is actor `g + 1`.
-#[derive(Debug, Drop)]
+#[derive(Drop)]
 pub enum Entry {
     Admit {
         guest: u32,

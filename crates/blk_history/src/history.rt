@@ -9,7 +9,7 @@ use std::marker::Model;
 use trace_codec::Op;
 
 /// Entries, and the bytes that reads gave. Room for both is taken beforehand, so that adding takes no memory.
-#[derive(Debug, Drop)]
+#[derive(Drop)]
 pub struct History {
     entries: Vec<Entry>,
     bytes: Vec<u8>,

@@ -5,7 +5,7 @@ use qmp_codec::JobKind;
 use std::marker::Model;
 
 /// A job, as a transcript prints it.
-#[derive(Debug, Drop)]
+#[derive(Drop)]
 pub struct JobName {
     id: Text,
     kind: JobKind,
@@ -50,7 +50,7 @@ impl JobName {
 }
 
 /// The guests' names, and the jobs in the order of their starts.
-#[derive(Debug, Drop)]
+#[derive(Drop)]
 pub struct Rows {
     guests: Names1,
     jobs: Vec<JobName>,

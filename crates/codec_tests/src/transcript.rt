@@ -3,27 +3,29 @@ ghost use Rattle.std.specs.Prelude.{◌≡◌, ◌<◌, [], ◌∷◌, length, c
 ghost use Rattle.qmp_codec.specs.declared.event.JobKind.{JobKind};
 ghost use Rattle.blk_history.specs.Names.{RowNames};
 ghost use Rattle.blk_history.specs.Recorded.{event_of, PointsWithin};
-ghost use Rattle.blk_history.specs.Line.{HasName};
+ghost use Rattle.blk_history.specs.Line.{At, HasName};
 
 use blk_base::{Bytes, DevNo, Names1, Outcome, Room, Span, Text};
 use blk_history::{Asked, Awaited, Entry, History, JobName, Refused, Rows, Understood};
 use qmp_codec::JobKind;
+use std::alloc::Global;
+use std::process::Abort;
 use std::test::Fail;
 use trace_codec::{Await, Op, Payload};
 
 const NOTHING: Span = Span { start: 0, len: 0 };
 
-fn names(rt: &HostRuntime) -> Result<Rows, Fail>
+fn names(alloc: Global) -> Result<Rows, Fail>
     ensures { IfOk result (λ rows. rows ≡ record {
       guests = codes "a" ∷ codes "guest2" ∷ [];
       jobs = record { id = codes "b"; kind = JobKind.Backup; size = 131072 } ∷ [];
     }) }
 {
-    let mut guests = Vec::new(rt.alloc());
-    guests.push(Text::copied(rt.alloc(), "a")?)?;
-    guests.push(Text::copied(rt.alloc(), "guest2")?)?;
-    let id = Text::copied(rt.alloc(), "b")?;
-    let mut jobs = Vec::new(rt.alloc());
+    let mut guests = Vec::new(alloc);
+    guests.push(Text::copied(alloc, "a")?)?;
+    guests.push(Text::copied(alloc, "guest2")?)?;
+    let id = Text::copied(alloc, "b")?;
+    let mut jobs = Vec::new(alloc);
     jobs.push(JobName::new(id, JobKind::Backup, 131_072))?;
     Ok(Rows::new(Names1::from_vec(guests), jobs))
 }
@@ -56,34 +58,57 @@ fn piece(k: u32, outcome: Outcome) -> Entry
     }
 }
 
-// The line of a history's only entry, where reads gave these bytes.
-fn line(rt: &HostRuntime, entry: Entry, got: &[u8]) -> Result<Text, Fail>
+// A history of one entry, where reads gave these bytes.
+fn kept(alloc: Global, entry: Entry, got: &[u8]) -> Result<History, Fail>
+    requires { PointsWithin (length got.now) entry }
+    ensures { IfOk result (λ history. history.events ≡ event_of got.now entry ∷ []) }
+{
+    let room = Room {
+        entries: 1,
+        bytes: got.len() as u64,
+    };
+    let mut history = History::with_room(alloc, room)?;
+    history.push_read(got);
+    history.push(entry);
+    Ok(history)
+}
+
+// The line of the first entry.
+fn first_line(alloc: Global, history: &History) -> Result<Text, Fail>
+    requires some { 0 < length history.now.events }
+    requires named { At history.now.events 0 (HasName (record {
+      guests = codes "a" ∷ codes "guest2" ∷ [];
+      jobs = record { id = codes "b"; kind = JobKind.Backup; size = 131072 } ∷ [];
+    })) }
+{
+    let names = names(alloc)?;
+    let mut line = Text::new(alloc);
+    history.line(0, &names, &mut line)?;
+    Ok(line)
+}
+
+// Tries the line of a history's only entry, where reads gave these bytes.
+fn says(rt: &impl Abort, alloc: Global, entry: Entry, got: &[u8], want: &str) -> Result<(), Fail>
     requires named { HasName (record {
       guests = codes "a" ∷ codes "guest2" ∷ [];
       jobs = record { id = codes "b"; kind = JobKind.Backup; size = 131072 } ∷ [];
     }) (event_of got.now entry) }
     requires within { PointsWithin (length got.now) entry }
 {
-    let room = Room {
-        entries: 1,
-        bytes: got.len() as u64,
-    };
-    let mut history = History::with_room(rt.alloc(), room)?;
-    history.push_read(got);
-    history.push(entry);
-    let mut out = Text::new(rt.alloc());
-    history.line(0, &names(rt)?, &mut out)?;
-    Ok(out)
+    let history = kept(alloc, entry, got)?;
+    let line = first_line(alloc, &history)?;
+    assert!(rt; line.as_str() == want, "{want}");
+    Ok(())
 }
 
-// The line of the admission of a request.
-fn admission(rt: &HostRuntime, op: Op) -> Result<Text, Fail> {
+// Tries the line of the admission of a request.
+fn admits(rt: &impl Abort, alloc: Global, op: Op, want: &str) -> Result<(), Fail> {
     let entry = Entry::Admit {
         guest: 0,
         request: 3,
         op: Asked::new(op),
     };
-    line(rt, entry, &[])
+    says(rt, alloc, entry, &[], want)
 }
 
 #[test]
@@ -93,38 +118,38 @@ fn lines_of_requests(rt: HostRuntime) -> Result<(), Fail> {
         request: 0,
         op: write(65_530, 12),
     };
-    assert_eq!(rt;
-        line(&rt, entry, &[])?.as_str(),
-        "admit a 0 write 65530 12\n"
-    );
+    says(&rt, rt.alloc(), entry, &[], "admit a 0 write 65530 12\n")?;
     let entry = Entry::Refuse {
         guest: 1,
         request: 7,
         op: read(1_048_576, 1),
         why: Refused::Range,
     };
-    assert_eq!(rt;
-        line(&rt, entry, &[])?.as_str(),
-        "refuse guest2 7 read 1048576 1 range\n"
-    );
+    says(
+        &rt,
+        rt.alloc(),
+        entry,
+        &[],
+        "refuse guest2 7 read 1048576 1 range\n",
+    )?;
     let entry = Entry::Refuse {
         guest: 1,
         request: 8,
         op: write(0, 2_097_152),
         why: Refused::ReadOnly,
     };
-    assert_eq!(rt;
-        line(&rt, entry, &[])?.as_str(),
-        "refuse guest2 8 write 0 2097152 readonly\n"
-    );
+    says(
+        &rt,
+        rt.alloc(),
+        entry,
+        &[],
+        "refuse guest2 8 write 0 2097152 readonly\n",
+    )?;
     let entry = Entry::Retire {
         guest: 1,
         request: 4_294_967_295,
     };
-    assert_eq!(rt;
-        line(&rt, entry, &[])?.as_str(),
-        "retire guest2 4294967295\n"
-    );
+    says(&rt, rt.alloc(), entry, &[], "retire guest2 4294967295\n")?;
     Ok(())
 }
 
@@ -135,29 +160,33 @@ fn lines_of_other_requests(rt: HostRuntime) -> Result<(), Fail> {
         len: 2,
     };
     let raw = Payload::Raw(Bytes::from_vec(vec![in rt.alloc(); 1, 2]?));
-    assert_eq!(rt;
-        admission(&rt, Op::Write(span, raw))?.as_str(),
-        "admit a 3 write 65535 2\n"
-    );
-    assert_eq!(rt;
-        admission(&rt, Op::Zero(span))?.as_str(),
-        "admit a 3 zero 65535 2\n"
-    );
-    assert_eq!(rt; admission(&rt, Op::Flush)?.as_str(), "admit a 3 flush\n");
-    assert_eq!(rt;
-        admission(&rt, Op::Discard(span))?.as_str(),
-        "admit a 3 discard 65535 2\n"
-    );
+    admits(
+        &rt,
+        rt.alloc(),
+        Op::Write(span, raw),
+        "admit a 3 write 65535 2\n",
+    )?;
+    admits(&rt, rt.alloc(), Op::Zero(span), "admit a 3 zero 65535 2\n")?;
+    admits(&rt, rt.alloc(), Op::Flush, "admit a 3 flush\n")?;
+    admits(
+        &rt,
+        rt.alloc(),
+        Op::Discard(span),
+        "admit a 3 discard 65535 2\n",
+    )?;
     let refused = Entry::Refuse {
         guest: 0,
         request: 4,
         op: Asked::new(Op::Zero(span)),
         why: Refused::ReadOnly,
     };
-    assert_eq!(rt;
-        line(&rt, refused, &[])?.as_str(),
-        "refuse a 4 zero 65535 2 readonly\n"
-    );
+    says(
+        &rt,
+        rt.alloc(),
+        refused,
+        &[],
+        "refuse a 4 zero 65535 2 readonly\n",
+    )?;
     Ok(())
 }
 
@@ -165,26 +194,29 @@ fn lines_of_other_requests(rt: HostRuntime) -> Result<(), Fail> {
 fn lines_of_pieces(rt: HostRuntime) -> Result<(), Fail> {
     let dev = DevNo(3);
     let good = piece(0, Outcome::Good);
-    assert_eq!(rt; line(&rt, good, &[])?.as_str(), "piece guest2 9 0 ok\n");
+    says(&rt, rt.alloc(), good, &[], "piece guest2 9 0 ok\n")?;
     let failed = piece(1, Outcome::Io { dev, count: 5 });
-    assert_eq!(rt;
-        line(&rt, failed, &[])?.as_str(),
-        "piece guest2 9 1 io dev3 5\n"
-    );
+    says(&rt, rt.alloc(), failed, &[], "piece guest2 9 1 io dev3 5\n")?;
     let torn = Outcome::Torn {
         done: 512,
         dev,
         count: u64::MAX,
     };
-    assert_eq!(rt;
-        line(&rt, piece(2, torn), &[])?.as_str(),
-        "piece guest2 9 2 torn 512 dev3 18446744073709551615\n"
-    );
+    says(
+        &rt,
+        rt.alloc(),
+        piece(2, torn),
+        &[],
+        "piece guest2 9 2 torn 512 dev3 18446744073709551615\n",
+    )?;
     let full = piece(3, Outcome::NoSpace { dev });
-    assert_eq!(rt;
-        line(&rt, full, &[])?.as_str(),
-        "piece guest2 9 3 nospace dev3\n"
-    );
+    says(
+        &rt,
+        rt.alloc(),
+        full,
+        &[],
+        "piece guest2 9 3 nospace dev3\n",
+    )?;
     Ok(())
 }
 
@@ -197,10 +229,13 @@ fn line_of_a_read(rt: HostRuntime) -> Result<(), Fail> {
         outcome: Outcome::Good,
         got: Span { start: 1, len: 6 },
     };
-    assert_eq!(rt;
-        line(&rt, entry, &[9, 0x55, 0x55, 0x55, 0, 0, 0xab, 9])?.as_str(),
-        "piece a 1 2 ok 55*3 00*2 ab*1\n"
-    );
+    says(
+        &rt,
+        rt.alloc(),
+        entry,
+        &[9, 0x55, 0x55, 0x55, 0, 0, 0xab, 9],
+        "piece a 1 2 ok 55*3 00*2 ab*1\n",
+    )?;
     Ok(())
 }
 
@@ -212,10 +247,7 @@ fn lines_of_the_script(rt: HostRuntime) -> Result<(), Fail> {
         command: Understood::new(None),
         text: Text::copied(rt.alloc(), "{\"return\":{}}")?,
     };
-    assert_eq!(rt;
-        line(&rt, entry, &[])?.as_str(),
-        "reply 4 {\"return\":{}}\n"
-    );
+    says(&rt, rt.alloc(), entry, &[], "reply 4 {\"return\":{}}\n")?;
     let what = Await::Guest {
         guest: 0,
         requests: 2,
@@ -224,11 +256,11 @@ fn lines_of_the_script(rt: HostRuntime) -> Result<(), Fail> {
         line: 4096,
         what: Awaited::new(what),
     };
-    assert_eq!(rt; line(&rt, entry, &[])?.as_str(), "reached 4096\n");
+    says(&rt, rt.alloc(), entry, &[], "reached 4096\n")?;
     let script = Entry::Done { actor: 0 };
-    assert_eq!(rt; line(&rt, script, &[])?.as_str(), "done script\n");
+    says(&rt, rt.alloc(), script, &[], "done script\n")?;
     let guest = Entry::Done { actor: 2 };
-    assert_eq!(rt; line(&rt, guest, &[])?.as_str(), "done guest2\n");
+    says(&rt, rt.alloc(), guest, &[], "done guest2\n")?;
     Ok(())
 }
 

@@ -3,6 +3,8 @@ use Rattle.std.proofs.Common.{◌≡◌, ℕ, ◌+◌, ◌<◌, ◌≤◌, List,
 use Rattle.std.specs.Borrow.{Bor}
 use Rattle.qmp_codec.specs.declared.row.Row.{Row}
 use Rattle.qmp_codec.specs.Tables.{named}
+use Rattle.qmp_codec.specs.declared.verb.Verb.{Verb}
+use Rattle.qmp_codec.specs.Verbs.{verb_row}
 use Rattle.std.proofs.lemmas.List.{at_drop_more, at_drop_all}
 use Rattle.serde_json.specs.Data.{no_items, item}
 use Rattle.serde_json.specs.declared.value.Value.{Value}
@@ -25,6 +27,15 @@ rows_step rows i row within is =
 
 pub rows_end : (rows : List (Row (Bor (List ℕ)))) (i : ℕ) → length rows ≤ i → map named (drop i rows) ≡ []
 rows_end rows i past = at_drop_all (map named) rows i past
+
+-- names of commands from one on
+pub verbs_step : (rows : List (Bor (List ℕ) × Verb)) (i : ℕ) (row : Bor (List ℕ) × Verb) → i < length rows → row ≡ get_or rows i row
+    → map verb_row (drop i rows) ≡ verb_row row ∷ map verb_row (drop (i + 1) rows)
+verbs_step rows i row within is =
+    at_drop_more (map verb_row) rows i row within ∙ ap (λ x. verb_row x ∷ map verb_row (drop (i + 1) rows)) (sym is)
+
+pub verbs_end : (rows : List (Bor (List ℕ) × Verb)) (i : ℕ) → length rows ≤ i → map verb_row (drop i rows) ≡ []
+verbs_end rows i past = at_drop_all (map verb_row) rows i past
 
 -- one more at the end, before what is left
 pub map_push : {A B : Type 0} → (f : A → B) (xs : List A) (x : A) (later : List B) → map f (xs ++ x ∷ []) ++ later ≡ map f xs ++ f x ∷ later

@@ -1,5 +1,6 @@
 -- The names of commands, of types of actions, and of drivers.
-use Rattle.std.specs.Prelude.{ℕ, List, codes, if◌then◌else◌, Option, Some, None}
+use Rattle.std.specs.Prelude.{ℕ, List, [], ◌∷◌, codes, if◌then◌else◌, Option, Some, None}
+use Rattle.std.specs.Borrow.{Bor}
 use Rattle.std.specs.Str.{bytes_eq}
 use Rattle.qmp_codec.specs.declared.verb.Verb.{Verb}
 use Rattle.qmp_codec.specs.declared.verb.Verb.TheVariants as verb
@@ -7,6 +8,15 @@ use Rattle.qmp_codec.specs.declared.verb.Deed.{Deed}
 use Rattle.qmp_codec.specs.declared.verb.Deed.TheVariants as deed
 use Rattle.qmp_codec.specs.declared.verb.Driver.{Driver}
 use Rattle.qmp_codec.specs.declared.verb.Driver.TheVariants as driver
+
+-- a row with its name as bytes
+abbrev pub verb_row : Bor (List ℕ) × Verb → List ℕ × Verb
+verb_row row = (row.0.now, row.1)
+
+-- the command of the first row with this name
+abbrev pub verb_among : List (List ℕ × Verb) → List ℕ → Option Verb
+verb_among [] name = None
+verb_among (row ∷ rows) name = if bytes_eq name row.0 then Some row.1 else verb_among rows name
 
 unfoldable pub verb_of : List ℕ → Option Verb
 verb_of name =

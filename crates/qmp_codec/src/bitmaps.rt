@@ -10,7 +10,7 @@ use serde_json::Value;
 use std::alloc::{AllocError, Global};
 
 /// `block-dirty-bitmap-add`.
-#[derive(Debug, Drop)]
+#[derive(Drop)]
 pub struct BitmapAdd<T = String> {
     pub node: T,
     pub name: T,
@@ -20,21 +20,21 @@ pub struct BitmapAdd<T = String> {
 }
 
 /// The bitmap of a command that names one.
-#[derive(Debug, Drop)]
+#[derive(Drop)]
 pub struct BitmapName<T = String> {
     pub node: T,
     pub name: T,
 }
 
 /// A bitmap that is merged: of the command's node, or of a node by its name.
-#[derive(Debug, Drop)]
+#[derive(Drop)]
 pub enum Source<T = String> {
     Name(T),
     Of(BitmapName<T>),
 }
 
 /// `block-dirty-bitmap-merge`: the sources, in order, are merged into the target.
-#[derive(Debug, Drop)]
+#[derive(Drop)]
 pub struct BitmapMerge<T = String, S = Vec<Source>> {
     pub node: T,
     pub target: T,

@@ -25,7 +25,7 @@ use serde_json::Value;
 use std::alloc::{AllocError, Global};
 
 /// An action of a transaction.
-#[derive(Debug, Drop)]
+#[derive(Drop)]
 pub enum Action<T = String, S = Vec<Source>> {
     Abort,
     Snapshot(Snapshot<T>),
@@ -41,14 +41,14 @@ pub enum Action<T = String, S = Vec<Source>> {
 }
 
 /// `transaction`: all actions, in order, or none.
-#[derive(Debug, Drop)]
+#[derive(Drop)]
 pub struct Transaction<A = Vec<Action>> {
     pub actions: A,
     pub completion_mode: Option<CompletionMode>,
 }
 
 /// A command with its members. Which values they may have is looked at elsewhere.
-#[derive(Debug, Drop)]
+#[derive(Drop)]
 pub enum Command<T = String, N = Vec<String>, S = Vec<Source>, A = Vec<Action>> {
     /// `qmp_capabilities`, with what is to be enabled.
     Capabilities(Option<N>),

@@ -1,10 +1,11 @@
 //! What a job tells.
 
-ghost use Rattle.std.specs.Prelude.{◌≡◌, Some, IfOk};
+ghost use Rattle.std.specs.Prelude.{◌≡◌, Some, None, IfOk, codes};
+ghost use Rattle.serde_json.specs.Data.{string, object, member};
 ghost use Rattle.serde_json.specs.Read.{read};
 ghost use Rattle.serde_json.specs.Written.{compact_text};
 ghost use Rattle.serde_json.specs.View.{view};
-ghost use Rattle.qmp_codec.specs.Events.{event_text, kind_text, job_data, timestamp, event_data};
+ghost use Rattle.qmp_codec.specs.Events.{event_text, kind_text, error_before, progress, job_data, timestamp, event_data};
 
 use crate::reply::printed;
 use blk_base::{NoMemory, Text};
@@ -12,7 +13,7 @@ use serde_json::{Value, json};
 use std::alloc::{AllocError, Global};
 
 /// What became of a job.
-#[derive(Clone, Copy, Debug, PartialEq, Eq)]
+#[derive(Clone, Copy)]
 pub enum EventName {
     /// It has nothing left to copy, and goes on.
     Ready,
@@ -34,7 +35,7 @@ impl EventName {
 }
 
 /// The kind of a job.
-#[derive(Clone, Copy, Debug, PartialEq, Eq)]
+#[derive(Clone, Copy)]
 pub enum JobKind {
     Stream,
     Commit,
@@ -57,7 +58,7 @@ impl JobKind {
 }
 
 /// What a job tells.
-#[derive(Debug, Drop)]
+#[derive(Drop)]
 pub struct Event {
     pub name: EventName,
     /// The job's id.
@@ -71,28 +72,53 @@ pub struct Event {
     pub kind: JobKind,
 }
 
-fn job_value(alloc: Global, event: &Event) -> Result<Value, AllocError>
-    ensures { IfOk result (λ v. view v ≡ job_data event.now) }
+/// What a job that failed tells of itself.
+fn failed_value(alloc: Global, event: &Event, error: &Text) -> Result<Value, AllocError>
+    ensures { IfOk result (λ v. view v ≡ object (member (codes "device") (string event.now.device.bytes)
+        (error_before (Some error.now) (progress event.now)))) }
 {
     let device = event.device.as_str();
     let kind = event.kind.name();
     let len = event.len;
     let offset = event.offset;
+    json!(in alloc; {"device": device, "error": error.as_str(), "len": len, "offset": offset, "speed": 0u64, "type": kind})
+}
+
+/// What a job that didn't fail tells of itself.
+fn sound_value(alloc: Global, event: &Event) -> Result<Value, AllocError>
+    ensures { IfOk result (λ v. view v ≡ object (member (codes "device") (string event.now.device.bytes)
+        (error_before None (progress event.now)))) }
+{
+    let device = event.device.as_str();
+    let kind = event.kind.name();
+    let len = event.len;
+    let offset = event.offset;
+    json!(in alloc; {"device": device, "len": len, "offset": offset, "speed": 0u64, "type": kind})
+}
+
+fn job_value(alloc: Global, event: &Event) -> Result<Value, AllocError>
+    ensures { IfOk result (λ v. view v ≡ job_data event.now) }
+{
     match &event.error {
-        Some(error) => {
-            json!(in alloc; {"device": device, "error": error.as_str(), "len": len, "offset": offset, "speed": 0u64, "type": kind})
-        }
-        None =>
-            json!(in alloc; {"device": device, "len": len, "offset": offset, "speed": 0u64, "type": kind}),
+        Some(error) => Ok(failed_value(alloc, event, error)?),
+        None => Ok(sound_value(alloc, event)?),
     }
+}
+
+/// The time of an event: no clock is at hand.
+fn no_time(alloc: Global) -> Result<Value, AllocError>
+    ensures { IfOk result (λ v. view v ≡ timestamp) }
+{
+    json!(in alloc; {"microseconds": -1i64, "seconds": -1i64})
 }
 
 fn event_value(alloc: Global, event: &Event) -> Result<Value, AllocError>
     ensures { IfOk result (λ v. view v ≡ event_data event.now) }
 {
     let data = job_value(alloc, event)?;
+    let time = no_time(alloc)?;
     let name = event.name.name();
-    json!(in alloc; {"data": data, "event": name, "timestamp": {"microseconds": -1i64, "seconds": -1i64}})
+    json!(in alloc; {"data": data, "event": name, "timestamp": time})
 }
 
 /// The line of an event, without an end of line: compact, members ascending. It reads back as the same value.

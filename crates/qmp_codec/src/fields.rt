@@ -11,7 +11,7 @@ use serde_json::{Number, Value};
 use std::alloc::{AllocError, Global};
 
 /// A number of a member.
-#[derive(Clone, Copy, Debug, PartialEq, Eq)]
+#[derive(Clone, Copy)]
 pub enum Amount {
     Number(u64),
     /// A number below zero, which no member accepts as a value.

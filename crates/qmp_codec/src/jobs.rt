@@ -15,7 +15,7 @@ use serde_json::Value;
 use std::alloc::{AllocError, Global};
 
 /// What every job takes.
-#[derive(Clone, Copy, Debug, PartialEq, Eq)]
+#[derive(Clone, Copy)]
 pub struct JobOptions {
     pub speed: Option<Amount>,
     pub auto_finalize: Option<bool>,
@@ -23,7 +23,7 @@ pub struct JobOptions {
 }
 
 /// `block-stream`: the base is copied into the device.
-#[derive(Debug, Drop)]
+#[derive(Drop)]
 pub struct Stream<T = String> {
     pub job_id: T,
     pub device: T,
@@ -34,7 +34,7 @@ pub struct Stream<T = String> {
 }
 
 /// `block-commit`: the top is written into the base.
-#[derive(Debug, Drop)]
+#[derive(Drop)]
 pub struct Commit<T = String> {
     pub job_id: T,
     pub device: T,
@@ -46,7 +46,7 @@ pub struct Commit<T = String> {
 }
 
 /// `blockdev-mirror`: the device is copied to the target, and kept equal.
-#[derive(Debug, Drop)]
+#[derive(Drop)]
 pub struct Mirror<T = String> {
     pub job_id: T,
     pub device: T,
@@ -59,7 +59,7 @@ pub struct Mirror<T = String> {
 }
 
 /// `blockdev-backup`: the device as it is now is copied to the target.
-#[derive(Debug, Drop)]
+#[derive(Drop)]
 pub struct Backup<T = String> {
     pub job_id: T,
     pub device: T,

@@ -18,14 +18,14 @@ use serde_json::Value;
 use std::alloc::{AllocError, Global};
 
 /// How a file is cached.
-#[derive(Clone, Copy, Debug, PartialEq, Eq)]
+#[derive(Clone, Copy)]
 pub struct Cache {
     pub direct: Option<bool>,
     pub no_flush: Option<bool>,
 }
 
 /// What every node takes.
-#[derive(Clone, Copy, Debug, PartialEq, Eq)]
+#[derive(Clone, Copy)]
 pub struct NodeOptions {
     pub read_only: Option<bool>,
     pub auto_read_only: Option<bool>,
@@ -34,7 +34,7 @@ pub struct NodeOptions {
 }
 
 /// A `file` node that is added with the node over it.
-#[derive(Debug, Drop)]
+#[derive(Drop)]
 pub struct InlineFile<T = String> {
     pub driver: Driver,
     pub filename: T,
@@ -43,21 +43,21 @@ pub struct InlineFile<T = String> {
 }
 
 /// The file under a node: a node by its name, or one that is added too.
-#[derive(Debug, Drop)]
+#[derive(Drop)]
 pub enum FileRef<T = String> {
     Name(T),
     Inline(InlineFile<T>),
 }
 
 /// The backing member of a qcow2 node: a node, or that there is none.
-#[derive(Debug, Drop)]
+#[derive(Drop)]
 pub enum Backing<T = String> {
     Null,
     Name(T),
 }
 
 /// A part of a file.
-#[derive(Debug, Drop)]
+#[derive(Drop)]
 pub struct AddRaw<T = String> {
     pub file: FileRef<T>,
     pub offset: Option<Amount>,
@@ -65,14 +65,14 @@ pub struct AddRaw<T = String> {
 }
 
 /// A qcow2 image in a file.
-#[derive(Debug, Drop)]
+#[derive(Drop)]
 pub struct AddQcow2<T = String> {
     pub file: FileRef<T>,
     pub backing: Option<Backing<T>>,
 }
 
 /// What is added, by its driver.
-#[derive(Debug, Drop)]
+#[derive(Drop)]
 pub enum Added<T = String> {
     /// A file by its name in the store.
     File(T),
@@ -85,7 +85,7 @@ pub enum Added<T = String> {
 }
 
 /// `blockdev-add`.
-#[derive(Debug, Drop)]
+#[derive(Drop)]
 pub struct BlockdevAdd<T = String> {
     pub node_name: T,
     pub options: NodeOptions,
@@ -93,14 +93,14 @@ pub struct BlockdevAdd<T = String> {
 }
 
 /// A file of the store to be created.
-#[derive(Debug, Drop)]
+#[derive(Drop)]
 pub struct CreateFile<T = String> {
     pub filename: T,
     pub size: Amount,
 }
 
 /// A file node to be formatted.
-#[derive(Debug, Drop)]
+#[derive(Drop)]
 pub struct CreateQcow2<T = String> {
     pub file: T,
     pub size: Amount,
@@ -112,7 +112,7 @@ pub struct CreateQcow2<T = String> {
 }
 
 /// What is created, by its driver.
-#[derive(Debug, Drop)]
+#[derive(Drop)]
 pub enum Created<T = String> {
     File(CreateFile<T>),
     Qcow2(CreateQcow2<T>),
@@ -121,21 +121,21 @@ pub enum Created<T = String> {
 }
 
 /// `blockdev-create`.
-#[derive(Debug, Drop)]
+#[derive(Drop)]
 pub struct BlockdevCreate<T = String> {
     pub job_id: T,
     pub options: Created<T>,
 }
 
 /// `blockdev-snapshot`: the overlay is put over the node.
-#[derive(Debug, Drop)]
+#[derive(Drop)]
 pub struct Snapshot<T = String> {
     pub node: T,
     pub overlay: T,
 }
 
 /// `device_add`. The last five members change nothing.
-#[derive(Debug, Drop)]
+#[derive(Drop)]
 pub struct DeviceAdd<T = String> {
     pub driver: DeviceDriver,
     pub id: T,

@@ -5,14 +5,14 @@ ghost use Rattle.serde_json.specs.Data.{depth};
 ghost use Rattle.serde_json.specs.Read.{read, max_depth};
 ghost use Rattle.serde_json.specs.Written.{has_float, compact_text};
 ghost use Rattle.serde_json.specs.View.{view};
-ghost use Rattle.qmp_codec.specs.Replies.{class_text, returned_data, refused_data, reply_data};
+ghost use Rattle.qmp_codec.specs.Replies.{class_text, returned_data, error_data, refused_data, reply_data};
 
 use blk_base::{NoMemory, Text};
 use serde_json::{Value, json};
 use std::alloc::{AllocError, Global};
 
 /// The class of a refusal.
-#[derive(Clone, Copy, Debug, PartialEq, Eq)]
+#[derive(Clone, Copy)]
 pub enum Class {
     GenericError,
     CommandNotFound,
@@ -35,7 +35,7 @@ impl Class {
 }
 
 /// The answer to a command.
-#[derive(Debug, Drop)]
+#[derive(Drop)]
 pub enum Reply {
     /// The command was carried out, with this result.
     Return(Value),
@@ -52,12 +52,19 @@ fn returned(alloc: Global, id: Option<&Value>, value: &Value) -> Result<Value, A
     }
 }
 
+fn error_value(alloc: Global, class: Class, desc: &str) -> Result<Value, AllocError>
+    ensures { IfOk result (λ v. view v ≡ error_data class desc.now) }
+{
+    json!(in alloc; {"class": class.name(), "desc": desc})
+}
+
 fn refused(alloc: Global, id: Option<&Value>, class: Class, desc: &str) -> Result<Value, AllocError>
     ensures { IfOk result (λ v. view v ≡ refused_data (option_map (λ w. view w.now) id.entry) class desc.now) }
 {
+    let error = error_value(alloc, class, desc)?;
     match id {
-        Some(id) => json!(in alloc; {"error": {"class": class.name(), "desc": desc}, "id": id}),
-        None => json!(in alloc; {"error": {"class": class.name(), "desc": desc}}),
+        Some(id) => json!(in alloc; {"error": error, "id": id}),
+        None => json!(in alloc; {"error": error}),
     }
 }
 

@@ -26,7 +26,6 @@ pub(crate) enum Kind {
 }
 
 /// A member by its name: one that an object needs, or one that it may have.
-#[derive(Clone, Copy)]
 pub(crate) enum Row<N> {
     Needs(N, Kind),
     Takes(N, Kind),

@@ -1,7 +1,7 @@
 //! The words that say which table holds: commands, types of actions, drivers.
 
-ghost use Rattle.std.specs.Prelude.{◌≡◌};
-ghost use Rattle.qmp_codec.specs.Verbs.{verb_of, deed_of, driver_of};
+ghost use Rattle.std.specs.Prelude.{◌≡◌, map};
+ghost use Rattle.qmp_codec.specs.Verbs.{verb_row, verb_among, verb_of, deed_of, driver_of};
 
 /// A command by its name.
 #[derive(Clone, Copy)]
@@ -47,7 +47,7 @@ pub(crate) enum Deed {
 }
 
 /// A driver of nodes.
-#[derive(Clone, Copy, Debug, PartialEq, Eq)]
+#[derive(Clone, Copy)]
 pub enum Driver {
     File,
     Raw,
@@ -56,37 +56,51 @@ pub enum Driver {
     Unknown,
 }
 
+static VERBS: [(&'static str, Verb); 23] = [
+    ("qmp_capabilities", Verb::Capabilities),
+    ("blockdev-create", Verb::Create),
+    ("job-dismiss", Verb::JobDismiss),
+    ("blockdev-add", Verb::Add),
+    ("blockdev-del", Verb::Del),
+    ("device_add", Verb::DeviceAdd),
+    ("device_del", Verb::DeviceDel),
+    ("blockdev-snapshot", Verb::Snapshot),
+    ("transaction", Verb::Transaction),
+    ("block-stream", Verb::Stream),
+    ("block-commit", Verb::Commit),
+    ("blockdev-mirror", Verb::Mirror),
+    ("blockdev-backup", Verb::Backup),
+    ("block-job-cancel", Verb::JobCancel),
+    ("block-job-complete", Verb::JobComplete),
+    ("query-block-jobs", Verb::ListJobs),
+    ("query-named-block-nodes", Verb::ListNodes),
+    ("block-dirty-bitmap-add", Verb::BitmapAdd),
+    ("block-dirty-bitmap-remove", Verb::BitmapRemove),
+    ("block-dirty-bitmap-clear", Verb::BitmapClear),
+    ("block-dirty-bitmap-enable", Verb::BitmapEnable),
+    ("block-dirty-bitmap-disable", Verb::BitmapDisable),
+    ("block-dirty-bitmap-merge", Verb::BitmapMerge),
+];
+
+/// The command of the first row with this name.
+#[tactic(auto, using(crate::proofs::Items::verbs_step, crate::proofs::Items::verbs_end))]
+fn verb_among(rows: &[(&'static str, Verb)], name: &str) -> Option<Verb>
+    ensures { result ≡ verb_among (map verb_row rows.now) name.now }
+{
+    for (known, verb) in rows {
+        if name == *known {
+            return Some(*verb);
+        }
+    }
+    None
+}
+
 /// The command of a name.
 #[tactic(auto, unfolding(crate::specs::Verbs::verb_of))]
 pub(crate) fn named_verb(name: &str) -> Option<Verb>
     ensures { result ≡ verb_of name.now }
 {
-    match name {
-        "qmp_capabilities" => Some(Verb::Capabilities),
-        "blockdev-create" => Some(Verb::Create),
-        "job-dismiss" => Some(Verb::JobDismiss),
-        "blockdev-add" => Some(Verb::Add),
-        "blockdev-del" => Some(Verb::Del),
-        "device_add" => Some(Verb::DeviceAdd),
-        "device_del" => Some(Verb::DeviceDel),
-        "blockdev-snapshot" => Some(Verb::Snapshot),
-        "transaction" => Some(Verb::Transaction),
-        "block-stream" => Some(Verb::Stream),
-        "block-commit" => Some(Verb::Commit),
-        "blockdev-mirror" => Some(Verb::Mirror),
-        "blockdev-backup" => Some(Verb::Backup),
-        "block-job-cancel" => Some(Verb::JobCancel),
-        "block-job-complete" => Some(Verb::JobComplete),
-        "query-block-jobs" => Some(Verb::ListJobs),
-        "query-named-block-nodes" => Some(Verb::ListNodes),
-        "block-dirty-bitmap-add" => Some(Verb::BitmapAdd),
-        "block-dirty-bitmap-remove" => Some(Verb::BitmapRemove),
-        "block-dirty-bitmap-clear" => Some(Verb::BitmapClear),
-        "block-dirty-bitmap-enable" => Some(Verb::BitmapEnable),
-        "block-dirty-bitmap-disable" => Some(Verb::BitmapDisable),
-        "block-dirty-bitmap-merge" => Some(Verb::BitmapMerge),
-        _ => None,
-    }
+    verb_among(&VERBS, name)
 }
 
 /// The action of a type.

@@ -4,14 +4,14 @@ ghost use Rattle.std.specs.Prelude.{◌≡◌};
 ghost use Rattle.qmp_codec.specs.Words.{on_error_of, sync_of, copy_mode_of, bitmap_mode_of, discard_of, completion_mode_of, image_format_of, version_of, device_driver_of, sharing_of};
 
 /// What a job does after an error.
-#[derive(Clone, Copy, Debug, PartialEq, Eq)]
+#[derive(Clone, Copy)]
 pub enum OnError {
     Report,
     Unknown,
 }
 
 /// What a mirror or backup copies.
-#[derive(Clone, Copy, Debug, PartialEq, Eq)]
+#[derive(Clone, Copy)]
 pub enum Sync {
     Full,
     Incremental,
@@ -20,14 +20,14 @@ pub enum Sync {
 }
 
 /// When a mirror copies.
-#[derive(Clone, Copy, Debug, PartialEq, Eq)]
+#[derive(Clone, Copy)]
 pub enum CopyMode {
     Background,
     Unknown,
 }
 
 /// When a backup takes what it copied out of its bitmap.
-#[derive(Clone, Copy, Debug, PartialEq, Eq)]
+#[derive(Clone, Copy)]
 pub enum BitmapMode {
     OnSuccess,
     Never,
@@ -35,7 +35,7 @@ pub enum BitmapMode {
 }
 
 /// What becomes of discards.
-#[derive(Clone, Copy, Debug, PartialEq, Eq)]
+#[derive(Clone, Copy)]
 pub enum Discard {
     Ignore,
     Unmap,
@@ -43,7 +43,7 @@ pub enum Discard {
 }
 
 /// Whether the jobs of a transaction end together.
-#[derive(Clone, Copy, Debug, PartialEq, Eq)]
+#[derive(Clone, Copy)]
 pub enum CompletionMode {
     Individual,
     Grouped,
@@ -51,7 +51,7 @@ pub enum CompletionMode {
 }
 
 /// The format of a backing file.
-#[derive(Clone, Copy, Debug, PartialEq, Eq)]
+#[derive(Clone, Copy)]
 pub enum ImageFormat {
     Raw,
     Qcow2,
@@ -59,14 +59,14 @@ pub enum ImageFormat {
 }
 
 /// The version of a qcow2 image.
-#[derive(Clone, Copy, Debug, PartialEq, Eq)]
+#[derive(Clone, Copy)]
 pub enum Version {
     V3,
     Unknown,
 }
 
 /// The device that a guest sees.
-#[derive(Clone, Copy, Debug, PartialEq, Eq)]
+#[derive(Clone, Copy)]
 pub enum DeviceDriver {
     VirtioBlk,
     VirtioBlkPci,
@@ -76,7 +76,7 @@ pub enum DeviceDriver {
 }
 
 /// Whether a device lets others write to its drive.
-#[derive(Clone, Copy, Debug, PartialEq, Eq)]
+#[derive(Clone, Copy)]
 pub enum Sharing {
     On,
     Off,

@@ -3,42 +3,42 @@
 pub(super) static LINES: &[(&str, &str, &str)] = &[
     (
         "{\"execute\":\"query-block-jobs\"}",
-        "QueryBlockJobs",
+        "query-block-jobs",
         "none",
     ),
     (
         " \t{\"execute\" : \"query-block-jobs\" } \r\n",
-        "QueryBlockJobs",
+        "query-block-jobs",
         "none",
     ),
     (
         "{\"execute\":\"query-block-jobs\",\"id\":5}",
-        "QueryBlockJobs",
+        "query-block-jobs",
         "5",
     ),
     (
         "{\"id\":{\"b\":[1,null],\"a\":\"x\"},\"execute\":\"query-block-jobs\"}",
-        "QueryBlockJobs",
+        "query-block-jobs",
         "{\"a\":\"x\",\"b\":[1,null]}",
     ),
     (
         "{\"execute\":\"query-block-jobs\",\"id\":null}",
-        "QueryBlockJobs",
+        "query-block-jobs",
         "null",
     ),
     (
         "{\"execute\":\"query-block-jobs\",\"id\":-1}",
-        "QueryBlockJobs",
+        "query-block-jobs",
         "-1",
     ),
     (
         "{\"execute\":\"query-block-jobs\",\"id\":9223372036854775808}",
-        "QueryBlockJobs",
+        "query-block-jobs",
         "9223372036854775808",
     ),
     (
         "{\"execute\":\"query-block-jobs\",\"id\":18446744073709551615}",
-        "QueryBlockJobs",
+        "query-block-jobs",
         "18446744073709551615",
     ),
     (
@@ -78,7 +78,7 @@ pub(super) static LINES: &[(&str, &str, &str)] = &[
     ),
     (
         "{\"execute\":\"query-block-jobs\",\"arguments\":{}}",
-        "QueryBlockJobs",
+        "query-block-jobs",
         "none",
     ),
     (
@@ -133,7 +133,7 @@ pub(super) static LINES: &[(&str, &str, &str)] = &[
     ),
     (
         "{\"execute\":\"blockdev-del\",\"arguments\":{\"node-name\":1,\"node-name\":\"n\"}}",
-        "BlockdevDel(\"n\")",
+        "blockdev-del node-name=n",
         "none",
     ),
     (
@@ -143,7 +143,7 @@ pub(super) static LINES: &[(&str, &str, &str)] = &[
     ),
     (
         "{\"execute\":\"quit\",\"execute\":\"query-block-jobs\"}",
-        "QueryBlockJobs",
+        "query-block-jobs",
         "none",
     ),
     (
@@ -153,12 +153,12 @@ pub(super) static LINES: &[(&str, &str, &str)] = &[
     ),
     (
         "{\"exec\\u0075te\":\"query\\u002dblock-jobs\"}",
-        "QueryBlockJobs",
+        "query-block-jobs",
         "none",
     ),
     (
         "{\"execute\":\"job-dismiss\",\"arguments\":{\"\\u0069d\":\"\\u00e9\\ud83d\\ude00\\n\"}}",
-        "JobDismiss(\"é😀\\n\")",
+        "job-dismiss id=é😀\n",
         "none",
     ),
     (
@@ -256,22 +256,22 @@ pub(super) static LINES: &[(&str, &str, &str)] = &[
     ),
     (
         "{\"execute\":\"qmp_capabilities\"}",
-        "Capabilities(None)",
+        "qmp_capabilities",
         "none",
     ),
     (
         "{\"execute\":\"blockdev-snapshot\",\"arguments\":{\"node\":\"base\",\"overlay\":\"ov\"}}",
-        "BlockdevSnapshot(Snapshot { node: \"base\", overlay: \"ov\" })",
+        "blockdev-snapshot node=base overlay=ov",
         "none",
     ),
     (
         "{\"execute\":\"blockdev-add\",\"arguments\":{\"driver\":\"qcow2\",\"node-name\":\"ov\",\"file\":\"ovfile\",\"backing\":null}}",
-        "BlockdevAdd(BlockdevAdd { node_name: \"ov\", options: NodeOptions { read_only: None, auto_read_only: None, discard: None, cache: None }, driver: Qcow2(AddQcow2 { file: Name(\"ovfile\"), backing: Some(Null) }) })",
+        "blockdev-add node-name=ov driver=qcow2 file=ovfile backing",
         "none",
     ),
     (
         "{\"execute\":\"blockdev-add\",\"arguments\":{\"driver\":\"qcow2\",\"node-name\":\"base\",\"file\":{\"driver\":\"file\",\"filename\":\"base.qcow2\"}}}",
-        "BlockdevAdd(BlockdevAdd { node_name: \"base\", options: NodeOptions { read_only: None, auto_read_only: None, discard: None, cache: None }, driver: Qcow2(AddQcow2 { file: Inline(InlineFile { driver: File, filename: \"base.qcow2\", node_name: None, options: NodeOptions { read_only: None, auto_read_only: None, discard: None, cache: None } }), backing: None }) })",
+        "blockdev-add node-name=base driver=qcow2 file={ driver=file filename=base.qcow2}",
         "none",
     ),
 ];

@@ -1,7 +1,7 @@
 //! Commands with arguments that are refused, and why.
 
-/// On nodes and devices.
-pub(super) static NODES: &[&str] = &[
+pub(super) static ROWS: &[&str] = &[
+    // On nodes and devices.
     r#"qmp_capabilities {"enable":{}} => BadType(enable)"#,
     r#"qmp_capabilities {"enable":[1]} => BadType(enable)"#,
     r#"qmp_capabilities {"enable":["oob",null]} => BadType(enable)"#,
@@ -59,10 +59,7 @@ pub(super) static NODES: &[&str] = &[
     r#"blockdev-snapshot {"node":1,"overlay":2} => BadType(node)"#,
     r#"blockdev-snapshot {"node":"n","overlay":2} => BadType(overlay)"#,
     r#"blockdev-snapshot {"node":1,"overlay":2,"z":1} => Unexpected(z)"#,
-];
-
-/// Nodes that are added.
-pub(super) static ADDED: &[&str] = &[
+    // Nodes that are added.
     r#"blockdev-add {} => Missing(driver)"#,
     r#"blockdev-add {"node-name":"n"} => Missing(driver)"#,
     r#"blockdev-add {"driver":"file"} => Missing(node-name)"#,
@@ -103,10 +100,7 @@ pub(super) static ADDED: &[&str] = &[
     r#"blockdev-add {"driver":"raw","node-name":"n","file":{"driver":"file","filename":"f","cache":[]}} => BadType(cache)"#,
     r#"blockdev-add {"driver":"qcow2","node-name":"n","file":"f","backing":true} => BadType(backing)"#,
     r#"blockdev-add {"driver":"copy-on-read","node-name":"n","file":{"driver":"file","filename":"f"}} => BadType(file)"#,
-];
-
-/// Transactions.
-pub(super) static ACTIONS: &[&str] = &[
+    // Transactions.
     r#"transaction {} => Missing(actions)"#,
     r#"transaction {"actions":[{}]} => Missing(type)"#,
     r#"transaction {"actions":[{"type":"abort"}]} => Missing(data)"#,
@@ -133,10 +127,7 @@ pub(super) static ACTIONS: &[&str] = &[
     r#"transaction {"actions":[{"type":"abort","data":1}],"properties":1} => BadType(data)"#,
     r#"transaction {"actions":[{"type":"block-dirty-bitmap-merge","data":{"node":"n","target":"t","bitmaps":[{"node":"n"}]}}]} => Missing(name)"#,
     r#"transaction {"actions":[{"type":"block-dirty-bitmap-merge","data":{"node":"n","target":"t","bitmaps":[{"node":"n","name":1.5}]}}]} => BadType(name)"#,
-];
-
-/// On jobs, and names of no command.
-pub(super) static JOBS: &[&str] = &[
+    // On jobs, and names of no command.
     r#"block-stream {} => Missing(job-id)"#,
     r#"block-stream {"job-id":"j"} => Missing(device)"#,
     r#"block-stream {"job-id":"j","device":"d","base":"b"} => Unexpected(base)"#,
@@ -182,10 +173,7 @@ pub(super) static JOBS: &[&str] = &[
     r#"block_stream {} => UnknownCommand(block_stream)"#,
     r#"Block-stream {} => UnknownCommand(Block-stream)"#,
     r#"quit {"any":1.5} => UnknownCommand(quit)"#,
-];
-
-/// On bitmaps.
-pub(super) static BITMAPS: &[&str] = &[
+    // On bitmaps.
     r#"block-dirty-bitmap-add {"name":"b"} => Missing(node)"#,
     r#"block-dirty-bitmap-add {"node":"n"} => Missing(name)"#,
     r#"block-dirty-bitmap-add {"node":"n","name":"b","bitmap":"b"} => Unexpected(bitmap)"#,
