@@ -2,9 +2,10 @@
 
 use crate::told::Look;
 use qmp_codec::Amount;
+use std::alloc::AllocError;
 
 /// The drivers that a command takes at some place.
-#[derive(Clone, Copy, Debug, PartialEq, Eq)]
+#[derive(Clone, Copy)]
 pub enum Drivers {
     File,
     Qcow2,
@@ -13,7 +14,7 @@ pub enum Drivers {
 }
 
 /// The nodes of a job, by the names that its command gives.
-#[derive(Clone, Copy)]
+#[derive(Copy)]
 pub enum JobNodes<T> {
     Stream {
         device: T,
@@ -31,8 +32,20 @@ pub enum JobNodes<T> {
     },
 }
 
+impl<T: Copy> Clone for JobNodes<T> {
+    ghost use Rattle.std.specs.Prelude.{◌≡◌, ⊤};
+
+    ghost is_clone = { λ nodes copy. copy ≡ nodes };
+
+    ghost is_infallible = { λ _. ⊤ };
+
+    fn clone(&self) -> Result<Self, AllocError> {
+        Ok(*self)
+    }
+}
+
 /// One thing that a command asks. An absent name asks nothing.
-#[derive(Clone, Copy)]
+#[derive(Copy)]
 pub enum Ask<T> {
     /// The value of the member is accepted.
     Good {
@@ -160,4 +173,16 @@ pub enum Ask<T> {
     JobReady(T),
     /// The action is none that aborts.
     Abort,
+}
+
+impl<T: Copy> Clone for Ask<T> {
+    ghost use Rattle.std.specs.Prelude.{◌≡◌, ⊤};
+
+    ghost is_clone = { λ asking copy. copy ≡ asking };
+
+    ghost is_infallible = { λ _. ⊤ };
+
+    fn clone(&self) -> Result<Self, AllocError> {
+        Ok(*self)
+    }
 }

@@ -7,7 +7,7 @@ use q2_image::ImageStop;
 use std::alloc::AllocError;
 
 /// What there can be too many of.
-#[derive(Clone, Copy, Debug, PartialEq, Eq)]
+#[derive(Clone, Copy)]
 pub enum Crowd {
     Nodes,
     Devices,
@@ -16,7 +16,7 @@ pub enum Crowd {
 }
 
 /// What is wrong with a file of the store.
-#[derive(Clone, Copy, Debug, PartialEq, Eq)]
+#[derive(Clone, Copy)]
 pub enum FileFault {
     Absent,
     InUse,

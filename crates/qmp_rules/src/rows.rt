@@ -136,7 +136,7 @@ impl NodeList {
 }
 
 /// What a job was asked, of what it still has to follow.
-#[derive(Clone, Copy, Debug, PartialEq, Eq)]
+#[derive(Clone, Copy)]
 pub enum Asked {
     Nothing,
     /// To complete.
@@ -171,7 +171,7 @@ impl Clone for UsedBitmap {
 }
 
 /// What an end of a commit makes read-only again.
-#[derive(Clone, Copy, Debug, PartialEq, Eq)]
+#[derive(Clone, Copy)]
 pub struct MadeWritable {
     pub base: bool,
     pub file: bool,
@@ -260,7 +260,7 @@ impl Clone for BitmapRow {
 }
 
 /// What became of a file. One without a row is as it was found.
-#[derive(Clone, Copy, Debug, PartialEq, Eq)]
+#[derive(Clone, Copy)]
 pub enum FileState {
     /// Zeros of a length that was said.
     Made,
