@@ -269,11 +269,11 @@ unopened_over file devices at d y (Err stop) place risen is = record {
 }
 
 -- a call of the image on one of the devices
-pub called_over : (file : ℕ) (devices : List DeviceState) (at : ℕ) (d y : DeviceState) (fits : ℕ → Type 0) (own : Option ℕ) (image now : Known) (place : ℕ)
-    (bytes : List ℕ) (outcome : Outcome) → position (is_of file) devices ≡ Some at
-    → IsImageCall (fits (get_or devices at d).capacity) own (get_or devices at d) y image now place bytes outcome
-    → IsImageCallAt file fits own devices (set devices at y) image now place bytes outcome
-called_over file devices at d y fits own image now place bytes outcome is call = record {
+pub called_over : (file : ℕ) (devices : List DeviceState) (at : ℕ) (d y : DeviceState) (fits : ℕ → Type 0) (own : Option ℕ) (made : ℕ → ℕ → Type 0)
+    (image now : Known) (place : ℕ) (bytes : List ℕ) (outcome : Outcome) → position (is_of file) devices ≡ Some at
+    → IsImageCall (fits (get_or devices at d).capacity) own made (get_or devices at d) y image now place bytes outcome
+    → IsImageCallAt file fits own made devices (set devices at y) image now place bytes outcome
+called_over file devices at d y fits own made image now place bytes outcome is call = record {
   before = get_or devices at d;
   after = y;
   held = at_place file devices at d is;

@@ -1,5 +1,5 @@
 -- What a call of an image leaves of its device, by how it went.
-use Rattle.std.proofs.Common.{◌≡◌, ◌≢◌, ℕ, ◌+◌, ◌*◌, ◌/◌, ◌%◌, ◌<◌, ◌≤◌, ◌⊎◌, Bool, true, false, List, [], ◌∷◌, length, take, get_or, replicate, Option, Some, None, Result, Ok, Err, refl, sym, ◌∙◌, ap, subst, arith, inl, inr}
+use Rattle.std.proofs.Common.{◌≡◌, ◌≢◌, ℕ, ◌+◌, ◌*◌, ◌/◌, ◌%◌, ◌<◌, ◌≤◌, ◌⊎◌, Bool, false, List, [], ◌∷◌, take, get_or, replicate, Option, Some, Result, Ok, Err, refl, sym, ◌∙◌, ap, subst, arith, inl, inr}
 use Rattle.std.specs.Prelude.{option_map, OnOk, OnErr}
 use Rattle.std.proofs.lemmas.Bool.{cases_lt, cases_eq, eq-eqb, ne_eqb}
 use Rattle.std.proofs.lemmas.List.{length-replicate, get_or-replicate, get_or_past}
@@ -13,6 +13,8 @@ use Rattle.blk_base.specs.declared.device.Stop.TheVariants as why
 use Rattle.blk_base.specs.declared.device.WriteStop.{WriteStop}
 use Rattle.blk_base.specs.declared.fault.DevStop.{DevStop}
 use Rattle.blk_base.specs.declared.fault.DevStop.TheVariants as stops
+use Rattle.blk_base.specs.declared.fault.Outcome.{Outcome}
+use Rattle.blk_base.specs.declared.fault.Outcome.TheVariants.{Good, Torn, Io, NoSpace}
 use Rattle.q2_format.specs.Sizes.{cluster_size, clusters_for}
 use Rattle.q2_format.specs.declared.header.Header.{Header}
 use Rattle.q2_format.specs.Entry.{l2_entry}
@@ -21,8 +23,9 @@ use Rattle.q2_format.specs.declared.entries.L2Entry.TheVariants.{Unallocated, Ze
 use Rattle.q2_image.specs.Image.{Known, clusters_in, word_in, entry_in}
 use Rattle.q2_image.specs.Reading.{IsHost}
 use Rattle.q2_image.specs.Made.{WriteStep, WroteOwn, ChangesImage, own_writes}
-use Rattle.q2_image.specs.Writing.{IsDiskWith, IsSameDisk, HasHeaderOf, HasEntriesBut, CanTake, AreClusterZeros, ZeroFits, IsOwnStop, autocleared, autoclear_end, needs_table, table_for}
+use Rattle.q2_image.specs.Writing.{IsDiskWith, IsSameDisk, HasHeaderOf, HasEntriesBut, CanTake, AreClusterZeros, ZeroFits, IsOwnStop, autocleared, autoclear_end, table_for}
 use Rattle.q2_tables.specs.Linking.{link_end}
+use Rattle.blk_nodes.specs.Entries.{Stays, IsEntryAfter}
 use Rattle.blk_nodes.specs.Nodes.{DeviceState}
 use Rattle.blk_nodes.specs.Reading.{StoppedBy}
 use Rattle.blk_nodes.specs.Writing.{taken_by, write_outcome, cluster_outcome, StaysMapped, HasImageCause}
@@ -141,14 +144,24 @@ pub own_header : (old new : Known) → (new ≡ old) ⊎ (new ≡ autocleared ol
 own_header old new (inl same) = ap (λ (k : Known). (autocleared k).header) same
 own_header old new (inr same) = ap (λ (k : Known). (autocleared k).header) same
 
+pub own_word : (old new : Known) (cluster : ℕ) → (new ≡ old) ⊎ (new ≡ autocleared old) → word_in new cluster ≡ word_in old cluster
+own_word old new cluster (inl same) = ap (λ (k : Known). get_or k.tables.words cluster 0) same
+own_word old new cluster (inr same) = ap (λ (k : Known). get_or k.tables.words cluster 0) same
+
 pub own_entries : (old new : Known) (but : ℕ) → (new ≡ old) ⊎ (new ≡ autocleared old) → HasEntriesBut old new but
-own_entries old new but (inl same) cluster apart = ap (λ (k : Known). get_or k.tables.words cluster 0) same
-own_entries old new but (inr same) cluster apart = ap (λ (k : Known). get_or k.tables.words cluster 0) same
+own_entries old new but is cluster apart = own_word old new cluster is
+
+-- an entry that stays does so however the write went
+pub stays_after : (o : Outcome) (old new : ℕ) → new ≡ old → IsEntryAfter Stays o old new
+stays_after Good old new is = is
+stays_after (Torn done dev count) old new is = is
+stays_after (Io dev count) old new is = is
+stays_after (NoSpace dev) old new is = is
 
 -- clusters that have entries keep some
 pub own_mapped : (old new : Known) → (new ≡ old) ⊎ (new ≡ autocleared old) → StaysMapped old new
 own_mapped old new is cluster mapped none =
-    mapped (sym (ap l2_entry (own_entries old new (cluster + 1) is cluster (λ same. omega arith))) ∙ none)
+    mapped (sym (ap l2_entry (own_word old new cluster is)) ∙ none)
 
 pub host_mapped : (entry : L2Entry) → IsHost entry → entry ≢ Unallocated
 host_mapped Unallocated is = absurd is
@@ -172,6 +185,21 @@ cluster_mapped r old new cluster others made kept other mapped none = elim (case
         → entry_in old cluster ≢ Unallocated → entry_in new cluster ≡ Unallocated → ⊥
     at_cluster (Ok done) made kept was gone = made gone
     at_cluster (Err stop) made kept was gone = was (sym (ap l2_entry kept) ∙ gone)
+
+-- the entry of a cluster of which the whole was written, by how that went
+pub cluster_entry : (device : DeviceState) (made : ℕ → ℕ → Type 0) (r : Result (Unit {0}) DevStop) (old new : Known) (cluster : ℕ) (o : Outcome) → o ≡ cluster_outcome device r
+    → OnOk r (made (word_in old cluster) (word_in new cluster)) → OnErr r (word_in new cluster ≡ word_in old cluster)
+    → IsEntryAfter made o (word_in old (cluster * 65536 / 65536)) (word_in new (cluster * 65536 / 65536))
+cluster_entry device made r old new cluster o is ok kept =
+    let here : cluster * 65536 / 65536 ≡ cluster = omega arith in
+    subst (λ (k : ℕ). IsEntryAfter made o (word_in old k) (word_in new k)) (sym here)
+    (subst (λ (o : Outcome). IsEntryAfter made o (word_in old cluster) (word_in new cluster)) (sym is) (by r ok kept))
+  where
+    by : (r : Result (Unit {0}) DevStop) → OnOk r (made (word_in old cluster) (word_in new cluster)) → OnErr r (word_in new cluster ≡ word_in old cluster)
+        → IsEntryAfter made (cluster_outcome device r) (word_in old cluster) (word_in new cluster)
+    by (Ok done) ok kept = ok
+    by (Err (stops.Io count)) ok kept = kept
+    by (Err stops.NoSpace) ok kept = kept
 
 pub stop_flushed : {D : Type 0} (g : Ghosts D) (old new : Known) (span : Extent) (bytes : List ℕ) (before now : D) (w : Stop)
     → (w ≡ why.Failed → WroteOwn g old new span bytes before now) → (w ≡ why.NoSpace → g.is_flushed now ≡ g.is_flushed before)

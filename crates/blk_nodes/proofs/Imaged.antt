@@ -1,23 +1,23 @@
 -- What a piece that is written to an image leaves of all nodes.
-use Rattle.std.proofs.Common.{◌≡◌, ◌≢◌, ℕ, ◌+◌, ◌-◌, ◌%◌, ◌<◌, ◌≤◌, min, true, List, [], ◌++◌, length, take, drop, replicate, map, get_or, Option, Some, None, refl, sym, ◌∙◌, ap, subst, arith, inl, inr}
+use Rattle.std.proofs.Common.{◌≡◌, ◌≢◌, ℕ, ◌+◌, ◌-◌, ◌/◌, ◌%◌, ◌≤◌, min, true, List, [], ◌++◌, length, take, drop, replicate, Option, Some, None, refl, sym, ◌∙◌, ap, subst, arith, inl, inr}
 use Rattle.std.specs.Prelude.{IsSome, is_some}
 use Rattle.std.proofs.lemmas.Bool.{cases_eq}
 use Rattle.std.proofs.lemmas.List.{get_or-set_same, get_or-set_other, length-set, length-replicate, take-append-le, take_all}
 use Rattle.blk_base.specs.Content.{bytes_at, with_bytes}
 use Rattle.blk_base.specs.Pieces.{Extent}
-use Rattle.blk_base.specs.declared.fault.DevNo.{DevNo}
 use Rattle.blk_base.specs.declared.fault.Outcome.{Outcome}
 use Rattle.blk_base.specs.declared.fault.Outcome.TheVariants.{Good, Torn, Io, NoSpace}
 use Rattle.q2_format.specs.Contents.{image_disk}
-use Rattle.q2_image.specs.Image.{Known, IsImageOf, IsOpen}
+use Rattle.q2_image.specs.Image.{Known, IsOpen, word_in}
 use Rattle.q2_image.specs.Room.{WriteFits, ZerosFit, entry_for, is_whole}
 use Rattle.blk_graph.specs.declared.edge.Role.TheVariants.{File as FileRole}
 use Rattle.blk_nodes.specs.Contents.{told, below, disk_by, disk_of, bytes_of}
+use Rattle.blk_nodes.specs.Entries.{IsEntryAfter, IsWritten, IsZeroed, LeavesRow}
 use Rattle.blk_nodes.specs.Found.{found_bytes, IsReadFrom}
 use Rattle.blk_nodes.specs.Joined.{IsOverlay, IsJoined}
 use Rattle.blk_nodes.specs.Nodes.{Nodes, DeviceState, AreTold, row_at, device_in, size_by, size_of, file_of, backing_of}
-use Rattle.blk_nodes.specs.Parts.{HasPiece, IsPieceOf, RefusesPiece, StopsReading, CallsPiece, WritesPart, row_in}
-use Rattle.blk_nodes.specs.Reading.{HaveRisen, LeadsTo, StoppedBelow, IsReadBelow}
+use Rattle.blk_nodes.specs.Parts.{HasPiece, IsPieceOf, StopsReading, CallsPiece, WritesPart, row_in}
+use Rattle.blk_nodes.specs.Reading.{HaveRisen, LeadsTo, StoppedBelow}
 use Rattle.blk_nodes.specs.Sources.{source_of}
 use Rattle.blk_nodes.specs.Walk.{IsKnownAt, LeadsToSource}
 use Rattle.blk_nodes.specs.Writing.{taken_by, IsDeviceAfter, HasImageCause, HasPieceCause, WritesImage, WritesBy, WritesPiece, ZerosBy, ZerosPiece, own_place_by, zeros_place, IsDriverAfter, AreRowsAfter, LeavesNodes, OwnsFile, own_file, IsOverApart, CanBeWritten, MayWrite, IsApart}
@@ -30,6 +30,7 @@ use Rattle.blk_nodes.proofs.Chains.{reads_found}
 use Rattle.blk_nodes.proofs.Disks.{disks_risen}
 use Rattle.blk_nodes.proofs.HeldDevices.{told_is, told_held, held_after, before_rise, device_risen, HasRisen-refl, HaveRisen-refl, some_device}
 use Rattle.blk_nodes.proofs.Joints.{joined_after}
+use Rattle.blk_nodes.proofs.PartsWritten.{same_row}
 use Rattle.blk_nodes.proofs.Leading.{child_leads, read_below}
 use Rattle.blk_nodes.proofs.Rows.{row_below, image_found}
 use Rattle.blk_nodes.proofs.Unfolding.{unfolds}
@@ -38,7 +39,7 @@ use Rattle.blk_nodes.proofs.Written.{disk_apart}
 module _ (nodes : Nodes) (joined : IsJoined nodes) (part : Part) (may : MayWrite nodes part.node) (edge : file_of nodes part.node ≡ Some part.file)
     (source_is : source_of nodes part.node part.whole.start ≡ part.source) (leads : LeadsToSource nodes.graph.edges part.node part.source)
     (piece : HasPiece nodes.rows nodes.devices part) (rows : List (Option Row)) (devices : List DeviceState) (fits : Known → ℕ → Type 0) (own : Known → Option ℕ)
-    (bytes : List ℕ) (outcome : Outcome) (w : WritesPart fits own nodes.rows rows nodes.devices devices part bytes outcome) where
+    (made : Known → ℕ → ℕ → Type 0) (bytes : List ℕ) (outcome : Outcome) (w : WritesPart fits own made nodes.rows rows nodes.devices devices part bytes outcome) where
   abbrev new : Nodes
   new = record nodes { rows = rows; devices = devices }
 
@@ -78,6 +79,18 @@ module _ (nodes : Nodes) (joined : IsJoined nodes) (part : Part) (may : MayWrite
     own = subst (λ (rs : List (Option Row)). AreRowsAfter (row_at nodes node) (row_in rs node)) (sym same) (row_refl (row_at nodes node));
   }
 
+  abbrev cluster : ℕ
+  cluster = part.span.start / 65536
+
+  -- where its row did not
+  left_same : rows ≡ nodes.rows → IsEntryAfter (made w.image) outcome (word_in w.image cluster) (word_in w.image cluster)
+      → LeavesRow made (Qcow2 w.image) w.row (row_at new node) cluster outcome
+  left_same same entry = (
+    w.image,
+    ap (λ (rs : List (Option Row)). row_in rs node) same ∙ w.there ∙ ap (λ (r : Row). Some r) (sym (same_row w.row w.image w.driver)),
+    record { header = refl; taken = λ n taken. taken; others = λ other apart. refl; own = entry },
+  )
+
   -- where the read of the rest of the cluster was stopped
   module _ (s : StopsReading part (fits w.image) nodes.rows rows nodes.devices devices outcome) where
     abbrev read : Nodes
@@ -113,7 +126,7 @@ module _ (nodes : Nodes) (joined : IsJoined nodes) (part : Part) (may : MayWrite
         }
 
   -- where the image was called
-  module _ (c : CallsPiece part (fits w.image) (own w.image) w.image w.row nodes.rows rows nodes.devices devices bytes outcome) where
+  module _ (c : CallsPiece part (fits w.image) (own w.image) (made w.image) w.image w.row nodes.rows rows nodes.devices devices bytes outcome) where
     abbrev row_after : Row
     row_after = record w.row { driver = Qcow2 c.now }
 
@@ -129,7 +142,7 @@ module _ (nodes : Nodes) (joined : IsJoined nodes) (part : Part) (may : MayWrite
     own_now : AreRowsAfter (row_at nodes node) (row_in rows node)
     own_now =
         let after : IsDriverAfter w.row.driver (Qcow2 c.now)
-        = subst (λ (d : Driver). IsDriverAfter d (Qcow2 c.now)) (sym w.driver) (c.now, refl, c.header, c.taken, c.mapped) in
+        = subst (λ (d : Driver). IsDriverAfter d (Qcow2 c.now)) (sym w.driver) (c.now, refl, c.changed.header, c.changed.taken, c.mapped) in
         subst (λ (f : Option Row). AreRowsAfter f (row_in rows node)) (sym w.there)
         (row_after, row_now, record { size = refl; is_read_only = refl; driver = after })
 
@@ -312,6 +325,17 @@ module _ (nodes : Nodes) (joined : IsJoined nodes) (part : Part) (may : MayWrite
     ]
   ]
 
+  pub left_piece : LeavesRow made (Qcow2 w.image) w.row (row_at new node) cluster outcome
+  left_piece =
+      let After : Outcome → Type 0 = λ o. IsEntryAfter (made w.image) o (word_in w.image cluster) (word_in w.image cluster) in
+      elim w.wrote [
+        | inl r ↦ left_same r.rows_same (subst After (sym r.is) refl)
+        | inr called ↦ elim called [
+          | inl s ↦ left_same s.rows_same (subst After (sym s.is) refl)
+          | inr c ↦ (c.now, row_now c, c.changed)
+        ]
+      ]
+
   pub wrote_piece : WritesImage (fits w.image) (own w.image) nodes new node (length bytes) outcome
   wrote_piece = elim w.wrote [
     | inl r ↦
@@ -337,22 +361,24 @@ module _ (nodes : Nodes) (joined : IsJoined nodes) (part : Part) (may : MayWrite
 -- A piece of a qcow2 node, by what the node is.
 pub piece_image : (old new : Nodes) (node : ℕ) (span : Extent) (bytes : List ℕ) (outcome : Outcome) (row : Row) (image : Known) → row_at old node ≡ Some row → row.driver ≡ Qcow2 image
     → WritesImage (WriteFits image span) (own_place_by (entry_for image span) image span) old new node (length bytes) outcome
-    → WritesPiece old new node span bytes outcome
-piece_image old new node span bytes outcome row image there driver wrote = record {
+    → LeavesRow (λ _. IsWritten) (Qcow2 image) row (row_at new node) (span.start / 65536) outcome → WritesPiece old new node span bytes outcome
+piece_image old new node span bytes outcome row image there driver wrote left = record {
   row = row;
   there = there;
   wrote = subst (λ (d : Driver). WritesBy d old new node span bytes outcome) (sym driver) wrote;
+  left = subst (λ (d : Driver). LeavesRow (λ _. IsWritten) d row (row_at new node) (span.start / 65536) outcome) (sym driver) left;
 }
 
 pub zeros_image : (old new : Nodes) (node : ℕ) (span : Extent) (outcome : Outcome) (row : Row) (image : Known) → row_at old node ≡ Some row → row.driver ≡ Qcow2 image
     → WritesImage (ZerosFit image span) (zeros_place (is_whole image span) image span) old new node (length (replicate {A = ℕ} span.len 0)) outcome
-    → ZerosPiece old new node span outcome
-zeros_image old new node span outcome row image there driver wrote =
+    → LeavesRow (λ image. IsZeroed (is_whole image span)) (Qcow2 image) row (row_at new node) (span.start / 65536) outcome → ZerosPiece old new node span outcome
+zeros_image old new node span outcome row image there driver wrote left =
     let P : ℕ → Type 0 = λ n. WritesImage (ZerosFit image span) (zeros_place (is_whole image span) image span) old new node n outcome in
     record {
       row = row;
       there = there;
       wrote = subst (λ (d : Driver). ZerosBy d old new node span outcome) (sym driver) (subst P (length-replicate {A = ℕ} span.len 0) wrote);
+      left = subst (λ (d : Driver). LeavesRow (λ image. IsZeroed (is_whole image span)) d row (row_at new node) (span.start / 65536) outcome) (sym driver) left;
     }
 
 -- a slice that takes the place of the whole list

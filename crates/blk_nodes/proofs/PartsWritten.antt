@@ -1,33 +1,32 @@
 -- What the calls of an image leave where they write a piece.
-use Rattle.std.proofs.Common.{◌≡◌, ◌≢◌, ℕ, ◌+◌, ◌-◌, ◌*◌, ◌/◌, ◌%◌, ◌<◌, ◌≤◌, ◌==◌, ◌⊎◌, min, Bool, true, false, List, [], ◌∷◌, ◌++◌, length, take, drop, get_or, set, replicate, Option, Some, None, refl, sym, ◌∙◌, ap, subst, arith, inl, inr}
-use Rattle.std.specs.Prelude.{◌&&◌, ◌||◌}
-use Rattle.std.proofs.lemmas.Bool.{cases_eq, cases_lt, eq-eqb, ne_eqb}
+use Rattle.std.proofs.Common.{◌≡◌, ℕ, ◌+◌, ◌-◌, ◌*◌, ◌/◌, ◌%◌, ◌<◌, ◌≤◌, ◌⊎◌, min, true, List, [], ◌∷◌, ◌++◌, length, take, drop, get_or, set, replicate, Option, Some, None, refl, sym, ◌∙◌, ap, subst, arith, inl, inr}
+use Rattle.std.proofs.lemmas.Bool.{cases_lt}
 use Rattle.std.proofs.lemmas.List.{get_or-take, set-get_or}
 use Rattle.blk_base.proofs.Contents.{get_or-with_bytes_inside, get_or-with_bytes_outside, overwritten-within}
 use Rattle.blk_base.specs.Content.{bytes_at, with_bytes}
-use Rattle.blk_base.specs.Pieces.{Extent, end_of}
+use Rattle.blk_base.specs.Pieces.{Extent}
 use Rattle.blk_base.specs.declared.fault.DevNo.{DevNo}
 use Rattle.blk_base.specs.declared.fault.Outcome.{Outcome}
 use Rattle.blk_base.specs.declared.fault.Outcome.TheVariants.{Good, Torn, Io, NoSpace}
 use Rattle.q2_format.specs.Contents.{guest_byte, image_disk}
 use Rattle.q2_format.specs.Header.{header_of}
 use Rattle.q2_format.specs.declared.header.Header.{Header}
-use Rattle.q2_format.specs.declared.entries.L2Entry.{L2Entry}
 use Rattle.q2_format.specs.declared.entries.L2Entry.TheVariants as entries
 use Rattle.q2_image.specs.Guest.{file_entry}
-use Rattle.q2_image.specs.Image.{Known, IsImageOf, IsOpen, cluster_size_in, clusters_in, entry_in}
-use Rattle.q2_image.specs.Room.{WriteFits, ZerosFit, PartZerosFit, WriteFitsBy, ZerosFitBy, cluster_of, entry_for, is_whole}
-use Rattle.q2_image.specs.Writing.{IsDiskWith, PutFits, ZeroFits, own_end, own_place}
+use Rattle.q2_image.specs.Image.{Known, IsImageOf, cluster_size_in, clusters_in, entry_in, word_in}
+use Rattle.q2_image.specs.Room.{cluster_of, entry_for}
+use Rattle.q2_image.specs.Writing.{IsDiskWith, HasEntriesBut, PutFits, ZeroFits, own_end, own_place}
 use Rattle.q2_image.proofs.Guests.{guest_zero}
 use Rattle.q2_image.proofs.Mapped.{entry_of_file}
 use Rattle.blk_base.specs.Outcomes.{is_good}
+use Rattle.blk_nodes.specs.Entries.{Stays, IsMapped, IsCleared, IsEntryAfter, IsImageAfter}
 use Rattle.blk_nodes.specs.Found.{found_bytes, IsReadFrom}
 use Rattle.blk_nodes.specs.Reading.{IsReadAt}
 use Rattle.blk_nodes.specs.Walk.{IsKnownAt}
 use Rattle.blk_nodes.specs.declared.source.Source.{Source}
 use Rattle.blk_nodes.specs.declared.source.Source.TheVariants as sources
 use Rattle.blk_nodes.specs.Nodes.{DeviceState, AreTold, device_in}
-use Rattle.blk_nodes.specs.Parts.{OfImage, HasPiece, IsPieceOf, IsGathered, CallsRow, IsDiskAfter, RefusesPiece, StopsReading, CallsPiece, WritesPart, cluster_around, row_in}
+use Rattle.blk_nodes.specs.Parts.{OfImage, HasPiece, IsPieceOf, IsGathered, CallsRow, IsDiskAfter, WritesPart, row_in}
 use Rattle.blk_nodes.specs.Writing.{taken_by, FitsAt, HasRoomAt, HasRoomBy, HasImageCause, IsTornAt}
 use Rattle.blk_nodes.specs.declared.part.Part.{Part}
 use Rattle.blk_nodes.specs.declared.row.Driver.{Driver}
@@ -40,7 +39,7 @@ use Rattle.blk_nodes.proofs.Rows.{has_image, image_found, of_image, row_found}
 use Rattle.blk_nodes.proofs.Written.{length-written}
 
 -- a row with the image that it has
-same_row : (row : Row) (image : Known) → row.driver ≡ Qcow2 image → record row { driver = Qcow2 image } ≡ row
+pub same_row : (row : Row) (image : Known) → row.driver ≡ Qcow2 image → record row { driver = Qcow2 image } ≡ row
 same_row row image is = let with_driver : Driver → Row = λ d. record row { driver = d } in ap with_driver (sym is)
 
 -- a row that is put where it stands
@@ -113,7 +112,8 @@ gathered rows devices part has old found bytes new whole is len read =
 
 -- a call on the image of a piece
 module _ (rows left : List (Option Row)) (old new : List DeviceState) (part : Part) (bytes all_bytes : List ℕ) (outcome : Outcome) (fits : Known → ℕ → Type 0) (own : Known → Option ℕ)
-    (place : ℕ) (slot : Option Row) (has : HasPiece rows old part) (below : part.node < length rows) (call : CallsRow part.file fits own (row_in rows part.node) slot old new place all_bytes outcome)
+    (made : Known → ℕ → ℕ → Type 0) (place : ℕ) (slot : Option Row) (has : HasPiece rows old part) (below : part.node < length rows)
+    (call : CallsRow part.file fits own made (row_in rows part.node) slot old new place all_bytes outcome)
     (is_left : left ≡ set rows part.node slot) where
   pub piece : IsPieceOf rows old part call.image
   piece = image_found (row_in rows part.node) call.row call.image (IsPieceOf rows old part) call.there call.driver has
@@ -135,10 +135,19 @@ module _ (rows left : List (Option Row)) (old new : List DeviceState) (part : Pa
       let back : Some (record call.row { driver = Qcow2 call.image }) ≡ Some call.row = ap (λ (r : Row). Some r) (same_row call.row call.image call.driver) in
       (row_now ∙ ap with_image same ∙ ap (set rows part.node) back ∙ set_same rows part.node (Some call.row) below call.there, call.call.full dev none)
 
-  pub called_part : HasImageCause (fits call.image call.call.before.capacity) (own call.image) (length bytes) call.call.before call.call.after call.image call.now outcome
+  image_after : place / 65536 ≡ part.span.start / 65536 → IsImageAfter (made call.image) call.image call.now (part.span.start / 65536) outcome
+  image_after here = record {
+    header = call.call.call.wrote.header;
+    taken = call.call.call.wrote.taken;
+    others = subst (HasEntriesBut call.image call.now) here call.call.call.wrote.entries;
+    own = subst (λ (k : ℕ). IsEntryAfter (made call.image) outcome (word_in call.image k) (word_in call.now k)) here call.call.call.entry;
+  }
+
+  pub called_part : place / 65536 ≡ part.span.start / 65536
+      → HasImageCause (fits call.image call.call.before.capacity) (own call.image) (length bytes) call.call.before call.call.after call.image call.now outcome
       → (AreTold old → (b b' : List ℕ) → call.call.before.content ≡ Some b → call.call.after.content ≡ Some b' → IsDiskAfter old part (taken_by outcome bytes) b b')
-      → WritesPart fits own rows left old new part bytes outcome
-  called_part cause disk = record {
+      → WritesPart fits own made rows left old new part bytes outcome
+  called_part here cause disk = record {
     row = call.row;
     image = call.image;
     there = call.there;
@@ -146,8 +155,7 @@ module _ (rows left : List (Option Row)) (old new : List DeviceState) (part : Pa
     wrote = inr (inr record {
       now = call.now;
       opened = call.opened;
-      header = call.call.call.wrote.header;
-      taken = call.call.call.wrote.taken;
+      changed = image_after here;
       mapped = call.call.call.wrote.mapped;
       row_now = row_now;
       before = call.call.before;
@@ -166,14 +174,15 @@ module _ (rows left : List (Option Row)) (old new : List DeviceState) (part : Pa
 -- in place
 pub own_wrote : (rows left : List (Option Row)) (old new : List DeviceState) (part : Part) (bytes : List ℕ) (outcome : Outcome) (slot : Option Row) → HasPiece rows old part
     → part.node < length rows
-    → CallsRow part.file (λ image capacity. own_end image part.span ≤ capacity) (λ image. Some (own_place image part.span)) (row_in rows part.node) slot old new part.span.start bytes outcome
+    → CallsRow part.file (λ image capacity. own_end image part.span ≤ capacity) (λ image. Some (own_place image part.span)) (λ _. Stays) (row_in rows part.node) slot old new part.span.start bytes outcome
     → left ≡ set rows part.node slot → length bytes ≡ part.span.len
-    → WritesPart (λ image capacity. own_end image part.span ≤ capacity) (λ image. Some (own_place image part.span)) rows left old new part bytes outcome
+    → WritesPart (λ image capacity. own_end image part.span ≤ capacity) (λ image. Some (own_place image part.span)) (λ _. Stays) rows left old new part bytes outcome
 own_wrote rows left old new part bytes outcome slot has below call is_left len =
     let fits : Known → ℕ → Type 0 = λ image capacity. own_end image part.span ≤ capacity in
     let own : Known → Option ℕ = λ image. Some (own_place image part.span) in
-    let is = piece rows left old new part bytes bytes outcome fits own part.span.start slot has below call is_left in
-    called_part rows left old new part bytes bytes outcome fits own part.span.start slot has below call is_left call.call.call.cause
+    let made : Known → ℕ → ℕ → Type 0 = λ _. Stays in
+    let is = piece rows left old new part bytes bytes outcome fits own made part.span.start slot has below call is_left in
+    called_part rows left old new part bytes bytes outcome fits own made part.span.start slot has below call is_left refl call.call.call.cause
     (λ all b b' was now backing rest.
     let size = size_in rows old part call.image is call.call.before b call.call.held was in
     let few = length-written outcome bytes in
@@ -181,9 +190,9 @@ own_wrote rows left old new part bytes outcome slot has below call is_left len =
     disk_written b b' backing part.span.start (taken_by outcome bytes) (call.call.call.wrote.disk b b' was now) (omega arith))
 
 -- of a whole cluster
-module _ (rows left : List (Option Row)) (old new : List DeviceState) (part : Part) (outcome : Outcome) (fits : Known → ℕ → Type 0)
+module _ (rows left : List (Option Row)) (old new : List DeviceState) (part : Part) (outcome : Outcome) (fits : Known → ℕ → Type 0) (made : Known → ℕ → ℕ → Type 0)
     (slot : Option Row) (has : HasPiece rows old part) (below : part.node < length rows) (all_bytes bytes : List ℕ)
-    (call : CallsRow part.file fits (λ _. None) (row_in rows part.node) slot old new (part.span.start / 65536 * 65536) all_bytes outcome)
+    (call : CallsRow part.file fits (λ _. None) made (row_in rows part.node) slot old new (part.span.start / 65536 * 65536) all_bytes outcome)
     (is_left : left ≡ set rows part.node slot)
     (good : AreTold old → (b b' : List ℕ) → call.call.before.content ≡ Some b → call.call.after.content ≡ Some b' → (header_of b).size ≡ call.image.header.size
     → IsDiskWith b b' (part.span.start - part.span.start % 65536) all_bytes → IsDiskAfter old part bytes b b') where
@@ -194,7 +203,7 @@ module _ (rows left : List (Option Row)) (old new : List DeviceState) (part : Pa
   here = omega arith
 
   pub cluster_piece : IsPieceOf rows old part call.image
-  cluster_piece = piece rows left old new part bytes all_bytes outcome fits (λ _. None) (part.span.start / 65536 * 65536) slot has below call is_left
+  cluster_piece = piece rows left old new part bytes all_bytes outcome fits (λ _. None) made (part.span.start / 65536 * 65536) slot has below call is_left
 
   by : (o : Outcome) → HasImageCause (fits call.image call.call.before.capacity) None (length all_bytes) call.call.before call.call.after call.image call.now o
       → AreTold old → (b b' : List ℕ) → call.call.before.content ≡ Some b → call.call.after.content ≡ Some b' → (header_of b).size ≡ call.image.header.size
@@ -206,9 +215,9 @@ module _ (rows left : List (Option Row)) (old new : List DeviceState) (part : Pa
   by (NoSpace dev) cause all b b' was now size is = λ backing rest.
       let inside = cluster_piece.inside in disk_written b b' backing base [] is (omega arith)
 
-  pub cluster_wrote : WritesPart fits (λ _. None) rows left old new part bytes outcome
+  pub cluster_wrote : WritesPart fits (λ _. None) made rows left old new part bytes outcome
   cluster_wrote =
-      called_part rows left old new part bytes all_bytes outcome fits (λ _. None) (part.span.start / 65536 * 65536) slot has below call is_left
+      called_part rows left old new part bytes all_bytes outcome fits (λ _. None) made (part.span.start / 65536 * 65536) slot has below call is_left (omega arith)
       (cause_of (fits call.image call.call.before.capacity) (length all_bytes) (length bytes) call.call.before call.call.after call.image call.now outcome call.call.call.cause)
       (λ all b b' was now.
       let size = size_in rows old part call.image cluster_piece call.call.before b call.call.held was in
@@ -218,14 +227,14 @@ module _ (rows left : List (Option Row)) (old new : List DeviceState) (part : Pa
 -- a put, of a cluster that was put together
 pub put_wrote : (rows left : List (Option Row)) (old new : List DeviceState) (part : Part) (bytes cluster : List ℕ) (outcome : Outcome) (slot : Option Row) → HasPiece rows old part
     → part.node < length rows
-    → CallsRow part.file (λ image. PutFits image (part.span.start / 65536)) (λ _. None) (row_in rows part.node) slot old new (part.span.start / 65536 * 65536) cluster outcome
+    → CallsRow part.file (λ image. PutFits image (part.span.start / 65536)) (λ _. None) (λ _. IsMapped) (row_in rows part.node) slot old new (part.span.start / 65536 * 65536) cluster outcome
     → left ≡ set rows part.node slot → length bytes ≡ part.span.len → length cluster ≡ 65536
     → (AreTold old → IsGathered cluster (found_bytes old part.source part.whole.start part.whole.len) part.whole.len (part.span.start % 65536) bytes)
-    → WritesPart (λ image. PutFits image (part.span.start / 65536)) (λ _. None) rows left old new part bytes outcome
+    → WritesPart (λ image. PutFits image (part.span.start / 65536)) (λ _. None) (λ _. IsMapped) rows left old new part bytes outcome
 put_wrote rows left old new part bytes cluster outcome slot has below call is_left len whole gathered =
     let fits : Known → ℕ → Type 0 = λ image. PutFits image (part.span.start / 65536) in
     let is : IsPieceOf rows old part call.image
-    = piece rows left old new part bytes cluster outcome fits (λ _. None) (part.span.start / 65536 * 65536) slot has below call is_left in
+    = piece rows left old new part bytes cluster outcome fits (λ _. None) (λ _. IsMapped) (part.span.start / 65536 * 65536) slot has below call is_left in
     let good : AreTold old → (b b' : List ℕ) → call.call.before.content ≡ Some b → call.call.after.content ≡ Some b' → (header_of b).size ≡ call.image.header.size
     → IsDiskWith b b' (part.span.start - part.span.start % 65536) cluster → IsDiskAfter old part bytes b b'
     = λ all b b' was now size disk backing rest.
@@ -238,19 +247,19 @@ put_wrote rows left old new part bytes cluster outcome slot has below call is_le
     = rest ∙ ap (λ (k : ℕ). bytes_at (image_disk b backing) k part.whole.len) start in
     disk_put b b' backing part.span.start part.whole.len bytes cluster found disk whole (gathered all) at_base
     (count ∙ ap (λ (s : ℕ). min 65536 (s - (part.span.start - part.span.start % 65536))) (sym size)) (omega arith) (omega arith) in
-    cluster_wrote rows left old new part outcome fits slot has below cluster bytes call is_left good
+    cluster_wrote rows left old new part outcome fits (λ _. IsMapped) slot has below cluster bytes call is_left good
 
 -- a whole cluster that is made to read as zeros
 pub clear_wrote : (rows left : List (Option Row)) (old new : List DeviceState) (part : Part) (outcome : Outcome) (slot : Option Row) → HasPiece rows old part
     → part.node < length rows
-    → CallsRow part.file (λ image. ZeroFits image (part.span.start / 65536)) (λ _. None) (row_in rows part.node) slot old new (part.span.start / 65536 * 65536) (replicate 65536 0) outcome
+    → CallsRow part.file (λ image. ZeroFits image (part.span.start / 65536)) (λ _. None) (λ _. IsCleared) (row_in rows part.node) slot old new (part.span.start / 65536 * 65536) (replicate 65536 0) outcome
     → left ≡ set rows part.node slot → part.span.len ≡ part.whole.len
-    → WritesPart (λ image. ZeroFits image (part.span.start / 65536)) (λ _. None) rows left old new part (replicate part.span.len 0) outcome
+    → WritesPart (λ image. ZeroFits image (part.span.start / 65536)) (λ _. None) (λ _. IsCleared) rows left old new part (replicate part.span.len 0) outcome
 clear_wrote rows left old new part outcome slot has below call is_left all_of =
     let fits : Known → ℕ → Type 0 = λ image. ZeroFits image (part.span.start / 65536) in
     let zeros : List ℕ = replicate part.span.len 0 in
     let is : IsPieceOf rows old part call.image
-    = piece rows left old new part zeros (replicate 65536 0) outcome fits (λ _. None) (part.span.start / 65536 * 65536) slot has below call is_left in
+    = piece rows left old new part zeros (replicate 65536 0) outcome fits (λ _. None) (λ _. IsCleared) (part.span.start / 65536 * 65536) slot has below call is_left in
     let good : AreTold old → (b b' : List ℕ) → call.call.before.content ≡ Some b → call.call.after.content ≡ Some b' → (header_of b).size ≡ call.image.header.size
     → IsDiskWith b b' (part.span.start - part.span.start % 65536) (replicate 65536 0) → IsDiskAfter old part zeros b b'
     = λ all b b' was now size disk backing rest.
@@ -258,14 +267,16 @@ clear_wrote rows left old new part outcome slot has below call is_left all_of =
     let inside = is.inside in
     let first = begins rows old part call.image is all_of in
     disk_zeroed b b' backing part.span.start part.span.len disk first (omega arith) (omega arith) in
-    cluster_wrote rows left old new part outcome fits slot has below (replicate 65536 0) zeros call is_left good
+    cluster_wrote rows left old new part outcome fits (λ _. IsCleared) slot has below (replicate 65536 0) zeros call is_left good
 
 -- a part of a cluster that reads as zeros already
-pub left_wrote : (rows : List (Option Row)) (old : List DeviceState) (part : Part) (fits : Known → ℕ → Type 0) (own : Known → Option ℕ) (row : Row) (image : Known) (host : ℕ) (device : DeviceState)
+pub left_wrote : (rows : List (Option Row)) (old : List DeviceState) (part : Part) (fits : Known → ℕ → Type 0) (own : Known → Option ℕ) (made : Known → ℕ → ℕ → Type 0)
+    (row : Row) (image : Known) (host : ℕ) (device : DeviceState)
     → row_in rows part.node ≡ Some row → row.driver ≡ Qcow2 image → IsPieceOf rows old part image → part.node < length rows
     → entry_in image (part.span.start / 65536) ≡ entries.Zero host → device_in old part.file ≡ Some device → fits image device.capacity
-    → WritesPart fits own rows rows old old part (replicate part.span.len 0) Good
-left_wrote rows old part fits own row image host device there driver is below entry held fit = record {
+    → made image (word_in image (part.span.start / 65536)) (word_in image (part.span.start / 65536))
+    → WritesPart fits own made rows rows old old part (replicate part.span.len 0) Good
+left_wrote rows old part fits own made row image host device there driver is below entry held fit left = record {
   row = row;
   image = image;
   there = there;
@@ -273,8 +284,7 @@ left_wrote rows old part fits own row image host device there driver is below en
   wrote = inr (inr record {
     now = image;
     opened = is.opened;
-    header = refl;
-    taken = λ n taken. taken;
+    changed = record { header = refl; taken = λ n taken. taken; others = λ cluster apart. refl; own = left };
     mapped = λ cluster mapped. mapped;
     row_now = sym (ap (set rows part.node) (ap (λ (r : Row). Some r) (same_row row image driver)) ∙ set_same rows part.node (Some row) below there);
     before = device;
@@ -306,8 +316,9 @@ left_wrote rows old part fits own row image host device there driver is below en
 
 -- The same by other words for the room and the place.
 module _ (rows left : List (Option Row)) (old new : List DeviceState) (part : Part) (bytes : List ℕ) (outcome : Outcome) (fits to : Known → ℕ → Type 0) (own place : Known → Option ℕ)
-    (w : WritesPart fits own rows left old new part bytes outcome) (there : (capacity : ℕ) → fits w.image capacity → to w.image capacity)
-    (back : (capacity : ℕ) → to w.image capacity → fits w.image capacity) (same : own w.image ≡ place w.image) where
+    (made shows : Known → ℕ → ℕ → Type 0) (w : WritesPart fits own made rows left old new part bytes outcome) (there : (capacity : ℕ) → fits w.image capacity → to w.image capacity)
+    (back : (capacity : ℕ) → to w.image capacity → fits w.image capacity) (same : own w.image ≡ place w.image)
+    (shown : (word : ℕ) → made w.image (word_in w.image (part.span.start / 65536)) word → shows w.image (word_in w.image (part.span.start / 65536)) word) where
   cause_as : (capacity n : ℕ) (before after : DeviceState) (now : Known) (o : Outcome) → HasImageCause (fits w.image capacity) (own w.image) n before after w.image now o
       → HasImageCause (to w.image capacity) (place w.image) n before after w.image now o
   cause_as capacity n before after now Good is = (there capacity is.0, is.1)
@@ -315,7 +326,14 @@ module _ (rows left : List (Option Row)) (old new : List DeviceState) (part : Pa
   cause_as capacity n before after now (Io dev count) is = (there capacity is.0, is.1)
   cause_as capacity n before after now (NoSpace dev) is = ((λ fit. is.0 (back capacity fit)), is.1, is.2, is.3)
 
-  pub wrote_as : WritesPart to place rows left old new part bytes outcome
+  entry_as : (o : Outcome) (word : ℕ) → IsEntryAfter (made w.image) o (word_in w.image (part.span.start / 65536)) word
+      → IsEntryAfter (shows w.image) o (word_in w.image (part.span.start / 65536)) word
+  entry_as Good word is = shown word is
+  entry_as (Torn done dev count) word is = is
+  entry_as (Io dev count) word is = is
+  entry_as (NoSpace dev) word is = is
+
+  pub wrote_as : WritesPart to place shows rows left old new part bytes outcome
   wrote_as = record {
     row = w.row;
     image = w.image;
@@ -347,8 +365,12 @@ module _ (rows left : List (Option Row)) (old new : List DeviceState) (part : Pa
         | inr c ↦ inr (inr record {
           now = c.now;
           opened = c.opened;
-          header = c.header;
-          taken = c.taken;
+          changed = record {
+            header = c.changed.header;
+            taken = c.changed.taken;
+            others = c.changed.others;
+            own = entry_as outcome (word_in c.now (part.span.start / 65536)) c.changed.own;
+          };
           mapped = c.mapped;
           row_now = c.row_now;
           before = c.before;
@@ -391,11 +413,11 @@ module _ (rows : List (Option Row)) (old : List DeviceState) (part : Part) (has 
   set_at slot = ap (λ (k : ℕ). set rows k slot) same
 
   pub own_at : (new : List DeviceState) (bytes : List ℕ) (outcome : Outcome) (slot : Option Row)
-      → CallsRow part.file (λ image capacity. own_end image part.span ≤ capacity) (λ image. Some (own_place image part.span)) found slot old new part.span.start bytes outcome
+      → CallsRow part.file (λ image capacity. own_end image part.span ≤ capacity) (λ image. Some (own_place image part.span)) (λ _. Stays) found slot old new part.span.start bytes outcome
       → length bytes ≡ part.span.len
-      → WritesPart (λ image capacity. own_end image part.span ≤ capacity) (λ image. Some (own_place image part.span)) rows (set rows index slot) old new part bytes outcome
+      → WritesPart (λ image capacity. own_end image part.span ≤ capacity) (λ image. Some (own_place image part.span)) (λ _. Stays) rows (set rows index slot) old new part bytes outcome
   own_at new bytes outcome slot call len =
-      let P : Option Row → Type 0 = λ f. CallsRow part.file (λ image capacity. own_end image part.span ≤ capacity) (λ image. Some (own_place image part.span)) f slot old new
+      let P : Option Row → Type 0 = λ f. CallsRow part.file (λ image capacity. own_end image part.span ≤ capacity) (λ image. Some (own_place image part.span)) (λ _. Stays) f slot old new
       part.span.start bytes outcome in
       own_wrote rows (set rows index slot) old new part bytes outcome slot has below_node (subst P (sym there) call) (set_at slot) len
 
@@ -403,11 +425,11 @@ module _ (rows : List (Option Row)) (old : List DeviceState) (part : Part) (has 
   clear_asks = of_found (λ image. (part.span.start / 65536 < clusters_in image) × IsKnownAt part.file old image) (λ row image piece. (cluster_below image piece, piece.known))
 
   pub clear_at : (new : List DeviceState) (outcome : Outcome) (slot : Option Row)
-      → CallsRow part.file (λ image. ZeroFits image (part.span.start / 65536)) (λ _. None) found slot old new (part.span.start / 65536 * 65536) (replicate 65536 0) outcome
+      → CallsRow part.file (λ image. ZeroFits image (part.span.start / 65536)) (λ _. None) (λ _. IsCleared) found slot old new (part.span.start / 65536 * 65536) (replicate 65536 0) outcome
       → part.span.len ≡ part.whole.len
-      → WritesPart (λ image. ZeroFits image (part.span.start / 65536)) (λ _. None) rows (set rows index slot) old new part (replicate part.span.len 0) outcome
+      → WritesPart (λ image. ZeroFits image (part.span.start / 65536)) (λ _. None) (λ _. IsCleared) rows (set rows index slot) old new part (replicate part.span.len 0) outcome
   clear_at new outcome slot call all =
-      let P : Option Row → Type 0 = λ f. CallsRow part.file (λ image. ZeroFits image (part.span.start / 65536)) (λ _. None) f slot old new
+      let P : Option Row → Type 0 = λ f. CallsRow part.file (λ image. ZeroFits image (part.span.start / 65536)) (λ _. None) (λ _. IsCleared) f slot old new
       (part.span.start / 65536 * 65536) (replicate 65536 0) outcome in
       clear_wrote rows (set rows index slot) old new part outcome slot has below_node (subst P (sym there) call) (set_at slot) all
 
@@ -452,19 +474,19 @@ put_asks rows old mid part room read has index first found same below is_first i
 
 pub put_at : (rows : List (Option Row)) (old mid new : List DeviceState) (part : Part) (bytes cluster gathered_in : List ℕ) (read outcome : Outcome) (slot : Option Row) → HasPiece rows old part
     → (index : ℕ) (found : Option Row) → index ≡ part.node → index < length rows → found ≡ get_or rows index found
-    → CallsRow part.file (λ image. PutFits image (part.span.start / 65536)) (λ _. None) found slot mid new (part.span.start / 65536 * 65536) cluster outcome
+    → CallsRow part.file (λ image. PutFits image (part.span.start / 65536)) (λ _. None) (λ _. IsMapped) found slot mid new (part.span.start / 65536 * 65536) cluster outcome
     → length bytes ≡ part.span.len → length cluster ≡ 65536 → cluster ≡ gathered_in → is_good read ≡ true → IsReadFrom part.source old mid read ⊎ ((read ≡ Good) × (mid ≡ old))
     → (AreTold old → read ≡ Good → IsGathered gathered_in (found_bytes old part.source part.whole.start part.whole.len) part.whole.len (part.span.start % 65536) bytes)
-    → WritesPart (λ image. PutFits image (part.span.start / 65536)) (λ _. None) rows (set rows index slot) old new part bytes outcome
+    → WritesPart (λ image. PutFits image (part.span.start / 65536)) (λ _. None) (λ _. IsMapped) rows (set rows index slot) old new part bytes outcome
 put_at rows old mid new part bytes cluster gathered_in read outcome slot has index found same below is call len whole is_cluster read_good read_is gathered =
     let good : read ≡ Good = good_is read read_good in
     let stays : mid ≡ old = good_read part.source old mid read good read_is in
     let found_is : row_in rows part.node ≡ found = row_found rows index part.node found same below is in
-    let P : Option Row → Type 0 = λ f. CallsRow part.file (λ image. PutFits image (part.span.start / 65536)) (λ _. None) f slot mid new
+    let P : Option Row → Type 0 = λ f. CallsRow part.file (λ image. PutFits image (part.span.start / 65536)) (λ _. None) (λ _. IsMapped) f slot mid new
     (part.span.start / 65536 * 65536) cluster outcome in
-    let Q : List DeviceState → Type 0 = λ devices. CallsRow part.file (λ image. PutFits image (part.span.start / 65536)) (λ _. None) (row_in rows part.node) slot devices new
+    let Q : List DeviceState → Type 0 = λ devices. CallsRow part.file (λ image. PutFits image (part.span.start / 65536)) (λ _. None) (λ _. IsMapped) (row_in rows part.node) slot devices new
     (part.span.start / 65536 * 65536) cluster outcome in
-    let there_call : CallsRow part.file (λ image. PutFits image (part.span.start / 65536)) (λ _. None) (row_in rows part.node) slot old new (part.span.start / 65536 * 65536) cluster outcome
+    let there_call : CallsRow part.file (λ image. PutFits image (part.span.start / 65536)) (λ _. None) (λ _. IsMapped) (row_in rows part.node) slot old new (part.span.start / 65536 * 65536) cluster outcome
     = subst Q stays (subst P (sym found_is) call) in
     put_wrote rows (set rows index slot) old new part bytes cluster outcome slot has (omega (arith, same, below)) there_call
     (ap (λ (k : ℕ). set rows k slot) same) len whole

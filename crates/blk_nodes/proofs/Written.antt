@@ -1,5 +1,5 @@
 -- What a write to the file of one node leaves of the nodes.
-use Rattle.std.proofs.Common.{◌≡◌, ◌≢◌, ℕ, zero, suc, ◌+◌, ◌<◌, ◌≤◌, List, [], ◌∷◌, length, replicate, take, Option, Some, None, refl, sym, ◌∙◌, ap, subst, arith, inl, inr}
+use Rattle.std.proofs.Common.{◌≡◌, ◌≢◌, ℕ, zero, suc, ◌+◌, ◌/◌, ◌≤◌, List, [], length, replicate, Option, Some, None, refl, sym, ◌∙◌, ap, subst, arith, inl, inr}
 use Rattle.std.specs.Prelude.{IsSome, option_map}
 use Rattle.std.proofs.lemmas.Bool.{cases_eq}
 use Rattle.std.proofs.lemmas.List.{length-take}
@@ -12,9 +12,10 @@ use Rattle.raw_image.proofs.PartLemmas.{with_bytes-part}
 use Rattle.q2_format.proofs.ByPlace.{length-bytes_at as length-format_bytes, get_or-bytes_at as get_or-format_bytes}
 use Rattle.q2_format.specs.Contents.{file_disk, raw_disk, image_disk}
 use Rattle.q2_image.specs.Image.{Known, IsImageOf}
-use Rattle.blk_graph.specs.declared.edge.Edge.{Edge}
+use Rattle.q2_image.specs.Room.{is_whole}
 use Rattle.blk_graph.specs.declared.edge.Role.TheVariants.{File as FileRole, Backing}
 use Rattle.blk_nodes.specs.Contents.{told, below, disk_by, disk_in, disk_of, bytes_by, bytes_of, file_node_disk}
+use Rattle.blk_nodes.specs.Entries.{IsWritten, IsZeroed, LeavesRow}
 use Rattle.blk_nodes.specs.Joined.{IsFile, HasSize, IsPart, IsOverlay, HasBelow, IsJoined}
 use Rattle.blk_nodes.specs.Nodes.{Nodes, DeviceState, AreTold, row_at, device_in, size_by, size_of, file_of, backing_of}
 use Rattle.blk_nodes.specs.Parts.{OfImage, OfImageBy, IsImage}
@@ -25,13 +26,12 @@ use Rattle.blk_nodes.specs.Writing as writing
 use Rattle.blk_nodes.specs.declared.row.Driver.{Driver}
 use Rattle.blk_nodes.specs.declared.row.Driver.TheVariants.{File, Raw, Qcow2, CopyOnRead}
 use Rattle.blk_nodes.specs.declared.row.Row.{Row}
-use Rattle.blk_nodes.specs.declared.source.Source.{Source}
 use Rattle.blk_nodes.specs.declared.source.Source.TheVariants as sources
 use Rattle.blk_nodes.specs.declared.source.Step.{Step}
-use Rattle.blk_nodes.specs.declared.source.Step.TheVariants.{Found, Below}
+use Rattle.blk_nodes.specs.declared.source.Step.TheVariants.{Found}
 use Rattle.blk_nodes.proofs.Chains.{walk_ends}
 use Rattle.blk_nodes.proofs.HeldDevices.{told_held}
-use Rattle.blk_nodes.proofs.Joints.{once_by_nodes, held_by}
+use Rattle.blk_nodes.proofs.Joints.{once_by_nodes}
 use Rattle.blk_nodes.proofs.KeptDisks.{disk_of_file, disk_of_raw}
 use Rattle.blk_nodes.proofs.Leading.{leads_on, child_leads}
 use Rattle.blk_nodes.proofs.Disks.{disk_same}
@@ -383,10 +383,19 @@ module _ (nodes : Nodes) (joined : IsJoined nodes) where
       let found = some_row (row_at nodes base) there in
       device_by base found.0 found.0.driver (ends 64 64 node (no_path nodes joined 64 (omega arith) node) (omega arith)) (joined.below base found.0 found.1)
 
+-- the row of a node that is no image
+row_plain : (made : Known → ℕ → ℕ → Type 0) (driver : Driver) (row : Row) (new : Option Row) (cluster : ℕ) (outcome : Outcome) → IsPlain driver → new ≡ Some row
+    → LeavesRow made driver row new cluster outcome
+row_plain made File row new cluster outcome is same = same
+row_plain made (Raw part) row new cluster outcome is same = same
+row_plain made (Qcow2 image) row new cluster outcome is same = absurd is
+row_plain made CopyOnRead row new cluster outcome is same = absurd is
+
 -- A piece of such a node, by what the node is.
 pub piece_plain : (old new : Nodes) (node : ℕ) (span : Extent) (bytes : List ℕ) (outcome : Outcome) (may : MayWrite old node) → IsPlain may.row.driver
-    → WritesFile old new node span.start bytes outcome → WritesPiece old new node span bytes outcome
-piece_plain old new node span bytes outcome may plain wrote = record { row = may.row; there = may.there; wrote = by may.row.driver plain }
+    → WritesFile old new node span.start bytes outcome → row_at new node ≡ row_at old node → WritesPiece old new node span bytes outcome
+piece_plain old new node span bytes outcome may plain wrote same =
+    record { row = may.row; there = may.there; wrote = by may.row.driver plain; left = row_plain (λ _. IsWritten) may.row.driver may.row (row_at new node) (span.start / 65536) outcome plain (same ∙ may.there) }
   where
     by : (driver : Driver) → IsPlain driver → WritesBy driver old new node span bytes outcome
     by File is = wrote
@@ -395,8 +404,9 @@ piece_plain old new node span bytes outcome may plain wrote = record { row = may
     by CopyOnRead is = absurd is
 
 pub zeros_plain : (old new : Nodes) (node : ℕ) (span : Extent) (outcome : Outcome) (may : MayWrite old node) → IsPlain may.row.driver
-    → WritesFile old new node span.start (replicate span.len 0) outcome → ZerosPiece old new node span outcome
-zeros_plain old new node span outcome may plain wrote = record { row = may.row; there = may.there; wrote = by may.row.driver plain }
+    → WritesFile old new node span.start (replicate span.len 0) outcome → row_at new node ≡ row_at old node → ZerosPiece old new node span outcome
+zeros_plain old new node span outcome may plain wrote same =
+    record { row = may.row; there = may.there; wrote = by may.row.driver plain; left = row_plain (λ image. IsZeroed (is_whole image span)) may.row.driver may.row (row_at new node) (span.start / 65536) outcome plain (same ∙ may.there) }
   where
     by : (driver : Driver) → IsPlain driver → ZerosBy driver old new node span outcome
     by File is = wrote

@@ -8,6 +8,7 @@ pub mod Found
 pub mod Adding
 pub mod Overlays
 pub mod Dropping
+pub mod Entries
 pub mod Writing
 pub mod Parts
 pub mod Flushing

@@ -1,14 +1,14 @@
 -- A piece of a qcow2 node: where it lies, and what its writing leaves of the rows and the devices.
-use Rattle.std.specs.Prelude.{◌≡◌, ◌⊎◌, ℕ, ◌+◌, ◌-◌, ◌*◌, ◌/◌, ◌%◌, ◌<◌, ◌≤◌, min, List, [], length, slice_index, slice_index_or, slice_set, Option, Some, None, IsSome}
+use Rattle.std.specs.Prelude.{◌≡◌, ◌⊎◌, ℕ, ◌+◌, ◌-◌, ◌/◌, ◌%◌, ◌<◌, ◌≤◌, min, List, length, slice_index, slice_index_or, slice_set, Option, Some, None, IsSome}
 use Rattle.blk_base.specs.Content.{bytes_at, with_bytes}
 use Rattle.blk_base.specs.Pieces.{Extent, end_of}
 use Rattle.blk_base.specs.declared.fault.DevNo.{DevNo}
 use Rattle.blk_base.specs.declared.fault.Outcome.{Outcome}
-use Rattle.blk_base.specs.declared.fault.Outcome.TheVariants.{Good, Torn, Io, NoSpace}
+use Rattle.blk_base.specs.declared.fault.Outcome.TheVariants.{Io, NoSpace}
 use Rattle.q2_format.specs.Contents.{image_disk}
 use Rattle.q2_image.specs.Image.{Known, IsImageOf, IsOpen}
 use Rattle.q2_image.specs.Reading.{IsWithinCluster}
-use Rattle.q2_image.specs.Writing.{HasHeaderOf, StaysTaken}
+use Rattle.blk_nodes.specs.Entries.{IsImageAfter}
 use Rattle.blk_nodes.specs.Found.{found_bytes, IsReadFrom}
 use Rattle.blk_nodes.specs.Nodes.{Nodes, DeviceState, AreTold, device_in, row_at}
 use Rattle.blk_nodes.specs.Reading.{HaveRisen, OnlyAt}
@@ -66,7 +66,7 @@ pub record IsGathered (cluster found : List ℕ) (n at : ℕ) (bytes : List ℕ)
 
 -- a call of the image in a row, on the device of a `file` node
 pub record CallsRow (file : ℕ) (fits : Known → ℕ → Type 0) (own : Known → Option ℕ)
-    (old new : Option Row) (before after : List DeviceState)
+    (made : Known → ℕ → ℕ → Type 0) (old new : Option Row) (before after : List DeviceState)
     (place : ℕ) (bytes : List ℕ) (outcome : Outcome) : Type 0 where
   pub row : Row
   pub image : Known
@@ -75,7 +75,8 @@ pub record CallsRow (file : ℕ) (fits : Known → ℕ → Type 0) (own : Known 
   pub driver : row.driver ≡ Qcow2 image
   pub left : new ≡ Some (record row { driver = Qcow2 now })
   pub opened : IsOpen now
-  pub call : IsImageCallAt file (fits image) (own image) before after image now place bytes outcome
+  pub call : IsImageCallAt file (fits image) (own image) (made image) before after image now place
+      bytes outcome
 
 -- What the writing of a piece leaves.
 
@@ -112,13 +113,12 @@ IsDiskAfter devices part bytes old new = (backing : List ℕ)
     → image_disk new backing ≡ with_bytes (image_disk old backing) part.span.start bytes
 
 -- the image was called
-pub record CallsPiece (part : Part) (fits : ℕ → Type 0) (own : Option ℕ) (image : Known)
-    (row : Row) (rows left : List (Option Row)) (old new : List DeviceState)
-    (bytes : List ℕ) (outcome : Outcome) : Type 0 where
+pub record CallsPiece (part : Part) (fits : ℕ → Type 0) (own : Option ℕ)
+    (made : ℕ → ℕ → Type 0) (image : Known) (row : Row) (rows left : List (Option Row))
+    (old new : List DeviceState) (bytes : List ℕ) (outcome : Outcome) : Type 0 where
   pub now : Known
   pub opened : IsOpen now
-  pub header : HasHeaderOf image now
-  pub taken : StaysTaken image now
+  pub changed : IsImageAfter made image now (part.span.start / 65536) outcome
   pub mapped : StaysMapped image now
   pub row_now : left ≡ slice_set rows part.node (Some (record row { driver = Qcow2 now }))
   pub before : DeviceState
@@ -134,12 +134,14 @@ pub record CallsPiece (part : Part) (fits : ℕ → Type 0) (own : Option ℕ) (
       → IsDiskAfter old part (taken_by outcome bytes) b b'
 
 pub record WritesPart (fits : Known → ℕ → Type 0) (own : Known → Option ℕ)
-    (rows left : List (Option Row)) (old new : List DeviceState) (part : Part)
-    (bytes : List ℕ) (outcome : Outcome) : Type 0 where
+    (made : Known → ℕ → ℕ → Type 0) (rows left : List (Option Row))
+    (old new : List DeviceState) (part : Part) (bytes : List ℕ) (outcome : Outcome)
+    : Type 0 where
   pub row : Row
   pub image : Known
   pub there : row_in rows part.node ≡ Some row
   pub driver : row.driver ≡ Qcow2 image
   pub wrote : RefusesPiece part.file (fits image) rows left old new outcome
       ⊎ (StopsReading part (fits image) rows left old new outcome
-      ⊎ CallsPiece part (fits image) (own image) image row rows left old new bytes outcome)
+      ⊎ CallsPiece part (fits image) (own image) (made image) image row rows left old new
+      bytes outcome)

@@ -12,9 +12,10 @@ use Rattle.blk_base.specs.declared.fault.Outcome.{Outcome}
 use Rattle.blk_base.specs.declared.fault.Outcome.TheVariants.{Good, Torn, Io, NoSpace}
 use Rattle.q2_format.specs.declared.entries.L2Entry.{L2Entry}
 use Rattle.q2_format.specs.declared.entries.L2Entry.TheVariants as entries
-use Rattle.q2_image.specs.Image.{Known, IsImageOf, entry_in}
+use Rattle.q2_image.specs.Image.{Known, IsImageOf, entry_in, word_in}
 use Rattle.q2_image.specs.Room.{WriteFits, ZerosFit, entry_for, is_whole}
 use Rattle.q2_image.specs.Writing.{IsDiskWith, HasHeaderOf, HasEntriesBut, StaysTaken, own_place}
+use Rattle.blk_nodes.specs.Entries.{IsEntryAfter, IsWritten, IsZeroed, LeavesRow}
 use Rattle.blk_nodes.specs.Nodes.{Nodes, DeviceState, row_at, device_in, file_of, backing_of}
 use Rattle.blk_nodes.specs.Reading.{HaveRisen, OnlyAt, StoppedBy, StoppedBelow, LeadsTo}
 use Rattle.blk_nodes.specs.Sources.{source_of}
@@ -119,20 +120,23 @@ HasImageCause fits place n old new before after (Io dev count) = fits × Stopped
 HasImageCause fits place n old new before after (NoSpace dev) =
     (fits → ⊥) × (dev ≡ old.number) × (new ≡ old) × (after ≡ before)
 
-pub record IsImageCall (fits : Type 0) (own : Option ℕ) (old new : DeviceState)
-    (before after : Known) (place : ℕ) (bytes : List ℕ) (outcome : Outcome) : Type 0 where
+pub record IsImageCall (fits : Type 0) (own : Option ℕ) (made : ℕ → ℕ → Type 0)
+    (old new : DeviceState) (before after : Known) (place : ℕ) (bytes : List ℕ)
+    (outcome : Outcome) : Type 0 where
   pub wrote : IsImageWrite old new before after place (taken_by outcome bytes)
   pub cause : HasImageCause fits own (length bytes) old new before after outcome
+  pub entry : IsEntryAfter made outcome (word_in before (place / 65536))
+      (word_in after (place / 65536))
 
 -- the same of the device of a `file` node; whether there is room goes by its capacity
 pub record IsImageCallAt (file : ℕ) (fits : ℕ → Type 0) (own : Option ℕ)
-    (old new : List DeviceState) (image now : Known) (place : ℕ) (bytes : List ℕ)
-    (outcome : Outcome) : Type 0 where
+    (made : ℕ → ℕ → Type 0) (old new : List DeviceState) (image now : Known) (place : ℕ)
+    (bytes : List ℕ) (outcome : Outcome) : Type 0 where
   pub before : DeviceState
   pub after : DeviceState
   pub held : device_in old file ≡ Some before
   pub left : device_in new file ≡ Some after
-  pub call : IsImageCall (fits before.capacity) own before after image now place bytes outcome
+  pub call : IsImageCall (fits before.capacity) own made before after image now place bytes outcome
   pub only : OnlyAt file old new
   pub full : (dev : DevNo) → outcome ≡ NoSpace dev → new ≡ old
 
@@ -228,6 +232,8 @@ pub record WritesPiece (old new : Nodes) (node : ℕ) (span : Extent) (bytes : L
   pub row : Row
   pub there : row_at old node ≡ Some row
   pub wrote : WritesBy row.driver old new node span bytes outcome
+  pub left : LeavesRow (λ _. IsWritten) row.driver row (row_at new node) (span.start / 65536)
+      outcome
 
 -- zeros are written in place where they are no whole cluster
 abbrev pub zeros_place : Bool → Known → Extent → Option ℕ
@@ -246,6 +252,8 @@ pub record ZerosPiece (old new : Nodes) (node : ℕ) (span : Extent)
   pub row : Row
   pub there : row_at old node ≡ Some row
   pub wrote : ZerosBy row.driver old new node span outcome
+  pub left : LeavesRow (λ image. IsZeroed (is_whole image span)) row.driver row (row_at new node)
+      (span.start / 65536) outcome
 
 -- What stays.
 

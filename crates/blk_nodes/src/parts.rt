@@ -5,6 +5,7 @@ ghost use Rattle.q2_image.specs.Reading.{IsHost, IsWithinCluster};
 ghost use Rattle.q2_image.specs.Room.{WriteFits, ZerosFit, entry_for, is_whole};
 ghost use Rattle.q2_image.specs.Writing.{PutFits, ZeroFits, own_end, own_place};
 ghost use Rattle.q2_tables.specs.Entries.{entry_of};
+ghost use Rattle.blk_nodes.specs.Entries.{Stays, IsMapped, IsCleared, IsWritten, IsZeroed};
 ghost use Rattle.blk_nodes.specs.Nodes.{device_in};
 ghost use Rattle.blk_nodes.specs.Parts.{OfImage, HasPiece, CallsRow, WritesPart, row_in};
 ghost use Rattle.blk_nodes.specs.Walk.{IsKnownAt};
@@ -63,7 +64,7 @@ fn write_row<D: Device>(
         × (span.start < image.header.size) × IsHost (entry_in image (span.start / 65536))
         × IsKnownAt file devices.old image) }
     ensures { CallsRow file (λ image capacity. own_end image span ≤ capacity)
-        (λ image. Some (own_place image span))
+        (λ image. Some (own_place image span)) (λ _. Stays)
         row.old row.new devices.old devices.new span.start bytes.now result }
 {
     let Some(taken) = row.take() else {
@@ -99,7 +100,7 @@ fn put_row<D: Device>(
     requires whole { length bytes.now ≡ 65536 }
     requires image { OfImage row.old (λ image. (cluster < clusters_in image)
         × IsKnownAt file devices.old image × FitsAt file devices.old (PutFits image cluster)) }
-    ensures { CallsRow file (λ image. PutFits image cluster) (λ _. None)
+    ensures { CallsRow file (λ image. PutFits image cluster) (λ _. None) (λ _. IsMapped)
         row.old row.new devices.old devices.new (cluster * 65536) bytes.now result }
 {
     let Some(taken) = row.take() else {
@@ -133,7 +134,7 @@ fn zero_row<D: Device>(
     requires held { IsSome (device_in devices.old file) }
     requires image { OfImage row.old (λ image. (cluster < clusters_in image)
         × IsKnownAt file devices.old image) }
-    ensures { CallsRow file (λ image. ZeroFits image cluster) (λ _. None)
+    ensures { CallsRow file (λ image. ZeroFits image cluster) (λ _. None) (λ _. IsCleared)
         row.old row.new devices.old devices.new (cluster * 65536) (replicate 65536 0) result }
 {
     let Some(taken) = row.take() else {
@@ -170,7 +171,7 @@ fn put_part<D: Device>(
     requires piece { HasPiece rows.old devices.old part.now }
     requires whole { length bytes.now ≡ part.now.span.len }
     ensures { WritesPart (λ image. PutFits image (part.now.span.start / 65536)) (λ _. None)
-        rows.old rows.new devices.old devices.new part.now bytes.now result }
+        (λ _. IsMapped) rows.old rows.new devices.old devices.new part.now bytes.now result }
 {
     let span = part.span;
     let at = part.node.index();
@@ -199,7 +200,7 @@ fn own_part<D: Device>(
     requires mapped { OfImage (row_in rows.old part.now.node)
         (λ image. IsHost (entry_in image (part.now.span.start / 65536))) }
     ensures { WritesPart (λ image capacity. own_end image part.now.span ≤ capacity)
-        (λ image. Some (own_place image part.now.span))
+        (λ image. Some (own_place image part.now.span)) (λ _. Stays)
         rows.old rows.new devices.old devices.new part.now bytes.now result }
 {
     let at = part.node.index();
@@ -212,7 +213,7 @@ fn clear_part<D: Device>(rows: &mut [Option<Row>], devices: &mut Devices<D>, par
     requires piece { HasPiece rows.old devices.old part.now }
     requires all { part.now.span.len ≡ part.now.whole.len }
     ensures { WritesPart (λ image. ZeroFits image (part.now.span.start / 65536)) (λ _. None)
-        rows.old rows.new devices.old devices.new part.now
+        (λ _. IsCleared) rows.old rows.new devices.old devices.new part.now
         (replicate part.now.span.len 0) result }
 {
     let span = part.span;
@@ -232,7 +233,7 @@ pub(crate) fn write_part<D: Device>(
     requires piece { HasPiece rows.old devices.old part.now }
     requires whole { length bytes.now ≡ part.now.span.len }
     ensures { WritesPart (λ image. WriteFits image part.now.span)
-        (λ image. own_place_by (entry_for image part.now.span) image part.now.span)
+        (λ image. own_place_by (entry_for image part.now.span) image part.now.span) (λ _. IsWritten)
         rows.old rows.new devices.old devices.new part.now bytes.now result }
 {
     let span = part.span;
@@ -255,6 +256,7 @@ pub(crate) fn zero_part<D: Device>(
     requires zeros { zeros.now ≡ replicate part.now.span.len 0 }
     ensures { WritesPart (λ image. ZerosFit image part.now.span)
         (λ image. zeros_place (is_whole image part.now.span) image part.now.span)
+        (λ image. IsZeroed (is_whole image part.now.span))
         rows.old rows.new devices.old devices.new part.now
         (replicate part.now.span.len 0) result }
 {

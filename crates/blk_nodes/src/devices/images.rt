@@ -3,6 +3,7 @@ ghost use Rattle.std.specs.Prelude.{◌≡◌, ◌<◌, ◌≤◌, ◌*◌, ◌/
 ghost use Rattle.q2_image.specs.Image.{IsImageOf, clusters_in, entry_in};
 ghost use Rattle.q2_image.specs.Reading.{IsHost, IsWithinCluster};
 ghost use Rattle.q2_image.specs.Writing.{PutFits, ZeroFits, own_end, own_place};
+ghost use Rattle.blk_nodes.specs.Entries.{Stays, IsMapped, IsCleared};
 ghost use Rattle.blk_nodes.specs.Nodes.{device_in};
 ghost use Rattle.blk_nodes.specs.Walk.{IsKnownAt};
 ghost use Rattle.blk_nodes.specs.Writing.{FitsAt, HasRoomAt, HasRoomBy, IsImageCall, IsImageCallAt, cluster_outcome};
@@ -35,7 +36,8 @@ impl<D: Device> Held<D> {
         requires whole { length bytes.now ≡ span.len }
         requires known { (b : List ℕ) → self.old.content ≡ Some b → IsImageOf b image.old }
         ensures { IsImageCall (own_end image.old span ≤ self.old.capacity)
-            (Some (own_place image.old span)) self.old self.new image.old image.new span.start bytes.now result }
+            (Some (own_place image.old span)) Stays self.old self.new image.old image.new
+            span.start bytes.now result }
     {
         let _ = image.cluster_size();
         match image.write_own(&mut self.device, span, bytes) {
@@ -50,9 +52,8 @@ impl<D: Device> Held<D> {
         requires fits { PutFits image.old cluster self.old.capacity }
         requires whole { length bytes.now ≡ 65536 }
         requires known { (b : List ℕ) → self.old.content ≡ Some b → IsImageOf b image.old }
-        ensures call { IsImageCall (PutFits image.old cluster self.old.capacity) None
+        ensures { IsImageCall (PutFits image.old cluster self.old.capacity) None IsMapped
             self.old self.new image.old image.new (cluster * 65536) bytes.now result }
-        ensures mapped { result ≡ Outcome.Good → IsHost (entry_in image.new cluster) }
     {
         let _ = image.cluster_size();
         let written = image.put_cluster(&mut self.device, cluster, bytes);
@@ -63,7 +64,7 @@ impl<D: Device> Held<D> {
     fn zero_image(&mut self, image: &mut Image, cluster: u64) -> Outcome
         requires cluster { cluster < clusters_in image.old }
         requires known { (b : List ℕ) → self.old.content ≡ Some b → IsImageOf b image.old }
-        ensures { IsImageCall (ZeroFits image.old cluster self.old.capacity) None
+        ensures { IsImageCall (ZeroFits image.old cluster self.old.capacity) None IsCleared
             self.old self.new image.old image.new (cluster * 65536) (replicate 65536 0) result }
     {
         let _ = image.cluster_size();
@@ -100,7 +101,8 @@ impl<D: Device> Devices<D> {
         requires whole { length bytes.now ≡ span.len }
         requires known { IsKnownAt file self.old image.old }
         ensures { IsImageCallAt file (λ capacity. own_end image.old span ≤ capacity)
-            (Some (own_place image.old span)) self.old self.new image.old image.new span.start bytes.now result }
+            (Some (own_place image.old span)) Stays self.old self.new image.old image.new
+            span.start bytes.now result }
     {
         match self.place_of(file) {
             Some(at) => {
@@ -124,9 +126,8 @@ impl<D: Device> Devices<D> {
         requires fits { FitsAt file self.old (PutFits image.old cluster) }
         requires whole { length bytes.now ≡ 65536 }
         requires known { IsKnownAt file self.old image.old }
-        ensures call { IsImageCallAt file (PutFits image.old cluster) None
+        ensures { IsImageCallAt file (PutFits image.old cluster) None IsMapped
             self.old self.new image.old image.new (cluster * 65536) bytes.now result }
-        ensures mapped { result ≡ Outcome.Good → IsHost (entry_in image.new cluster) }
     {
         match self.place_of(file) {
             Some(at) => {
@@ -142,7 +143,7 @@ impl<D: Device> Devices<D> {
         requires held { IsSome (device_in self.old file) }
         requires cluster { cluster < clusters_in image.old }
         requires known { IsKnownAt file self.old image.old }
-        ensures { IsImageCallAt file (ZeroFits image.old cluster) None
+        ensures { IsImageCallAt file (ZeroFits image.old cluster) None IsCleared
             self.old self.new image.old image.new (cluster * 65536) (replicate 65536 0) result }
     {
         match self.place_of(file) {

@@ -1,6 +1,5 @@
-use Rattle.std.proofs.Common.{◌≡◌, ◌/◌, ◌<◌, Some, refl, sym, ◌∙◌, ap, rules}
-use Rattle.q2_image.specs.Image.{Known, clusters_in, entry_in}
-use Rattle.q2_image.specs.Reading.{IsHost}
+use Rattle.std.proofs.Common.{◌≡◌, ◌<◌, Some, refl}
+use Rattle.q2_image.specs.Image.{clusters_in}
 use Rattle.q2_image.specs.Writing.{PutFits}
 use Rattle.blk_nodes.specs.Walk.{IsKnownAt}
 use Rattle.blk_nodes.specs.Writing.{FitsAt}
@@ -12,7 +11,7 @@ pub zero_fits-requires : goal.zero_fits-requires
 zero_fits-requires g c =
     let there : c.args.row.now ≡ Some c.in-Some.taken = cc (c.take.ensures.value, c.in-Some.is) in
     let of = image_found c.args.row.now c.in-Some.taken c.in-Qcow2.image (λ image. ((c.args.cluster < clusters_in image) × IsKnownAt c.args.file c.args.devices.now image × FitsAt c.args.file c.args.devices.now (PutFits image c.args.cluster))) there c.in-Qcow2.is c.requires.image in
-    rw (clusters_same c.in-Qcow2.image c.put_image-outcome.new.image c.put_image-outcome.ensures.call.call.wrote.header) of.0
+    rw (clusters_same c.in-Qcow2.image c.put_image-outcome.new.image c.put_image-outcome.ensures.call.wrote.header) of.0
 
 pub returns : goal.returns
 returns g c = record {
@@ -23,5 +22,5 @@ returns g c = record {
   driver = c.in-Qcow2.is;
   left = refl;
   opened = c.zero_fits.ensures.open;
-  call = c.put_image-outcome.ensures.call;
+  call = c.put_image-outcome.ensures;
 }

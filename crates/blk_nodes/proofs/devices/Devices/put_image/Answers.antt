@@ -1,5 +1,6 @@
-use Rattle.std.proofs.Common.{◌*◌, ◌≤◌, ℕ, List, Some, None, get_or, replicate, sym, ◌∙◌, ap, subst}
+use Rattle.std.proofs.Common.{◌*◌, ℕ, List, None, get_or, sym, ◌∙◌, ap, subst}
 use Rattle.q2_image.specs.Writing.{PutFits}
+use Rattle.blk_nodes.specs.Entries.{IsMapped}
 use Rattle.blk_nodes.specs.Nodes.{DeviceState}
 use Rattle.blk_nodes.specs.Writing.{IsImageCall}
 use Rattle.blk_nodes.proofs.HeldDevices.{is_placed, at_place, called_over}
@@ -17,16 +18,16 @@ put_image-requires-clause-known g c = λ b told.
     let content = ap (λ (d : DeviceState). d.content) c.index_mut-held.ensures.value in
     known (get_or items c.in-Some.at x) b (at_place c.args.file items c.in-Some.at x place) (sym content ∙ told)
 
-pub returns-clause-call : goal.returns-clause-call
-returns-clause-call g c =
+pub returns : goal.returns
+returns g c =
     let items : List DeviceState = c.self.inside.list.items in
     let x : DeviceState = c.index_mut-held.result.now in
     let y : DeviceState = c.put_image.new.self in
     let place = rw (sym c.self.view_is) at (sym c.in-Some.ensures.place) in
     let fits : ℕ → Type 0 = PutFits c.args.image.now c.args.cluster in
     rw (sym c.self.view_is)
-    (called_over c.args.file items c.in-Some.at x y fits None c.args.image.now c.put_image.new.image (c.args.cluster * 65536) c.args.bytes.now c.put_image.result place
-    (subst (λ (d : DeviceState). IsImageCall (fits d.capacity) None d y c.args.image.now c.put_image.new.image (c.args.cluster * 65536) c.args.bytes.now c.put_image.result) c.index_mut-held.ensures.value c.put_image.ensures.call))
+    (called_over c.args.file items c.in-Some.at x y fits None IsMapped c.args.image.now c.put_image.new.image (c.args.cluster * 65536) c.args.bytes.now c.put_image.result place
+    (subst (λ (d : DeviceState). IsImageCall (fits d.capacity) None IsMapped d y c.args.image.now c.put_image.new.image (c.args.cluster * 65536) c.args.bytes.now c.put_image.result) c.index_mut-held.ensures.value c.put_image.ensures))
 
 pub put_image-requires-clause-fits : goal.put_image-requires-clause-fits
 put_image-requires-clause-fits g c =

@@ -1,18 +1,19 @@
-use Rattle.std.proofs.Common.{◌≡◌, ◌*◌, ◌/◌, ℕ, List, None, length, replicate, refl, sym, ◌∙◌, ap, subst, arith}
+use Rattle.std.proofs.Common.{◌≡◌, ◌*◌, ◌/◌, ℕ, List, None, length, refl, sym, subst, arith}
 use Rattle.std.proofs.lemmas.Result.{on_ok_weaker}
 use Rattle.blk_base.specs.declared.fault.Outcome.{Outcome}
 use Rattle.q2_image.specs.Image.{entry_in}
 use Rattle.q2_image.specs.Writing.{IsDiskWith, HasEntriesBut, PutFits}
+use Rattle.blk_nodes.specs.Entries.{IsMapped}
 use Rattle.blk_nodes.specs.Nodes.{DeviceState}
 use Rattle.blk_nodes.specs.Writing.{HasImageCause, taken_by}
-use Rattle.blk_nodes.proofs.ImageCalls.{host_mapped, cluster_mapped, cluster_cause, cluster_disk, cluster_flushed, same_state}
+use Rattle.blk_nodes.proofs.ImageCalls.{host_mapped, cluster_mapped, cluster_entry, cluster_cause, cluster_disk, cluster_flushed}
 use Rattle.blk_nodes.proofs.devices.Held.put_image.Goals as goal
 
 pub put_cluster-written-requires-clause-image : goal.put_cluster-written-requires-clause-image
 put_cluster-written-requires-clause-image g c = λ file told. let known = rw (sym c.self.view_is) at c.requires.known in known file told
 
-pub returns-clause-call : goal.returns-clause-call
-returns-clause-call g c =
+pub returns : goal.returns
+returns g c =
     let e = c.put_cluster-written.ensures in
     let written = c.put_cluster-written.result in
     let image = c.args.image.now in
@@ -64,4 +65,5 @@ returns-clause-call g c =
       cause = subst (HasImageCause (PutFits image c.args.cluster old.capacity) None (length bytes) old new image left) (sym c.cluster_outcome.ensures)
           (cluster_cause g.D.Device (PutFits image c.args.cluster old.capacity) None (length bytes) image _ written left c.self.inside.device c.put_cluster-written.new.dev old new refl refl refl e.changes
           (λ other. fits) (λ is. absurd (e.no_space.0 is fits)));
+      entry = cluster_entry new IsMapped written image left c.args.cluster c.cluster_outcome.result c.cluster_outcome.ensures e.mapped e.unmapped;
     })

@@ -1,10 +1,10 @@
-use Rattle.std.proofs.Common.{◌≡◌, ◌≤◌, ℕ, List, Some, length, refl, sym, ◌∙◌, ap, subst}
+use Rattle.std.proofs.Common.{◌≡◌, ◌/◌, ◌≤◌, ℕ, List, Some, length, refl, sym, ◌∙◌, ap, subst}
 use Rattle.blk_base.specs.declared.device.Stop.TheVariants as why
 use Rattle.blk_base.specs.declared.fault.Outcome.{Outcome}
 use Rattle.q2_image.specs.Writing.{IsDiskWith, own_end, own_place}
 use Rattle.blk_nodes.specs.Nodes.{DeviceState}
 use Rattle.blk_nodes.specs.Writing.{HasImageCause, taken_by}
-use Rattle.blk_nodes.proofs.ImageCalls.{own_cause, own_entries, own_header, own_mapped, own_taken, same_state, stop_flushed}
+use Rattle.blk_nodes.proofs.ImageCalls.{own_cause, own_entries, own_header, own_mapped, own_taken, own_word, same_state, stays_after, stop_flushed}
 use Rattle.blk_nodes.proofs.devices.Held.write_image.Goals as goal
 
 pub write_own-requires-clause-image : goal.write_own-requires-clause-image
@@ -58,4 +58,5 @@ returns-in-Err g c =
           (sym c.stopped.ensures)
           (own_cause old new c.args.image.now c.write_own.new.self (own_place c.args.image.now c.args.span) (length bytes) (own_end c.args.image.now c.args.span) stop refl e.stop
           (λ none. let all = e.untouched none in (same_state old new refl refl all.1 all.3 all.2 all.4 e.capacity all.5, all.0)));
+      entry = stays_after c.stopped.result _ _ (own_word c.args.image.now c.write_own.new.self (c.args.span.start / 65536) e.known);
     })

@@ -1,12 +1,13 @@
-use Rattle.std.proofs.Common.{◌≡◌, ◌*◌, ◌/◌, ℕ, List, None, length, replicate, refl, sym, ◌∙◌, ap, subst, arith}
+use Rattle.std.proofs.Common.{◌≡◌, ◌*◌, ◌/◌, ℕ, List, None, length, replicate, refl, sym, subst, arith}
 use Rattle.std.proofs.lemmas.Result.{on_ok_weaker}
 use Rattle.blk_base.specs.declared.fault.Outcome.{Outcome}
 use Rattle.q2_format.specs.Entry.{host_of}
 use Rattle.q2_image.specs.Image.{entry_in}
 use Rattle.q2_image.specs.Writing.{IsDiskWith, HasEntriesBut, ZeroFits}
+use Rattle.blk_nodes.specs.Entries.{IsCleared}
 use Rattle.blk_nodes.specs.Nodes.{DeviceState}
 use Rattle.blk_nodes.specs.Writing.{HasImageCause, taken_by}
-use Rattle.blk_nodes.proofs.ImageCalls.{zero_mapped, cluster_mapped, stable_zero, zeros_disk, cluster_cause, cluster_disk, cluster_flushed, same_state}
+use Rattle.blk_nodes.proofs.ImageCalls.{zero_mapped, cluster_mapped, cluster_entry, stable_zero, zeros_disk, cluster_cause, cluster_disk, cluster_flushed, same_state}
 use Rattle.blk_nodes.proofs.devices.Held.zero_image.Goals as goal
 
 pub zero_cluster-written-requires-clause-image : goal.zero_cluster-written-requires-clause-image
@@ -65,4 +66,5 @@ returns g c =
           (cluster_cause g.D.Device (ZeroFits image c.args.cluster old.capacity) None (length bytes) image _ written left c.self.inside.device c.zero_cluster-written.new.dev old new refl refl refl e.changes
           (λ other. stable_zero c.args.image.now c.args.cluster old.capacity (λ none. other (e.no_space.1 none)))
           (λ is. let all = e.untouched is in (e.no_space.0 is, same_state old new refl refl all.1 all.3 all.2 all.4 e.capacity all.5, all.0)));
+      entry = cluster_entry new IsCleared written image left c.args.cluster c.cluster_outcome.result c.cluster_outcome.ensures e.mapped e.unmapped;
     })

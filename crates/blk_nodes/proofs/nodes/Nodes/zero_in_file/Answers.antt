@@ -42,7 +42,7 @@ returns-clause-wrote g c =
       own = (owned nodes c.self.invariant c.args.node c.args.span.start may plain c.in-File.file c.in-File.start there).0;
       start_is = owned_at nodes c.self.invariant c.args.node c.args.span.start may plain c.in-File.file c.in-File.start there;
       at = at;
-    }))
+    }) refl)
 
 pub returns-clause-disk : goal.returns-clause-disk
 returns-clause-disk g c =
