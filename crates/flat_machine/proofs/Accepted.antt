@@ -53,7 +53,7 @@ use Rattle.flat_machine.specs.Sights.{told_by, MayStop, may_be_large, is_opened}
 use Rattle.flat_machine.specs.Agreement.{HasDisk}
 use Rattle.flat_machine.specs.Performing.{IsWholly, IsReadable, IsBacking, CanAddFile, Can, AllCan}
 use Rattle.flat_machine.specs.Wiring.{StandsFor}
-use Rattle.flat_machine.specs.Standing.{Stands, IsOfState, IsOpen, IsWhole}
+use Rattle.flat_machine.specs.Standing.{Stands, IsOfState, IsOpen, IsKnownWhole}
 use Rattle.flat_machine.proofs.Finds.{bytes_eq-same}
 use Rattle.flat_machine.proofs.Kept.{own_disk}
 use Rattle.flat_machine.proofs.Fresh.{lowest_free-free, free-row, found-longer, found-new}
@@ -114,7 +114,7 @@ wholly_known s name stands none lost None is there = absurd cc
 wholly_known s name stands none lost (Some content) is there =
     by_state (file_state s.table name) refl lost (stands.states name content is (λ row over under. none-over s.table name none row over))
   where
-    whole : (c : Content) → IsWhole c → IsWholly c
+    whole : (c : Content) → IsKnownWhole c → IsWholly c
     whole (Bytes bytes) h = (bytes, refl)
     whole (Blank new len) h = absurd h
     whole Unknown h = absurd h

@@ -40,6 +40,11 @@ pub none-behind : (t : Table) (told : Told) (xs ys : List Asking) → NoneHolds 
 none-behind t told [] ys h = h
 none-behind t told (asking ∷ xs) ys h = none-behind t told xs ys h.1
 
+-- and with those ahead
+pub none-ahead : (t : Table) (told : Told) (xs ys : List Asking) → NoneHolds t told (xs ++ ys) → NoneHolds t told xs
+none-ahead t told [] ys h = tt
+none-ahead t told (asking ∷ xs) ys h = (h.0, none-ahead t told xs ys h.1)
+
 pub good-value : (t : Table) (told : Told) (member : List ℕ) (ok : Bool) → holds t told (ask.Good member ok) ≡ None → ok ≡ true
 unfolding holds
 good-value t told member ok h = not-false ok (not-refused (not ok) _ h)

@@ -1,10 +1,10 @@
 -- The lowest id that is free is that of no node, and rows that are found stay found in longer lists.
-use Rattle.std.proofs.Common.{◌≡◌, ◌⊎◌, ℕ, zero, suc, ◌+◌, ◌<◌, ◌≤◌, Bool, true, false, cond, List, [], ◌∷◌, ◌++◌, map, length, refl, sym, inl, inr, arith, Some, None}
+use Rattle.std.proofs.Common.{◌≡◌, ◌⊎◌, ℕ, zero, suc, ◌+◌, ◌<◌, ◌≤◌, Bool, true, false, cond, List, [], ◌∷◌, ◌++◌, map, length, refl, sym, ap, ◌∙◌, inl, inr, arith, Some, None}
 use Rattle.std.specs.Prelude.{◌==◌, ◌||◌, nat_eq}
 use Rattle.std.specs.List.{find, list_any, Contains}
 use Rattle.std.proofs.lemmas.Bool.{eqb-true, eqb-false, ne_eqb, cases_eq}
 use Rattle.blk_graph.specs.Ids.{lowest_from, lowest_free}
-use Rattle.blk_graph.proofs.Members.{Contains-here, Contains-there}
+use Rattle.blk_graph.proofs.Members.{Contains-here, Contains-there, Contains-nil, Contains-cases}
 use Rattle.blk_graph.proofs.IdLemmas.{length-taken}
 use Rattle.qmp_rules.specs.declared.rows.NodeRecord.{NodeRecord}
 
@@ -61,9 +61,19 @@ free-row k (row ∷ rows) h = by_test (nat_eq k row.id) refl (free-row k rows) h
         let differ : (row.id == k) ≡ false = ne_eqb row.id k (λ same. eqb-false k row.id e (sym same)) in
         rw differ (ih t)
 
--- ---- rows in longer lists
+-- ---- rows in lists
 
 module _ {X : Type 0} where
+  -- what isn't found isn't there
+  pub no-found : (p : X → Bool) (xs : List X) (x : X) → find p xs ≡ None → Contains xs x → p x ≡ true → ⊥
+  no-found p [] x none there passes = Contains-nil x there
+  no-found p (y ∷ xs) x none there passes = by_test (p y) refl none (λ e k. no-found p xs x e k passes) (Contains-cases y xs x there)
+    where
+      by_test : (b : Bool) → p y ≡ b → cond b (Some y) (find p xs) ≡ None → (find p xs ≡ None → Contains xs x → ⊥) → ((x ≡ y) ⊎ Contains xs x) → ⊥
+      by_test true e k rest from = absurd cc
+      by_test false e k rest (inl here) = let yes = ap p (sym here) ∙ passes in cc
+      by_test false e k rest (inr behind) = rest k behind
+
   pub found-longer : (p : X → Bool) (xs : List X) (y x : X) → find p xs ≡ Some x → find p (xs ++ y ∷ []) ≡ Some x
   found-longer p [] y x h = absurd cc
   found-longer p (z ∷ xs) y x h = by_test (p z) (found-longer p xs y x) h

@@ -4,6 +4,7 @@ pub mod Kept
 pub mod Fresh
 pub mod Asked
 pub mod Accepted
+pub mod OwnNames
 pub mod Tables
 pub mod Rows
 pub mod Wired

@@ -49,6 +49,7 @@ start_table guests = record {
   apart = λ row there. absurd (Contains-nil row there);
   drivers = λ name row over. absurd (Contains-nil row over.there);
   names = λ row there. absurd (Contains-nil row there);
+  own_names = λ row there. absurd (Contains-nil row there);
   alone = λ name a b over_a over_b. absurd (Contains-nil a over_a.there);
   edges = λ e there. absurd (Contains-nil e there);
   roles = λ e row there. absurd (Contains-nil e there);

@@ -348,6 +348,7 @@ module _ (t : Table) (es : List Edge) (node overlay : NodeRecord) (to : ℕ → 
     apart = h.apart;
     drivers = λ name row f. h.drivers name row (was_standing name row f);
     names = h.names;
+    own_names = h.own_names;
     alone = λ name a b fa fb. h.alone name a b (was_standing name a fa) (was_standing name b fb);
     edges = ends_led;
     roles = λ e row there row_there is. elim (r.old e there) [
@@ -408,4 +409,5 @@ module _ (t : Table) (es : List Edge) (node overlay : NodeRecord) (to : ℕ → 
         parent = like.same.parent ∙ k.parent;
         role = like.same.role ∙ k.role;
         child = like.same.child ∙ k.child;
+        named = k.named;
       }

@@ -47,6 +47,7 @@ ends-longer t now e more h = record { parent = λ node k. more node (h.parent no
 
 pub record IsLike (row later : NodeRecord) : Type 0 where
   pub id : later.id ≡ row.id
+  pub name : later.name ≡ row.name
   pub filename : later.filename ≡ row.filename
   pub kind : later.kind ≡ row.kind
   pub read_only : later.read_only ≡ row.read_only
@@ -56,6 +57,7 @@ pub record IsLike (row later : NodeRecord) : Type 0 where
 pub like-itself : (row : NodeRecord) → IsLike row row
 like-itself row = record {
   id = refl;
+  name = refl;
   filename = refl;
   kind = refl;
   read_only = refl;
@@ -121,6 +123,7 @@ changed_row t f like apart row later there there_later same =
 like-unsettled : (row : NodeRecord) → IsLike row (unsettled row)
 like-unsettled row = record {
   id = refl;
+  name = refl;
   filename = refl;
   kind = refl;
   read_only = refl;

@@ -54,7 +54,7 @@ use Rattle.flat_machine.specs.Wiring.{HasFile, IsNumberBy, IsInline, InlineAreUn
 use Rattle.flat_machine.specs.Standing.{Stands, StandsAtRest}
 use Rattle.flat_machine.specs.Suiting.{IsAlone, AllTableSuit, RemovalSuits, FormattingSuits, AllSuit}
 use Rattle.flat_machine.proofs.Finds.{bytes_eq-same, same-bytes_eq, content_in-with}
-use Rattle.flat_machine.proofs.Fresh.{any-Contains, lowest_from-cases}
+use Rattle.flat_machine.proofs.Fresh.{any-Contains, lowest_from-cases, no-found}
 use Rattle.flat_machine.proofs.Asked.{none-both, not-refused, NoneHolds, none-holds, none-behind, good-value, found-named, takes-driver, room-left, none-stands, known-file, known-under, lone-node}
 use Rattle.flat_machine.proofs.Accepted.{none-over, row_at, is_protocol, file_can, inline_can, raw_told_absent, qcow2_told_absent, no_edge}
 use Rattle.flat_machine.proofs.Tables.{file_state-with}
@@ -64,7 +64,7 @@ use Rattle.flat_machine.proofs.FilesStand.{use_stands}
 use Rattle.flat_machine.proofs.TableSuited.{named-row, own-settled, file-own, inline-found, add-table, NamedDrive, named-drive, device-suits}
 use Rattle.flat_machine.proofs.DriveWrites.{drive_may}
 use Rattle.flat_machine.proofs.SnapshotStates.{snapshot_suits}
-use Rattle.flat_machine.proofs.TableRests.{no-found, inline_change, inline-file, inline-left, made-goes_with, without_grow}
+use Rattle.flat_machine.proofs.TableRests.{inline_change, inline-file, inline-left, made-goes_with, without_grow}
 
 with_some : {A : Type 0} (P : A → Type 0) (o : Option A) → With o P → IsSome o
 with_some P None h = absurd h
@@ -585,7 +585,7 @@ del_suits s told name h asks = by_row (found-named s.table told name asks.1.0)
         )
       where
         moved : (file : List ℕ) {r : NodeRecord} {over : ℕ} → IsInline s.table r over → IsInline (changed s.table (change.UseFile file)) r over
-        moved file k = record { file = k.file; edge = k.edge; there = k.there; parent = k.parent; role = k.role; child = k.child }
+        moved file k = record { file = k.file; edge = k.edge; there = k.there; parent = k.parent; role = k.role; child = k.child; named = k.named }
 
         used : (file other : List ℕ) → Some file ≡ Some other → file_state (changed s.table (change.UseFile file)) other ≡ Some Used
         used file other same =

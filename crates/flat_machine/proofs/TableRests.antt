@@ -11,7 +11,7 @@ use Rattle.blk_graph.specs.declared.kind.NodeKind.{NodeKind}
 use Rattle.blk_graph.specs.Edges.{same_parent}
 use Rattle.blk_graph.specs.Edits.{with_edge}
 use Rattle.blk_graph.specs.Permissions.{node_edge, has_role}
-use Rattle.blk_graph.proofs.Members.{find-Some, Contains-nil, Contains-cases}
+use Rattle.blk_graph.proofs.Members.{find-Some}
 use Rattle.blk_graph.proofs.EditLemmas.{Contains-with_edge_new}
 use Rattle.qmp_codec.specs.Commands.{Cmd, SeenSources}
 use Rattle.qmp_codec.specs.declared.command.Command.TheVariants as command
@@ -32,6 +32,7 @@ use Rattle.qmp_rules.specs.declared.told.Told.{Told}
 use Rattle.qmp_rules.specs.Table.{Table, device_named, node_at, node_named, id_named, child, kinds_of}
 use Rattle.qmp_rules.specs.Changes.{changed, all_changed, node_changed, unsettled, lost_with, with_unsettled, without_row, format_edges}
 use Rattle.qmp_rules.specs.Edits.{file_of_node, next_free_id, raw_row, image_row, length_told, goes_with, goes_with_node, with_inline, uses, file_under, del_edits, added_edits, raw_edits, qcow2_edits, add_edits, inline_row, edits_of, created_change, spoiled, device_add_edits, new_device, device_uses, of_row, bitmap_add_edits, bitmap_remove_edits, bitmap_clear_edits, bitmap_turn_edits, merges, merge_edits}
+use Rattle.qmp_rules.specs.Naming.{inline_name}
 use Rattle.qmp_rules.specs.NodeAsks.{add_asks, del_asks, device_add_asks, is_read_only, backing_name}
 use Rattle.qmp_rules.specs.Asks.{first, is_file}
 use Rattle.qmp_rules.specs.CommandAsks.{asks_of, negotiates}
@@ -39,9 +40,11 @@ use Rattle.qmp_rules.specs.Answers.{unbuilt, out_of_turn, refusal_of, command_ed
 use Rattle.qmp_rules.specs.Chains.{written_under, unsettled_over}
 use Rattle.flat_machine.specs.Wiring.{HasFile, IsInline, InlineAreUnder, TableStands, TableAtRest}
 use Rattle.flat_machine.specs.Suiting.{IsThere, IsAlone, TableSuits, AllTableSuit}
+use Rattle.flat_machine.proofs.Fresh.{no-found}
+use Rattle.flat_machine.proofs.OwnNames.{goes-named}
 use Rattle.flat_machine.proofs.Tables.{HasLike, pushed-new, refreshed-new, with_edge-keeps}
 use Rattle.flat_machine.proofs.Rows.{SameRows, rows-same, rows-mapped, like_lost, like_unsettled, like_over}
-use Rattle.flat_machine.proofs.Wired.{OldRow, Grows, NoRow, NoEdge}
+use Rattle.flat_machine.proofs.Wired.{OldRow, Grows, NoRow, NoEdge, at_with, with_at}
 use Rattle.flat_machine.proofs.TablesKept.{IsOther, rows_grow, rows_table, file_grow, file_table, IsNewEdge, format_grow, format_table, is_under, IsFilterEdge, filter_grow, filter_table, removed_grow, removed_table, IsDriveEdge, device_grow, device_table}
 use Rattle.flat_machine.proofs.DevicesGone.{gone_grow, gone_table}
 use Rattle.flat_machine.proofs.Asked.{none-both, NoneHolds, none-holds, found-named, lone-node}
@@ -120,7 +123,11 @@ module _ (t now : Table) (P : ℕ → Type 0) (IsNewRow : NodeRecord → Type 0)
           let was_made : old.row.made_with ≡ Some over = sym old.like.made_with ∙ is in
           let apart : Q old.row.id → ⊥ = λ q. other (subst Q (sym old.like.id) q) in
           let k = h old.row over old.there old.kept was_made apart in
-          let to = g.keeps k.edge over k.there k.parent (stays old.row over old.there old.kept was_made apart) in
+          let stays_over = stays old.row over old.there old.kept was_made apart in
+          let to = g.keeps k.edge over k.there k.parent stays_over in
+          let both = g.stays over stays_over in
+          let was : old.row.name ≡ inline_name both.row.name None =
+          at_with (λ (node : NodeRecord). old.row.name ≡ inline_name node.name None) (node_at t over) both.row both.found k.named in
           record {
             file = subst IsSome (sym old.like.filename) k.file;
             edge = to.edge;
@@ -128,6 +135,8 @@ module _ (t now : Table) (P : ℕ → Type 0) (IsNewRow : NodeRecord → Type 0)
             parent = to.same.parent ∙ k.parent;
             role = to.same.role ∙ k.role;
             child = to.same.child ∙ k.child ∙ sym old.like.id;
+            named = with_at (λ (node : NodeRecord). row.name ≡ inline_name node.name None) (node_at now over) both.later both.found_later
+                (old.like.name ∙ was ∙ ap (λ n. inline_name n None) (sym both.like.name));
           }
 
 -- the node over it is there
@@ -245,11 +254,12 @@ with-backing id file node edges =
     by_parent false = refl
 
 pair_rests : (t : Table) (row new : NodeRecord) (backing : Option ℕ) → ((over : ℕ) → row.made_with ≡ Some over → over ≡ new.id)
-    → new.made_with ≡ None → AllTableSuit t (change.AddFile row ∷ change.AddFormat new row.id backing ∷ []) → TableAtRest t
+    → ((over : ℕ) → row.made_with ≡ Some over → row.name ≡ inline_name new.name None) → new.made_with ≡ None
+    → AllTableSuit t (change.AddFile row ∷ change.AddFormat new row.id backing ∷ []) → TableAtRest t
     → TableAtRest (all_changed t (change.AddFile row ∷ change.AddFormat new row.id backing ∷ []))
 unfolding changed
-pair_rests t row new backing mine none suits h = record {
-  stands = all_keep (change.AddFile row ∷ change.AddFormat new row.id backing ∷ []) t suits h.stands;
+pair_rests t row new backing mine named none suits h = record {
+  stands = now_stands;
   inline = λ r over there is. by_id r over there is (cases_eq r.id row.id);
 }
   where
@@ -261,6 +271,12 @@ pair_rests t row new backing mine none suits h = record {
 
     stands : TableStands between
     stands = table_keeps t (change.AddFile row) suits.0 h.stands
+
+    now_stands : TableStands now
+    now_stands = table_keeps between (change.AddFormat new row.id backing) suits.1.0 stands
+
+    new_found : node_at now new.id ≡ Some new
+    new_found = now_stands.apart new (pushed-new (with_unsettled row.id between.nodes) new)
 
     but : InlineBut now (λ id. id ≡ row.id)
     but = inline_keeps (λ id. id ≡ row.id) between (change.AddFormat new row.id backing) none suits.1.0 stands
@@ -292,6 +308,9 @@ pair_rests t row new backing mine none suits h = record {
           parent = own.same.parent ∙ ap Node (sym (mine over with));
           role = own.same.role;
           child = own.same.child ∙ sym same;
+          named = with_at (λ (node : NodeRecord). r.name ≡ inline_name node.name None) (node_at now over) new
+              (subst (λ n. node_at now n ≡ Some new) (sym (mine over with)) new_found)
+              (ap (λ x. x.name) row_is ∙ ap (λ x. x.name) under_is ∙ named over with);
         }
 
 -- ---- a node that goes
@@ -305,15 +324,6 @@ made-goes_with id row h = by_made row.made_with h
 
 goes_with-made : (id : ℕ) (row : NodeRecord) → row.made_with ≡ Some id → goes_with_node id row ≡ true
 goes_with-made id row h = ap (λ made. unwrap_or (option_map (λ other. other == id) made) false) h ∙ eq-eqb id id refl
-
-pub no-found : {A : Type 0} (p : A → Bool) (xs : List A) (x : A) → find p xs ≡ None → Contains xs x → p x ≡ true → ⊥
-no-found p [] x none there passes = Contains-nil x there
-no-found p (y ∷ xs) x none there passes = by_test (p y) refl none (λ e k. no-found p xs x e k passes) (Contains-cases y xs x there)
-  where
-    by_test : (b : Bool) → p y ≡ b → cond b (Some y) (find p xs) ≡ None → (find p xs ≡ None → Contains xs x → ⊥) → ((x ≡ y) ⊎ Contains xs x) → ⊥
-    by_test true e k rest from = absurd cc
-    by_test false e k rest (inl here) = let yes = ap p (sym here) ∙ passes in cc
-    by_test false e k rest (inr behind) = rest k behind
 
 abbrev pub inline_change : Option NodeRecord → List Change
 inline_change found = elim found as (λ _. List Change) [ None ↦ [] | Some row ↦ change.RemoveNode row.id ∷ [] ]
@@ -478,7 +488,8 @@ add_rests t told exp c asks h = by_driver c.driver (add-table t told h.stands c 
     of_raw raw (file_ref.Inline file) suits = (
       suits,
       pair_rests t (inline_row t exp name file) (raw_row (next_free_id t) name (length_told exp) read_only raw) None
-          (λ over with. made_with-over (next_free_id t) over file.node_name with) refl suits h,
+          (λ over with. made_with-over (next_free_id t) over file.node_name with)
+          (λ over with. goes-named (next_free_id t) over name file.node_name with) refl suits h,
     )
 
     of_qcow2 : (back : Option (List ℕ)) (file : FileRef (List ℕ)) → AllTableSuit t (qcow2_edits t exp name read_only back file)
@@ -487,7 +498,8 @@ add_rests t told exp c asks h = by_driver c.driver (add-table t told h.stands c 
     of_qcow2 back (file_ref.Inline file) suits = (
       suits,
       pair_rests t (inline_row t exp name file) (image_row (next_free_id t) exp name read_only) (option_and_then (id_named t) back)
-          (λ over with. made_with-over (next_free_id t) over file.node_name with) refl suits h,
+          (λ over with. made_with-over (next_free_id t) over file.node_name with)
+          (λ over with. goes-named (next_free_id t) over name file.node_name with) refl suits h,
     )
 
     by_driver : (driver : Added (List ℕ)) → AllTableSuit t (added_edits t exp name read_only driver)

@@ -26,17 +26,19 @@ use Rattle.qmp_rules.specs.declared.told.Told.{Told}
 use Rattle.qmp_rules.specs.Table.{Table, node_at, node_named, id_named, kinds_of}
 use Rattle.qmp_rules.specs.Chains.{filter_role, is_settled}
 use Rattle.qmp_rules.specs.Changes.{changed}
-use Rattle.qmp_rules.specs.Edits.{free_id, next_free_id, place_from, unused_from, inline_row, image_row, raw_edits, qcow2_edits, added_edits, add_edits, uses, new_device, device_add_edits}
-use Rattle.qmp_rules.specs.NodeAsks.{device_add_asks, add_asks, option_values, added_values, added_names, is_read_only, added_rest, raw_rest, qcow2_rest, copy_on_read_rest, is_added, backing_name}
-use Rattle.qmp_rules.specs.Asks.{id_or, Asking, holds, takes, is_file}
+use Rattle.qmp_rules.specs.Edits.{free_id, next_free_id, place_from, unused_from, file_row, format_row, inline_row, image_row, raw_row, length_told, size_of, raw_edits, qcow2_edits, added_edits, add_edits, uses, new_device, device_add_edits}
+use Rattle.qmp_rules.specs.Naming.{is_name}
+use Rattle.qmp_rules.specs.NodeAsks.{device_add_asks, add_asks, add_names, add_values, file_names, added_names, is_read_only, added_rest, raw_rest, qcow2_rest, copy_on_read_rest, is_added, backing_name}
+use Rattle.qmp_rules.specs.Asks.{id_or, holds, takes, is_file}
 use Rattle.flat_machine.specs.Wiring.{IsNumberBy, TableStands}
 use Rattle.flat_machine.specs.Suiting.{IsThere, IsAlone, IsFree, SuitsFile, SuitsBacking, SuitsDevice, AllTableSuit}
 use Rattle.flat_machine.proofs.Finds.{bytes_eq-same, same-bytes_eq}
 use Rattle.flat_machine.proofs.Fresh.{found-longer, found-new}
 use Rattle.flat_machine.proofs.Tables.{refreshed-old}
 use Rattle.flat_machine.proofs.Kept.{own_disk}
+use Rattle.flat_machine.proofs.OwnNames.{IsNameIf, inline-own, name-asked, named-if, names-asked, own-name}
 use Rattle.flat_machine.proofs.Rows.{under-before}
-use Rattle.flat_machine.proofs.Asked.{not-refused, NoneHolds, none-behind, good-value, found-named, takes-driver, room-left, none-stands, lone-node, settled-node}
+use Rattle.flat_machine.proofs.Asked.{not-refused, NoneHolds, none-ahead, none-behind, good-value, found-named, takes-driver, room-left, none-stands, lone-node, settled-node}
 use Rattle.flat_machine.proofs.Accepted.{free_fresh, next_fresh, none-over, is_protocol, no_edge}
 use Rattle.flat_machine.proofs.TablesKept.{not-there}
 
@@ -189,12 +191,13 @@ module _ (t : Table) (told : Told) (h : TableStands t) where
 
   -- ---- each driver
 
-  pub file-table : (name : List ℕ) (read_only : Bool) (filename : List ℕ) (exp : Told)
+  pub file-table : (name : List ℕ) (read_only : Bool) (filename : List ℕ) (exp : Told) → is_name name ≡ true
       → NoneHolds t told (added_rest name read_only (added.File filename))
       → AllTableSuit t (added_edits t exp name read_only (added.File filename))
-  file-table name read_only filename exp asks = (
+  file-table name read_only filename exp said asks = (
     record {
       fresh = free_fresh t (room-left t told 1 asks.1.0);
+      own_name = own-name (file_row (free_id t) name (length_told exp) read_only filename None) said;
       driver = refl;
       name = filename;
       filename = refl;
@@ -203,13 +206,14 @@ module _ (t : Table) (told : Told) (h : TableStands t) where
     tt,
   )
 
-  pub raw-named-table : (name : List ℕ) (read_only : Bool) (raw : AddRaw (List ℕ)) (file : List ℕ) (exp : Told)
+  pub raw-named-table : (name : List ℕ) (read_only : Bool) (raw : AddRaw (List ℕ)) (file : List ℕ) (exp : Told) → is_name name ≡ true
       → NoneHolds t told (raw_rest name read_only raw (file_ref.Name file))
       → AllTableSuit t (raw_edits t exp name read_only raw (file_ref.Name file))
-  raw-named-table name read_only raw file exp asks =
+  raw-named-table name read_only raw file exp said asks =
       let of = named-file file asks.0 asks.1.1.1.0 asks.1.1.1.1.1.1.1.0 in (
         record {
           fresh = free_fresh t (room-left t told 1 asks.1.1.0);
+          own_name = own-name (raw_row (free_id t) name (size_of t file) read_only raw) said;
           format = refl;
           role = refl;
           filename = refl;
@@ -224,13 +228,14 @@ module _ (t : Table) (told : Told) (h : TableStands t) where
         tt,
       )
 
-  pub qcow2-named-table : (name : List ℕ) (read_only : Bool) (back : Option (List ℕ)) (file : List ℕ) (exp : Told)
+  pub qcow2-named-table : (name : List ℕ) (read_only : Bool) (back : Option (List ℕ)) (file : List ℕ) (exp : Told) → is_name name ≡ true
       → NoneHolds t told (qcow2_rest name read_only back (file_ref.Name file))
       → AllTableSuit t (qcow2_edits t exp name read_only back (file_ref.Name file))
-  qcow2-named-table name read_only back file exp asks =
+  qcow2-named-table name read_only back file exp said asks =
       let of = named-file file asks.0 asks.1.1.1.1.0 asks.1.1.1.1.1.1.1.1.1.1.1.1.1.0 in (
         record {
           fresh = free_fresh t (room-left t told 1 asks.1.1.1.0);
+          own_name = own-name (image_row (free_id t) exp name read_only) said;
           format = refl;
           role = refl;
           filename = refl;
@@ -269,9 +274,9 @@ module _ (t : Table) (told : Told) (h : TableStands t) where
               let yes : bytes_eq b.1.1.1.0 file ≡ true = subst (λ n. bytes_eq n file ≡ true) (sym names) (bytes_eq-same file) in
               cc
 
-  pub copy-table : (name : List ℕ) (read_only : Bool) (file : List ℕ) (exp : Told) → NoneHolds t told (copy_on_read_rest name file)
-      → AllTableSuit t (added_edits t exp name read_only (added.CopyOnRead file))
-  copy-table name read_only file exp asks = by_row (found-named t told file asks.0)
+  pub copy-table : (name : List ℕ) (read_only : Bool) (file : List ℕ) (exp : Told) → is_name name ≡ true
+      → NoneHolds t told (copy_on_read_rest name file) → AllTableSuit t (added_edits t exp name read_only (added.CopyOnRead file))
+  copy-table name read_only file exp said asks = by_row (found-named t told file asks.0)
     where
       plain : (kind : Kind) → takes drivers.RawOrQcow2 kind ≡ true → (filter_role kind ≡ None) × (kind ≢ Protocol)
       plain Protocol e = absurd cc
@@ -295,6 +300,7 @@ module _ (t : Table) (told : Told) (h : TableStands t) where
           let id_is : id_or 0 t (Some file) ≡ row.id = rw found refl in (
             record {
               fresh = free_fresh t (room-left t told 1 asks.1.1.0);
+              own_name = own-name (format_row CopyOnRead (free_id t) name (size_of t file) 0 read_only) said;
               filter = refl;
               filename = refl;
               under = row;
@@ -308,10 +314,11 @@ module _ (t : Table) (told : Told) (h : TableStands t) where
 
   -- ---- a format node with a `file` node of its own
 
-  inline-suits : (name : List ℕ) (file : InlineFile (List ℕ)) (exp : Told) → length t.nodes + 2 ≤ 64
+  inline-suits : (name : List ℕ) (file : InlineFile (List ℕ)) (exp : Told) → IsNameIf file.node_name → length t.nodes + 2 ≤ 64
       → holds t told (ask.Closed file.filename) ≡ None → SuitsFile t (inline_row t exp name file)
-  inline-suits name file exp room closed = record {
+  inline-suits name file exp named room closed = record {
     fresh = free_fresh t (omega arith);
+    own_name = inline-own t exp name file named;
     driver = refl;
     name = file.filename;
     filename = refl;
@@ -360,16 +367,17 @@ module _ (t : Table) (told : Told) (h : TableStands t) where
   writes-with true true e k = absurd cc
 
   pub raw-inline-table : (name : List ℕ) (read_only : Bool) (raw : AddRaw (List ℕ)) (file : InlineFile (List ℕ)) (exp : Told)
-      → NoneHolds t told (raw_rest name read_only raw (file_ref.Inline file))
+      → is_name name ≡ true → IsNameIf file.node_name → NoneHolds t told (raw_rest name read_only raw (file_ref.Inline file))
       → AllTableSuit t (raw_edits t exp name read_only raw (file_ref.Inline file))
   unfolding changed
-  raw-inline-table name read_only raw file exp asks =
+  raw-inline-table name read_only raw file exp said named asks =
       let room = room-left t told 2 asks.1.1.1.0 in
       let row : NodeRecord = inline_row t exp name file in (
-        inline-suits name file exp room asks.1.1.1.1.0,
+        inline-suits name file exp named room asks.1.1.1.1.0,
         (
           record {
             fresh = next_fresh t row refl room;
+            own_name = own-name (raw_row (next_free_id t) name (length_told exp) read_only raw) said;
             format = refl;
             role = refl;
             filename = refl;
@@ -387,16 +395,17 @@ module _ (t : Table) (told : Told) (h : TableStands t) where
       )
 
   pub qcow2-inline-table : (name : List ℕ) (read_only : Bool) (back : Option (List ℕ)) (file : InlineFile (List ℕ)) (exp : Told)
-      → NoneHolds t told (qcow2_rest name read_only back (file_ref.Inline file))
+      → is_name name ≡ true → IsNameIf file.node_name → NoneHolds t told (qcow2_rest name read_only back (file_ref.Inline file))
       → AllTableSuit t (qcow2_edits t exp name read_only back (file_ref.Inline file))
   unfolding changed
-  qcow2-inline-table name read_only back file exp asks =
+  qcow2-inline-table name read_only back file exp said named asks =
       let room = room-left t told 2 asks.1.1.1.1.0 in
       let row : NodeRecord = inline_row t exp name file in (
-        inline-suits name file exp room asks.1.1.1.1.1.1.0,
+        inline-suits name file exp named room asks.1.1.1.1.1.1.0,
         (
           record {
             fresh = next_fresh t row refl room;
+            own_name = own-name (image_row (next_free_id t) exp name read_only) said;
             format = refl;
             role = refl;
             filename = refl;
@@ -417,38 +426,42 @@ module _ (t : Table) (told : Told) (h : TableStands t) where
 
   pub add-table : (c : BlockdevAdd (List ℕ)) (exp : Told) → NoneHolds t told (add_asks c) → AllTableSuit t (add_edits t exp c)
   add-table c exp asks =
-      by_driver c.driver (good-value t told (codes "driver") (is_added c.driver) asks.0)
-      (none-behind t told front (added_rest c.node_name (is_read_only c.options) c.driver) asks)
+      by_driver c.driver (good-value t told (codes "driver") (is_added c.driver) asks.0) names.1
+      (none-behind t told (add_values c ++ add_names c) (added_rest c.node_name (is_read_only c.options) c.driver) asks)
     where
-      front : List Asking
-      front =
-          ask.Good (codes "driver") (is_added c.driver) ∷ option_values c.options
-          ++ added_values c.driver
-          ++ ask.Named (codes "node-name") (Some c.node_name) ∷ added_names c.driver
-
       name : List ℕ
       name = c.node_name
 
       read_only : Bool
       read_only = is_read_only c.options
 
-      of_raw : (raw : AddRaw (List ℕ)) (file : FileRef (List ℕ)) → NoneHolds t told (raw_rest name read_only raw file)
+      names : NoneHolds t told (add_names c)
+      names = names-asked t told c asks
+
+      said : is_name name ≡ true
+      said = name-asked t told c asks
+
+      of_raw : (raw : AddRaw (List ℕ)) (file : FileRef (List ℕ)) → NoneHolds t told (file_names file) → NoneHolds t told (raw_rest name read_only raw file)
           → AllTableSuit t (raw_edits t exp name read_only raw file)
-      of_raw raw (file_ref.Name file) asks = raw-named-table name read_only raw file exp asks
-      of_raw raw (file_ref.Inline file) asks = raw-inline-table name read_only raw file exp asks
+      of_raw raw (file_ref.Name file) named asks = raw-named-table name read_only raw file exp said asks
+      of_raw raw (file_ref.Inline file) named asks =
+          raw-inline-table name read_only raw file exp said (named-if t told (codes "node-name") file.node_name named.1.0) asks
 
-      of_qcow2 : (back : Option (List ℕ)) (file : FileRef (List ℕ)) → NoneHolds t told (qcow2_rest name read_only back file)
-          → AllTableSuit t (qcow2_edits t exp name read_only back file)
-      of_qcow2 back (file_ref.Name file) asks = qcow2-named-table name read_only back file exp asks
-      of_qcow2 back (file_ref.Inline file) asks = qcow2-inline-table name read_only back file exp asks
+      of_qcow2 : (back : Option (List ℕ)) (file : FileRef (List ℕ)) → NoneHolds t told (file_names file)
+          → NoneHolds t told (qcow2_rest name read_only back file) → AllTableSuit t (qcow2_edits t exp name read_only back file)
+      of_qcow2 back (file_ref.Name file) named asks = qcow2-named-table name read_only back file exp said asks
+      of_qcow2 back (file_ref.Inline file) named asks =
+          qcow2-inline-table name read_only back file exp said (named-if t told (codes "node-name") file.node_name named.1.0) asks
 
-      by_driver : (driver : Added (List ℕ)) → is_added driver ≡ true → NoneHolds t told (added_rest name read_only driver)
-          → AllTableSuit t (added_edits t exp name read_only driver)
-      by_driver (added.File filename) known asks = file-table name read_only filename exp asks
-      by_driver (added.Raw raw) known asks = of_raw raw raw.file asks
-      by_driver (added.Qcow2 image) known asks = of_qcow2 (backing_name image.backing) image.file asks
-      by_driver (added.CopyOnRead file) known asks = copy-table name read_only file exp asks
-      by_driver added.Unknown known asks = absurd cc
+      by_driver : (driver : Added (List ℕ)) → is_added driver ≡ true → NoneHolds t told (added_names driver)
+          → NoneHolds t told (added_rest name read_only driver) → AllTableSuit t (added_edits t exp name read_only driver)
+      by_driver (added.File filename) known named asks = file-table name read_only filename exp said asks
+      by_driver (added.Raw raw) known named asks = of_raw raw raw.file named asks
+      by_driver (added.Qcow2 image) known named asks =
+          let backing : Option (List ℕ) = backing_name image.backing in
+          of_qcow2 backing image.file (none-ahead t told (file_names image.file) (ask.Named (codes "backing") backing ∷ []) named) asks
+      by_driver (added.CopyOnRead file) known named asks = copy-table name read_only file exp said asks
+      by_driver added.Unknown known named asks = absurd cc
 
   -- ---- devices
 

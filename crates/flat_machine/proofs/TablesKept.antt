@@ -27,7 +27,7 @@ use Rattle.qmp_rules.specs.Chains.{filter_role, filtered, disk_from, disk_node}
 use Rattle.qmp_rules.specs.Changes.{node_changed, unsettled, with_unsettled, without_row, backed, format_edges, device_edge}
 use Rattle.blk_history.specs.Fold.{With}
 use Rattle.flat_machine.specs.Machine.{copies_at, copies_through, is_copying, path, path_from}
-use Rattle.flat_machine.specs.Wiring.{AreApart, EdgesHaveEnds, StandsFor, IsFileOf, HasFile, IsTaken, IsDiskOf, AreNumbered, HasNumber, TableStands, writes_through}
+use Rattle.flat_machine.specs.Wiring.{AreApart, EdgesHaveEnds, StandsFor, IsFileOf, HasFile, HasOwnName, IsTaken, IsDiskOf, AreNumbered, HasNumber, TableStands, writes_through}
 use Rattle.flat_machine.specs.Suiting.{IsThere, IsAlone, SuitsFile, SuitsFormat, SuitsFilter, SuitsDevice}
 use Rattle.flat_machine.proofs.Finds.{find-filter}
 use Rattle.flat_machine.proofs.Fresh.{found-longer, found-new}
@@ -248,6 +248,7 @@ module _ (t now : Table) (row : NodeRecord) (suits : SuitsFile t row) (nodes : n
   file_rows = record {
     drivers = λ name r is file. ap (λ x. x.kind) is ∙ suits.driver;
     names = λ r is driver. subst IsSome (sym (ap (λ x. x.filename) is ∙ suits.filename)) refl;
+    own_names = λ r is. subst HasOwnName (sym is) suits.own_name;
     closed = λ name r old is file over.
         let mine = sym (ap (λ x. x.filename) is) ∙ file in
         let name_is = suits.filename in
@@ -438,6 +439,7 @@ module _ (t now : Table) (row : NodeRecord) (file : ℕ) (backing : Option ℕ) 
         let role : has_role row.kind File ≡ true = suits.role in
         let never : has_role Protocol File ≡ true = subst (λ k. has_role k File ≡ true) kind role in
         absurd cc;
+    own_names = λ r is. subst HasOwnName (sym is) suits.own_name;
     closed = λ name r old is named over. let none = ap (λ x. x.filename) is ∙ suits.filename in cc;
     reads = λ r is. subst (λ x. With (node_at now (disk_node now x.id)) (IsDiskOf now x)) (sym is) (own_reads now row found_row suits.format);
   }
@@ -578,6 +580,7 @@ module _ (t now : Table) (row : NodeRecord) (child : ℕ) (suits : SuitsFilter t
         let kind = sym (ap (λ x. x.kind) is) ∙ driver in
         let filter = suits.filter in
         absurd (let none = rw kind at filter in cc);
+    own_names = λ r is. subst HasOwnName (sym is) suits.own_name;
     closed = λ name r old is named over. let none = ap (λ x. x.filename) is ∙ suits.filename in cc;
     reads = λ r is. subst (λ x. With (node_at now (disk_node now x.id)) (IsDiskOf now x)) (sym is) filter_reads;
   }

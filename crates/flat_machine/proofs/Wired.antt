@@ -16,7 +16,7 @@ use Rattle.qmp_rules.specs.Table.{Table, node_at, child}
 use Rattle.qmp_rules.specs.Chains.{filter_role, filtered, disk_node}
 use Rattle.blk_history.specs.Fold.{With}
 use Rattle.flat_machine.specs.Machine.{copies_at, is_copying, copies_through}
-use Rattle.flat_machine.specs.Wiring.{AreApart, HasEnds, StandsFor, IsFileOf, HasFile, IsTaken, IsDiskOf, AreNumbered, TableStands}
+use Rattle.flat_machine.specs.Wiring.{AreApart, HasEnds, StandsFor, IsFileOf, HasFile, HasOwnName, IsTaken, IsDiskOf, AreNumbered, TableStands}
 use Rattle.flat_machine.proofs.Tables.{HasLike}
 use Rattle.flat_machine.proofs.Rows.{IsLike, BothAt, disk_node-same, disk_node-there, copies-at, copies-same}
 
@@ -52,6 +52,7 @@ pub record Grows (t now : Table) (P : ℕ → Type 0) (IsNewRow : NodeRecord →
 pub record NewRows (t now : Table) (IsNewRow : NodeRecord → Type 0) : Type 0 where
   pub drivers : (name : List ℕ) (row : NodeRecord) → IsNewRow row → row.filename ≡ Some name → row.kind ≡ Protocol
   pub names : (row : NodeRecord) → IsNewRow row → row.kind ≡ Protocol → IsSome row.filename
+  pub own_names : (row : NodeRecord) → IsNewRow row → HasOwnName row
   pub closed : (name : List ℕ) (row old : NodeRecord) → IsNewRow row → row.filename ≡ Some name → StandsFor t name old → ⊥
   pub reads : (row : NodeRecord) → IsNewRow row → With (node_at now (disk_node now row.id)) (IsDiskOf now row)
 
@@ -75,6 +76,7 @@ pub no_rows : (t now : Table) → NewRows t now NoRow
 no_rows t now = record {
   drivers = λ name row never. absurd never;
   names = λ row never. absurd never;
+  own_names = λ row never. absurd never;
   closed = λ name row old never. absurd never;
   reads = λ row never. absurd never;
 }
@@ -255,6 +257,10 @@ module _ (t now : Table) (P : ℕ → Type 0) (IsNewRow : NodeRecord → Type 0)
       names = λ row there driver. elim (g.rows row there) [
         | inl old ↦ subst IsSome (sym old.like.filename) (h.names old.row old.there (sym old.like.kind ∙ driver))
         | inr is_new ↦ rows.names row is_new driver
+      ];
+      own_names = λ row there alone over is same. elim (g.rows row there) [
+        | inl old ↦ h.own_names old.row old.there (sym old.like.made_with ∙ alone) over is (sym old.like.name ∙ same)
+        | inr is_new ↦ rows.own_names row is_new alone over is same
       ];
       alone = λ name a b over_a over_b. one_id name a b over_a over_b (g.rows a over_a.there) (g.rows b over_b.there);
       edges = λ e there. elim (g.edges e there) [

@@ -32,17 +32,17 @@ LostHaveCause t = (name : List ℕ) (row : NodeRecord) → StandsFor t name row 
 -- ---- files
 
 -- what is known of a file by what became of it
-abbrev pub IsWhole : Content → Type 0
-IsWhole (Bytes bytes) = Unit {0}
-IsWhole content = ⊥
+abbrev pub IsKnownWhole : Content → Type 0
+IsKnownWhole (Bytes bytes) = Unit {0}
+IsKnownWhole content = ⊥
 
 abbrev pub IsBlankFile : Content → Type 0
 IsBlankFile (Blank new len) = Unit {0}
 IsBlankFile content = ⊥
 
 abbrev pub IsOfState : Option FileState → Content → Type 0
-IsOfState None content = IsWhole content
-IsOfState (Some Made) content = IsWhole content
+IsOfState None content = IsKnownWhole content
+IsOfState (Some Made) content = IsKnownWhole content
 IsOfState (Some Formatted) content = IsBlankFile content
 IsOfState (Some Used) content = Unit {0}
 

@@ -15,7 +15,7 @@ use Rattle.qmp_rules.specs.Chains.{filter_role}
 use Rattle.qmp_rules.specs.Changes.{changed}
 use Rattle.flat_machine.specs.State.{State, content_in}
 use Rattle.flat_machine.specs.Changed.{stepped}
-use Rattle.flat_machine.specs.Wiring.{StandsFor, IsUnder, HasNumber, TableStands}
+use Rattle.flat_machine.specs.Wiring.{StandsFor, IsUnder, HasNumber, HasOwnName, TableStands}
 use Rattle.flat_machine.specs.Standing.{MayWrite, Stands}
 
 abbrev pub IsThere : Table → ℕ → Type 0
@@ -38,6 +38,7 @@ IsFree t node = (row : NodeRecord) → node_at t node ≡ Some row → IsSome ro
 -- a new `file` node over a file for which no other node stands
 pub record SuitsFile (t : Table) (row : NodeRecord) : Type 0 where
   pub fresh : node_at t row.id ≡ None
+  pub own_name : HasOwnName row
   pub driver : row.kind ≡ Protocol
   pub name : List ℕ
   pub filename : row.filename ≡ Some name
@@ -53,6 +54,7 @@ pub record SuitsBacking (t : Table) (row : NodeRecord) (file backing : ℕ) : Ty
 -- a new format node over a `file` node that has no parent
 pub record SuitsFormat (t : Table) (row : NodeRecord) (file : ℕ) (backing : Option ℕ) : Type 0 where
   pub fresh : node_at t row.id ≡ None
+  pub own_name : HasOwnName row
   pub format : filter_role row.kind ≡ None
   pub role : has_role row.kind File ≡ true
   pub filename : row.filename ≡ None
@@ -67,6 +69,7 @@ pub record SuitsFormat (t : Table) (row : NodeRecord) (file : ℕ) (backing : Op
 -- a new filter that copies what is read, over a format node that may be written
 pub record SuitsFilter (t : Table) (row : NodeRecord) (child : ℕ) : Type 0 where
   pub fresh : node_at t row.id ≡ None
+  pub own_name : HasOwnName row
   pub filter : filter_role row.kind ≡ Some File
   pub filename : row.filename ≡ None
   pub under : NodeRecord

@@ -1,5 +1,5 @@
 -- What holds of the table of every state that a run comes to: how its rows and edges hang together.
-use Rattle.std.specs.Prelude.{◌≡◌, ◌≤◌, ℕ, true, false, Bool, not, ◌||◌, List, length, Contains, Option, Some, None, IsSome}
+use Rattle.std.specs.Prelude.{◌≡◌, ◌≢◌, ◌≤◌, ℕ, true, false, Bool, not, ◌||◌, List, length, Contains, Option, Some, None, IsSome}
 use Rattle.blk_graph.specs.declared.edge.Edge.{Edge}
 use Rattle.blk_graph.specs.declared.edge.Parent.TheVariants.{Node}
 use Rattle.blk_graph.specs.declared.edge.Role.TheVariants.{File}
@@ -10,6 +10,7 @@ use Rattle.qmp_rules.specs.declared.rows.Device.{Device}
 use Rattle.qmp_rules.specs.Table.{Table, node_at, child}
 use Rattle.qmp_rules.specs.Chains.{filter_role, disk_node}
 use Rattle.qmp_rules.specs.Edits.{place_from}
+use Rattle.qmp_rules.specs.Naming.{inline_name, is_name}
 use Rattle.blk_history.specs.Fold.{With}
 use Rattle.flat_machine.specs.Machine.{copies_through}
 
@@ -33,6 +34,13 @@ StandAlone t = (name : List ℕ) (a b : NodeRecord) → StandsFor t name a → S
 
 abbrev pub HaveNames : Table → Type 0
 HaveNames t = (row : NodeRecord) → Contains t.nodes row → row.kind ≡ Protocol → IsSome row.filename
+
+-- a node that was made with no other one has no name that such a node gets by itself
+abbrev pub HasOwnName : NodeRecord → Type 0
+HasOwnName row = row.made_with ≡ None → (over : List ℕ) → is_name over ≡ true → row.name ≢ inline_name over None
+
+abbrev pub HaveOwnNames : Table → Type 0
+HaveOwnNames t = (row : NodeRecord) → Contains t.nodes row → HasOwnName row
 
 -- ---- edges
 
@@ -124,6 +132,7 @@ pub record TableStands (t : Table) : Type 0 where
   pub apart : AreApart t
   pub drivers : AreFileNodes t
   pub names : HaveNames t
+  pub own_names : HaveOwnNames t
   pub alone : StandAlone t
   pub edges : EdgesHaveEnds t
   pub roles : HaveRoles t
@@ -133,7 +142,7 @@ pub record TableStands (t : Table) : Type 0 where
   pub reads : ReadAsNodes t
   pub numbers : AreNumbered t
 
--- a `file` node that was made with another one is under that
+-- a `file` node that was made with another one is under that, and has the name that it gets by that one's
 pub record IsInline (t : Table) (row : NodeRecord) (over : ℕ) : Type 0 where
   pub file : IsSome row.filename
   pub edge : Edge
@@ -141,6 +150,7 @@ pub record IsInline (t : Table) (row : NodeRecord) (over : ℕ) : Type 0 where
   pub parent : edge.parent ≡ Node over
   pub role : edge.role ≡ File
   pub child : edge.child ≡ row.id
+  pub named : With (node_at t over) (λ node. row.name ≡ inline_name node.name None)
 
 abbrev pub InlineAreUnder : Table → Type 0
 InlineAreUnder t = (row : NodeRecord) (over : ℕ) → Contains t.nodes row → row.made_with ≡ Some over → IsInline t row over

@@ -16,7 +16,8 @@ ghost use Rattle.qmp_codec.specs.Commands.{Cmd};
 ghost use Rattle.qmp_codec.specs.declared.nodes.Created.{Created};
 ghost use Rattle.qmp_rules.specs.declared.told.Told.{Told};
 ghost use Rattle.qmp_rules.specs.declared.rows.Device.{Device};
-ghost use Rattle.qmp_rules.specs.Table.{Table, device_at};
+ghost use Rattle.qmp_rules.specs.Naming.{inline_name, is_name};
+ghost use Rattle.qmp_rules.specs.Table.{Table, device_at, node_named};
 ghost use Rattle.qmp_rules.specs.Chains.{disk_node, written_under};
 ghost use Rattle.qmp_rules.specs.Changes.{all_changed};
 ghost use Rattle.qmp_rules.specs.Edits.{spoiled};
@@ -69,6 +70,12 @@ pub fn tables_stand()
     ensures failures { (t : Table) (options : Created (List ℕ)) → TableAtRest t
         → TableAtRest (all_changed t (spoiled t options)) }
     ensures writes { (t : Table) (node : ℕ) → TableAtRest t → TableAtRest (written_under node t) }
+{}
+
+/// Between events the name that a `file` node gets by the node over it is free where that node's own name is.
+pub fn inline_names_are_free()
+    ensures { (t : Table) (name : List ℕ) → TableAtRest t → is_name name ≡ true
+        → node_named t name ≡ None → node_named t (inline_name name None) ≡ None }
 {}
 
 /// What holds of states between events holds behind a reply: to an accepted command, whose changes suit the state, and to a
