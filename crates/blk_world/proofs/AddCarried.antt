@@ -31,10 +31,11 @@ use Rattle.world_parts.specs.Joining.{HasAdded, HasAddedBy, HasAddedFile, HasAdd
 use Rattle.world_parts.specs.Looking.{HasLooked, LooksAtImage, LooksAtPart, LooksBy, Site}
 use Rattle.world_parts.specs.Staging.{site_of, store_of}
 use Rattle.world_parts.specs.Stores.{StoreInRun}
-use Rattle.world_parts.proofs.AddAsked.{known-driver, taken-out}
+use Rattle.world_parts.proofs.AddAsked.{file-short, known-driver, short-file, taken-out}
 use Rattle.blk_world.proofs.AddBack.{alike-called, coherent-put}
 use Rattle.blk_world.proofs.AddDid.{did-sooner}
 use Rattle.world_parts.proofs.AddImages.{image-inside, image-there}
+use Rattle.world_parts.proofs.AddJoined.{part-short}
 use Rattle.blk_world.proofs.AddLooks.{holds-file}
 use Rattle.blk_world.proofs.AddMiddle.{middle-of}
 use Rattle.blk_world.proofs.AddQuiet.{quiet-called}
@@ -78,7 +79,8 @@ module _ (w : Face) (coherent : IsCoherent w.table w.nodes w.opened w.progress) 
       let taken = taken-out w.table told c none (record { filename = filename; what = look.File }) (AsFile e refl) (store_of w) now.store out image looks.looks in
       let tells : TellsLength (file_stop filename taken.inside.first.size) taken.inside.first taken.device image told =
       subst (λ (d : Added (List ℕ)). Tells w.table c.node_name filename d taken.inside.first taken.device image told) e taken.inside.tells in
-      let fresh = fresh-of (store_of w) now.store filename taken.inside.first taken.device told taken.inside.out tells.kept (ap (λ (a : Told). a.length) tells.is) in
+      let short = file-short w.table told c none filename taken.inside.first.size (ap (λ (a : Told). a.stopped) tells.is) (rw e refl) in
+      let fresh = fresh-of (store_of w) now.store filename taken.inside.first taken.device told taken.inside.out tells.kept (ap (λ (a : Told). a.length) tells.is) short in
       let made : HasAddedFile c (Some taken.device) w.nodes v.nodes =
       subst (λ (n : Nodes). HasAddedFile c (Some taken.device) n v.nodes) looks.kept
       (subst (λ (o : Option Taken). HasAddedFile c o now.nodes v.nodes) taken.is has) in
@@ -99,7 +101,8 @@ module _ (w : Face) (coherent : IsCoherent w.table w.nodes w.opened w.progress) 
       let taken = taken-out w.table told c none (record { filename = file.filename; what = look.Begin }) (AsPart raw file e f refl refl) (store_of w) now.store out image looks.looks in
       let tells : TellsLength (raw_stop file.filename raw taken.inside.first.size) taken.inside.first taken.device image told =
       subst (λ (d : Added (List ℕ)). Tells w.table c.node_name file.filename d taken.inside.first taken.device image told) e taken.inside.tells in
-      let fresh = fresh-of (store_of w) now.store file.filename taken.inside.first taken.device told taken.inside.out tells.kept (ap (λ (a : Told). a.length) tells.is) in
+      let short = part-short w.table told c none raw file e f file.filename taken.inside.first.size (ap (λ (a : Told). a.stopped) tells.is) in
+      let fresh = fresh-of (store_of w) now.store file.filename taken.inside.first taken.device told taken.inside.out tells.kept (ap (λ (a : Told). a.length) tells.is) short in
       let made =
       subst (λ (n : Nodes). HasAddedPart w.table c raw (file_ref.Inline file) (Some taken.device) n v.nodes) looks.kept
       (subst (λ (o : Option Taken). HasAddedPart w.table c raw (file_ref.Inline file) o now.nodes v.nodes) taken.is has) in
@@ -129,7 +132,8 @@ module _ (w : Face) (coherent : IsCoherent w.table w.nodes w.opened w.progress) 
       let tells : TellsInside w.table c.node_name file.filename q taken.inside.first taken.device image told =
       subst (λ (d : Added (List ℕ)). Tells w.table c.node_name file.filename d taken.inside.first taken.device image told) e taken.inside.tells in
       let there = image-inside w.table told c none q file e f file.filename taken.inside.first taken.device image tells in
-      let fresh = fresh-of (store_of w) now.store file.filename taken.inside.first taken.device told taken.inside.out there.2.on.kept (ap (λ (a : Told). a.length) there.2.is) in
+      let short = short-file file.filename taken.inside.first.size there.2.fits in
+      let fresh = fresh-of (store_of w) now.store file.filename taken.inside.first taken.device told taken.inside.out there.2.on.kept (ap (λ (a : Told). a.length) there.2.is) short in
       let made =
       subst (λ (n : Nodes). HasAddedImage w.table c q (file_ref.Inline file) (Some taken.device) (Some there.0) n v.nodes) looks.kept
       (subst (λ (i : Option Known). HasAddedImage w.table c q (file_ref.Inline file) (Some taken.device) i now.nodes v.nodes) there.1

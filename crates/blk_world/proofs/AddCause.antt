@@ -36,7 +36,7 @@ use Rattle.world_parts.specs.Adding.{Adding, CountFits, HasFailed, IsAbsent, IsT
 use Rattle.world_commands.specs.Carrying.{IsCaused, is_failed}
 use Rattle.world_parts.specs.Coherent.{IsCoherent}
 use Rattle.world_commands.specs.Counting.{RunsOn, counts_within}
-use Rattle.world_parts.specs.Face.{Face, count_of_opening, counts_from, counts_now, first_counts}
+use Rattle.world_parts.specs.Face.{Face, count_of_opening, counts_now, first_counts}
 use Rattle.world_parts.specs.Looking.{AreIn, HasLooked, LooksAtImage, LooksAtPart, LooksBy, LooksIn, LooksOut, Site, site}
 use Rattle.world_parts.specs.Staging.{back_if, opened_name, site_of, store_of}
 use Rattle.world_parts.specs.Stores.{StoreInRun}

@@ -26,8 +26,9 @@ use Rattle.world_parts.specs.Joining.{HasAdded, HasAddedBy, HasAddedFile, HasAdd
 use Rattle.world_parts.specs.Looking.{HasCalled, HasLooked, LooksAtImage, LooksAtPart, LooksBy, Site}
 use Rattle.world_parts.specs.Progress.{Progress}
 use Rattle.world_parts.specs.Stores.{StoreInRun}
-use Rattle.world_parts.proofs.AddAsked.{known-driver, taken-out}
+use Rattle.world_parts.proofs.AddAsked.{file-short, known-driver, short-file, taken-out}
 use Rattle.world_parts.proofs.AddImages.{image-inside, image-there}
+use Rattle.world_parts.proofs.AddJoined.{part-short}
 use Rattle.world_parts.proofs.AddLooked.{called-alike}
 use Rattle.blk_world.proofs.AddMiddle.{Middle, coherent-of, middle-of}
 use Rattle.world_parts.proofs.AddSeen.{AsFile, AsImage, AsPart}
@@ -60,7 +61,8 @@ module _ (t : Table) (told : Told) (c : Adding) (none : refusal_of t told (comma
       let taken = taken-out t told c none (record { filename = filename; what = look.File }) (AsFile e refl) old.store now.store out image looks.looks in
       let tells : TellsLength (file_stop filename taken.inside.first.size) taken.inside.first taken.device image told =
       subst (λ (d : Added (List ℕ)). Tells t c.node_name filename d taken.inside.first taken.device image told) e taken.inside.tells in
-      let fresh = fresh-of old.store now.store filename taken.inside.first taken.device told taken.inside.out tells.kept (ap (λ (a : Told). a.length) tells.is) in
+      let short = file-short t told c none filename taken.inside.first.size (ap (λ (a : Told). a.stopped) tells.is) (rw e refl) in
+      let fresh = fresh-of old.store now.store filename taken.inside.first taken.device told taken.inside.out tells.kept (ap (λ (a : Told). a.length) tells.is) short in
       let made : HasAddedFile c (Some taken.device) now.nodes new.nodes = subst (λ (o : Option Taken). HasAddedFile c o now.nodes new.nodes) taken.is has in
       whole-file t told c none old.store now.store old.nodes now.nodes new.nodes p (start-same looks.kept) was.out was.table.stands.apart joined filename e taken.device
       fresh made.0 made.1
@@ -76,7 +78,8 @@ module _ (t : Table) (told : Told) (c : Adding) (none : refusal_of t told (comma
       let taken = taken-out t told c none (record { filename = file.filename; what = look.Begin }) (AsPart raw file e f refl refl) old.store now.store out image looks.looks in
       let tells : TellsLength (raw_stop file.filename raw taken.inside.first.size) taken.inside.first taken.device image told =
       subst (λ (d : Added (List ℕ)). Tells t c.node_name file.filename d taken.inside.first taken.device image told) e taken.inside.tells in
-      let fresh = fresh-of old.store now.store file.filename taken.inside.first taken.device told taken.inside.out tells.kept (ap (λ (a : Told). a.length) tells.is) in
+      let short = part-short t told c none raw file e f file.filename taken.inside.first.size (ap (λ (a : Told). a.stopped) tells.is) in
+      let fresh = fresh-of old.store now.store file.filename taken.inside.first taken.device told taken.inside.out tells.kept (ap (λ (a : Told). a.length) tells.is) short in
       let made = subst (λ (o : Option Taken). HasAddedPart t c raw (file_ref.Inline file) o now.nodes new.nodes) taken.is has in
       whole-part t told c none old.store now.store old.nodes now.nodes new.nodes p (start-same looks.kept) was.out was.table.stands.apart joined
       raw (file_ref.Inline file) e f (Some taken.device) fresh made
@@ -99,7 +102,8 @@ module _ (t : Table) (told : Told) (c : Adding) (none : refusal_of t told (comma
       let tells : TellsInside t c.node_name file.filename qcow2 taken.inside.first taken.device image told =
       subst (λ (d : Added (List ℕ)). Tells t c.node_name file.filename d taken.inside.first taken.device image told) e taken.inside.tells in
       let there = image-inside t told c none qcow2 file e f file.filename taken.inside.first taken.device image tells in
-      let fresh = fresh-of old.store now.store file.filename taken.inside.first taken.device told taken.inside.out there.2.on.kept (ap (λ (a : Told). a.length) there.2.is) in
+      let short = short-file file.filename taken.inside.first.size there.2.fits in
+      let fresh = fresh-of old.store now.store file.filename taken.inside.first taken.device told taken.inside.out there.2.on.kept (ap (λ (a : Told). a.length) there.2.is) short in
       let made =
       subst (λ (i : Option Known). HasAddedImage t c qcow2 (file_ref.Inline file) (Some taken.device) i now.nodes new.nodes) there.1
       (subst (λ (o : Option Taken). HasAddedImage t c qcow2 (file_ref.Inline file) o image now.nodes new.nodes) taken.is has) in

@@ -1,6 +1,6 @@
 -- An addition hides no fault: where a call of its looks failed, that is its answer, and no other count has risen.
-use Rattle.std.proofs.Common.{◌≡◌, ◌≢◌, ◌⊎◌, ℕ, ◌==◌, Bool, true, false, cond, List, [], ◌∷◌, ◌++◌, length, inl, inr, refl, sym, ◌∙◌, ap, subst, arith, eq-eqb, Option, Some, None}
-use Rattle.std.specs.Prelude.{slice_get}
+use Rattle.std.proofs.Common.{◌≡◌, ◌⊎◌, ℕ, ◌==◌, Bool, true, false, cond, List, [], ◌∷◌, ◌++◌, length, inl, inr, refl, sym, ◌∙◌, ap, subst, arith, eq-eqb, Option, Some, None}
+use Rattle.std.specs.Prelude.{IfSome}
 use Rattle.std.proofs.lemmas.Bool.{eqb-true}
 use Rattle.std.proofs.lemmas.Option.{same_Some, slice_get_within}
 use Rattle.blk_base.specs.Files.{is_out}
@@ -8,7 +8,6 @@ use Rattle.blk_base.specs.declared.fault.DevNo.{DevNo}
 use Rattle.blk_base.specs.declared.fault.FaultAt.{FaultAt}
 use Rattle.blk_base.specs.declared.fault.FaultFrom.{FaultFrom}
 use Rattle.blk_base.specs.declared.fault.FaultFrom.TheVariants.{Store, Dev}
-use Rattle.blk_base.specs.declared.file.Opened.{Opened}
 use Rattle.blk_graph.proofs.Members.{find-Some}
 use Rattle.q2_image.specs.Image.{Known}
 use Rattle.q2_image.specs.Opening.{HasCause}
@@ -37,14 +36,15 @@ use Rattle.qmp_rules.specs.declared.told.Stopped.{Stopped}
 use Rattle.qmp_rules.specs.declared.told.Told.{Told}
 use Rattle.flat_machine.specs.Licence.{fault_at}
 use Rattle.world_parts.specs.Adding.{Adding, HasFailed, IsAbsent, IsBack, IsLookReached, IsTakenOut, Looks, LooksAtFile, LooksBadly, LooksInVain, LooksUnder, Opens, Taken, Tells, TellsInside, TellsRefusal, look_in_vain, of_node, opened_sight, opening_of, opens, put_back, unopened}
-use Rattle.world_commands.specs.Carrying.{fault_named, is_failed}
+use Rattle.world_commands.specs.Carrying.{HasFailed as HasFailedIn, fault_named, is_failed}
 use Rattle.world_parts.specs.Coherent.{AreOut, IsWhole}
-use Rattle.world_commands.specs.Counting.{HidesNoFault}
-use Rattle.world_parts.specs.Face.{Face, count_of_opening, counts_from, counts_now, device_numbered}
+use Rattle.world_commands.specs.Counting.{HidesNoFault, RunsOn}
+use Rattle.world_parts.specs.Face.{Face, count_of_opening, counts_from, device_numbered}
 use Rattle.world_parts.specs.Joining.{HasAdded}
 use Rattle.world_parts.specs.Looking.{AreIn, HasLooked, LooksAtImage, LooksAtPart, LooksBy, LooksNowhere, Site, StoreIsBack, site}
 use Rattle.world_parts.specs.Staging.{IsNotAdded, back_if, opened_name, site_of, store_of}
 use Rattle.world_parts.specs.Stores.{StoreInRun}
+use Rattle.blk_world.proofs.AddCause.{causes}
 use Rattle.blk_world.proofs.AddCarried.{sited}
 use Rattle.blk_world.proofs.AddClosed.{closed-in}
 use Rattle.blk_world.proofs.AddFailed.{IsCalm, calm-inside, calm-long, calm-not, calm-part, refused-of, unopened-of}
@@ -469,34 +469,41 @@ module _ (w v : Face) (whole : IsWhole w) (c : Adding) (told : Told) (now : Site
 -- ---- want of memory
 
 module _ (w : Face) (whole : IsWhole w) (joined : IsJoined w.nodes) (c : Adding) (x : Site) (u : Table) where
-  -- at most one call failed
+  -- at most one call failed, and the addition made it
   abbrev pub HidesAtMostOne : Type 0
   HidesAtMostOne = (fault : Option FaultAt) × HidesNoFault w (sited w x u) fault
+      × IfSome fault (λ f. HasFailedIn w (sited w x u) (command.BlockdevAdd c) f.from f.count)
 
   closed-all : AreIn w.table w.opened
   closed-all name unopened = closed-in w.table w.nodes w.opened name whole.coherent.out unopened
 
   back-hides : (name : List ℕ) → x.nodes ≡ w.nodes → IsBack (store_of w) x.store name → HidesAtMostOne
   back-hides name nodes (inl same) =
-      (None, hides-same w (sited w x u) (ap (λ (s : StoreInRun). s.opened) same) (ap (λ (s : StoreInRun). s.faults) same) (ap (λ (n : Nodes). n.devices) nodes))
+      (None, hides-same w (sited w x u) (ap (λ (s : StoreInRun). s.opened) same) (ap (λ (s : StoreInRun). s.faults) same) (ap (λ (n : Nodes). n.devices) nodes), tt)
   back-hides name nodes (inr again) =
       let all = again.is ∙ back-is (store_of w) again.between name again.first again.first again.out refl again.inside in (
         None,
         hides-opened w (sited w x u) (closed-opening (store_of w) again.between name again.first again.first again.out refl again.inside)
             (ap (λ (s : StoreInRun). s.opened) all) (ap (λ (s : StoreInRun). s.faults) all)
             (ap (λ (n : Nodes). counts_from n.devices 0 w.opened) nodes) again.first.faults refl refl,
+        tt,
       )
 
   opens-hides : (at : Option Opens) → x.nodes ≡ w.nodes → StoreIsBack at (store_of w) x.store → HidesAtMostOne
   opens-hides None nodes same =
-      (None, hides-same w (sited w x u) (ap (λ (s : StoreInRun). s.opened) same) (ap (λ (s : StoreInRun). s.faults) same) (ap (λ (n : Nodes). n.devices) nodes))
+      (None, hides-same w (sited w x u) (ap (λ (s : StoreInRun). s.opened) same) (ap (λ (s : StoreInRun). s.faults) same) (ap (λ (n : Nodes). n.devices) nodes), tt)
   opens-hides (Some at) nodes back = back-hides at.filename nodes back
 
-  pub put-hides : IsNotAdded w.table c (site_of w) x → HidesAtMostOne
-  put-hides (inl back) = opens-hides (opens c.driver) back.kept back.store
-  put-hides (inr undone) =
+  pub put-hides : RunsOn w (sited w x u) → IsNotAdded w.table c (site_of w) x → HidesAtMostOne
+  put-hides runs (inl back) = opens-hides (opens c.driver) back.kept back.store
+  put-hides runs (inr undone) =
       by_kind (looked-over w whole joined c undone.told undone.between undone.out closed-all undone.image undone.looked)
     where
       by_kind : IsLookedOver w c undone.told undone.between undone.out → HidesAtMostOne
-      by_kind (inl calm) = (None, calm-back w (sited w x u) undone.between c.driver undone.out calm.looked undone.is)
-      by_kind (inr failed) = (Some (fault_at failed.from failed.count), failed.hides (sited w x u) undone.is)
+      by_kind (inl calm) = (None, calm-back w (sited w x u) undone.between c.driver undone.out calm.looked undone.is, tt)
+      by_kind (inr failed) = (
+        Some (fault_at failed.from failed.count),
+        failed.hides (sited w x u) undone.is,
+        causes w (sited w x u) c refl whole.counted whole.coherent runs undone.between undone.out undone.image undone.told closed-all undone.looked
+            undone.is (refusal.Io failed.from failed.count) failed.refuses,
+      )

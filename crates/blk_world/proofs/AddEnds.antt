@@ -21,7 +21,8 @@ use Rattle.world_parts.specs.Coherent.{DevicesTell, IsCoherent}
 use Rattle.world_commands.specs.Comes.{Shows}
 use Rattle.world_parts.specs.Face.{Face, contents_of, seen_state}
 use Rattle.world_commands.specs.Counting.{HidesNoFault}
-use Rattle.world_parts.specs.Looking.{AreIn, Site}
+use Rattle.world_commands.specs.Leaving.{clean_told}
+use Rattle.world_parts.specs.Looking.{AreIn, HasLooked, Site}
 use Rattle.world_parts.specs.Saying.{IsSaid}
 use Rattle.world_parts.specs.Staging.{HasEnded, IsAddedSo, IsAdditionOf, IsRefusedSo, opened_name, site_of}
 use Rattle.world_parts.specs.Stores.{StoreInRun}
@@ -64,6 +65,12 @@ module _ (w : Face) (coherent : IsCoherent w.table w.nodes w.opened w.progress) 
   so : (is : IsAdditionOf w.table given c (site_of w) x u text) → IsLookedSo (opened_name c.driver) (site_of w) is.between is.out
   so is = looked-so w.table c (site_of w) is.between is.out is.image is.told closed is.looked
 
+  -- nothing is told of what is dirty
+  looked-clean : (is : IsAdditionOf w.table given c (site_of w) x u text) → HasLooked w.table c (site_of w) is.between is.out is.image (clean_told is.told)
+  looked-clean is =
+      let clean = told-clean w.table c is.told (site_of w) is.between is.out is.image is.looked in
+      subst (λ (dirty : List ℕ). HasLooked w.table c (site_of w) is.between is.out is.image (record is.told { dirty = dirty })) clean.0 is.looked
+
   -- ---- refused
 
   refused-as : (is : IsAdditionOf w.table given c (site_of w) x u text) → IsRefusedSo w.table given c is.told is.out is.between x u text
@@ -89,6 +96,7 @@ module _ (w : Face) (coherent : IsCoherent w.table w.nodes w.opened w.progress) 
           runs = runs-back w v refl is.between c.driver is.out (so is) ends.is;
           hides = subst (λ (r : Option Refusal). HidesNoFault w v (fault_told r)) ends.staged.is account.hides;
           opens = opens-back w.table c (site_of w) is.between is.out is.image is.told is.looked x.store (ap (λ (y : Site). y.store) ends.is) (so is);
+          site = record { between = is.between; out = is.out; image = is.image; looked = looked-clean is; ends = ends.is };
           cause = account.causes ends.staged.cause ends.staged.is;
           coherent = λ was. subst (λ (t : Table). IsCoherent t x.nodes x.store.opened w.progress) (sym ends.table) both.0;
           shows = λ told o s shows.
@@ -97,6 +105,7 @@ module _ (w : Face) (coherent : IsCoherent w.table w.nodes w.opened w.progress) 
         };
         said = subst (λ (a : Answer). IsSaid given a.reply text) (sym answered) ends.staged.said;
         dirty = left-dirty w v is.told cmd refl refl bitmaps;
+        bitmaps = refl;
       }
 
   -- ---- carried out
@@ -123,6 +132,7 @@ module _ (w : Face) (coherent : IsCoherent w.table w.nodes w.opened w.progress) 
           runs = runs;
           hides = subst (λ (r : Option Refusal). HidesNoFault w v (fault_told r)) ends.accepted.none account.hides;
           opens = opens-added w.table c (site_of w) is.between is.out is.image is.told is.looked x.store ends.store (so is);
+          site = record { between = is.between; out = is.out; image = is.image; looked = looked-clean is; ends = (ends.store, ends.added) };
           cause = λ dev called passes. passes;
           coherent = λ was.
               subst (λ (t : Table). IsCoherent t x.nodes x.store.opened w.progress) (sym ends.table)
@@ -136,6 +146,7 @@ module _ (w : Face) (coherent : IsCoherent w.table w.nodes w.opened w.progress) 
         };
         said = subst (λ (a : Answer). IsSaid given a.reply text) (sym answered) ends.accepted.said;
         dirty = left-dirty w v is.told cmd refl refl bitmaps;
+        bitmaps = record { new = None; is_new = tt; are = refl };
       }
     where
       same-files : (is : IsAdditionOf w.table given c (site_of w) x u text) → IsAddedSo w.table given c is.told is.out is.image is.between x u text → x.store.files ≡ w.files

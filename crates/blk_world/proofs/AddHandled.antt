@@ -1,12 +1,13 @@
 -- What the world's call of an addition leaves.
-use Rattle.std.proofs.Common.{◌≡◌, ℕ, true, List, refl, sym, subst, arith, Ok, Err}
-use Rattle.std.specs.Prelude.{Result, IfOk, OnErr}
+use Rattle.std.proofs.Common.{◌≡◌, ℕ, true, List, refl, sym, subst, arith, Option, Ok, Err}
+use Rattle.std.specs.Prelude.{Result, IfOk, IfSome, OnErr}
+use Rattle.blk_base.specs.declared.fault.FaultAt.{FaultAt}
 use Rattle.blk_nodes.specs.Joined.{IsJoined}
 use Rattle.qmp_codec.specs.Commands.{Cmd}
 use Rattle.qmp_codec.specs.declared.command.Command.TheVariants as command
 use Rattle.qmp_rules.specs.Table.{Table}
 use Rattle.flat_machine.specs.Bitmaps.{AreBitmapsOf}
-use Rattle.world_commands.specs.Carrying.{IsCarriedAs, IsPutBack}
+use Rattle.world_commands.specs.Carrying.{HasFailed, IsCarriedAs, IsPutBackBy}
 use Rattle.world_parts.specs.Coherent.{IsWhole}
 use Rattle.world_parts.specs.Face.{Face}
 use Rattle.world_parts.specs.Looking.{Site}
@@ -16,13 +17,13 @@ use Rattle.blk_world.proofs.AddCarried.{sited}
 use Rattle.blk_world.proofs.AddClosed.{closed-in}
 use Rattle.blk_world.proofs.AddCounts.{put-hides}
 use Rattle.blk_world.proofs.AddEnds.{carried-as, carried-both}
-use Rattle.blk_world.proofs.AddPut.{put-back, put-both, put-so}
+use Rattle.blk_world.proofs.AddPut.{put-back, put-both, put-fault, put-runs, put-so}
 use Rattle.world_commands.proofs.BitmapsLeft.{left-listed}
 
 pub can-look : (w : Face) → IsWhole w → CanLook w.table (site_of w)
 can-look w whole = record {
   alike = whole.coherent.alike;
-  apart = whole.coherent.table.stands.apart;
+  rests = whole.coherent.table;
   closed = λ name unopened. closed-in w.table w.nodes w.opened name whole.coherent.out unopened;
 }
 
@@ -48,15 +49,20 @@ module _ (w : Face) (whole : IsWhole w) (joined : IsJoined w.nodes) (given : Lis
       }
   whole-by text c sure is = absurd (let bad : ⊥ = cc sure in bad)
 
-  put-by : (c : Cmd) → is_addition c ≡ true → IsNotAddedBy w.table c (site_of w) x → u ≡ w.table → IsPutBack w (sited w x u) × IsWhole (sited w x u)
+  put-by : (c : Cmd) → is_addition c ≡ true → IsNotAddedBy w.table c (site_of w) x → u ≡ w.table → IsPutBackBy w (sited w x u) c × IsWhole (sited w x u)
   put-by (command.BlockdevAdd c) sure is table =
       let put = put-so w whole.coherent whole.tell x c is in
-      let hides = put-hides w whole joined c x u is in
+      let hides = put-hides w whole joined c x u (put-runs w whole.coherent whole.tell x put u) is in
       let back = put-back w whole.coherent whole.tell x put u table hides.0 hides.1 in
       let both = put-both w whole.coherent whole.tell x put in
       let store = back.runs.store in
       let counted = whole.counted in (
-        back,
+        record {
+          back = back;
+          site = is;
+          failed = subst (λ (f : Option FaultAt). IfSome f (λ fault. HasFailed w (sited w x u) (command.BlockdevAdd c) fault.from fault.count))
+              (sym (put-fault w whole.coherent whole.tell x put u table hides.0 hides.1)) hides.2;
+        },
         record {
           coherent = back.coherent whole.coherent;
           tell = both.1;
@@ -74,10 +80,10 @@ module _ (w : Face) (whole : IsWhole w) (joined : IsJoined w.nodes) (given : Lis
         by_result (Ok a) is = carried-by (text a) c sure is
         by_result (Err e) is = is
 
-    pub addition-back : OnErr r (IsNotAddedBy w.table c (site_of w) x) → OnErr r (u ≡ w.table) → OnErr r (IsPutBack w (sited w x u))
+    pub addition-back : OnErr r (IsNotAddedBy w.table c (site_of w) x) → OnErr r (u ≡ w.table) → OnErr r (IsPutBackBy w (sited w x u) c)
     addition-back is same = by_result r is same
       where
-        by_result : (r : Result A E) → OnErr r (IsNotAddedBy w.table c (site_of w) x) → OnErr r (u ≡ w.table) → OnErr r (IsPutBack w (sited w x u))
+        by_result : (r : Result A E) → OnErr r (IsNotAddedBy w.table c (site_of w) x) → OnErr r (u ≡ w.table) → OnErr r (IsPutBackBy w (sited w x u) c)
         by_result (Ok a) is same = is
         by_result (Err e) is same = (put-by c sure is same).0
 

@@ -1,5 +1,5 @@
 -- An addition opens at most the file that it names.
-use Rattle.std.proofs.Common.{◌≡◌, ◌⊎◌, ℕ, List, [], ◌∷◌, ◌++◌, map, inl, inr, refl, sym, ◌∙◌, ap, subst, Option, Some, None}
+use Rattle.std.proofs.Common.{◌≡◌, ℕ, List, [], ◌∷◌, ◌++◌, inl, inr, refl, sym, ◌∙◌, ap, subst, Option, Some, None}
 use Rattle.std.specs.Prelude.{option_map, unwrap_or}
 use Rattle.blk_base.specs.declared.file.Opened.{Opened}
 use Rattle.q2_image.specs.Image.{Known}
@@ -16,9 +16,9 @@ use Rattle.qmp_rules.specs.declared.told.Told.{Told}
 use Rattle.world_parts.specs.Adding.{Adding, Opens, Taken, opening_of, opens, opens_by}
 use Rattle.world_commands.specs.Carrying.{AreOpenedBy, OpensFor, opened_names}
 use Rattle.world_parts.specs.Looking.{HasLooked, LooksAtImage, LooksAtPart, LooksBy, Site}
-use Rattle.world_parts.specs.Staging.{HasEnded, back_if, opened_name}
+use Rattle.world_parts.specs.Staging.{back_if, opened_name}
 use Rattle.world_parts.specs.Stores.{StoreInRun}
-use Rattle.blk_world.proofs.AddKinds.{IsCalled, IsLookedSo, IsOpenedFor}
+use Rattle.blk_world.proofs.AddKinds.{IsLookedSo}
 use Rattle.world_commands.proofs.AddRuns.{back-is, closed-opening}
 
 -- ---- where a device is out, a file was opened

@@ -69,8 +69,8 @@ module _ (w : Face) (coherent : IsCoherent w.table w.nodes w.opened w.progress) 
             (coherent-put w.table x.nodes x.nodes w.opened (w.opened ++ over.opening ∷ []) w.progress still still.alike
             (out-closed w.table x.nodes w.opened over.opening over.count over.back still.out))
 
-    runs : (u : Table) → RunsOn w (sited w x u)
-    runs u = by_store put.store
+    pub put-runs : (u : Table) → RunsOn w (sited w x u)
+    put-runs u = by_store put.store
       where
         by_store : IsCounted (store_of w) x.store ⊎ IsOverAgain (store_of w) x.store → RunsOn w (sited w x u)
         by_store (inl counted) =
@@ -97,7 +97,7 @@ module _ (w : Face) (coherent : IsCoherent w.table w.nodes w.opened w.progress) 
       progress = refl;
       bitmaps = refl;
       drains = refl;
-      runs = runs u;
+      runs = put-runs u;
       files = same-files;
       called = put.called;
       opens = none-out;
@@ -105,6 +105,12 @@ module _ (w : Face) (coherent : IsCoherent w.table w.nodes w.opened w.progress) 
       hides = hides;
       coherent = λ was. subst (λ (t : Table). IsCoherent t x.nodes x.store.opened w.progress) (sym table) put-both.0;
     }
+
+    -- its fault is that one
+    pub put-fault : (u : Table) (table : u ≡ w.table) (fault : Option FaultAt) (hides : HidesNoFault w (sited w x u) fault)
+        → (put-back u table fault hides).fault ≡ fault
+    unfolding put-back
+    put-fault u table fault hides = refl
 
   -- ---- how it comes to that
 

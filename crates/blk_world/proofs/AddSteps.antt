@@ -1,11 +1,12 @@
 -- The nodes of an addition, one after another: what belongs together does so behind each.
-use Rattle.std.proofs.Common.{◌≡◌, ◌≢◌, ℕ, ◌==◌, Bool, true, false, cond, List, [], ◌∷◌, ◌++◌, length, inl, inr, refl, sym, ◌∙◌, ap, subst, Option, Some, None}
+use Rattle.std.proofs.Common.{◌≡◌, ◌≢◌, ℕ, ◌≤◌, ◌==◌, Bool, true, false, cond, List, [], ◌∷◌, ◌++◌, length, inl, inr, refl, sym, ◌∙◌, ap, subst, Option, Some, None}
 use Rattle.std.specs.Prelude.{Contains}
 use Rattle.blk_base.specs.Files.{is_out}
 use Rattle.blk_base.specs.declared.file.Opened.{Opened}
 use Rattle.blk_graph.specs.declared.edge.Edge.{Edge}
 use Rattle.blk_graph.specs.declared.edge.Parent.TheVariants.{Guest, Node}
 use Rattle.blk_graph.specs.declared.edge.Role.TheVariants.{Backing, File}
+use Rattle.blk_graph.specs.declared.kind.Kind.{Kind}
 use Rattle.blk_graph.specs.declared.kind.Kind.TheVariants.{Protocol}
 use Rattle.blk_graph.specs.Edits.{takes_place, with_edge}
 use Rattle.blk_graph.specs.Permissions.{node_edge}
@@ -19,11 +20,12 @@ use Rattle.blk_nodes.specs.declared.row.Driver.TheVariants as driver
 use Rattle.blk_nodes.specs.declared.row.Row.{Row}
 use Rattle.qmp_rules.specs.Changes.{changed, format_edges, node_changed, unsettled}
 use Rattle.qmp_rules.specs.Table.{Table, kinds_of, node_at}
+use Rattle.qmp_rules.specs.Values.{most_length}
 use Rattle.qmp_rules.specs.declared.change.Change.TheVariants.{AddFile, AddFilter, AddFormat}
 use Rattle.qmp_rules.specs.declared.rows.NodeRecord.{NodeRecord}
 use Rattle.flat_machine.specs.State.{filename_of}
 use Rattle.world_parts.specs.Adding.{Taken, opening_of}
-use Rattle.world_parts.specs.Coherent.{IsRowOf}
+use Rattle.world_parts.specs.Coherent.{IsRowOf, IsSmall}
 use Rattle.world_parts.specs.Joining.{HasFile, HasOver}
 use Rattle.world_parts.specs.Progress.{Progress}
 use Rattle.world_parts.proofs.AddFacts.{alike-filed, alike-filtered, alike-formatted, filed-filename, held-other}
@@ -84,9 +86,12 @@ module _ (t : Table) (nodes : Nodes) (opened : List Opened) (p : Progress) (was 
 
   module _ (filename : List ℕ) (device : Taken) (now : Nodes) (has : HasFile row.name row.read_only device nodes now row.id) (kind : row.kind ≡ Protocol)
       (size : row.size ≡ device.size) (offset : row.offset ≡ 0) (named : row.filename ≡ Some filename) (number : device.number ≡ record { 0 = length opened })
-      (inside : is_out filename opened ≡ false) where
+      (inside : is_out filename opened ≡ false) (short : device.size ≤ most_length) where
     abbrev own : Row
     own = record { driver = driver.File; size = device.size; is_read_only = row.read_only }
+
+    small : IsSmall row.kind row.size
+    small = subst (λ (k : Kind). IsSmall k row.size) (sym kind) (subst (λ (n : ℕ). n ≤ most_length) (sym size) short)
 
     file-grows : Grows t (changed t (AddFile row)) row.id row.id (λ r. r)
     file-grows = grows-filed t nodes was.alike joined row has.lowest.free
@@ -107,7 +112,7 @@ module _ (t : Table) (nodes : Nodes) (opened : List Opened) (p : Progress) (was 
     pub file-step : Middle (changed t (AddFile row)) now (opened ++ opening_of filename device ∷ []) p
     file-step =
         grown-middle t (changed t (AddFile row)) row.id row.id (λ r. r) file-grows file-more nodes now opened (opened ++ opening_of filename device ∷ []) p was
-        (alike-filed t nodes was.alike joined row own fresh now has.joined (record { kind = kind; size = size; access = refl; place = offset })
+        (alike-filed t nodes was.alike joined row own fresh now has.joined (record { kind = kind; size = size; access = refl; place = offset; small = small })
         (ap (λ (n : Nodes). n.graph.nodes) has.is) (ap (λ (n : Nodes). n.rows) has.is) (ap (λ (n : Nodes). n.graph.edges) has.is))
         (out-more t (changed t (AddFile row)) nodes now opened row.id filename device was.out number file-names (filed-filename t row filename fresh named) inside
         (ap (λ (n : Nodes). n.devices) has.is))

@@ -29,7 +29,7 @@ use Rattle.qmp_rules.specs.Changes.{all_changed, changed}
 use Rattle.qmp_rules.specs.Edits.{file_row, format_row, free_id, image_row, inline_row, length_told, next_free_id, qcow2_edits, raw_edits, raw_row}
 use Rattle.qmp_rules.specs.NodeAsks.{backing_name, is_read_only}
 use Rattle.qmp_rules.specs.Table.{Table, id_named, kinds_of, node_at, node_named}
-use Rattle.qmp_rules.specs.Values.{part_size}
+use Rattle.qmp_rules.specs.Values.{most_length, part_size}
 use Rattle.qmp_rules.specs.declared.change.Change.TheVariants.{AddFile, AddFilter, AddFormat}
 use Rattle.qmp_rules.specs.declared.rows.NodeRecord.{NodeRecord}
 use Rattle.qmp_rules.specs.declared.told.Look.TheVariants as look
@@ -61,13 +61,15 @@ pub record IsFresh (old now : StoreInRun) (filename : List ℕ) (device : Taken)
   pub opened : now.opened ≡ old.opened ++ opening_of filename device ∷ []
   pub number : device.number ≡ record { 0 = length old.opened }
   pub length_is : told.length ≡ Some device.size
+  pub short : device.size ≤ most_length
 
 pub fresh-of : (old now : StoreInRun) (filename : List ℕ) (first device : Taken) (told : Told) → IsTakenOut old now filename first → device ≡ first
-    → told.length ≡ Some first.size → IsFresh old now filename device told
-fresh-of old now filename first device told out same length_is = record {
+    → told.length ≡ Some first.size → first.size ≤ most_length → IsFresh old now filename device told
+fresh-of old now filename first device told out same length_is short = record {
   opened = ap (λ (s : StoreInRun). s.opened) out.kept ∙ ap (λ (d : Taken). old.opened ++ opening_of filename d ∷ []) (sym same);
   number = ap (λ (d : Taken). d.number) same ∙ out.number;
   length_is = length_is ∙ ap (λ (d : Taken). Some d.size) (sym same);
+  short = subst (λ (d : Taken). d.size ≤ most_length) (sym same) short;
 }
 
 -- ---- no edge leads to a node that was just added
@@ -112,7 +114,7 @@ module _ (t : Table) (told : Told) (c : Adding) (none : refusal_of t told (comma
       (sym fresh.opened)
       (file-step t nodes old.opened p was joined (file_row (free_id t) c.node_name (length_told told) (is_read_only c.options) filename None)
       (free_fresh t room) filename device new has' refl size refl refl fresh.number
-      (inside (record { filename = filename; what = look.File }) (AsFile e refl)))
+      (inside (record { filename = filename; what = look.File }) (AsFile e refl)) fresh.short)
 
   -- one that is made with a node over it
   module _ (file : InlineFile (List ℕ)) (device : Taken) (fresh : IsFresh old now file.filename device told) (between : Nodes) (under : ℕ)
@@ -133,7 +135,7 @@ module _ (t : Table) (told : Told) (c : Adding) (none : refusal_of t told (comma
     whole-inline =
         let size : length_told told ≡ device.size = ap (λ (n : Option ℕ). unwrap_or n 0) fresh.length_is in
         subst (λ (o : List Opened). Middle t1 between o p) (sym fresh.opened)
-        (file-step t nodes old.opened p was joined row1 (free_fresh t (omega (arith, room))) file.filename device between has1 refl size refl refl fresh.number closed)
+        (file-step t nodes old.opened p was joined row1 (free_fresh t (omega (arith, room))) file.filename device between has1 refl size refl refl fresh.number closed fresh.short)
 
     pub lone1 : (edge : Edge) → Contains t1.edges edge → edge.child ≢ free_id t
     lone1 = lone-then t row1 (edges-away t nodes (free_id t) was.alike joined has1.lowest.free)
@@ -166,7 +168,7 @@ module _ (t : Table) (told : Told) (c : Adding) (none : refusal_of t told (comma
       rw has.found
       (subst (λ (o : List Opened). Middle (changed t (AddFormat new_row row.id None)) new o p) (sym fresh)
       (format-step t nodes old.opened p was joined new_row (free_fresh t room) own
-      (record { kind = refl; size = refl; access = refl; place = refl }) row.id _ new None has' (edges-apart row.id t.edges lone)))
+      (record { kind = refl; size = refl; access = refl; place = refl; small = tt }) row.id _ new None has' (edges-apart row.id t.edges lone)))
   whole-part raw (file_ref.Name name) e f (Some device) fresh has = absurd has
   whole-part raw (file_ref.Inline file) e f None fresh has = absurd has
   whole-part raw (file_ref.Inline file) e f (Some device) fresh has =
@@ -184,7 +186,7 @@ module _ (t : Table) (told : Told) (c : Adding) (none : refusal_of t told (comma
       (under-is file device fresh has.between has.under has.first room closed) next' in
       format-step (t1 file device fresh has.between has.under has.first room closed) has.between now.opened p first has.first.joined new_row
       (fresh1 file device fresh has.between has.under has.first room closed) own
-      (record { kind = refl; size = part_is; access = refl; place = refl }) (free_id t) _ new None next''
+      (record { kind = refl; size = part_is; access = refl; place = refl; small = tt }) (free_id t) _ new None next''
       (lone1 file device fresh has.between has.under has.first room closed)
 
   pub whole-image : (qcow2 : AddQcow2 (List ℕ)) (file : FileRef (List ℕ)) → c.driver ≡ added.Qcow2 qcow2 → qcow2.file ≡ file → (out : Option Taken)
@@ -207,7 +209,7 @@ module _ (t : Table) (told : Told) (c : Adding) (none : refusal_of t told (comma
       rw has.found
       (subst (λ (o : List Opened). Middle (changed t (AddFormat new_row row.id over)) new o p) (sym fresh)
       (format-step t nodes old.opened p was joined new_row (free_fresh t room) own
-      (record { kind = refl; size = size; access = refl; place = refl }) row.id _ new over has' (edges-apart row.id t.edges lone)))
+      (record { kind = refl; size = size; access = refl; place = refl; small = tt }) row.id _ new over has' (edges-apart row.id t.edges lone)))
   whole-image qcow2 (file_ref.Inline file) e f (Some device) (Some image) sized fresh has =
       let rest = rw (e, f) at (rest-asked t told c none) in
       let room : length t.nodes + 2 ≤ 64 = room-left t told 2 rest.1.1.1.1.0 in
@@ -225,7 +227,7 @@ module _ (t : Table) (told : Told) (c : Adding) (none : refusal_of t told (comma
       (under-is file device fresh has.between has.under has.first room closed) next2' in
       format-step (t1 file device fresh has.between has.under has.first room closed) has.between now.opened p first has.first.joined new_row
       (fresh1 file device fresh has.between has.under has.first room closed) own
-      (record { kind = refl; size = size; access = refl; place = refl }) (free_id t) bytes new over next3'
+      (record { kind = refl; size = size; access = refl; place = refl; small = tt }) (free_id t) bytes new over next3'
       (lone1 file device fresh has.between has.under has.first room closed)
   whole-image qcow2 (file_ref.Name name) e f None None sized fresh has = absurd has
   whole-image qcow2 (file_ref.Name name) e f (Some device) image sized fresh has = absurd has
@@ -245,4 +247,4 @@ module _ (t : Table) (told : Told) (c : Adding) (none : refusal_of t told (comma
       let has' = subst (HasOver c.node_name own row.id None (disk_of nodes row.id) nodes new) (id-is room node has.lowest) has in
       subst (λ (o : List Opened). Middle (changed t (AddFilter new_row row.id)) new o p) (sym kept)
       (filter-step t nodes old.opened p was joined new_row (free_fresh t room) own
-      (record { kind = refl; size = size; access = refl; place = refl }) row.id (disk_of nodes row.id) new has')
+      (record { kind = refl; size = size; access = refl; place = refl; small = tt }) row.id (disk_of nodes row.id) new has')

@@ -1,10 +1,12 @@
 -- Want of memory leaves a world that comes of the same opening.
-use Rattle.std.proofs.Common.{◌≡◌, true, List, [], map, sym, ◌∙◌, ap, subst, arith}
+use Rattle.std.proofs.Common.{◌≡◌, true, List, [], map, refl, sym, ◌∙◌, ap, subst, arith}
 use Rattle.blk_bitmaps.specs.declared.row.Bitmap.{Bitmap}
 use Rattle.flat_machine.specs.Bitmaps.{dirty_in}
 use Rattle.std.specs.Prelude.{OnErr, Result, Ok, Err, is_some}
 use Rattle.std.proofs.lemmas.List.Elements.{All-weaker}
 use Rattle.blk_history.specs.declared.event.Event.{Event}
+use Rattle.qmp_codec.specs.Commands.{Cmd}
+use Rattle.qmp_codec.specs.Lines.{Stop}
 use Rattle.qmp_rules.specs.Table.{Table}
 use Rattle.flat_machine.specs.State.{State}
 use Rattle.flat_machine.specs.Machine.{replay}
@@ -19,10 +21,10 @@ use Rattle.world_parts.specs.Progress.{Progress, ended_in}
 use Rattle.world_parts.specs.Face.{Face, first_counts, counts_now, contents_of, dirty_of}
 use Rattle.world_commands.specs.Comes.{Comes, Shows}
 use Rattle.world_commands.specs.Tabling.{IsTableAfter}
-use Rattle.world_commands.specs.Carrying.{IsPutBack}
+use Rattle.world_commands.specs.Carrying.{IsPutBack, IsPutBackBy, IsPutBackIn}
 use Rattle.blk_world.proofs.AddQuiet.{quiet-called}
 use Rattle.world_commands.proofs.CountLemmas.{between-on}
-use Rattle.world_commands.proofs.Placed.{put_back}
+use Rattle.world_commands.proofs.Placed.{put_back, put_back_by, put_back_in}
 
 module _ (w v : Face) (is : IsPutBack w v) (o : Opening) (comes : Comes o w) where
   still-shows : is_some w.files ≡ true → (s : State) → Shows o s w → Shows o s v
@@ -77,3 +79,32 @@ module _ (w v : Face) (is : IsPutBack w v) (o : Opening) (comes : Comes o w) whe
 pub put_back_on : {T E : Type 0} (r : Result T E) (w : Face) → OnErr r (IsPutBack w w)
 put_back_on (Ok value) w = tt
 put_back_on (Err e) w = put_back w
+
+pub unmoved_on : {T E : Type 0} (r : Result T E) (w : Face) → OnErr r (w ≡ w)
+unmoved_on (Ok value) w = tt
+unmoved_on (Err e) w = refl
+
+pub back_by_on : {T E : Type 0} (r : Result T E) (w : Face) (c : Cmd) → OnErr r (IsPutBackBy w w c)
+back_by_on (Ok value) w c = tt
+back_by_on (Err e) w c = put_back_by w c
+
+pub back_in_on : {T E : Type 0} (r : Result T E) (w : Face) (line : Result Cmd Stop) → OnErr r (IsPutBackIn w w line)
+back_in_on (Ok value) w line = tt
+back_in_on (Err e) w line = put_back_in w line
+
+-- an error of a command, and of another line
+pub back_of : {T E : Type 0} (r : Result T E) (w v : Face) (c : Cmd) → OnErr r (IsPutBackBy w v c) → OnErr r (IsPutBack w v)
+back_of (Ok value) w v c is = is
+back_of (Err e) w v c is = is.back
+
+pub back_in : {T E : Type 0} (r : Result T E) (w v : Face) (c : Cmd) (line : Result Cmd Stop) → line ≡ Ok c → OnErr r (IsPutBackBy w v c)
+    → OnErr r (IsPutBackIn w v line)
+back_in r w v c line read is = subst (λ (l : Result Cmd Stop). OnErr r (IsPutBackIn w v l)) (sym read) is
+
+pub still_back : {T E : Type 0} (r : Result T E) (w v : Face) → OnErr r (v ≡ w) → OnErr r (IsPutBack w v)
+still_back (Ok value) w v same = same
+still_back (Err e) w v same = subst (IsPutBack w) (sym same) (put_back w)
+
+pub still_in : {T E : Type 0} (r : Result T E) (w v : Face) (why : Stop) (line : Result Cmd Stop) → line ≡ Err why → OnErr r (v ≡ w)
+    → OnErr r (IsPutBackIn w v line)
+still_in r w v why line read same = subst (λ (l : Result Cmd Stop). OnErr r (IsPutBackIn w v l)) (sym read) same

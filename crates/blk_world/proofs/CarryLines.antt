@@ -5,7 +5,6 @@ use Rattle.blk_history.specs.declared.event.Event.{Event}
 use Rattle.blk_history.specs.declared.event.Event.TheVariants.{Reply}
 use Rattle.serde_json.specs.Data.{Data, object, no_members}
 use Rattle.qmp_codec.specs.Commands.{Cmd}
-use Rattle.qmp_codec.specs.declared.command.Command.TheVariants as command
 use Rattle.qmp_codec.specs.Lines.{Stop, command_at, asks_for_capabilities}
 use Rattle.qmp_codec.specs.declared.stop.CodecStop.TheVariants as stop
 use Rattle.qmp_rules.specs.declared.refusal.Refusal.{Refusal}
@@ -14,7 +13,7 @@ use Rattle.qmp_rules.specs.declared.told.Told.{Told}
 use Rattle.qmp_rules.specs.Table.{Table}
 use Rattle.qmp_rules.specs.Refusals.{or_else}
 use Rattle.qmp_rules.specs.Changes.{all_changed}
-use Rattle.qmp_rules.specs.Answers.{Answer, answer, answer_by, answer_for, untold, accepted, refused_so, returned, refusal_of, line_refusal, name_refusal, member_refusal, out_of_turn, line_answer, line_text}
+use Rattle.qmp_rules.specs.Answers.{Answer, answer, answer_by, answer_for, untold, accepted, refused_so, refusal_of, line_refusal, name_refusal, member_refusal, out_of_turn, line_answer, line_text}
 use Rattle.flat_machine.specs.State.{State}
 use Rattle.flat_machine.specs.Legal.{Fits, IsNotDone}
 use Rattle.flat_machine.specs.Marks.{after_later, after_reply, drained_by, marks_of, snapshot_marks}
@@ -31,6 +30,8 @@ use Rattle.world_commands.specs.Counting.{sources_of, counts_within, RunsOn, Hid
 use Rattle.world_commands.specs.Comes.{Comes, Shows}
 use Rattle.world_parts.specs.Saying.{Given, IsSaid}
 use Rattle.world_commands.specs.Carrying.{IsCarried, IsCarriedIn, IsCarriedAs, HasCause, HasFitted, IsReplied, counted, counts_of, reply_entry, would_pass, IsLate, IsPutOff, fault_named, fault_told}
+use Rattle.world_commands.specs.Leaving.{Leaves, LeavesBitmaps, clean_told}
+use Rattle.world_parts.specs.Staging.{site_of}
 use Rattle.world_parts.specs.Steps.{onward, lifted}
 use Rattle.world_parts.proofs.InStep.{ended-push}
 use Rattle.world_commands.proofs.Coherence.{coherent-same}
@@ -163,6 +164,7 @@ module _ (w : Face) (line : Given) (text : List ℕ) (why : Stop) (bad : command
         maps = rw bad tt;
         table = sym (ap (all_changed w.table) none-changed);
         dirty = sym (ap (dirty_after w.table (dirty_of w)) none-changed);
+        bitmaps = rw bad refl;
         progress = ap (λ (e : Event). with_entry e w.progress) same;
         drains = refl;
         calm = rw bad tt;
@@ -175,6 +177,7 @@ module _ (w : Face) (line : Given) (text : List ℕ) (why : Stop) (bad : command
             (hides-same w (lifted (onward w (with_entry entry))) refl refl refl));
         fits = rw no-command tt;
         opens = rw bad refl;
+        site = rw bad refl;
         shows = λ told o s shows. rw bad (quiet-self (contents_of w));
       }
 
@@ -249,13 +252,17 @@ seen-onward w u c told s f is = record {
 
 module _ (w u : Face) (c : Cmd) (refusal' : Option Refusal) (is : IsCarried w u c refusal') (line : Given) (text : List ℕ)
     (good : command_at line.text ≡ Ok c) (said : IsSaid line.text (answer w.table is.told c).reply text)
-    (dirty : dirty_of u ≡ dirty_after w.table (dirty_of w) (answer w.table is.told c).changes) where
+    (dirty : dirty_of u ≡ dirty_after w.table (dirty_of w) (answer w.table is.told c).changes)
+    (bitmaps : LeavesBitmaps w.table c refusal' w.bitmaps u.bitmaps) where
   -- with what is dirty, be it asked for or not
   abbrev told-so : Told
   told-so = counted is.told (counts_of w)
 
   answer-so : answer w.table told-so c ≡ answer w.table is.told c
   answer-so = answer-counted is.told (counts_of w) w.table c (λ prints. sym (is.counts prints))
+
+  refused-so : refusal_of w.table told-so c ≡ refusal'
+  refused-so = refusal-counted is.told (counts_of w) w.table c ∙ is.answered
 
   line-so : line_answer w.table told-so line.text ≡ answer w.table is.told c
   line-so = line_command w.table told-so line.text c good ∙ answer-so
@@ -321,6 +328,7 @@ module _ (w u : Face) (c : Cmd) (refusal' : Option Refusal) (is : IsCarried w u 
         maps = rw good is.maps;
         table = is.table ∙ ap (λ (a : Answer). all_changed w.table a.changes) (sym line-so);
         dirty = dirty ∙ ap (λ (a : Answer). dirty_after w.table (dirty_of w) a.changes) (sym line-so);
+        bitmaps = rw good (subst (λ (first : Option Refusal). LeavesBitmaps w.table c first w.bitmaps u.bitmaps) (sym refused-so) bitmaps);
         progress = ap (λ (e : Event). with_entry e u.progress) same ∙ ap (with_entry (reply_entry w told-so line)) is.progress;
         drains = ap after_reply is.drains;
         calm = rw good (λ none. is.calm (sym is.answered ∙ sym (refusal-counted is.told (counts_of w) w.table c) ∙ none));
@@ -330,6 +338,8 @@ module _ (w u : Face) (c : Cmd) (refusal' : Option Refusal) (is : IsCarried w u 
             (text_is w.table told-so line.text text line-said) (hides-by (refusal_of w.table is.told c) hides-first);
         fits = rw (is-command, line-so) (fits-by (refusal_of w.table is.told c) cause-first);
         opens = rw good is.opens;
+        site = rw good (subst (λ (first : Option Refusal). Leaves w.table (clean_told is.told) c first u.table (site_of w) (site_of u))
+            (sym refused-so) is.site);
         shows = λ told o s shows. rw good (seen-onward w u c told-so s (with_entry reply) (seen-so s (is.shows told o s shows)));
       }
 
@@ -337,7 +347,7 @@ module _ (w u : Face) (c : Cmd) (refusal' : Option Refusal) (is : IsCarried w u 
 
 module _ (w u : Face) (line : Given) (text : List ℕ) (c : Cmd) (good : command_at line.text ≡ Ok c) (is : IsCarriedAs w u line.text c text) where
   pub answered_replied : IsReplied w (lifted (onward u (with_entry (Reply line.number line.text (Some c) text)))) line
-  answered_replied = command_replied w u c is.refusal is.carried line text good is.said is.dirty
+  answered_replied = command_replied w u c is.refusal is.carried line text good is.said is.dirty is.bitmaps
 
   pub answered_comes : (o : Opening) → IsNotDone (seen_state w) 0 → Comes o w → Comes o (lifted (onward u (with_entry (Reply line.number line.text (Some c) text))))
   answered_comes o not_done comes =
@@ -348,7 +358,6 @@ module _ (w u : Face) (line : Given) (text : List ℕ) (c : Cmd) (good : command
 pub late_put_off : (w v : Face) (line : Given) (c : Cmd) (g r : ℕ) → command_at line.text ≡ Ok c → IsLate w v c g r → IsPutOff w v line g r
 late_put_off w v line c g r good is = record {
   told = is.told;
-  clean = is.clean;
   by_files = is.by_files;
   command = c;
   read = good;

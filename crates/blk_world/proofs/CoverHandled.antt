@@ -1,10 +1,9 @@
 -- How a snapshot is answered, or has to wait, and what that leaves of the world.
-use Rattle.std.proofs.Common.{◌≡◌, ℕ, Bool, true, List, [], ◌∷◌, Option, Some, None, Ok, Err, refl, sym, ◌∙◌, ap, subst}
+use Rattle.std.proofs.Common.{◌≡◌, ℕ, true, List, [], ◌∷◌, Option, Some, None, Ok, Err, refl, sym, ◌∙◌, ap, subst}
 use Rattle.std.specs.Prelude.{Result, IfOk, OnErr, is_some, string_bytes}
 use Rattle.qmp_codec.specs.Commands.{Cmd}
 use Rattle.qmp_codec.specs.declared.command.Command.TheVariants as command
 use Rattle.qmp_codec.specs.declared.nodes.Snapshot.{Snapshot}
-use Rattle.qmp_rules.specs.declared.change.Change.{Change}
 use Rattle.qmp_rules.specs.declared.refusal.Refusal.{Refusal}
 use Rattle.qmp_rules.specs.declared.told.Told.{Told}
 use Rattle.qmp_rules.specs.Answers.{Answer, answer, refusal_of}
@@ -18,7 +17,7 @@ use Rattle.blk_nodes.specs.Joined.{IsJoined}
 use Rattle.blk_nodes.specs.Nodes.{Nodes}
 use Rattle.world_parts.specs.declared.carried.Carried.{Carried}
 use Rattle.world_parts.specs.declared.carried.Carried.TheVariants as carried
-use Rattle.world_commands.specs.Carrying.{IsCarried, IsCarriedAs, IsCarriedOut, IsLate, IsPutBack, held_for}
+use Rattle.world_commands.specs.Carrying.{IsCarried, IsCarriedAs, IsCarriedOut, IsLate, IsPutBackBy, held_for}
 use Rattle.world_parts.specs.Coherent.{IsWhole}
 use Rattle.world_commands.specs.Comes.{Shows}
 use Rattle.world_commands.specs.Detaching.{Scene, scene}
@@ -26,10 +25,10 @@ use Rattle.world_parts.specs.Face.{Face, seen_state}
 use Rattle.world_parts.specs.Handling.{DoneIf}
 use Rattle.world_parts.specs.Saying.{IsSaid}
 use Rattle.world_commands.specs.Snapshots.{HasCovered, HasToBeLater, IsCoveredBy, IsSnapshot, IsToldOf, is_snapshot}
-use Rattle.world_commands.proofs.BitmapsLeft.{left-dirty}
-use Rattle.world_commands.proofs.CoverCarried.{by_files, clean, covering_done, late_in, refused_covered}
+use Rattle.world_commands.proofs.BitmapsLeft.{kept-bitmaps, left-dirty}
+use Rattle.world_commands.proofs.CoverCarried.{by_files, covering_done, late_in, refused_covered}
 use Rattle.blk_world.proofs.DetachedCarried.{staged, whole-drains}
-use Rattle.world_commands.proofs.Placed.{answer-is, put_back}
+use Rattle.world_commands.proofs.Placed.{answer-is, put_back_by}
 
 module _ (w : Face) (whole : IsWhole w) (joined : IsJoined w.nodes) (given : List ℕ) (y : Scene)
     (may : (c : Snapshot (List ℕ)) (told : Told) → IsToldOf w.table w.nodes (command.BlockdevSnapshot c) told → (o : Opening) (s : State)
@@ -51,6 +50,7 @@ module _ (w : Face) (whole : IsWhole w) (joined : IsJoined w.nodes) (given : Lis
     carried = is.0;
     said = subst (λ (x : Told). IsSaid given (answer w.table x (command.BlockdevSnapshot c)).reply text) (sym is.1) said;
     dirty = left-dirty w f is.0.told (command.BlockdevSnapshot c) refl bitmaps whole.bitmaps;
+    bitmaps = kept-bitmaps w.table (command.BlockdevSnapshot c) refusal w.bitmaps f.bitmaps refl bitmaps;
   }
 
   -- ---- it is answered
@@ -89,7 +89,6 @@ module _ (w : Face) (whole : IsWhole w) (joined : IsJoined w.nodes) (given : Lis
       let left : v ≡ held_for (command.BlockdevSnapshot c) w = ap (staged w) has.left in (
         record {
           told = has.told;
-          clean = clean w c has.told has.tells (may c has.told has.tells);
           by_files = by_files w c has.told has.tells (may c has.told has.tells);
           maps = (has.tells).maps;
           waits = record { accepted = has.accepted; waits = has.waits };
@@ -124,9 +123,9 @@ module _ (w : Face) (whole : IsWhole w) (joined : IsJoined w.nodes) (given : Lis
         by_result (Ok a) has back = (both a (has (seen_state w) refl refl)).1
         by_result (Err e) has back = subst IsWhole (ap (staged w) (sym back)) whole
 
-    pub snapshot_back : OnErr r (y ≡ x) → OnErr r (IsPutBack w v)
+    pub snapshot_back : OnErr r (y ≡ x) → OnErr r (IsPutBackBy w v c)
     snapshot_back back = by_result r back
       where
-        by_result : (r : Result Carried E) → OnErr r (y ≡ x) → OnErr r (IsPutBack w v)
+        by_result : (r : Result Carried E) → OnErr r (y ≡ x) → OnErr r (IsPutBackBy w v c)
         by_result (Ok a) back = back
-        by_result (Err e) back = subst (IsPutBack w) (ap (staged w) (sym back)) (put_back w)
+        by_result (Err e) back = subst (λ (f : Face). IsPutBackBy w f c) (ap (staged w) (sym back)) (put_back_by w c)

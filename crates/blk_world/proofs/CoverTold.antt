@@ -30,6 +30,6 @@ may_be_told w whole joined c told tells o s some shows =
     by_name name node within named = elim (Contains-cases c.overlay [] name within) [
       | inl is ↦
           subst (λ (n : List ℕ). (has_name n told.mapped ≡ false) ↔ IsFresh w.nodes node) (sym is)
-          (tells.maps node (subst (λ (n : List ℕ). id_named w.table n ≡ Some node) is named))
+          (tells.maps node (subst (λ (n : List ℕ). id_named w.table n ≡ Some node) is named)).known
       | inr behind ↦ absurd (Contains-nil name behind)
     ]

@@ -23,9 +23,9 @@ use Rattle.qmp_rules.specs.declared.refusal.Refusal.{Refusal}
 use Rattle.qmp_rules.specs.declared.refusal.Refusal.TheVariants as refusal
 use Rattle.flat_machine.specs.EventLicence.{IsOfCreation}
 use Rattle.flat_machine.specs.Licence.{fault_at}
-use Rattle.world_commands.specs.Carrying.{IsCaused, IsNumbered}
+use Rattle.world_commands.specs.Carrying.{IsCaused}
 use Rattle.world_parts.specs.Coherent.{AreOut}
-use Rattle.world_commands.specs.Counting.{RunsOn, IsReached, sources_of}
+use Rattle.world_commands.specs.Counting.{IsNumbered, RunsOn, IsReached, sources_of}
 use Rattle.world_parts.specs.Creating.{CanCreate, CanFormat, HasFailed, HasStopped, IsFailed, creation_for}
 use Rattle.world_parts.specs.Deleting.{ground_of}
 use Rattle.world_parts.specs.Face.{Face, counts_now}

@@ -1,6 +1,6 @@
 -- A guest's device that went: what it leaves of the world.
 use Rattle.std.proofs.Common.{◌≡◌, ◌≢◌, ℕ, ◌≤◌, ◌==◌, Bool, true, false, not, List, [], ◌∷◌, length, map, refl, sym, ◌∙◌, ap, subst, Option, Some, None}
-use Rattle.std.specs.Prelude.{IsSome, All, Contains, find, slice_get, option_and_then, option_map, unwrap_or}
+use Rattle.std.specs.Prelude.{IsSome, Contains, find, slice_get, option_and_then, option_map, unwrap_or}
 use Rattle.std.proofs.lemmas.Bool.{eq-eqb, eqb-true, false≢true, ne_eqb}
 use Rattle.std.proofs.lemmas.List.Elements.{All-head}
 use Rattle.blk_base.specs.Pieces.{end_of}
@@ -301,7 +301,8 @@ module _ (w : Face) (whole : IsWhole w) (joined : IsJoined w.nodes) (id : List �
       → CarriedUntold w v (command.DeviceDel id) None × IsWhole v
   detached_carried disks = (
     carried_by w v (command.DeviceDel id) refl refl none table_so refl refl calm refl
-        (runs-devices w v refl refl refl refl refl refl (same-devices w.nodes.devices)) (hides-same w v refl refl refl) (λ before. detached_coherent)
+        (runs-devices w v refl refl refl refl refl refl (same-devices w.nodes.devices)) (hides-same w v refl refl refl)
+        (refl, record { device = device; named = named; gone = refl; disks = disks }) (λ before. detached_coherent)
         (λ o s told shows. subst (λ (changes : List Change). AllPerformed s changes (contents_of w) (contents_of v)) (sym changes_so)
         (contents_of v, quiet_then disks, quiet-self (contents_of v))),
     record {

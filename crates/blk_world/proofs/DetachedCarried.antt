@@ -1,8 +1,7 @@
 -- How `device_del` is answered, or has to wait, and what that leaves of the world.
-use Rattle.std.proofs.Common.{◌≡◌, ℕ, ◌<◌, true, false, List, Option, Some, None, Ok, Err, refl, sym, ◌∙◌, ap, subst, []}
+use Rattle.std.proofs.Common.{◌≡◌, ℕ, ◌<◌, true, false, List, Option, Some, None, Ok, Err, refl, sym, ap, subst, []}
 use Rattle.std.specs.Prelude.{Contains, Result, IfOk, IsSome, OnErr, string_bytes}
 use Rattle.blk_graph.specs.declared.edge.Edge.{Edge}
-use Rattle.blk_graph.specs.declared.edge.Parent.{Parent}
 use Rattle.blk_graph.specs.declared.edge.Parent.TheVariants.{Guest as GuestOf}
 use Rattle.blk_graph.specs.declared.edge.Role.TheVariants.{Drive}
 use Rattle.blk_graph.specs.Graph.{HasParent}
@@ -12,25 +11,25 @@ use Rattle.qmp_codec.specs.declared.command.Command.TheVariants as command
 use Rattle.qmp_rules.specs.Answers.{answer, refusal_of, untold}
 use Rattle.qmp_rules.specs.Table.{Table}
 use Rattle.qmp_rules.specs.declared.refusal.Refusal.{Refusal}
-use Rattle.flat_machine.specs.Marks.{Drained, AreCalm, after_later, drained_by}
+use Rattle.flat_machine.specs.Marks.{Drained, after_later, drained_by}
 use Rattle.flat_machine.specs.Recording.{dirty_after}
 use Rattle.flat_machine.specs.State.{State, drive_of}
 use Rattle.blk_nodes.specs.Joined.{IsJoined}
 use Rattle.blk_nodes.specs.Nodes.{Nodes}
 use Rattle.world_parts.specs.declared.carried.Carried.{Carried}
 use Rattle.world_parts.specs.declared.carried.Carried.TheVariants as carried
-use Rattle.world_commands.specs.Carrying.{IsCarriedAs, IsCarriedOut, IsLate, IsPutBack, held_for, prints_counts}
+use Rattle.world_commands.specs.Carrying.{IsCarriedAs, IsCarriedOut, IsLate, IsPutBackBy, held_for, prints_counts}
 use Rattle.world_parts.specs.Coherent.{AreNodesOf, IsWhole}
 use Rattle.world_parts.specs.Deleting.{ground_of}
 use Rattle.world_commands.specs.Detaching.{HasDetached, HasToWaitFor, IsDetachedBy, IsDetachment, Scene, is_detachment, scene}
 use Rattle.world_parts.specs.Face.{Face, dirty_of, seen_state}
-use Rattle.world_parts.specs.Handling.{DoneIf, IsHandled}
+use Rattle.world_parts.specs.Handling.{DoneIf}
 use Rattle.world_commands.proofs.BitmapsLeft.{left-dirty}
 use Rattle.world_commands.proofs.CarryPlain.{late_nothing, opens_nothing, maps_nothing}
 use Rattle.blk_world.proofs.Detached.{detachment_done}
 use Rattle.world_commands.proofs.Handled.{refused_placed, said_as}
 use Rattle.world_commands.proofs.HandledDevices.{ground_with}
-use Rattle.world_commands.proofs.Placed.{put_back}
+use Rattle.world_commands.proofs.Placed.{put_back_by}
 
 kept_ground : (w : Face) (now : Nodes) → now ≡ w.nodes → ground_with w now ≡ ground_of w
 kept_ground w now same = ap (ground_with w) same
@@ -77,10 +76,10 @@ module _ (w : Face) (whole : IsWhole w) (joined : IsJoined w.nodes) (given : Lis
           → IsCarriedAs w (record v { drains = w.drains }) given (command.DeviceDel id) text × IsWhole (record v { drains = w.drains })
       by_refusal None none done =
           let all = detachment_done w whole joined id none (has.calm none) y.nodes y.table done has.handled.table in
-          (said_as w given (record v { drains = w.drains }) text (command.DeviceDel id) None all.0 has.handled.said (dirty_same w.drains id), all.1)
+          (said_as w given (record v { drains = w.drains }) text (command.DeviceDel id) None all.0 has.handled.said (dirty_same w.drains id) (record { new = None; is_new = tt; are = refl }), all.1)
       by_refusal (Some cause) some kept =
           let all = refused_placed w (command.DeviceDel id) cause refl refl some refl (ground_with w y.nodes) y.table (kept_ground w y.nodes kept) has.handled.table whole in
-          (said_as w given (record v { drains = w.drains }) text (command.DeviceDel id) (Some cause) all.0 has.handled.said (dirty_same w.drains id), all.1)
+          (said_as w given (record v { drains = w.drains }) text (command.DeviceDel id) (Some cause) all.0 has.handled.said (dirty_same w.drains id) refl, all.1)
   detachment_said c text is has = absurd (let bad : ⊥ = cc is in bad)
 
   -- ---- it has to wait
@@ -98,7 +97,6 @@ module _ (w : Face) (whole : IsWhole w) (joined : IsJoined w.nodes) (given : Lis
       let left : v ≡ held_for c w = ap (staged w) has.left in (
         record {
           told = untold;
-          clean = refl;
           by_files = tt;
           maps = maps_nothing w.table w.nodes c [] (opens_none c is);
           waits = record { accepted = has.accepted; waits = has.waits };
@@ -132,9 +130,9 @@ module _ (w : Face) (whole : IsWhole w) (joined : IsJoined w.nodes) (given : Lis
         by_result (Ok a) has back = (both a (has (seen_state w) refl refl)).1
         by_result (Err e) has back = subst IsWhole (ap (staged w) (sym back)) whole
 
-    pub detachment_back : OnErr r (y ≡ x) → OnErr r (IsPutBack w v)
+    pub detachment_back : OnErr r (y ≡ x) → OnErr r (IsPutBackBy w v c)
     detachment_back back = by_result r back
       where
-        by_result : (r : Result Carried E) → OnErr r (y ≡ x) → OnErr r (IsPutBack w v)
+        by_result : (r : Result Carried E) → OnErr r (y ≡ x) → OnErr r (IsPutBackBy w v c)
         by_result (Ok a) back = back
-        by_result (Err e) back = subst (IsPutBack w) (ap (staged w) (sym back)) (put_back w)
+        by_result (Err e) back = subst (λ (f : Face). IsPutBackBy w f c) (ap (staged w) (sym back)) (put_back_by w c)

@@ -22,12 +22,12 @@ use Rattle.flat_machine.proofs.ImagesKept.{nothing_said}
 use Rattle.world_parts.specs.Coherent.{AreNodesOf}
 use Rattle.world_parts.specs.Face.{Face, node_over, held, held_by, contents_of}
 use Rattle.blk_world.proofs.PieceNodes.{AreAfter, alike_after}
-use Rattle.blk_world.proofs.ImageRows.{HasImageFile, image_file, image_written, IsEmpty, empty_file, file_empty, still_mapped}
+use Rattle.world_commands.proofs.ImageRows.{HasImageFile, image_file, image_written, IsEmpty, empty_file, file_empty, still_mapped}
 
 -- ---- what a device tells
 
 -- a device that is held tells its bytes
-told-device : (devices : List DeviceState) → AreTold devices → (file : ℕ) → IsSome (device_in devices file)
+pub told-device : (devices : List DeviceState) → AreTold devices → (file : ℕ) → IsSome (device_in devices file)
     → (d : DeviceState) × (bytes : List ℕ) × (device_in devices file ≡ Some d) × (d.content ≡ Some bytes)
 told-device devices told file some = by_device (device_in devices file) refl some
   where
@@ -42,7 +42,7 @@ told-device devices told file some = by_device (device_in devices file) refl som
     by_device (Some d) is here = by_content d is d.content refl (told d (find-Some (is_of file) devices d is).0)
 
 -- what is held is what the device of the node over the file tells
-held-is : (w : Face) (name : List ℕ) (file : ℕ) (d : DeviceState) (bytes : List ℕ) → node_over w.table name ≡ Some file
+pub held-is : (w : Face) (name : List ℕ) (file : ℕ) (d : DeviceState) (bytes : List ℕ) → node_over w.table name ≡ Some file
     → device_in w.nodes.devices file ≡ Some d → d.content ≡ Some bytes → held w name ≡ Some bytes
 held-is w name file d bytes over is content =
     ap (held_by w name) over ∙ ap (option_and_then (λ (x : DeviceState). x.content)) is ∙ content

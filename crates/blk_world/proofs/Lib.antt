@@ -8,8 +8,8 @@ pub mod PiecePaths
 pub mod PieceWriters
 pub mod PieceReady
 pub mod PieceNodes
-pub mod ImageRows
 pub mod ImageTold
+pub mod CloseImages
 pub mod PieceTables
 pub mod PieceContents
 pub mod PieceTold

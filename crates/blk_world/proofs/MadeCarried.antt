@@ -1,5 +1,5 @@
 -- A creation that was carried out, refused, or of which a call failed: what it leaves of the world.
-use Rattle.std.proofs.Common.{◌≡◌, ℕ, ◌≤◌, Bool, true, false, List, [], refl, sym, ◌∙◌, ap, subst, arith, Option, Some, None}
+use Rattle.std.proofs.Common.{◌≡◌, ℕ, ◌≤◌, Bool, true, List, [], refl, sym, ◌∙◌, ap, arith, Option, Some, None}
 use Rattle.std.specs.Prelude.{Contains, IsSome, Result, is_some, option_and_then, option_map, bytes_eq, replicate, unwrap_or}
 use Rattle.blk_base.specs.Files.{put_file}
 use Rattle.blk_base.specs.Stored.{LeavesOthers}

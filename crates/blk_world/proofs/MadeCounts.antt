@@ -1,12 +1,10 @@
 -- A creation raises no count but that of the call that failed.
-use Rattle.std.proofs.Common.{◌≡◌, ℕ, List, refl, sym, ◌∙◌, ap, subst, Option, Some, None, Ok, Err}
+use Rattle.std.proofs.Common.{◌≡◌, ℕ, List, refl, sym, ap, subst, None, Ok, Err}
 use Rattle.std.specs.Prelude.{Result}
-use Rattle.blk_base.specs.declared.fault.FaultFrom.TheVariants.{Store, Dev}
-use Rattle.blk_base.specs.declared.file.Opened.{Opened}
+use Rattle.blk_base.specs.declared.fault.FaultFrom.TheVariants.{Dev}
 use Rattle.q2_format.specs.Created.{Creation, created_length}
 use Rattle.qmp_rules.specs.Table.{Table}
-use Rattle.qmp_rules.specs.declared.judge.PrepareStop.{PrepareStop}
-use Rattle.qmp_rules.specs.declared.judge.PrepareStop.TheVariants.{Refused, NoMemory}
+use Rattle.qmp_rules.specs.declared.judge.PrepareStop.TheVariants.{Refused}
 use Rattle.qmp_rules.specs.declared.refusal.Refusal.{Refusal}
 use Rattle.qmp_rules.specs.declared.refusal.Refusal.TheVariants as refusal
 use Rattle.blk_nodes.specs.Formatting.{HasFormatCause, IsFormatAt}

@@ -1,5 +1,5 @@
 -- How a creation is answered in the world.
-use Rattle.std.proofs.Common.{◌≡◌, ◌⊎◌, ℕ, ◌≤◌, true, List, [], inl, inr, refl, sym, ◌∙◌, ap, subst, Option, Some, None, Ok, Err}
+use Rattle.std.proofs.Common.{◌≡◌, ℕ, ◌≤◌, true, List, [], inl, inr, refl, sym, ◌∙◌, ap, subst, Option, Some, None, Ok, Err}
 use Rattle.std.specs.Prelude.{Result, IfOk, OnErr, nat_lt, Bool, false}
 use Rattle.std.proofs.lemmas.List.Elements.{All-nil}
 use Rattle.flat_machine.specs.Marks.{IsCalm}
@@ -35,8 +35,8 @@ use Rattle.world_commands.proofs.CountsKept.{hides-same}
 use Rattle.world_commands.proofs.Handled.{untouched_whole}
 use Rattle.world_commands.proofs.MadeHandled.{creation-quiet, first-quiet, left-none, left-some}
 use Rattle.blk_world.proofs.MadeTold.{told_by_room}
-use Rattle.blk_world.proofs.MadeWorld.{CarriedTold, changes-created, made_world, spoiled_world}
-use Rattle.world_commands.proofs.BitmapsLeft.{keeps_bitmaps, left-dirty}
+use Rattle.blk_world.proofs.MadeWorld.{CarriedTold, changes-created, clean_first, made_world, spoiled_world}
+use Rattle.world_commands.proofs.BitmapsLeft.{keeps_bitmaps, kept-bitmaps, left-dirty}
 use Rattle.world_commands.proofs.Placed.{answer-is, placed, placed_same}
 
 first-files : (options : Created (List ℕ)) (room : ℕ) → StopsByFiles (create_told options room).stopped
@@ -69,6 +69,7 @@ refused_first w c cause some =
       runs = runs-devices w w refl refl refl refl refl refl (same-devices w.nodes.devices);
       hides = subst (HidesNoFault w w) (sym (quiet_named cause quiet)) (hides-same w w refl refl refl);
       opens = refl;
+      site = inl (clean_first c.options w.room, refl);
       cause = quiet_one w c cause quiet;
       coherent = λ was. was;
       shows = λ told_files o s shows. told_by_room o s w w c shows
@@ -88,6 +89,7 @@ said_so w given v text c refusal told whole keeps bitmaps carried said = record 
   carried = carried.0;
   said = subst (λ (t : Told). IsSaid given (answer w.table t c).reply text) (sym carried.1) said;
   dirty = left-dirty w v carried.0.told c keeps bitmaps whole.bitmaps;
+  bitmaps = kept-bitmaps w.table c refusal w.bitmaps v.bitmaps keeps bitmaps;
 }
 
 module _ (w : Face) (whole : IsWhole w) (joined : IsJoined w.nodes) (given : List ℕ) (x : Ground) (after : IsJoined x.nodes) (least : w.faults ≤ x.store.faults) (u : Table) where

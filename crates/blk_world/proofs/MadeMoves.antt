@@ -1,19 +1,14 @@
 -- What a creation leaves of a world: rows that at most have lost their disks, and devices that are the same.
 use Rattle.std.proofs.Common.{◌≡◌, ◌≢◌, ◌⊎◌, ℕ, ◌≤◌, ◌==◌, Bool, true, false, cond, List, [], ◌∷◌, map, inl, inr, refl, sym, ◌∙◌, ap, subst, arith, Option, Some, None}
-use Rattle.std.specs.Prelude.{IsSome, is_some, Contains, bytes_eq, find, option_and_then, option_map, unwrap_or}
+use Rattle.std.specs.Prelude.{IsSome, is_some, Contains, bytes_eq, find, option_map, unwrap_or}
 use Rattle.std.specs.List.{list_any}
 use Rattle.std.proofs.lemmas.Bool.{eq-eqb, false≢true, ne_eqb}
-use Rattle.blk_base.specs.declared.file.File.{File as StoreFile}
 use Rattle.blk_graph.specs.declared.edge.Edge.{Edge}
-use Rattle.blk_graph.specs.declared.kind.Kind.TheVariants.{Protocol}
 use Rattle.blk_graph.proofs.Members.{Contains-here, Contains-there, find-Some, list_any-there}
-use Rattle.qmp_codec.specs.declared.nodes.CreateFile.{CreateFile}
 use Rattle.qmp_codec.specs.declared.nodes.CreateQcow2.{CreateQcow2}
-use Rattle.qmp_codec.specs.declared.nodes.Created.TheVariants as created
-use Rattle.qmp_rules.specs.Asks.{name_of_file, stands_for}
+use Rattle.qmp_rules.specs.Asks.{stands_for}
 use Rattle.qmp_rules.specs.Changes.{changed, all_changed, lost_with, node_changed, stands_over, unsettled}
-use Rattle.qmp_rules.specs.Edits.{create_edits, created_change, file_of_node, spoiled}
-use Rattle.qmp_rules.specs.Table.{Table, first_into, node_named}
+use Rattle.qmp_rules.specs.Table.{Table, first_into}
 use Rattle.qmp_rules.specs.declared.change.Change.TheVariants.{FormatFile, KeepId, MakeFile, SpoilFile}
 use Rattle.qmp_rules.specs.declared.rows.NodeRecord.{NodeRecord}
 use Rattle.flat_machine.specs.Wiring.{TableAtRest, TableStands}

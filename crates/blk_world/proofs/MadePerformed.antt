@@ -1,5 +1,5 @@
 -- What a creation does to files and nodes, as the flat machine says it.
-use Rattle.std.proofs.Common.{◌≡◌, ◌≢◌, ℕ, Bool, true, false, List, [], ◌∷◌, refl, sym, ◌∙◌, ap, subst, Option, Some, None, Ok}
+use Rattle.std.proofs.Common.{◌≡◌, ℕ, true, false, List, [], ◌∷◌, refl, sym, ◌∙◌, ap, subst, Option, Some, None, Ok}
 use Rattle.std.specs.Prelude.{Result, find, is_some, option_and_then, option_map}
 use Rattle.std.proofs.lemmas.Bool.{false≢true}
 use Rattle.std.proofs.lemmas.Option.{same_Some}
@@ -14,10 +14,8 @@ use Rattle.blk_base.specs.Stored.{LeavesOthers}
 use Rattle.blk_base.specs.declared.file.File.{File as StoreFile}
 use Rattle.q2_format.specs.Created.{Creation, creation_of}
 use Rattle.qmp_codec.specs.declared.nodes.CreateFile.{CreateFile}
-use Rattle.qmp_codec.specs.declared.nodes.CreateQcow2.{CreateQcow2}
 use Rattle.qmp_codec.specs.declared.nodes.Created.TheVariants as created
 use Rattle.qmp_rules.specs.Asks.{stands_for}
-use Rattle.qmp_rules.specs.Changes.{all_changed}
 use Rattle.qmp_rules.specs.Edits.{create_edits, spoiled}
 use Rattle.qmp_rules.specs.Table.{Table, node_at}
 use Rattle.qmp_rules.specs.Values.{amount_or}
@@ -26,7 +24,6 @@ use Rattle.qmp_rules.specs.declared.change.Change.TheVariants.{FormatFile, KeepI
 use Rattle.qmp_rules.specs.declared.rows.NodeRecord.{NodeRecord}
 use Rattle.flat_machine.specs.Performing.{AllPerformed, IsFormatted, Makes, held_bytes}
 use Rattle.flat_machine.specs.State.{State, filename_of}
-use Rattle.blk_nodes.specs.Contents.{disk_of}
 use Rattle.world_parts.specs.Creating.{HasFormatted}
 use Rattle.world_parts.specs.Deleting.{Ground, ground_of}
 use Rattle.world_parts.specs.Face.{Face, contents_of, held, node_over}

@@ -1,5 +1,5 @@
 -- What files tell a creation, and that a call of it that failed may be told.
-use Rattle.std.proofs.Common.{◌≡◌, ℕ, nat_lt, Bool, true, false, List, [], map, inl, inr, refl, sym, ◌∙◌, ap, subst, Option, Some, None}
+use Rattle.std.proofs.Common.{◌≡◌, ℕ, nat_lt, Bool, true, false, List, [], map, inl, inr, refl, sym, ◌∙◌, ap, subst, Some, None}
 use Rattle.blk_base.specs.declared.fault.FaultFrom.TheVariants as from
 use Rattle.blk_graph.proofs.Members.{Contains-nil}
 use Rattle.qmp_codec.specs.declared.command.Command.TheVariants as command

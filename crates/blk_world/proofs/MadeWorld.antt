@@ -1,6 +1,6 @@
 -- A creation in the world: carried out, refused, or stopped by a call.
-use Rattle.std.proofs.Common.{◌≡◌, ◌⊎◌, ℕ, ◌≤◌, true, List, [], ◌∷◌, inl, inr, refl, sym, ◌∙◌, ap, subst, Option, Some, None, Ok, Err}
-use Rattle.std.specs.Prelude.{Result, is_some, option_map}
+use Rattle.std.proofs.Common.{◌≡◌, ℕ, ◌≤◌, true, List, [], ◌∷◌, inr, refl, sym, ◌∙◌, ap, subst, Option, Some, None, Ok, Err}
+use Rattle.std.specs.Prelude.{is_some}
 use Rattle.std.proofs.lemmas.List.Elements.{All-nil}
 use Rattle.flat_machine.specs.Marks.{IsCalm}
 use Rattle.qmp_codec.specs.Commands.{Cmd}
@@ -8,7 +8,7 @@ use Rattle.qmp_codec.specs.declared.command.Command.TheVariants as command
 use Rattle.qmp_codec.specs.declared.nodes.BlockdevCreate.{BlockdevCreate}
 use Rattle.qmp_codec.specs.declared.nodes.Created.{Created}
 use Rattle.qmp_codec.specs.declared.nodes.Created.TheVariants as created
-use Rattle.qmp_rules.specs.Answers.{Answer, answer, command_edits, refusal_of}
+use Rattle.qmp_rules.specs.Answers.{Answer, answer, refusal_of}
 use Rattle.qmp_rules.specs.Changes.{all_changed}
 use Rattle.qmp_rules.specs.Edits.{create_edits, edits_of, file_of_node, spoiled}
 use Rattle.qmp_rules.specs.Looks.{create_told}
@@ -24,17 +24,16 @@ use Rattle.qmp_rules.specs.declared.told.Told.{Told}
 use Rattle.flat_machine.specs.Performing.{AllPerformed}
 use Rattle.flat_machine.specs.State.{State}
 use Rattle.flat_machine.specs.Wiring.{TableAtRest}
-use Rattle.flat_machine.specs.declared.opening.Opening.{Opening}
 use Rattle.flat_machine.proofs.TableRests.{command_rests, spoiled_rests}
 use Rattle.blk_nodes.specs.Joined.{IsJoined}
 use Rattle.world_commands.specs.Carrying.{IsCarried, IsOfFiles, StopsByFiles, fault_named, opened_names}
 use Rattle.world_parts.specs.Coherent.{IsWhole}
-use Rattle.world_commands.specs.Comes.{Shows}
 use Rattle.world_commands.specs.Counting.{HidesNoFault}
 use Rattle.world_parts.specs.Creating.{HasCreated, HasFormatted, creation_for}
 use Rattle.world_parts.specs.Deleting.{Ground, ground_of}
 use Rattle.world_parts.specs.Face.{Face, contents_of, seen_state}
-use Rattle.world_commands.specs.Making.{FitsWords, HasEndedSo, told_failed}
+use Rattle.world_commands.specs.Leaving.{clean_told}
+use Rattle.world_commands.specs.Making.{FitsWords, HasEndedSo, look_of, told_failed}
 use Rattle.world_commands.proofs.Belonging.{belong_of}
 use Rattle.world_commands.proofs.CountLemmas.{out-same}
 use Rattle.world_commands.proofs.CountsKept.{hides-same}
@@ -66,6 +65,18 @@ pub changes-created : (t : Table) (told : Told) (c : BlockdevCreate (List ℕ)) 
 unfolding edits_of
 changes-created t told c none = ap (λ (a : Answer). a.changes) (answer-is t told (command.BlockdevCreate c) None none)
 
+-- nothing is told of what is dirty
+pub clean_first : (options : Created (List ℕ)) (room : ℕ) → clean_told (create_told options room) ≡ create_told options room
+unfolding create_told
+clean_first (created.File c) room = refl
+clean_first _ room = refl
+
+clean_failed : (id : List ℕ) (options : Created (List ℕ)) (room : ℕ) (cause : Refusal)
+    → clean_told (told_failed (command.BlockdevCreate (record { job_id = id; options = options })) room cause)
+    ≡ told_failed (command.BlockdevCreate (record { job_id = id; options = options })) room cause
+clean_failed id options room cause =
+    ap (λ (told : Told). let x : Told = record told { stopped = Some (record { look = look_of options; refusal = cause }) } in x) (clean_first options room)
+
 -- ---- accepted
 
 module _ (w : Face) (whole : IsWhole w) (c : BlockdevCreate (List ℕ)) (none : refusal_of w.table (create_told c.options w.room) (command.BlockdevCreate c) ≡ None)
@@ -91,6 +102,7 @@ module _ (w : Face) (whole : IsWhole w) (c : BlockdevCreate (List ℕ)) (none : 
         runs = moved_runs w v moves;
         hides = hides;
         opens = ap opened_names moves.opened;
+        site = (clean_first c.options w.room, created_is);
         calm = λ is. All-nil (IsCalm (seen_state w));
         cause = created_fits w x whole.coherent.out.once c created_is;
         coherent = moved_coherent w v moves rest;
@@ -138,6 +150,7 @@ module _ (w : Face) (whole : IsWhole w) (c : BlockdevCreate (List ℕ)) (none : 
         runs = moved_runs w failed_then moves;
         hides = hides;
         opens = ap opened_names moves.opened;
+        site = inr (record { told_is = clean_failed c.job_id c.options w.room cause; accepted = none; ended = ended });
         calm = λ is. All-nil (IsCalm (seen_state w));
         cause = created_causes w failed_then c (moved_runs w failed_then moves) whole.counted moves.opened whole.coherent.out
             (out-same w.table w.nodes x.nodes w.opened moves.nodes.devices whole.coherent.out) cause can ended.failed (FitsSo-of cause ended.fits);

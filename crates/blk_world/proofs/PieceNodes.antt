@@ -114,6 +114,7 @@ alike_row (Some row) (Some old) new is alike =
       size = alike.size ∙ sym is.2.size;
       access = alike.access ∙ sym is.2.is_read_only;
       place = alike.place ∙ sym driver.1;
+      small = alike.small;
     } in
     subst (AreAlike (Some row)) (sym is.1) now
 

@@ -18,7 +18,7 @@ use Rattle.flat_machine.specs.Final.{bytes_of}
 use Rattle.flat_machine.specs.Jobs.{unsure}
 use Rattle.flat_machine.specs.Machine.{after, with_guest, with_part, with_piece, with_disk, past_piece, flight_of, note, noted, is_noted, path, written, read_through, copies_through}
 use Rattle.flat_machine.specs.Performing.{IsQuiet}
-use Rattle.flat_machine.specs.State.{State, Dirty, drive_of}
+use Rattle.flat_machine.specs.State.{State, drive_of}
 use Rattle.flat_machine.specs.Writing.{PieceDone, CanWrite, Writes, ReadsWritten, written_file}
 use Rattle.flat_machine.specs.declared.opening.Opening.{Opening}
 use Rattle.flat_machine.proofs.Resting.{piece_rests}

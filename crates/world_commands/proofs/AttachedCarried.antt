@@ -327,7 +327,9 @@ module _ (w : Face) (whole : IsWhole w) (joined : IsJoined w.nodes)
       attached_carried : CarriedUntold w v (command.DeviceAdd c) None
       attached_carried =
           carried_by w v (command.DeviceAdd c) refl refl none table_so refl refl (All-nil (IsCalm (seen_state w))) refl
-          (runs-devices w v refl refl refl refl refl refl (same-devices w.nodes.devices)) (hides-same w v refl refl refl) (λ before. attached_coherent)
+          (runs-devices w v refl refl refl refl refl refl (same-devices w.nodes.devices)) (hides-same w v refl refl refl)
+          (refl, record { device = device; named = named_is w.table h c none; node = node; found = found_is w.table h c none; drawn = refl; disks = disks })
+          (λ before. attached_coherent)
           (λ o s told shows. subst (λ (changes : List Change). AllPerformed s changes (contents_of w) (contents_of v)) (sym changes_so)
           (performed_used w s (file_used w.table h c none) (AddDevice device node ∷ []) (contents_of v)
           (contents_of v, quiet_then, quiet-self (contents_of v))))

@@ -1,7 +1,7 @@
 -- Commands that leave the bitmaps as they are, and what their changes make of bitmaps then.
 use Rattle.std.proofs.Common.{◌≡◌, ℕ, Bool, true, false, List, [], ◌∷◌, ◌++◌, map, refl, sym, ap, subst, ◌∙◌, Option, Some, None}
 use Rattle.std.specs.Prelude.{◌&&◌, if◌then◌else◌}
-use Rattle.std.specs.List.{find, list_all}
+use Rattle.std.specs.List.{list_all}
 use Rattle.blk_bitmaps.specs.declared.row.Bitmap.{Bitmap}
 use Rattle.qmp_codec.specs.Commands.{Cmd}
 use Rattle.qmp_codec.specs.declared.command.Command.TheVariants as command
@@ -25,13 +25,14 @@ use Rattle.qmp_rules.specs.Table.{Table, node_named, device_named}
 use Rattle.qmp_rules.specs.Asks.{is_file}
 use Rattle.qmp_rules.specs.Changes.{all_changed}
 use Rattle.qmp_rules.specs.CommandAsks.{is_built}
-use Rattle.qmp_rules.specs.Edits.{edits_of, created_change, spoiled, raw_edits, qcow2_edits, added_edits, uses, of_row, device_uses, new_device, device_del_edits}
+use Rattle.qmp_rules.specs.Edits.{edits_of, created_change, spoiled, raw_edits, qcow2_edits, added_edits, uses, of_row, device_uses, new_device}
 use Rattle.qmp_rules.specs.NodeAsks.{is_read_only, backing_name}
 use Rattle.qmp_rules.specs.Answers.{answer, answer_by, command_edits, left_by, refusal_of}
 use Rattle.flat_machine.specs.Bitmaps.{AreBitmapsOf, FollowChanges, dirty_in}
 use Rattle.flat_machine.specs.Recording.{dirty_after}
 use Rattle.flat_machine.proofs.BitmapRows.{leaves_bitmaps, follow-all}
 use Rattle.world_parts.specs.Face.{Face, dirty_of}
+use Rattle.world_commands.specs.Leaving.{LeavesBitmaps}
 use Rattle.world_commands.proofs.CarryComes.{built_accepted}
 
 -- commands that change no bitmap
@@ -44,6 +45,17 @@ keeps_bitmaps (command.BitmapEnable c) = false
 keeps_bitmaps (command.BitmapDisable c) = false
 keeps_bitmaps (command.BitmapMerge c) = false
 keeps_bitmaps c = true
+
+pub kept-bitmaps : (t : Table) (c : Cmd) (first : Option Refusal) (old now : List Bitmap) → keeps_bitmaps c ≡ true → now ≡ old → LeavesBitmaps t c first old now
+kept-bitmaps t c (Some cause) old now keeps same = same
+kept-bitmaps t (command.BlockdevDel name) None old now keeps same = absurd cc
+kept-bitmaps t (command.BitmapAdd c) None old now keeps same = absurd cc
+kept-bitmaps t (command.BitmapRemove c) None old now keeps same = absurd cc
+kept-bitmaps t (command.BitmapClear c) None old now keeps same = absurd cc
+kept-bitmaps t (command.BitmapEnable c) None old now keeps same = absurd cc
+kept-bitmaps t (command.BitmapDisable c) None old now keeps same = absurd cc
+kept-bitmaps t (command.BitmapMerge c) None old now keeps same = absurd cc
+kept-bitmaps t _ None old now keeps same = record { new = None; is_new = tt; are = same }
 
 both : (xs ys : List Change) → list_all leaves_bitmaps xs ≡ true → list_all leaves_bitmaps ys ≡ true → list_all leaves_bitmaps (xs ++ ys) ≡ true
 both [] ys first later = later

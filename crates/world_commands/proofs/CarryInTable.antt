@@ -1,5 +1,5 @@
 -- Commands that need the table alone: their answers, and what carrying one out leaves of the world.
-use Rattle.std.proofs.Common.{◌≡◌, true, false, ℕ, List, [], Some, None, Ok, Err, refl, sym, ◌∙◌, ap, subst}
+use Rattle.std.proofs.Common.{◌≡◌, true, false, ℕ, List, [], Option, Some, None, Ok, Err, refl, sym, ◌∙◌, ap, subst}
 use Rattle.std.specs.Prelude.{Result, IfOk, OnOk, OnErr}
 use Rattle.std.proofs.lemmas.Bool.{false≢true}
 use Rattle.blk_bitmaps.specs.declared.row.Bitmap.{Bitmap}
@@ -16,14 +16,16 @@ use Rattle.flat_machine.specs.Bitmaps.{AreBitmapsOf, FollowChanges}
 use Rattle.world_parts.specs.Coherent.{IsCoherent}
 use Rattle.world_parts.specs.Face.{Face}
 use Rattle.world_parts.specs.Saying.{IsSaid}
-use Rattle.world_commands.specs.Carrying.{IsCarriedAs, IsPutBack, counted, counts_of, is_of_bitmaps, needs_table_alone, prints_counts}
-use Rattle.world_parts.specs.Handling.{SaysRefusal}
+use Rattle.world_commands.specs.Carrying.{IsCarriedAs, IsPutBackBy, counted, counts_of, is_of_bitmaps, needs_table_alone, prints_counts}
+use Rattle.world_parts.specs.Handling.{SaysRefusal, bitmaps_deleted}
+use Rattle.world_commands.specs.Leaving.{LeavesBitmaps}
 use Rattle.world_commands.specs.Recorded.{AreAfter}
 use Rattle.flat_machine.proofs.BitmapRows.{follow-none}
 use Rattle.world_commands.proofs.BitmapsChanged.{after-follow}
-use Rattle.world_commands.proofs.BitmapsLeft.{keeps_bitmaps, left-dirty, left-listed}
+use Rattle.world_commands.proofs.BitmapsLeft.{keeps_bitmaps, kept-bitmaps, left-dirty, left-listed}
 use Rattle.world_commands.proofs.Counted.{refusal-counted}
 use Rattle.world_commands.proofs.CarryPlain.{alone-stays, bitmaps-stay, stays-left, stays_in_table, table_carried_as, table_coherent, table_put_back}
+use Rattle.world_commands.proofs.Placed.{put_back_by}
 
 -- ---- kinds of commands
 
@@ -52,6 +54,11 @@ prints-stays _ prints = absurd cc
 prints-keeps : (c : Cmd) → prints_counts c ≡ true → keeps_bitmaps c ≡ true
 prints-keeps (command.QueryNamedBlockNodes flat) prints = refl
 prints-keeps _ prints = absurd cc
+
+-- commands on bitmaps take no node's away
+none-deleted : (t : Table) (c : Cmd) (rows : List Bitmap) → is_of_bitmaps c ≡ true → bitmaps_deleted t c rows ≡ rows
+none-deleted t (command.BlockdevDel name) rows is = absurd cc
+none-deleted t _ rows is = refl
 
 -- ---- the answer
 
@@ -111,6 +118,21 @@ module _ (t : Table) (c : Cmd) where
   accepted_follows (Ok a) old now was is none after = subst (FollowChanges t old now) (sym (accepted_changes none)) (after-follow t old now c was is none after)
   accepted_follows (Err e) old now was is none after = after
 
+  pub accepted_bitmaps : {A E : Type 0} (r : Result A E) (old now : List Bitmap) → is_of_bitmaps c ≡ true → refusal_of t untold c ≡ None
+      → OnOk r (AreAfter t c old now) → OnOk r (LeavesBitmaps t c (refusal_of t untold c) old now)
+  accepted_bitmaps (Ok a) old now is none after =
+      subst (λ (first : Option Refusal). LeavesBitmaps t c first old now) (sym none)
+      (subst (λ (rows : List Bitmap). AreAfter t c rows now) (sym (none-deleted t c old is)) after)
+  accepted_bitmaps (Err e) old now is none after = after
+
+  pub refused_bitmaps : {A E : Type 0} (bytes : A → List ℕ) (given : List ℕ) (r : Result A E)
+      (stop : PrepareStop) (rows : List Bitmap) → IsRefusedFor (refusal_of t untold c) stop
+      → IfOk r (λ text. SaysRefusal given stop (bytes text)) → OnOk r (LeavesBitmaps t c (refusal_of t untold c) rows rows)
+  refused_bitmaps bytes given (Ok text) (Refused cause) rows some said =
+      subst (λ (first : Option Refusal). LeavesBitmaps t c first rows rows) (sym some) refl
+  refused_bitmaps bytes given (Ok text) NoMemory rows some said = absurd said
+  refused_bitmaps bytes given (Err e) stop rows some said = said
+
   -- ---- with counts that are told
 
   module _ (ds : List ℕ) where
@@ -144,6 +166,10 @@ module _ (t : Table) (c : Cmd) where
 
 -- ---- the world
 
+-- want of memory, where the table stays
+table_back : (w : Face) (u : Table) (c : Cmd) → u ≡ w.table → IsPutBackBy w (record w { table = u }) c
+table_back w u c same = subst (λ (t : Table). IsPutBackBy w (record w { table = t }) c) (sym same) (put_back_by w c)
+
 module _ (w : Face) (u : Table) (c : Cmd) (alone : needs_table_alone c ≡ true) where
   stays : stays_in_table c ≡ true
   stays = alone-stays c alone
@@ -168,12 +194,13 @@ module _ (w : Face) (u : Table) (c : Cmd) (alone : needs_table_alone c ≡ true)
   in_table_carried bytes given (Ok text) was said table =
       table_carried_as w u w.bitmaps c stays [] (λ prints. absurd (false≢true (sym (alone-silent c alone) ∙ prints))) given (bytes text) table said
       (left-dirty w w untold c (alone-keeps c alone) refl was)
+      (kept-bitmaps w.table c (refusal_of w.table untold c) w.bitmaps w.bitmaps (alone-keeps c alone) refl)
   in_table_carried bytes given (Err e) was said table = said
 
   pub in_table_back : {A E : Type 0} (r : Result A E) → OnErr r (u ≡ w.table) → OnErr r
-      (IsPutBack w (record w { table = u }))
+      (IsPutBackBy w (record w { table = u }) c)
   in_table_back (Ok a) kept = kept
-  in_table_back (Err e) kept = table_put_back w u kept
+  in_table_back (Err e) kept = table_back w u c kept
 
 -- ---- commands on bitmaps, and their counts
 
@@ -186,6 +213,7 @@ module _ (w : Face) (u : Table) (c : Cmd) (prints : prints_counts c ≡ true) wh
   counts_carried bytes given (Ok text) was said table =
       table_carried_as w u w.bitmaps c (prints-stays c prints) (counts_of w) (λ is. refl) given (bytes text) table said
       (left-dirty w w untold c (prints-keeps c prints) refl was)
+      (kept-bitmaps w.table c (refusal_of w.table untold c) w.bitmaps w.bitmaps (prints-keeps c prints) refl)
   counts_carried bytes given (Err e) was said table = said
 
   pub counts_coherent : {A E : Type 0} (r : Result A E) → OnOk r
@@ -201,20 +229,21 @@ module _ (w : Face) (u : Table) (c : Cmd) (prints : prints_counts c ≡ true) wh
   counts_bitmaps (Err e) table kept was = subst (λ (t : Table). AreBitmapsOf t.bitmaps w.bitmaps) (sym kept) was
 
   pub counts_back : {A E : Type 0} (r : Result A E) → OnErr r (u ≡ w.table) → OnErr r
-      (IsPutBack w (record w { table = u }))
+      (IsPutBackBy w (record w { table = u }) c)
   counts_back (Ok a) kept = kept
-  counts_back (Err e) kept = table_put_back w u kept
+  counts_back (Err e) kept = table_back w u c kept
 
 -- those that change bitmaps
 module _ (w : Face) (u : Table) (b : List Bitmap) (c : Cmd) (is : is_of_bitmaps c ≡ true) where
   pub bitmaps_carried : {A E : Type 0} (bytes : A → List ℕ) (given : List ℕ) (r : Result A E) → IfOk r
       (λ text. IsSaid given (answer w.table untold c).reply (bytes text))
       → OnOk r (u ≡ all_changed w.table (answer w.table untold c).changes)
-      → OnOk r (FollowChanges w.table w.bitmaps b (answer w.table untold c).changes) → IfOk r
+      → OnOk r (FollowChanges w.table w.bitmaps b (answer w.table untold c).changes)
+      → OnOk r (LeavesBitmaps w.table c (refusal_of w.table untold c) w.bitmaps b) → IfOk r
       (λ text. IsCarriedAs w (record w { table = u; bitmaps = b }) given c (bytes text))
-  bitmaps_carried bytes given (Ok text) said table follow =
-      table_carried_as w u b c (bitmaps-stay c is) [] (λ prints. absurd (false≢true (sym (bitmaps-silent c is) ∙ prints))) given (bytes text) table said follow.dirty
-  bitmaps_carried bytes given (Err e) said table follow = said
+  bitmaps_carried bytes given (Ok text) said table follow left =
+      table_carried_as w u b c (bitmaps-stay c is) [] (λ prints. absurd (false≢true (sym (bitmaps-silent c is) ∙ prints))) given (bytes text) table said follow.dirty left
+  bitmaps_carried bytes given (Err e) said table follow left = said
 
   pub bitmaps_coherent : {A E : Type 0} (r : Result A E) → OnOk r
       (u ≡ all_changed w.table (answer w.table untold c).changes) → OnErr r (u ≡ w.table)
@@ -231,7 +260,7 @@ module _ (w : Face) (u : Table) (b : List Bitmap) (c : Cmd) (is : is_of_bitmaps 
       subst (λ (t : Table). AreBitmapsOf t.bitmaps b) (sym kept) (subst (AreBitmapsOf w.table.bitmaps) (sym same) was)
 
   pub bitmaps_back : {A E : Type 0} (r : Result A E) → OnErr r (u ≡ w.table) → OnErr r (b ≡ w.bitmaps) → OnErr r
-      (IsPutBack w (record w { table = u; bitmaps = b }))
+      (IsPutBackBy w (record w { table = u; bitmaps = b }) c)
   bitmaps_back (Ok a) kept same = kept
   bitmaps_back (Err e) kept same =
-      subst (λ (rows : List Bitmap). IsPutBack w (record w { table = u; bitmaps = rows })) (sym same) (table_put_back w u kept)
+      subst (λ (rows : List Bitmap). IsPutBackBy w (record w { table = u; bitmaps = rows }) c) (sym same) (table_back w u c kept)

@@ -54,6 +54,9 @@ use Rattle.world_parts.specs.Saying.{IsSaid}
 use Rattle.world_commands.specs.Snapshots.{TellsMapped}
 use Rattle.world_commands.specs.Carrying.{IsCarried, IsCarriedIn, IsCarriedAs, IsCaused, HasCause, FitsAll, OpensFor, opened_names, IsPutBack, as_held, counted, counts_of, is_of_bitmaps, needs_table_alone, prints_counts, is_failed, IsLateIn, fault_named, fault_told}
 use Rattle.world_parts.specs.Face.{Face, contents_of, dirty_of, seen_state}
+use Rattle.world_commands.specs.Leaving.{Leaves, LeavesBitmaps, clean_told}
+use Rattle.world_parts.specs.Looking.{Site}
+use Rattle.world_parts.specs.Staging.{site_of}
 use Rattle.world_commands.specs.Counting.{HidesNoFault}
 use Rattle.world_commands.proofs.CarryNames.{either-of}
 use Rattle.world_commands.proofs.CarryComes.{built_accepted}
@@ -486,6 +489,23 @@ stays-opens (command.BlockdevCreate c) alone = absurd cc
 stays-opens (command.BlockdevSnapshot c) alone = absurd cc
 stays-opens _ alone = refl
 
+-- it leaves store and nodes as they are, accepted or refused
+stays-leaves : (t : Table) (told : Told) (c : Cmd) (first : Option Refusal) (u : Table) (x : Site) → stays_in_table c ≡ true → Leaves t told c first u x x
+stays-leaves t told (command.BlockdevAdd c) first u x alone = absurd cc
+stays-leaves t told (command.BlockdevCreate c) first u x alone = absurd cc
+stays-leaves t told (command.BlockdevDel c) first u x alone = absurd cc
+stays-leaves t told (command.DeviceAdd c) first u x alone = absurd cc
+stays-leaves t told (command.DeviceDel id) first u x alone = absurd cc
+stays-leaves t told (command.BlockdevSnapshot c) first u x alone = absurd cc
+stays-leaves t told _ None u x alone = refl
+stays-leaves t told _ (Some cause) u x alone = refl
+
+-- a refusal of a command that opens nothing does so
+pub quiet-leaves : (t : Table) (told : Told) (c : Cmd) (cause : Refusal) (u : Table) (x : Site) → opens_nothing c ≡ true → Leaves t told c (Some cause) u x x
+quiet-leaves t told (command.BlockdevAdd c) cause u x opens = absurd cc
+quiet-leaves t told (command.BlockdevCreate c) cause u x opens = absurd cc
+quiet-leaves t told _ cause u x opens = refl
+
 -- such a command drains no disk
 undrained : (w : Face) (c : Cmd) → stays_in_table c ≡ true → is_built c ≡ true → AreCalm (seen_state w) (drained_by w.table c)
 undrained w (command.DeviceDel id) alone built = absurd cc
@@ -553,6 +573,7 @@ module _ (w : Face) (u : Table) (b : List Bitmap) (c : Cmd) (alone : stays_in_ta
           hides = subst (HidesNoFault w then) (sym (quiet_fault refusal' (λ cause some. table_quiet w.table c cause (judged ∙ some))))
               (hides-same w then refl refl refl);
           opens = plain_opens c (stays-opens c alone) w.opened w.opened refl;
+          site = stays-leaves w.table (clean_told (counted untold ds)) c refusal' u (site_of w) alone;
           cause = quiet_cause w then c refusal' (stays-opens c alone) (λ cause some. table_quiet w.table c cause (judged ∙ some));
           coherent = table_coherent is;
           shows = λ told o s shows. told_counts o s w then c ds (stays-opens c alone) counts shows
@@ -561,13 +582,15 @@ module _ (w : Face) (u : Table) (b : List Bitmap) (c : Cmd) (alone : stays_in_ta
 
     pub table_carried_as : (given text : List ℕ) → u ≡ all_changed w.table (answer w.table untold c).changes
         → IsSaid given (answer w.table (counted untold ds) c).reply text
-        → map dirty_in b ≡ dirty_after w.table (dirty_of w) (answer w.table untold c).changes → IsCarriedAs w then given c text
+        → map dirty_in b ≡ dirty_after w.table (dirty_of w) (answer w.table untold c).changes
+        → LeavesBitmaps w.table c (refusal_of w.table untold c) w.bitmaps b → IsCarriedAs w then given c text
     unfolding table_carried
-    table_carried_as given text is said dirty = record {
+    table_carried_as given text is said dirty bitmaps = record {
       refusal = refusal_of w.table untold c;
       carried = table_carried (refusal_of w.table untold c) refl is;
       said = said;
       dirty = dirty ∙ ap (dirty_after w.table (dirty_of w)) (sym (changes-counted untold ds w.table c));
+      bitmaps = bitmaps;
     }
 
 -- want of memory, where the table stays

@@ -8,12 +8,11 @@ use Rattle.std.proofs.lemmas.Fmt.{decimal_by_steps}
 use Rattle.std.proofs.lemmas.List.Sums.{fold-append}
 use Rattle.std.proofs.lemmas.List.Splits.{slice_split-cons_no}
 use Rattle.blk_base.specs.declared.fault.DevNo.{DevNo}
-use Rattle.blk_base.specs.declared.fault.FaultAt.{FaultAt}
 use Rattle.blk_base.specs.declared.fault.FaultFrom.TheVariants as from
 use Rattle.qmp_rules.specs.declared.refusal.Refusal.{Refusal}
 use Rattle.qmp_rules.specs.declared.refusal.Refusal.TheVariants as refusal
 use Rattle.qmp_rules.specs.Refusals.{refusal_text}
-use Rattle.flat_machine.specs.Licence.{fault_at, value_of, named_in_words}
+use Rattle.flat_machine.specs.Licence.{value_of, named_in_words}
 use Rattle.flat_machine.specs.EventLicence.{full_in_words}
 use Rattle.flat_machine.specs.Replies.{is_failed_call}
 use Rattle.world_commands.specs.Carrying.{fault_named, is_failed}

@@ -1,6 +1,6 @@
 -- A snapshot in a world: that its overlay may be put over the node, and what is left of the world once it is.
-use Rattle.std.proofs.Common.{◌≡◌, ◌≢◌, ℕ, ◌==◌, Bool, true, false, cond, List, [], ◌∷◌, ◌++◌, map, inl, inr, refl, sym, ◌∙◌, ap, subst, Option, Some, None}
-use Rattle.std.specs.Prelude.{IsSome, Contains, find, is_some, option_map}
+use Rattle.std.proofs.Common.{◌≡◌, ℕ, true, false, List, [], ◌∷◌, ◌++◌, map, inl, refl, sym, ◌∙◌, ap, subst, Option, Some, None}
+use Rattle.std.specs.Prelude.{Contains, is_some, option_map}
 use Rattle.std.proofs.lemmas.Bool.{eq-eqb, false≢true, ne_eqb}
 use Rattle.std.proofs.lemmas.Option.{same_Some}
 use Rattle.blk_graph.specs.declared.edge.Conflict.{Conflict}
@@ -9,24 +9,22 @@ use Rattle.blk_graph.specs.Graph.{NodeRow}
 use Rattle.blk_graph.specs.Rule.{first_conflict}
 use Rattle.qmp_codec.specs.declared.command.Command.TheVariants as command
 use Rattle.qmp_codec.specs.declared.nodes.Snapshot.{Snapshot}
-use Rattle.qmp_rules.specs.declared.ask.Ask.TheVariants as ask
 use Rattle.qmp_rules.specs.declared.change.Change.{Change}
 use Rattle.qmp_rules.specs.declared.change.Change.TheVariants.{Attach, Move}
 use Rattle.qmp_rules.specs.declared.refusal.Refusal.{Refusal}
 use Rattle.qmp_rules.specs.declared.refusal.Refusal.TheVariants as refusal
 use Rattle.qmp_rules.specs.declared.rows.NodeRecord.{NodeRecord}
-use Rattle.qmp_rules.specs.declared.told.Stopped.{Stopped}
 use Rattle.qmp_rules.specs.declared.told.Told.{Told}
 use Rattle.qmp_rules.specs.Answers.{Answer, answer, command_edits, conflict_in, conflict_refusal, out_of_turn, refusal_behind, refusal_of, unbuilt, untold}
-use Rattle.qmp_rules.specs.Asks.{first, holds, stands_for}
+use Rattle.qmp_rules.specs.Asks.{first, holds}
 use Rattle.qmp_rules.specs.Changes.{all_changed}
 use Rattle.qmp_rules.specs.CommandAsks.{asks_of, negotiates}
 use Rattle.qmp_rules.specs.Edits.{edits_of}
 use Rattle.qmp_rules.specs.NodeAsks.{snapshot_values, snapshot_names, snapshot_rest}
-use Rattle.qmp_rules.specs.Table.{Table, has_name, id_named, node_at}
+use Rattle.qmp_rules.specs.Table.{Table, has_name, id_named}
 use Rattle.flat_machine.specs.Marks.{AreCalm, drained_by}
 use Rattle.flat_machine.specs.Marking.{dirty_bytes}
-use Rattle.flat_machine.specs.Performing.{AllPerformed, IsQuiet, Puts}
+use Rattle.flat_machine.specs.Performing.{AllPerformed, Puts}
 use Rattle.flat_machine.specs.Sights.{IsTold, MayMap}
 use Rattle.flat_machine.specs.State.{State}
 use Rattle.flat_machine.specs.Wiring.{TableStands}
@@ -48,7 +46,7 @@ use Rattle.world_commands.proofs.Counted.{answer-counted}
 use Rattle.world_commands.proofs.CountLemmas.{runs-devices, same-devices}
 use Rattle.world_commands.proofs.CountsKept.{hides-same}
 use Rattle.world_commands.proofs.CoverCoherent.{covered_coherent}
-use Rattle.world_commands.proofs.CoverReady.{apart_of, cover_of, covered_same, edges_are_apart, node_there}
+use Rattle.world_commands.proofs.CoverReady.{cover_of, covered_same, edges_are_apart, node_there}
 use Rattle.world_commands.proofs.CreatedAsked.{asked}
 use Rattle.world_commands.proofs.Placed.{answer-is}
 
@@ -133,9 +131,6 @@ module _ (w : Face) (c : Snapshot (List ℕ)) (told : Told) (tells : IsToldOf w.
   stopped : told.stopped ≡ None
   stopped = ap (λ (x : Told). x.stopped) tells.rest
 
-  pub clean : told.dirty ≡ []
-  clean = ap (λ (x : Told). x.dirty) tells.rest
-
   pub by_files : StopsByFiles told.stopped
   by_files = subst StopsByFiles (sym stopped) tt
 
@@ -193,6 +188,7 @@ module _ (w : Face) (c : Snapshot (List ℕ)) (told : Told) (tells : IsToldOf w.
         runs = runs-devices w w refl refl refl refl refl refl (same-devices w.nodes.devices);
         hides = subst (HidesNoFault w w) (sym (quiet_named cause (told_quiet w.table told (command.BlockdevSnapshot c) cause stopped some))) (hides-same w w refl refl refl);
         opens = refl;
+        site = refl;
         cause = uncaused cause (told_quiet w.table told (command.BlockdevSnapshot c) cause stopped some);
         coherent = λ was. was;
         shows = λ some' o s shows. told_in w o s some' shows
@@ -226,7 +222,7 @@ module _ (w : Face) (c : Snapshot (List ℕ)) (told : Told) (tells : IsToldOf w.
 
     clear : is_some w.files ≡ true → IsClear w.nodes overlay
     clear some = record {
-      fresh = (tells.maps overlay (overlay_is w.table h c told none)).0 (unmapped w.table h c told none);
+      fresh = (tells.maps overlay (overlay_is w.table h c told none)).known.0 (unmapped w.table h c told none);
       unused = λ edge there. pair.lone edge (subst (λ (edges : List Edge). Contains edges edge) whole.coherent.alike.edges there);
       told = whole.tell some;
     }
@@ -255,7 +251,7 @@ module _ (w : Face) (c : Snapshot (List ℕ)) (told : Told) (tells : IsToldOf w.
     coherent = covered_coherent w.table pair.node pair.overlay pair.over pair.bare pair.lone pair.settled pair.size h w.nodes w.opened w.progress joined
         whole.coherent
 
-    covered_carried : AreCalm (seen_state w) (drained_by w.table (command.BlockdevSnapshot c)) → (is_some w.files ≡ true → ReadCovered w.nodes nodes node overlay)
+    covered_carried : AreCalm (seen_state w) (drained_by w.table (command.BlockdevSnapshot c)) → (IsClear w.nodes overlay → ReadCovered w.nodes nodes node overlay)
         → (carried : IsCarried w v (command.BlockdevSnapshot c) None) × (carried.told ≡ told)
     covered_carried calm reads =
         let carried : IsCarried w v (command.BlockdevSnapshot c) None = record {
@@ -271,11 +267,12 @@ module _ (w : Face) (c : Snapshot (List ℕ)) (told : Told) (tells : IsToldOf w.
           runs = runs-devices w v refl refl refl refl refl refl (same-devices w.nodes.devices);
           hides = hides-same w v refl refl refl;
           opens = refl;
+          site = (refl, record { node = node; overlay = overlay; node_is = node_is w.table h c told none; overlay_is = overlay_is w.table h c told none; over = refl; disks = reads });
           cause = λ dev called passes. passes;
           coherent = λ was. coherent;
           shows = λ some o s shows. told_in v o s some shows
               (subst (λ (cs : List Change). AllPerformed s cs (contents_of w) (contents_of v)) (sym changes_so)
-              (contents_of v, puts (reads some), (contents_of v, quiet-self (contents_of v), quiet-self (contents_of v))));
+              (contents_of v, puts (reads (clear some)), (contents_of v, quiet-self (contents_of v), quiet-self (contents_of v))));
         } in
         (carried, refl)
 
@@ -290,12 +287,12 @@ module _ (w : Face) (c : Snapshot (List ℕ)) (told : Told) (tells : IsToldOf w.
         let two : put.overlay ≡ overlay = same_Some put.overlay overlay (sym put.overlay_is ∙ overlay_is w.table h c told none) in
         let same_nodes : now ≡ nodes
         = put.over ∙ ap (λ (n : ℕ). covered n put.overlay w.nodes) one ∙ ap (λ (o : ℕ). covered node o w.nodes) two in
-        let reads : is_some w.files ≡ true → ReadCovered w.nodes nodes node overlay
-        = λ some.
+        let reads : IsClear w.nodes overlay → ReadCovered w.nodes nodes node overlay
+        = λ free.
         subst (λ (n : Nodes). ReadCovered w.nodes n node overlay) same_nodes
         (subst (λ (o : ℕ). ReadCovered w.nodes now node o) two
         (subst (λ (n : ℕ). ReadCovered w.nodes now n put.overlay) one
-        (put.disks (subst (IsClear w.nodes) (sym two) (clear some))))) in
+        (put.disks (subst (IsClear w.nodes) (sym two) free)))) in
         let same : v ≡ record w { nodes = now; table = x }
         = ap (λ (n : Nodes). let f : Face = record w { nodes = n; table = u } in f) (sym same_nodes)
         ∙ ap (λ (y : Table). let f : Face = record w { nodes = now; table = y } in f) (sym same_table) in (

@@ -1,6 +1,6 @@
 -- The parts of a world belong together once an overlay is put over a node.
-use Rattle.std.proofs.Common.{◌≡◌, ◌≢◌, ◌⊎◌, ℕ, ◌≤◌, Bool, true, false, cond, List, [], ◌∷◌, length, map, inl, inr, refl, sym, ◌∙◌, ap, subst, Option, Some, None, option_map}
-use Rattle.std.specs.Prelude.{◌==◌, ◌&&◌, not, IsSome, Contains, option_and_then, unwrap_or}
+use Rattle.std.proofs.Common.{◌≡◌, ◌≢◌, ℕ, ◌≤◌, Bool, true, false, cond, List, inl, inr, refl, sym, ◌∙◌, ap, subst, Option, Some, None, option_map}
+use Rattle.std.specs.Prelude.{◌==◌, ◌&&◌, not, IsSome, unwrap_or}
 use Rattle.std.proofs.lemmas.Bool.{cases_eq, eq-eqb, ne_eqb}
 use Rattle.blk_base.specs.Pieces.{end_of}
 use Rattle.blk_graph.specs.declared.edge.Edge.{Edge}
@@ -13,15 +13,13 @@ use Rattle.blk_graph.proofs.EditLemmas.{Contains-with_edge}
 use Rattle.blk_graph.proofs.Members.{Contains-map}
 use Rattle.blk_history.specs.Disk.{span_of}
 use Rattle.blk_history.specs.Fold.{With}
-use Rattle.blk_history.specs.Machine.{Flight}
 use Rattle.qmp_rules.specs.Chains.{filter_role, disk_node}
-use Rattle.qmp_rules.specs.Table.{Table, child, device_at, kinds_of, node_at}
-use Rattle.qmp_rules.specs.declared.rows.Device.{Device}
+use Rattle.qmp_rules.specs.Table.{Table, child, kinds_of, node_at}
 use Rattle.qmp_rules.specs.declared.rows.NodeRecord.{NodeRecord}
 use Rattle.flat_machine.specs.Agreement.{HasDisk}
 use Rattle.flat_machine.specs.State.{Guest, disk_of_guest, drive_of, size_of}
 use Rattle.flat_machine.specs.Suiting.{IsAlone}
-use Rattle.flat_machine.specs.Wiring.{TableStands, TableAtRest}
+use Rattle.flat_machine.specs.Wiring.{TableStands}
 use Rattle.flat_machine.proofs.Kept.{own_disk}
 use Rattle.flat_machine.proofs.Wired.{with_at}
 use Rattle.flat_machine.proofs.Redirected.{LiesOver, disk_led}
@@ -29,10 +27,10 @@ use Rattle.flat_machine.proofs.Covered.{staying, attached, moving, moved}
 use Rattle.flat_machine.proofs.Snapshots.{attached_edges, attached_table, covered_edges, covered_table, attached_stands, over_attached, covered_stands, covered_inline}
 use Rattle.blk_nodes.specs.Covering.{covered}
 use Rattle.blk_nodes.specs.Joined.{IsJoined}
-use Rattle.blk_nodes.specs.Nodes.{Nodes, row_at}
-use Rattle.world_parts.specs.Coherent.{AreAllowed, AreHeld, AreNodesOf, AreOnDisks, AreOnWritable, AreWithin, AskToWrite, HaveDrives, IsCoherent}
+use Rattle.blk_nodes.specs.Nodes.{Nodes}
+use Rattle.world_parts.specs.Coherent.{AreOnDisks, AreOnWritable, AreWithin, AskToWrite, HaveDrives, IsCoherent}
 use Rattle.blk_base.specs.declared.file.Opened.{Opened}
-use Rattle.world_parts.specs.Progress.{Progress, flight_at}
+use Rattle.world_parts.specs.Progress.{Progress}
 use Rattle.world_commands.proofs.CoverReady.{covered_same}
 use Rattle.world_commands.proofs.GuestEdges.{guest_edge}
 

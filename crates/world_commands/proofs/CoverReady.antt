@@ -1,5 +1,5 @@
 -- A snapshot that nothing refuses: its overlay may be put over the node, and the nodes' edges are then the table's.
-use Rattle.std.proofs.Common.{◌≡◌, ◌≢◌, ◌⊎◌, ℕ, ◌<◌, Bool, true, false, cond, List, [], ◌∷◌, map, refl, sym, ap, subst, ◌∙◌, inl, inr, Option, Some, None, option_map, Result, Err}
+use Rattle.std.proofs.Common.{◌≡◌, ◌≢◌, ℕ, Bool, true, false, cond, List, [], ◌∷◌, refl, sym, ap, subst, ◌∙◌, Option, Some, None, Result, Err}
 use Rattle.std.specs.Prelude.{◌==◌, ◌&&◌, not, IfErr, IsSome}
 use Rattle.std.specs.List.{Contains}
 use Rattle.std.proofs.lemmas.Bool.{eqb-true}
@@ -9,39 +9,38 @@ use Rattle.blk_graph.specs.declared.edge.Parent.TheVariants.{Node}
 use Rattle.blk_graph.specs.declared.edge.Role.{Role}
 use Rattle.blk_graph.specs.declared.edge.Role.TheVariants.{Drive, File, Backing, Filtered, Source, Target, Between, Base}
 use Rattle.blk_graph.specs.declared.kind.Kind.{Kind}
-use Rattle.blk_graph.specs.declared.kind.Kind.TheVariants.{Protocol, Raw, Qcow2, CopyOnRead}
+use Rattle.blk_graph.specs.declared.kind.Kind.TheVariants.{Protocol, Qcow2}
 use Rattle.blk_graph.specs.declared.kind.NodeKind.{NodeKind}
-use Rattle.blk_graph.specs.Edges.{IsListed}
 use Rattle.blk_graph.specs.Edits.{child_of, replaced, stays, with_child, with_edge, with_over, with_replaced}
-use Rattle.blk_graph.specs.Graph.{Graph, NodeRow, HasNode, IsFit, IsSound, ids}
+use Rattle.blk_graph.specs.Graph.{HasNode, IsFit, ids}
 use Rattle.blk_graph.specs.Judged.{IsApart, IsEditStop, IsJudged}
 use Rattle.blk_graph.specs.Rule.{first_conflict}
 use Rattle.blk_graph.specs.declared.stop.GraphStop.{GraphStop}
 use Rattle.blk_graph.specs.declared.stop.GraphStop.TheVariants.{Cycle, Conflict}
 use Rattle.blk_graph.specs.Paths.{IsPath, Reaches}
 use Rattle.blk_graph.specs.Permissions.{has_role, node_edge}
-use Rattle.blk_graph.specs.Refreshed.{kind_at, refreshed}
+use Rattle.blk_graph.specs.Refreshed.{refreshed}
 use Rattle.blk_graph.proofs.AlikeLemmas.{AreAlike as AreListsAlike, IsAlike as IsEdgeAlike, refreshed-alike, refreshed-both}
 use Rattle.blk_graph.proofs.FitLemmas.{IsFit-with_edge, IsFit-replaced, listed_fit}
 use Rattle.blk_graph.proofs.OverLemmas.{IsAcyclic-with_over}
 use Rattle.blk_graph.proofs.Members.{find-Some}
 use Rattle.qmp_rules.specs.declared.rows.NodeRecord.{NodeRecord}
 use Rattle.qmp_rules.specs.Chains.{filter_role}
-use Rattle.qmp_rules.specs.Table.{Table, node_at, child, kinds_of}
+use Rattle.qmp_rules.specs.Table.{Table, node_at, child}
 use Rattle.q2_image.specs.Image.{Known}
 use Rattle.flat_machine.specs.Wiring.{HasFile, TableStands}
 use Rattle.flat_machine.specs.Suiting.{IsAlone}
 use Rattle.flat_machine.proofs.WritingKept.{role_edge}
 use Rattle.flat_machine.proofs.Redirected.{LiesOver}
 use Rattle.flat_machine.proofs.Covered.{no_edge_of}
-use Rattle.flat_machine.proofs.Snapshots.{attached_edges, covered_edges, covered_table}
+use Rattle.flat_machine.proofs.Snapshots.{covered_edges}
 use Rattle.blk_nodes.specs.Covering.{covered, IsCover}
 use Rattle.blk_nodes.specs.Joined.{HasSize, IsJoined}
-use Rattle.blk_nodes.specs.Nodes.{Nodes, row_at, file_of, kind_of, node_kind}
+use Rattle.blk_nodes.specs.Nodes.{Nodes, row_at, file_of, kind_of}
 use Rattle.blk_nodes.specs.declared.row.Driver.{Driver}
 use Rattle.blk_nodes.specs.declared.row.Driver.TheVariants as drivers
 use Rattle.blk_nodes.specs.declared.row.Row.{Row}
-use Rattle.world_parts.specs.Coherent.{AreAlike, AreNodesOf, IsRowOf, node_row}
+use Rattle.world_parts.specs.Coherent.{AreAlike, AreNodesOf, IsRowOf}
 use Rattle.world_parts.proofs.TableKinds.{kinds_alike}
 
 -- ---- edges that are moved before and after what they ask is derived

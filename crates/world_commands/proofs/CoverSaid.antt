@@ -1,6 +1,6 @@
 -- What a snapshot leaves beside its answer: accepted, refused, or where it has to wait.
-use Rattle.std.proofs.Common.{◌≡◌, ℕ, Bool, true, false, cond, List, [], ◌∷◌, Option, Some, None, Ok, Err, refl, sym, ◌∙◌, ap, subst}
-use Rattle.std.specs.Prelude.{◌↔◌, ◌||◌, IfOk, Result, bytes_eq}
+use Rattle.std.proofs.Common.{◌≡◌, ℕ, Bool, true, false, cond, List, [], ◌∷◌, Some, None, Ok, Err, refl, sym, ◌∙◌, ap, subst}
+use Rattle.std.specs.Prelude.{◌↔◌, IfOk, Result}
 use Rattle.std.proofs.lemmas.Bool.{false≢true}
 use Rattle.qmp_codec.specs.Commands.{Cmd}
 use Rattle.qmp_codec.specs.declared.command.Command.TheVariants as command
@@ -9,7 +9,7 @@ use Rattle.qmp_rules.specs.declared.judge.PrepareStop.{PrepareStop}
 use Rattle.qmp_rules.specs.declared.judge.PrepareStop.TheVariants.{Refused, NoMemory}
 use Rattle.qmp_rules.specs.declared.refusal.Refusal.{Refusal}
 use Rattle.qmp_rules.specs.declared.told.Told.{Told}
-use Rattle.qmp_rules.specs.Answers.{Answer, answer, command_edits, left_by, refusal_of, returned, untold}
+use Rattle.qmp_rules.specs.Answers.{Answer, command_edits, left_by, refusal_of, returned, untold}
 use Rattle.qmp_rules.specs.Changes.{all_changed}
 use Rattle.qmp_rules.specs.Prepared.{IsRefusedFor}
 use Rattle.qmp_rules.specs.Table.{Table, has_name, id_named}
@@ -27,14 +27,18 @@ use Rattle.world_parts.specs.Handling.{SaysRefusal}
 use Rattle.world_parts.specs.Saying.{IsSaid}
 use Rattle.world_commands.specs.Snapshots.{CanCoverBy, HasCovered, HasToBeLater, IsCoveredBy, IsToldOf, is_snapshot}
 use Rattle.world_commands.proofs.CoverCarried.{can_cover}
+use Rattle.world_commands.proofs.OverlayBytes.{image_told}
 use Rattle.world_commands.proofs.Placed.{answer-is}
 
 -- what is told of it
 pub told_so : (t : Table) (nodes : Nodes) (c : Snapshot (List ℕ)) (names : List (List ℕ)) (fresh : Bool)
     → names ≡ cond fresh [] (c.overlay ∷ [])
-    → ((node : ℕ) → id_named t c.overlay ≡ Some node → (fresh ≡ true) ↔ IsFresh nodes node)
+    → ((node : ℕ) → id_named t c.overlay ≡ Some node → (fresh ≡ true) ↔ IsFresh nodes node) → IsJoined nodes
     → IsToldOf t nodes (command.BlockdevSnapshot c) (record untold { mapped = names })
-told_so t nodes c names fresh is each = record { maps = λ node named. by_fresh fresh is (each node named); rest = refl }
+told_so t nodes c names fresh is each joined = record {
+  maps = λ node named. image_told nodes joined node (has_name c.overlay names) (by_fresh fresh is (each node named));
+  rest = refl;
+}
   where
     by_fresh : {P : Type 0} (b : Bool) → names ≡ cond b [] (c.overlay ∷ []) → (b ≡ true) ↔ P → (has_name c.overlay names ≡ false) ↔ P
     by_fresh true is both = (λ unnamed. both.0 refl, λ p. rw is refl)

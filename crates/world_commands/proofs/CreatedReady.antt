@@ -13,7 +13,6 @@ use Rattle.q2_format.specs.Created.{IsNewName}
 use Rattle.qmp_codec.specs.declared.nodes.CreateFile.{CreateFile}
 use Rattle.qmp_codec.specs.declared.nodes.Created.{Created}
 use Rattle.qmp_codec.specs.declared.nodes.Created.TheVariants as created
-use Rattle.qmp_codec.specs.declared.nodes.BlockdevCreate.{BlockdevCreate}
 use Rattle.qmp_codec.specs.declared.command.Command.TheVariants as command
 use Rattle.qmp_rules.specs.Answers.{refusal_of}
 use Rattle.qmp_rules.specs.Asks.{holds, stands_for, told_at}

@@ -355,7 +355,7 @@ module _ (w : Face) (whole : IsWhole w) (joined : IsJoined w.nodes) (unfolds : U
   final_carried : CarriedUntold w final_with c None
   final_carried =
       carried_by w final_with c refl refl none final_table (last_progress (made_with w.table node)) (last_drains (made_with w.table node)) (All-nil (IsCalm (seen_state w))) final_names (runs_with end.runs)
-      (hides-kept w final_with (counts_with end.counts)) (λ was. coherent_of final end.goes rest)
+      (hides-kept w final_with (counts_with end.counts)) (subst (IsDeleted w.table name (ground_of w)) end.ground_is deleted) (λ was. coherent_of final end.goes rest)
       (λ o s told shows. subst (λ (changes : List Change). AllPerformed s changes (contents_of w) (contents_of final)) (sym edits)
       (end.performed s told shows.table.table_is))
 

@@ -17,7 +17,7 @@ use Rattle.flat_machine.specs.State.{filename_of}
 use Rattle.flat_machine.proofs.Finds.{find-map}
 use Rattle.blk_nodes.specs.Nodes.{Nodes, row_at}
 use Rattle.blk_nodes.specs.declared.row.Row.{Row}
-use Rattle.world_parts.specs.Coherent.{AreAlike, AreNodesOf, IsRowOf, AreOut, node_row}
+use Rattle.world_parts.specs.Coherent.{AreAlike, AreNodesOf, IsRowOf, IsSmall, AreOut, node_row}
 use Rattle.world_commands.proofs.KeptDrives.{IsEntered, KeepsEntered}
 
 -- a row is as it was, or has lost its flat disk
@@ -61,6 +61,10 @@ module _ (t now : Table) (e : IsEased t now) where
     size = same_of (λ r. r.size) (λ r. refl) row ∙ is.size;
     access = same_of (λ r. r.read_only) (λ r. refl) row ∙ is.access;
     place = same_of (λ r. r.offset) (λ r. refl) row ∙ is.place;
+    small = elim (e.only row) [
+      | inl same ↦ subst (λ (r : NodeRecord). IsSmall r.kind r.size) (sym same) is.small
+      | inr lost ↦ subst (λ (r : NodeRecord). IsSmall r.kind r.size) (sym lost) is.small
+    ];
   }
 
   alike_eased : (row : Option NodeRecord) (own : Option Row) → AreAlike row own → AreAlike (option_map e.f row) own

@@ -27,7 +27,7 @@ use Rattle.flat_machine.proofs.ReadBack.{read-compact}
 use Rattle.qmp_rules.specs.Refusals.{io_text}
 use Rattle.qmp_rules.specs.declared.refusal.Refusal.TheVariants as refusal
 use Rattle.world_parts.specs.Saying.{IsSaid, EndsRefusals, refusal_front}
-use Rattle.world_commands.specs.Carrying.{IsNumbered}
+use Rattle.world_commands.specs.Counting.{IsNumbered}
 use Rattle.world_parts.proofs.CarryTexts.{id_plain}
 
 -- ---- words that stand in JSON as they are

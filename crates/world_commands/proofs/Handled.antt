@@ -15,15 +15,16 @@ use Rattle.qmp_rules.specs.declared.told.Told.{Told}
 use Rattle.blk_nodes.specs.Contents.{Unfolds}
 use Rattle.blk_nodes.specs.Joined.{IsJoined}
 use Rattle.flat_machine.specs.Recording.{dirty_after}
-use Rattle.world_commands.specs.Carrying.{IsCarriedAs, IsPutBack, prints_counts}
+use Rattle.world_commands.specs.Carrying.{IsCarriedAs, IsPutBackBy, prints_counts}
 use Rattle.world_parts.specs.Coherent.{IsWhole}
 use Rattle.world_parts.specs.Deleting.{Ground, ground_of}
 use Rattle.world_parts.specs.Face.{Face, dirty_of}
 use Rattle.world_parts.specs.Handling.{DoneIf, IsHandled, IsUntouched, SaysRefusal, bitmaps_left, is_deletion, IsDeletedBy}
+use Rattle.world_commands.specs.Leaving.{LeavesBitmaps}
 use Rattle.world_parts.specs.Saying.{IsSaid}
 use Rattle.world_commands.proofs.CarryPlain.{opens_nothing}
 use Rattle.world_commands.proofs.DeletedCarried.{deleted_carried}
-use Rattle.world_commands.proofs.Placed.{answer-is, CarriedUntold, placed, placed_same, put_back, refused_by}
+use Rattle.world_commands.proofs.Placed.{answer-is, CarriedUntold, placed, placed_same, put_back_by, refused_by}
 
 -- ---- its answer
 
@@ -68,12 +69,14 @@ refused_placed w c cause opens silent some nothing x u ground table whole =
 
 -- its text is the answer's
 pub said_as : (w : Face) (given : List ℕ) (v : Face) (text : List ℕ) (c : Cmd) (refusal : Option Refusal) → CarriedUntold w v c refusal
-    → IsSaid given (answer w.table untold c).reply text → dirty_of v ≡ dirty_after w.table (dirty_of w) (answer w.table untold c).changes → IsCarriedAs w v given c text
-said_as w given v text c refusal carried said dirty = record {
+    → IsSaid given (answer w.table untold c).reply text → dirty_of v ≡ dirty_after w.table (dirty_of w) (answer w.table untold c).changes
+    → LeavesBitmaps w.table c refusal w.bitmaps v.bitmaps → IsCarriedAs w v given c text
+said_as w given v text c refusal carried said dirty bitmaps = record {
   refusal = refusal;
   carried = carried.0;
   said = subst (λ (told : Told). IsSaid given (answer w.table told c).reply text) (sym carried.1) said;
   dirty = subst (λ (told : Told). dirty_of v ≡ dirty_after w.table (dirty_of w) (answer w.table told c).changes) (sym carried.1) dirty;
+  bitmaps = bitmaps;
 }
 
 -- the world on other ground, with another table and other bitmaps
@@ -95,13 +98,13 @@ module _ (w : Face) (whole : IsWhole w) (joined : IsJoined w.nodes) (unfolds : U
           → IsCarriedAs w (replaced w x u b) given (command.BlockdevDel name) text × IsWhole (replaced w x u b)
       by_refusal None none done left =
           let all = deleted_carried w whole joined unfolds name none x done u handled.table b left in
-          (said_as w given (replaced w x u b) text (command.BlockdevDel name) None all.0 handled.said all.2.dirty, all.1)
+          (said_as w given (replaced w x u b) text (command.BlockdevDel name) None all.0 handled.said all.2.dirty (record { new = None; is_new = tt; are = left }), all.1)
       by_refusal (Some cause) some ground left =
           let all = refused_placed w (command.BlockdevDel name) cause refl refl some refl x u ground handled.table whole in
           let nothing : (answer w.table untold (command.BlockdevDel name)).changes ≡ [] =
           ap (λ (a : Answer). a.changes) (answer-is w.table untold (command.BlockdevDel name) (Some cause) some) in
           let carried : IsCarriedAs w (placed w x u) given (command.BlockdevDel name) text =
-          said_as w given (placed w x u) text (command.BlockdevDel name) (Some cause) all.0 handled.said (sym (ap (dirty_after w.table (dirty_of w)) nothing)) in (
+          said_as w given (placed w x u) text (command.BlockdevDel name) (Some cause) all.0 handled.said (sym (ap (dirty_after w.table (dirty_of w)) nothing)) refl in (
             subst (λ (rows : List Bitmap). IsCarriedAs w (replaced w x u rows) given (command.BlockdevDel name) text) (sym left) carried,
             subst (λ (rows : List Bitmap). IsWhole (replaced w x u rows)) (sym left) all.1,
           )
@@ -130,12 +133,12 @@ module _ {A E : Type 0} (r : Result A E) (text : A → List ℕ) where
       by_result (Ok a) said = by_stop a stop for_this said
       by_result (Err e) said = said
 
-  pub untouched_back : (w : Face) (x : Ground) (u : Table) → OnErr r (IsUntouched w.table u (x ≡ ground_of w)) → OnErr r (IsPutBack w (placed w x u))
-  untouched_back w x u kept = by_result r kept
+  pub untouched_back : (w : Face) (c : Cmd) (x : Ground) (u : Table) → OnErr r (IsUntouched w.table u (x ≡ ground_of w)) → OnErr r (IsPutBackBy w (placed w x u) c)
+  untouched_back w c x u kept = by_result r kept
     where
-      by_result : (r : Result A E) → OnErr r (IsUntouched w.table u (x ≡ ground_of w)) → OnErr r (IsPutBack w (placed w x u))
+      by_result : (r : Result A E) → OnErr r (IsUntouched w.table u (x ≡ ground_of w)) → OnErr r (IsPutBackBy w (placed w x u) c)
       by_result (Ok a) kept = kept
-      by_result (Err e) kept = subst (IsPutBack w) (placed_same w x u kept.kept kept.table) (put_back w)
+      by_result (Err e) kept = subst (λ (f : Face). IsPutBackBy w f c) (placed_same w x u kept.kept kept.table) (put_back_by w c)
 
 -- ---- deletions
 
@@ -166,9 +169,9 @@ module _ (w : Face) (whole : IsWhole w) (joined : IsJoined w.nodes) (unfolds : U
       by_result (Err e) handled left kept same =
           subst (λ (rows : List Bitmap). IsWhole (replaced w x u rows)) (sym same) (untouched_whole w x u whole kept)
 
-pub deletion_back : {A E : Type 0} (r : Result A E) (text : A → List ℕ) (w : Face) (x : Ground) (u : Table) (b : List Bitmap)
-    → OnErr r (IsUntouched w.table u (x ≡ ground_of w)) → OnErr r (b ≡ w.bitmaps) → OnErr r (IsPutBack w (replaced w x u b))
-deletion_back (Ok a) text w x u b kept same = kept
-deletion_back (Err e) text w x u b kept same =
-    subst (λ (rows : List Bitmap). IsPutBack w (replaced w x u rows)) (sym same)
-    (subst (IsPutBack w) (placed_same w x u kept.kept kept.table) (put_back w))
+pub deletion_back : {A E : Type 0} (r : Result A E) (text : A → List ℕ) (w : Face) (c : Cmd) (x : Ground) (u : Table) (b : List Bitmap)
+    → OnErr r (IsUntouched w.table u (x ≡ ground_of w)) → OnErr r (b ≡ w.bitmaps) → OnErr r (IsPutBackBy w (replaced w x u b) c)
+deletion_back (Ok a) text w c x u b kept same = kept
+deletion_back (Err e) text w c x u b kept same =
+    subst (λ (rows : List Bitmap). IsPutBackBy w (replaced w x u rows) c) (sym same)
+    (subst (λ (f : Face). IsPutBackBy w f c) (placed_same w x u kept.kept kept.table) (put_back_by w c))

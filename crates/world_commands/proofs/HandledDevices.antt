@@ -9,7 +9,7 @@ use Rattle.qmp_rules.specs.Table.{Table}
 use Rattle.qmp_rules.specs.declared.refusal.Refusal.{Refusal}
 use Rattle.blk_nodes.specs.Joined.{IsJoined}
 use Rattle.blk_nodes.specs.Nodes.{Nodes}
-use Rattle.world_commands.specs.Carrying.{IsCarriedAs, IsPutBack}
+use Rattle.world_commands.specs.Carrying.{IsCarriedAs, IsPutBackBy}
 use Rattle.world_parts.specs.Coherent.{IsWhole}
 use Rattle.world_parts.specs.Deleting.{Ground, ground_of}
 use Rattle.flat_machine.specs.Recording.{dirty_after}
@@ -18,7 +18,7 @@ use Rattle.world_commands.proofs.BitmapsLeft.{left-dirty}
 use Rattle.world_parts.specs.Handling.{DoneIf, IsAttachedBy, IsHandled, IsUntouched, is_attachment}
 use Rattle.world_commands.proofs.AttachedCarried.{attachment_done}
 use Rattle.world_commands.proofs.Handled.{refused_placed, said_as}
-use Rattle.world_commands.proofs.Placed.{put_back}
+use Rattle.world_commands.proofs.Placed.{put_back_by}
 
 pub attachment_leaves : (t : Table) (c : Cmd) (cause : Refusal) → is_attachment c ≡ true → left_by t c cause ≡ []
 attachment_leaves t (command.BlockdevCreate c) cause is = absurd (let bad : ⊥ = cc is in bad)
@@ -48,10 +48,10 @@ module _ (w : Face) (whole : IsWhole w) (joined : IsJoined w.nodes) (given : Lis
           → IsCarriedAs w (rewired_so w now u) given (command.DeviceAdd c) text × IsWhole (rewired_so w now u)
       by_refusal None none done =
           let all = attachment_done w whole joined c none now u handled.table done after in
-          (said_as w given (rewired_so w now u) text (command.DeviceAdd c) None all.0 handled.said (kept_so c), all.1)
+          (said_as w given (rewired_so w now u) text (command.DeviceAdd c) None all.0 handled.said (kept_so c) (record { new = None; is_new = tt; are = refl }), all.1)
       by_refusal (Some cause) some kept =
           let all = refused_placed w (command.DeviceAdd c) cause refl refl some refl (ground_with w now) u (same_ground w now kept) handled.table whole in
-          (said_as w given (rewired_so w now u) text (command.DeviceAdd c) (Some cause) all.0 handled.said (kept_so c), all.1)
+          (said_as w given (rewired_so w now u) text (command.DeviceAdd c) (Some cause) all.0 handled.said (kept_so c) refl, all.1)
   attachment_carried c text is handled = absurd (let bad : ⊥ = cc is in bad)
 
   untouched : IsUntouched w.table u (now ≡ w.nodes) → w ≡ rewired_so w now u
@@ -76,9 +76,9 @@ module _ (w : Face) (whole : IsWhole w) (joined : IsJoined w.nodes) (given : Lis
         by_result (Ok a) handled kept = (attachment_carried c (text a) is handled).1
         by_result (Err e) handled kept = subst IsWhole (untouched kept) whole
 
-    pub attachment_back : OnErr r (IsUntouched w.table u (now ≡ w.nodes)) → OnErr r (IsPutBack w (rewired_so w now u))
+    pub attachment_back : OnErr r (IsUntouched w.table u (now ≡ w.nodes)) → OnErr r (IsPutBackBy w (rewired_so w now u) c)
     attachment_back kept = by_result r kept
       where
-        by_result : (r : Result A E) → OnErr r (IsUntouched w.table u (now ≡ w.nodes)) → OnErr r (IsPutBack w (rewired_so w now u))
+        by_result : (r : Result A E) → OnErr r (IsUntouched w.table u (now ≡ w.nodes)) → OnErr r (IsPutBackBy w (rewired_so w now u) c)
         by_result (Ok a) kept = kept
-        by_result (Err e) kept = subst (IsPutBack w) (untouched kept) (put_back w)
+        by_result (Err e) kept = subst (λ (f : Face). IsPutBackBy w f c) (untouched kept) (put_back_by w c)

@@ -17,6 +17,7 @@ pub mod CarryCalm
 pub mod CarryInTable
 pub mod FailedTexts
 pub mod KeptDrives
+pub mod ImageRows
 pub mod EasedTables
 pub mod DeletedParts
 pub mod DeletedContents
@@ -45,3 +46,4 @@ pub mod CoverSaid
 pub mod Counted
 pub mod BitmapsLeft
 pub mod BitmapsChanged
+pub mod OverlayBytes

@@ -1,6 +1,6 @@
 -- A world whose store, nodes and table are others: what stays belonging together, and what an answer says of it.
-use Rattle.std.proofs.Common.{◌≡◌, ◌≤◌, ℕ, ◌==◌, true, false, List, [], ◌++◌, length, Option, Some, None, refl, sym, ◌∙◌, ap, subst, inl}
-use Rattle.std.specs.Prelude.{Contains, find, is_some}
+use Rattle.std.proofs.Common.{◌≡◌, ◌≤◌, ℕ, ◌==◌, true, false, List, [], ◌++◌, length, Option, Some, None, Ok, Err, refl, sym, ◌∙◌, ap, subst, inl}
+use Rattle.std.specs.Prelude.{Contains, Result, find, is_some}
 use Rattle.std.proofs.lemmas.Bool.{false≢true}
 use Rattle.flat_machine.specs.Marks.{AreCalm, drained_by}
 use Rattle.blk_graph.specs.declared.edge.Parent.TheVariants.{Node, Guest as GuestOf}
@@ -8,6 +8,8 @@ use Rattle.blk_graph.specs.declared.edge.Role.TheVariants.{Drive}
 use Rattle.blk_graph.specs.Edits.{child_of}
 use Rattle.blk_history.specs.Fold.{With}
 use Rattle.qmp_codec.specs.Commands.{Cmd}
+use Rattle.qmp_codec.specs.Lines.{Stop}
+use Rattle.qmp_codec.specs.declared.command.Command.TheVariants as command
 use Rattle.qmp_rules.specs.Answers.{Answer, answer, answer_by, command_edits, left_by, refusal_of, untold}
 use Rattle.qmp_rules.specs.Changes.{changed, all_changed}
 use Rattle.qmp_rules.specs.Edits.{uses}
@@ -28,13 +30,18 @@ use Rattle.flat_machine.specs.declared.opening.Opening.{Opening}
 use Rattle.flat_machine.proofs.TableRests.{command_rests}
 use Rattle.blk_nodes.specs.Contents.{Unfolds}
 use Rattle.blk_nodes.specs.Joined.{IsJoined}
-use Rattle.world_commands.specs.Carrying.{IsCarried, IsPutBack, opened_names, prints_counts}
+use Rattle.world_parts.specs.Adding.{Opens, opens}
+use Rattle.world_commands.specs.Carrying.{IsCarried, IsPutBack, IsPutBackBy, IsPutBackIn, opened_names, prints_counts}
 use Rattle.world_parts.specs.Coherent.{HaveDrives, AreOnDisks, AskToWrite, AreOnWritable, AreWithin, AreAllowed, DevicesTell, IsCoherent, IsWhole}
 use Rattle.world_commands.specs.Comes.{Shows}
 use Rattle.world_commands.specs.Counting.{HidesNoFault, RunsOn}
 use Rattle.world_parts.specs.Deleting.{Ground, ground_of}
 use Rattle.world_parts.specs.Face.{Face, contents_of, seen_state}
-use Rattle.world_commands.proofs.CarryPlain.{HasShape, fits_all, opens_nothing, plain_opens, quiet_cause, quiet-self, table_quiet, told_nothing, quiet_fault, maps_nothing}
+use Rattle.world_commands.specs.Leaving.{Leaves, LeavesBack, clean_told}
+use Rattle.world_parts.specs.Looking.{Site, StoreIsBack}
+use Rattle.world_parts.specs.Staging.{site_of}
+use Rattle.world_parts.specs.Stores.{StoreInRun}
+use Rattle.world_commands.proofs.CarryPlain.{HasShape, fits_all, opens_nothing, plain_opens, quiet_cause, quiet-leaves, quiet-self, table_quiet, told_nothing, quiet_fault, maps_nothing}
 use Rattle.world_commands.proofs.CountLemmas.{runs-devices, same-devices}
 use Rattle.world_parts.proofs.AddLooked.{called_itself}
 use Rattle.world_commands.proofs.CountsKept.{hides-same}
@@ -77,11 +84,11 @@ CarriedUntold w v c refusal = (carried : IsCarried w v c refusal) × (carried.to
 pub carried_by : (w v : Face) (c : Cmd) → opens_nothing c ≡ true → prints_counts c ≡ false → refusal_of w.table untold c ≡ None
     → v.table ≡ all_changed w.table (answer w.table untold c).changes → v.progress ≡ w.progress → v.drains ≡ w.drains
     → AreCalm (seen_state w) (drained_by w.table c) → opened_names v.opened ≡ opened_names w.opened → RunsOn w v
-    → HidesNoFault w v None
+    → HidesNoFault w v None → Leaves w.table (clean_told untold) c None v.table (site_of w) (site_of v)
     → (IsCoherent w.table w.nodes w.opened w.progress → IsCoherent v.table v.nodes v.opened v.progress)
     → ((o : Opening) (s : State) → is_some w.files ≡ true → Shows o s w → AllPerformed s (answer w.table untold c).changes (contents_of w) (contents_of v))
     → CarriedUntold w v c None
-carried_by w v c opens silent none table progress drains calm names runs hides coherent performed =
+carried_by w v c opens silent none table progress drains calm names runs hides site coherent performed =
     let carried : IsCarried w v c None = record {
       told = untold;
       counts = λ prints. absurd (false≢true (sym silent ∙ prints));
@@ -95,6 +102,7 @@ carried_by w v c opens silent none table progress drains calm names runs hides c
       runs = runs;
       hides = hides;
       opens = plain_opens c opens w.opened v.opened names;
+      site = site;
       cause = fits_all w c opens;
       coherent = coherent;
       shows = λ told o s shows. told_nothing o s w v c opens (λ prints. absurd (false≢true (sym silent ∙ prints))) shows (performed o s told shows);
@@ -119,6 +127,7 @@ refused_by w c cause opens silent some nothing =
       runs = runs-devices w w refl refl refl refl refl refl (same-devices w.nodes.devices);
       hides = subst (HidesNoFault w w) (sym (quiet_fault (Some cause) (λ other is. table_quiet w.table c other (some ∙ is)))) (hides-same w w refl refl refl);
       opens = plain_opens c opens w.opened w.opened refl;
+      site = quiet-leaves w.table (clean_told untold) c cause w.table (site_of w) opens;
       cause = quiet_cause w w c (Some cause) opens (λ other is. table_quiet w.table c other (some ∙ is));
       coherent = λ was. was;
       shows = λ told o s shows. told_nothing o s w w c opens (λ prints. absurd (false≢true (sym silent ∙ prints))) shows
@@ -141,6 +150,23 @@ put_back w = record {
   hides = hides-same w w refl refl refl;
   coherent = λ was. was;
 }
+
+looks-itself : (at : Option Opens) (s : StoreInRun) → StoreIsBack at s s
+looks-itself None s = refl
+looks-itself (Some at) s = inl refl
+
+back-itself : (t : Table) (c : Cmd) (x : Site) → LeavesBack t c x x
+back-itself t (command.BlockdevAdd c) x = inl (record { store = looks-itself (opens c.driver) x.store; kept = refl })
+back-itself t _ x = refl
+
+-- before the command called anything
+pub put_back_by : (w : Face) (c : Cmd) → IsPutBackBy w w c
+unfolding put_back
+put_back_by w c = record { back = put_back w; site = back-itself w.table c (site_of w); failed = tt }
+
+pub put_back_in : (w : Face) (line : Result Cmd Stop) → IsPutBackIn w w line
+put_back_in w (Ok c) = put_back_by w c
+put_back_in w (Err why) = refl
 
 pub placed_same : (w : Face) (x : Ground) (u : Table) → x ≡ ground_of w → u ≡ w.table → w ≡ placed w x u
 placed_same w x u ground table = ap (λ (y : Ground). placed w y w.table) (sym ground) ∙ ap (placed w x) (sym table)

@@ -1,5 +1,5 @@
 -- What a command leaves of the world, before its reply stands in the history.
-use Rattle.std.specs.Prelude.{◌≡◌, ◌⊎◌, ℕ, ◌<◌, ◌^◌, Bool, true, false, [], ◌∷◌, ◌++◌, Result, Ok, Err, Option, Some, None, is_some, map, option_map, List, string_bytes}
+use Rattle.std.specs.Prelude.{◌≡◌, ◌⊎◌, ℕ, ◌<◌, Bool, true, false, [], ◌∷◌, ◌++◌, Result, Ok, Err, Option, Some, None, IfSome, is_some, map, option_map, List, string_bytes}
 use Rattle.serde_json.specs.Data.{Data}
 use Rattle.blk_base.specs.declared.fault.DevNo.{DevNo}
 use Rattle.blk_base.specs.declared.fault.FaultAt.{FaultAt}
@@ -41,12 +41,14 @@ use Rattle.world_parts.specs.declared.executed.Executed.TheVariants as executed
 use Rattle.world_parts.specs.Adding.{Opens, opens}
 use Rattle.world_parts.specs.Coherent.{IsCoherent}
 use Rattle.world_commands.specs.Comes.{Shows}
-use Rattle.world_commands.specs.Counting.{RunsOn, IsReached, sources_of, counts_within, HidesNoFault, LeavesNoneOut}
+use Rattle.world_commands.specs.Counting.{IsNumbered, RunsOn, IsReached, sources_of, counts_within, HidesNoFault, LeavesNoneOut}
 use Rattle.world_parts.specs.Face.{Face, held, contents_of, counts_now, dirty_of, seen_state, device_numbered}
+use Rattle.world_commands.specs.Leaving.{Leaves, LeavesBack, LeavesBitmaps, LeavesBitmapsIn, LeavesIn, clean_told}
 use Rattle.world_parts.specs.Looking.{HasCalled}
 use Rattle.world_parts.specs.Progress.{with_entry}
 use Rattle.world_parts.specs.Saying.{Given, IsSaid}
 use Rattle.world_commands.specs.Snapshots.{TellsMapped}
+use Rattle.world_parts.specs.Staging.{site_of}
 
 -- ---- what files may refuse, be it told or not what they hold
 
@@ -107,11 +109,6 @@ creation_passes w options dev = ⊥
 abbrev pub would_pass : Face → Option Cmd → ℕ → Type 0
 would_pass w (Some (BlockdevCreate c)) dev = creation_passes w c.options dev
 would_pass w c dev = ⊥
-
--- numbers of devices have 32 bits
-abbrev pub IsNumbered : FaultFrom → Type 0
-IsNumbered (Dev dev) = dev.0 < 2 ^ 32
-IsNumbered from = Unit {0}
 
 -- the store, or a device that the command calls, failed in it and has this count
 pub record HasFailed (w v : Face) (c : Cmd) (from : FaultFrom) (count : ℕ) : Type 0 where
@@ -214,6 +211,7 @@ pub record IsCarried (w v : Face) (c : Cmd) (refusal : Option Refusal) : Type 0 
   pub runs : RunsOn w v
   pub hides : HidesNoFault w v (fault_told refusal)
   pub opens : OpensFor c w.opened v.opened
+  pub site : Leaves w.table (clean_told told) c refusal v.table (site_of w) (site_of v)
   pub cause : HasCause w v c refusal
   pub calm : refusal ≡ None → AreCalm (seen_state w) (drained_by w.table c)
   pub coherent : IsCoherent w.table w.nodes w.opened w.progress
@@ -227,6 +225,7 @@ pub record IsCarriedAs (w v : Face) (given : List ℕ) (c : Cmd) (text : List �
   pub carried : IsCarried w v c refusal
   pub said : IsSaid given (answer w.table carried.told c).reply text
   pub dirty : dirty_of v ≡ dirty_after w.table (dirty_of w) (answer w.table carried.told c).changes
+  pub bitmaps : LeavesBitmaps w.table c refusal w.bitmaps v.bitmaps
 
 -- The files told what a command may be told of them, by which nothing refuses it.
 pub record IsLateIn (s : State) (w : Face) (c : Cmd) (told : Told) : Type 0 where
@@ -239,7 +238,6 @@ pub record IsLateIn (s : State) (w : Face) (c : Cmd) (told : Told) : Type 0 wher
 -- drain. Those disks are held, and nothing else changes.
 pub record IsLate (w v : Face) (c : Cmd) (g r : ℕ) : Type 0 where
   pub told : Told
-  pub clean : told.dirty ≡ []
   pub by_files : StopsByFiles told.stopped
   pub maps : TellsMapped w.table w.nodes c told.mapped
   pub waits : HasToComeAgain (seen_state w) told c g r
@@ -266,6 +264,17 @@ pub record IsPutBack (w v : Face) : Type 0 where
   pub hides : HidesNoFault w v fault
   pub coherent : IsCoherent w.table w.nodes w.opened w.progress
       → IsCoherent v.table v.nodes v.opened v.progress
+
+-- Only the command's own calls were made: of a file that it names, and the fault is one of them.
+pub record IsPutBackBy (w v : Face) (c : Cmd) : Type 0 where
+  pub back : IsPutBack w v
+  pub site : LeavesBack w.table c (site_of w) (site_of v)
+  pub failed : IfSome back.fault (λ fault. HasFailed w v c fault.from fault.count)
+
+-- for a line that is no command nothing is called
+abbrev pub IsPutBackIn : Face → Face → Result Cmd Stop → Type 0
+IsPutBackIn w v (Ok c) = IsPutBackBy w v c
+IsPutBackIn w v (Err why) = v ≡ w
 
 -- ---- refusals of which a call failed
 
@@ -321,7 +330,8 @@ HasFitted w (Some c) (Ok d) = FitsAll w c
 HasFitted w c reply = Unit {0}
 
 -- A line is answered: its reply is the last entry, and the table has the changes of the answer. No drain of a command stands
--- any more. No fault is named but one that was reached in this event by what the line calls, and none is hidden.
+-- any more. No fault is named but one that was reached in this event by what the line calls, and none is hidden. Store and
+-- nodes are as before but for what the command does to them.
 pub record IsReplied (w v : Face) (line : Given) : Type 0 where
   pub told : Told
   pub counts : told.dirty ≡ counts_of w
@@ -329,6 +339,7 @@ pub record IsReplied (w v : Face) (line : Given) : Type 0 where
   pub maps : TellsMappedIn w (command_at line.text) told.mapped
   pub table : v.table ≡ all_changed w.table (line_answer w.table told line.text).changes
   pub dirty : dirty_of v ≡ dirty_after w.table (dirty_of w) (line_answer w.table told line.text).changes
+  pub bitmaps : LeavesBitmapsIn w.table told (command_at line.text) w.bitmaps v.bitmaps
   pub progress : v.progress ≡ with_entry (reply_entry w told line) w.progress
   pub drains : v.drains ≡ after_reply w.drains
   pub calm : FoundCalm (seen_state w) told (command_at line.text)
@@ -340,6 +351,7 @@ pub record IsReplied (w v : Face) (line : Given) : Type 0 where
   pub fits : HasFitted w (command_in (command_at line.text))
       (line_answer w.table told line.text).reply
   pub opens : OpensIn (command_at line.text) w.opened v.opened
+  pub site : LeavesIn w.table told (command_at line.text) v.table (site_of w) (site_of v)
   pub shows : is_some w.files ≡ true → (o : Opening) (s : State) → Shows o s w
       → IsSeenIn s w v told (command_at line.text)
 
@@ -347,7 +359,6 @@ pub record IsReplied (w v : Face) (line : Given) : Type 0 where
 -- that it must drain. Those disks are held, and nothing else changes.
 pub record IsPutOff (w v : Face) (line : Given) (g r : ℕ) : Type 0 where
   pub told : Told
-  pub clean : told.dirty ≡ []
   pub by_files : StopsByFiles told.stopped
   pub command : Cmd
   pub read : command_at line.text ≡ Ok command

@@ -1,5 +1,5 @@
 -- What one event does to the counts of faults of a world, and the faults that are reached in it.
-use Rattle.std.specs.Prelude.{◌≡◌, ◌⊎◌, ℕ, ◌≤◌, List, [], ◌∷◌, ◌++◌, length, drop, slice_get, slice_set, Option, Some, None, IsSome, is_some, option_map}
+use Rattle.std.specs.Prelude.{◌≡◌, ◌⊎◌, ℕ, ◌^◌, ◌<◌, ◌≤◌, List, [], ◌∷◌, ◌++◌, length, drop, slice_get, slice_set, Option, Some, None, IsSome, is_some, option_map}
 use Rattle.blk_base.specs.declared.fault.FaultAt.{FaultAt}
 use Rattle.blk_base.specs.declared.fault.FaultFrom.{FaultFrom}
 use Rattle.blk_base.specs.declared.fault.FaultFrom.TheVariants.{Store, Dev, Sink}
@@ -35,6 +35,11 @@ pub record RunsOn (w v : Face) : Type 0 where
   pub devices : HaveNotFallen (counts_now w).devices (counts_now v).devices
 
 -- ---- faults that are reached
+
+-- numbers of devices have 32 bits
+abbrev pub IsNumbered : FaultFrom → Type 0
+IsNumbered (Dev dev) = dev.0 < 2 ^ 32
+IsNumbered from = Unit {0}
 
 -- the counts that an event began with; of a device that it opened, the one at its opening
 abbrev pub counts_within : Face → Face → Counts

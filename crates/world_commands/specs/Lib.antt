@@ -1,6 +1,7 @@
 pub mod Comes
 pub mod Counting
 pub mod Closing
+pub mod Leaving
 pub mod Carrying
 pub mod Detaching
 pub mod Snapshots

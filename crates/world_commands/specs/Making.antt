@@ -1,5 +1,5 @@
 -- What is left of table, store and nodes by a creation, with the text that answers it.
-use Rattle.std.specs.Prelude.{◌≡◌, ◌⊎◌, ◌≤◌, ◌+◌, ℕ, Bool, true, false, List, Option, Some, None, Ok, Err}
+use Rattle.std.specs.Prelude.{◌≡◌, ◌⊎◌, ◌≤◌, ℕ, Bool, true, false, List, Option, Some, None, Ok, Err}
 use Rattle.qmp_codec.specs.Commands.{Cmd}
 use Rattle.qmp_codec.specs.declared.command.Command.TheVariants as command
 use Rattle.qmp_codec.specs.declared.nodes.Created.{Created}
@@ -16,7 +16,7 @@ use Rattle.qmp_rules.specs.declared.told.Look.{Look}
 use Rattle.qmp_rules.specs.declared.told.Look.TheVariants as look
 use Rattle.qmp_rules.specs.declared.told.Told.{Told}
 use Rattle.blk_base.specs.declared.fault.FaultFrom.TheVariants.{Dev}
-use Rattle.world_commands.specs.Carrying.{IsNumbered}
+use Rattle.world_commands.specs.Counting.{IsNumbered}
 use Rattle.world_parts.specs.Creating.{CanCreate, HasCreated, IsFailed}
 use Rattle.world_parts.specs.Deleting.{Ground}
 use Rattle.world_parts.specs.Saying.{EndsRefusals, IsSaid}

@@ -29,6 +29,7 @@ AreFree rows = (row : Bitmap) → Contains rows row → IsFreeBitmap row
 -- the bitmap that a command adds, with nothing dirty
 pub record IsNewBitmap (t : Table) (c : BitmapAdd (List ℕ)) (row : Bitmap) : Type 0 where
   pub named : bitmap_of row ≡ bitmap_row (id_or 0 t (Some c.node)) c
+  pub sized : row.size ≡ size_of t row.node
   pub blank : dirty_in row ≡ clean (bitmap_of row) (size_of t row.node)
   pub free : IsFreeBitmap row
 

@@ -1,5 +1,6 @@
 -- What is told of a snapshot, and what it leaves of the nodes.
 use Rattle.std.specs.Prelude.{◌≡◌, ◌↔◌, ℕ, Bool, true, false, List, Option, Some, None, string_bytes}
+use Rattle.q2_image.specs.Image.{Known}
 use Rattle.blk_graph.specs.Graph.{HasNode, ids}
 use Rattle.blk_graph.specs.Judged.{IsApart}
 use Rattle.blk_graph.specs.Rule.{first_conflict}
@@ -12,8 +13,11 @@ use Rattle.qmp_rules.specs.declared.told.Told.{Told}
 use Rattle.qmp_rules.specs.Answers.{answer, refusal_of, untold}
 use Rattle.qmp_rules.specs.Changes.{all_changed}
 use Rattle.blk_nodes.specs.Covering.{covered, IsClear, IsCover, ReadCovered}
-use Rattle.blk_nodes.specs.Nodes.{Nodes}
+use Rattle.blk_nodes.specs.Nodes.{DeviceState, Nodes, device_in, file_of, row_at}
 use Rattle.blk_nodes.specs.Overlays.{IsFresh}
+use Rattle.blk_nodes.specs.declared.row.Driver.TheVariants.{Qcow2}
+use Rattle.blk_nodes.specs.declared.row.Row.{Row}
+use Rattle.flat_machine.specs.Imaging.{maps_some}
 use Rattle.flat_machine.specs.State.{State}
 use Rattle.flat_machine.specs.Marks.{AreCalm, MustWait, drained_by, after_later}
 use Rattle.world_parts.specs.declared.carried.Carried.{Carried}
@@ -24,9 +28,26 @@ use Rattle.world_parts.specs.Saying.{IsSaid}
 
 -- ---- what the image of an overlay tells
 
+-- it is in a file of which these bytes are told
+pub record IsInBytes (nodes : Nodes) (node : ℕ) (bytes : List ℕ) : Type 0 where
+  pub row : Row
+  pub image : Known
+  pub there : row_at nodes node ≡ Some row
+  pub driver : row.driver ≡ Qcow2 image
+  pub file : ℕ
+  pub below : file_of nodes node ≡ Some file
+  pub device : DeviceState
+  pub held : device_in nodes.devices file ≡ Some device
+  pub content : device.content ≡ Some bytes
+
+-- that it maps a cluster is told exactly where what is known of it says so, and so do the bytes
+pub record TellsImage (nodes : Nodes) (node : ℕ) (maps : Bool) : Type 0 where
+  pub known : (maps ≡ false) ↔ IsFresh nodes node
+  pub held : (bytes : List ℕ) → IsInBytes nodes node bytes → maps ≡ maps_some bytes
+
 abbrev pub TellsOverlay : Table → Nodes → List ℕ → List (List ℕ) → Type 0
 TellsOverlay t nodes overlay mapped = (node : ℕ) → id_named t overlay ≡ Some node
-    → (has_name overlay mapped ≡ false) ↔ IsFresh nodes node
+    → TellsImage nodes node (has_name overlay mapped)
 
 -- an overlay is told to map a cluster exactly where its image does
 abbrev pub TellsMapped : Table → Nodes → Cmd → List (List ℕ) → Type 0

@@ -15,6 +15,7 @@ ghost use Rattle.flat_machine.specs.Bitmaps.{AreBitmapsOf, FollowChanges, dirty_
 ghost use Rattle.flat_machine.specs.Marking.{dirty_bytes};
 ghost use Rattle.flat_machine.specs.State.{size_of};
 ghost use Rattle.world_commands.specs.Carrying.{is_of_bitmaps, prints_counts};
+ghost use Rattle.world_commands.specs.Leaving.{LeavesBitmaps};
 ghost use Rattle.qmp_rules.specs.Values.{amount_or, flag_or_false};
 ghost use Rattle.world_commands.specs.Recorded.{AreAfter, AreFree, IsNewBitmap, IsNewFor, bitmaps_after, bitmaps_merged};
 ghost use Rattle.world_parts.specs.Saying.{IsSaid};
@@ -332,6 +333,8 @@ pub fn answer_bitmaps(
         (answer names.old.table untold (seen_command command.now)).changes) }
     ensures follow { OnOk result (FollowChanges names.old.table bitmaps.old bitmaps.new
         (answer names.old.table untold (seen_command command.now)).changes) }
+    ensures left { OnOk result (LeavesBitmaps names.old.table (seen_command command.now)
+        (refusal_of names.old.table untold (seen_command command.now)) bitmaps.old bitmaps.new) }
     ensures kept { OnErr result (names.new.table ≡ names.old.table) }
     ensures bitmaps_kept { OnErr result (bitmaps.new ≡ bitmaps.old) }
 {

@@ -58,7 +58,8 @@ fn told_of<D: Device>(
     names: &Names,
     command: &Command,
 ) -> Result<Told, NoMemory>
-    requires { is_snapshot (seen_command command.now) ≡ true }
+    requires snapshot { is_snapshot (seen_command command.now) ≡ true }
+    requires joined { IsJoined nodes.now }
     ensures { IfOk result (IsToldOf names.now.table nodes.now (seen_command command.now)) }
 {
     let Command::BlockdevSnapshot(c) = command else {

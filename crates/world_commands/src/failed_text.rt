@@ -1,7 +1,7 @@
 //! The text of the answer to a command of which a call failed. Its memory is had before that call, and its words come after it.
 ghost use Rattle.std.specs.Prelude.{◌≡◌, ◌+◌, ◌^◌, ◌<◌, ◌≤◌, ◌++◌, Err, IfOk, length, codes, decimal, string_bytes};
 ghost use Rattle.qmp_rules.specs.Refusals.{io_text};
-ghost use Rattle.world_commands.specs.Carrying.{IsNumbered};
+ghost use Rattle.world_commands.specs.Counting.{IsNumbered};
 ghost use Rattle.world_parts.specs.Saying.{EndsRefusals};
 
 use blk_base::{DevNo, FaultFrom, NoMemory, Text};

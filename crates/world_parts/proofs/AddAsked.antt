@@ -1,7 +1,7 @@
 -- What it means that nothing refuses an addition.
 use Rattle.std.proofs.Common.{◌≡◌, ◌≢◌, ◌⊎◌, ℕ, ◌+◌, ◌≤◌, Bool, true, false, List, ◌∷◌, ◌++◌, inl, inr, refl, sym, ◌∙◌, ap, subst, arith, Option, Some, None}
-use Rattle.std.specs.Prelude.{codes, is_some, not, option_map}
-use Rattle.std.proofs.lemmas.Bool.{leb-true}
+use Rattle.std.specs.Prelude.{codes, is_some, nat_lt, not, option_map}
+use Rattle.std.proofs.lemmas.Bool.{leb-true, ltb-false}
 use Rattle.blk_graph.specs.declared.edge.Conflict.{Conflict as Pair}
 use Rattle.blk_graph.specs.Rule.{first_conflict}
 use Rattle.qmp_codec.specs.declared.command.Command.TheVariants as command
@@ -10,11 +10,13 @@ use Rattle.qmp_rules.specs.Answers.{conflict_after, conflict_in, conflict_refusa
 use Rattle.qmp_rules.specs.Asks.{Asking, first, holds}
 use Rattle.qmp_rules.specs.Changes.{all_changed}
 use Rattle.qmp_rules.specs.Edits.{edits_of, ids}
-use Rattle.qmp_rules.specs.Looks.{is_unopened}
+use Rattle.qmp_rules.specs.Looks.{file_stop, is_unopened, stop_at, too_long}
+use Rattle.qmp_rules.specs.Naming.{inline_name, is_name}
 use Rattle.qmp_rules.specs.NodeAsks.{add_asks, added_names, added_rest, added_values, is_added, is_read_only, option_values}
 use Rattle.qmp_rules.specs.Table.{Table, file_state, node_named}
-use Rattle.qmp_rules.specs.Values.{begins_within, ends_within, part_offset, part_size}
+use Rattle.qmp_rules.specs.Values.{begins_within, ends_within, most_length, part_offset, part_size}
 use Rattle.qmp_rules.specs.declared.ask.Ask.TheVariants as ask
+use Rattle.qmp_rules.specs.declared.refusal.FileFault.TheVariants.{TooLong}
 use Rattle.qmp_rules.specs.declared.refusal.Refusal.{Refusal}
 use Rattle.qmp_rules.specs.declared.refusal.Refusal.TheVariants as refusal
 use Rattle.qmp_rules.specs.declared.rows.NodeRecord.{NodeRecord}
@@ -22,6 +24,8 @@ use Rattle.qmp_rules.specs.declared.told.Look.{Look}
 use Rattle.qmp_rules.specs.declared.told.Look.TheVariants as look
 use Rattle.qmp_rules.specs.declared.told.Told.{Told}
 use Rattle.flat_machine.proofs.Accepted.{less_lost, opened}
+use Rattle.flat_machine.specs.Wiring.{TableAtRest}
+use Rattle.flat_machine.proofs.OwnNames.{inline-free, name-asked}
 use Rattle.flat_machine.proofs.Asked.{NoneHolds, good-value, known-file, none-behind, none-both, none-holds, none-stands, not-refused}
 use Rattle.world_parts.specs.Adding.{Adding, Opens, Taken, LooksInside, Looks, probe, look_in_vain}
 use Rattle.world_parts.specs.Stores.{StoreInRun}
@@ -39,6 +43,25 @@ fresh-node t told name h = by_row (node_named t name) refl (not-refused _ _ h)
     by_row : (found : Option NodeRecord) → node_named t name ≡ found → is_some found ≡ false → node_named t name ≡ None
     by_row None e k = e
     by_row (Some row) e k = absurd cc
+
+-- where that of the node over it is free, the name of a `file` node is so
+pub inline-fresh : (t : Table) (told : Told) (name : List ℕ) (own : Option (List ℕ)) → TableAtRest t → is_name name ≡ true
+    → holds t told (ask.FreshNode (Some name)) ≡ None → holds t told (ask.FreshNode own) ≡ None → node_named t (inline_name name own) ≡ None
+inline-fresh t told name None rests is fresh free = inline-free t name rests is (fresh-node t told name fresh)
+inline-fresh t told name (Some own) rests is fresh free = fresh-node t told own free
+
+-- a file isn't too long for a node
+pub short-file : (filename : List ℕ) (n : ℕ) → file_stop filename n ≡ None → n ≤ most_length
+short-file filename n is = by_test (nat_lt most_length n) refl is
+  where
+    by_test : (b : Bool) → nat_lt most_length n ≡ b → stop_at look.File (too_long filename b) None ≡ None → n ≤ most_length
+    by_test true e stops = absurd cc
+    by_test false e stops = ltb-false most_length n e
+
+-- so it is said of its length
+pub record TellsShort (told : Told) (size : ℕ) : Type 0 where
+  pub is : told.length ≡ Some size
+  pub short : size ≤ most_length
 
 -- a part lies within its file
 pub part-within : (offset size : Option Amount) (n : ℕ) → begins_within offset n ≡ true → ends_within offset size n ≡ true
@@ -64,6 +87,9 @@ module _ (t : Table) (told : Told) (c : Adding) (none : refusal_of t told (comma
 
   pub all-asked : NoneHolds t told (add_asks c)
   all-asked = none-holds t told (add_asks c) parts.0
+
+  pub name-said : is_name c.node_name ≡ true
+  name-said = name-asked t told c all-asked
 
   pub rest-asked : NoneHolds t told (added_rest c.node_name (is_read_only c.options) c.driver)
   rest-asked = none-behind t told front (added_rest c.node_name (is_read_only c.options) c.driver) all-asked
@@ -93,6 +119,13 @@ module _ (t : Table) (told : Told) (c : Adding) (none : refusal_of t told (comma
   -- nothing stops it at a look that is asked for
   pub not-stopped : (what : Look) (cause : Refusal) → told.stopped ≡ Some (record { look = what; refusal = cause }) → has_look what (add_asks c) ≡ true → ⊥
   not-stopped what cause stops has = stop-refused t told what cause c stops has none
+
+  pub file-short : (filename : List ℕ) (n : ℕ) → told.stopped ≡ file_stop filename n → has_look look.File (add_asks c) ≡ true → n ≤ most_length
+  file-short filename n stops has = by_test (nat_lt most_length n) refl stops
+    where
+      by_test : (b : Bool) → nat_lt most_length n ≡ b → told.stopped ≡ stop_at look.File (too_long filename b) None → n ≤ most_length
+      by_test true e stops = absurd (not-stopped look.File (refusal.File filename TooLong) stops has)
+      by_test false e stops = ltb-false most_length n e
 
   -- ---- the file that it opens
 

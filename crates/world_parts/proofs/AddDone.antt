@@ -1,8 +1,8 @@
 -- What was looked at for an addition that nothing refuses is all that its nodes need.
-use Rattle.std.proofs.Common.{◌≡◌, ℕ, true, List, refl, sym, ◌∙◌, ap, subst, Option, Some, None}
+use Rattle.std.proofs.Common.{◌≡◌, ℕ, ◌+◌, ◌≤◌, true, List, length, refl, sym, ◌∙◌, ap, subst, arith, Option, Some, None}
 use Rattle.q2_image.specs.Image.{Known}
 use Rattle.blk_nodes.specs.Joined.{IsJoined}
-use Rattle.blk_nodes.specs.Overlays.{IsOpened, IsOpenedOn}
+use Rattle.blk_nodes.specs.Overlays.{HasPlace, IsOpened, IsOpenedOn}
 use Rattle.qmp_codec.specs.declared.command.Command.TheVariants as command
 use Rattle.qmp_codec.specs.declared.nodes.AddQcow2.{AddQcow2}
 use Rattle.qmp_codec.specs.declared.nodes.AddRaw.{AddRaw}
@@ -11,27 +11,41 @@ use Rattle.qmp_codec.specs.declared.nodes.Added.TheVariants as added
 use Rattle.qmp_codec.specs.declared.nodes.FileRef.{FileRef}
 use Rattle.qmp_codec.specs.declared.nodes.FileRef.TheVariants as file_ref
 use Rattle.qmp_rules.specs.Answers.{refusal_of}
-use Rattle.qmp_rules.specs.Asks.{file_node, is_file}
+use Rattle.qmp_rules.specs.Asks.{file_node, holds, is_file}
 use Rattle.qmp_rules.specs.Looks.{raw_stop}
+use Rattle.qmp_rules.specs.Naming.{inline_name}
 use Rattle.qmp_rules.specs.Table.{Table}
+use Rattle.qmp_rules.specs.Values.{most_length}
+use Rattle.qmp_rules.specs.declared.ask.Ask.TheVariants as ask
 use Rattle.qmp_rules.specs.declared.ask.Drivers.TheVariants as drivers
 use Rattle.qmp_rules.specs.declared.rows.NodeRecord.{NodeRecord}
 use Rattle.qmp_rules.specs.declared.told.Look.TheVariants as look
 use Rattle.qmp_rules.specs.declared.told.Told.{Told}
-use Rattle.flat_machine.specs.Wiring.{AreApart}
-use Rattle.flat_machine.proofs.Asked.{found-named, takes-driver}
+use Rattle.flat_machine.specs.Wiring.{AreApart, TableAtRest}
+use Rattle.flat_machine.proofs.Asked.{found-named, room-left, takes-driver}
 use Rattle.world_parts.specs.Adding.{Adding, Taken, Tells, TellsInside, TellsLength, of_node}
 use Rattle.world_parts.specs.Coherent.{AreNodesOf}
 use Rattle.world_parts.specs.Joining.{CanAdd, CanAddBy, CanAddImage, CanAddPart}
 use Rattle.world_parts.specs.Looking.{HasLooked, LooksAtImage, LooksAtPart, LooksBy, Site}
-use Rattle.world_parts.proofs.AddAsked.{known-driver, rest-asked, taken-out}
+use Rattle.world_parts.proofs.AddAsked.{fresh-node, inline-fresh, known-driver, name-said, rest-asked, short-file, taken-out}
 use Rattle.world_parts.proofs.AddImages.{image-inside, image-stays, image-there}
-use Rattle.world_parts.proofs.AddJoined.{can-image, can-image-inline, can-part-inline}
+use Rattle.world_parts.proofs.AddJoined.{can-image, can-image-inline, can-part-inline, part-short}
+use Rattle.world_parts.proofs.AddPlaces.{place-of}
 use Rattle.world_parts.proofs.AddReady.{can-filter, can-part}
 use Rattle.world_parts.proofs.AddSeen.{AsFile, AsImage, AsPart}
 
 module _ (t : Table) (told : Told) (c : Adding) (none : refusal_of t told (command.BlockdevAdd c) ≡ None) (old now : Site)
-    (alike : AreNodesOf t now.nodes) (joined : IsJoined now.nodes) (apart : AreApart t) (out : Option Taken) (image : Option Known) where
+    (alike : AreNodesOf t now.nodes) (joined : IsJoined now.nodes) (rests : TableAtRest t) (out : Option Taken) (image : Option Known) where
+  apart : AreApart t
+  apart = rests.stands.apart
+
+  -- there is a place for a `file` node that is made with the node over it
+  inline-place : (own : Option (List ℕ)) → holds t told (ask.FreshNode (Some c.node_name)) ≡ None → holds t told (ask.FreshNode own) ≡ None
+      → length t.nodes + 2 ≤ 64 → HasPlace now.nodes (inline_name c.node_name own)
+  inline-place own fresh free room =
+      place-of t now.nodes (inline_name c.node_name own) 2 alike
+      (inline-fresh t told c.node_name own rests (name-said t told c none) fresh free) (omega arith) room
+
   ready-part : (raw : AddRaw (List ℕ)) (file : FileRef (List ℕ)) → c.driver ≡ added.Raw raw → raw.file ≡ file
       → LooksAtPart t c file old now out image told → CanAddPart t c raw file out now.nodes
   ready-part raw (file_ref.Name name) e f looks =
@@ -48,8 +62,14 @@ module _ (t : Table) (told : Told) (c : Adding) (none : refusal_of t told (comma
       let length-is : told.length ≡ Some taken.device.size = ap (λ (a : Told). a.length) tells.is ∙ ap Some same in
       let stops : told.stopped ≡ raw_stop file.filename raw taken.device.size =
       ap (λ (a : Told). a.stopped) tells.is ∙ ap (raw_stop file.filename raw) same in
+      let rest = rw (e, f) at (rest-asked t told c none) in
       subst (λ (o : Option Taken). CanAddPart t c raw (file_ref.Inline file) o now.nodes) (sym taken.is)
-      (λ between node has. can-part-inline t now.nodes alike joined apart told c none raw file e f taken.device length-is stops between node has)
+      (record {
+        place = inline-place file.node_name rest.0 rest.1.0 (room-left t told 2 rest.1.1.1.0);
+        next = λ between node has.
+            can-part-inline t now.nodes alike joined apart told c none raw file e f taken.device
+            (record { is = length-is; short = part-short t told c none raw file e f file.filename taken.device.size stops }) stops between node has;
+      })
 
   ready-image : (qcow2 : AddQcow2 (List ℕ)) (file : FileRef (List ℕ)) → c.driver ≡ added.Qcow2 qcow2 → qcow2.file ≡ file
       → LooksAtImage t c qcow2 file old now out image told → CanAddImage t c qcow2 file out image now.nodes
@@ -81,17 +101,26 @@ module _ (t : Table) (told : Told) (c : Adding) (none : refusal_of t told (comma
       let is = there.2 in
       let length-is : told.length ≡ Some taken.device.size =
       ap (λ (a : Told). a.length) is.is ∙ ap (λ (d : Taken). Some d.size) (sym is.on.kept) in
+      let short : taken.device.size ≤ most_length =
+      subst (λ (d : Taken). d.size ≤ most_length) (sym is.on.kept) (short-file file.filename inside.first.size is.fits) in
       let on : IsOpenedOn (of_node 0 taken.device) there.0 = subst (λ (d : Taken). IsOpenedOn (of_node 0 d) there.0) (sym is.on.kept) is.on.on in
+      let rest = rw (e, f) at (rest-asked t told c none) in
       subst (λ (o : Option Taken). CanAddImage t c qcow2 (file_ref.Inline file) o image now.nodes) (sym taken.is)
       (subst (λ (i : Option Known). CanAddImage t c qcow2 (file_ref.Inline file) (Some taken.device) i now.nodes) (sym there.1)
-      (λ between node has.
-      can-image-inline t now.nodes alike joined apart told c none qcow2 file e f taken.device there.0 length-is on (ap (λ (a : Told). a.stopped) is.is) between
-      node has))
+      (record {
+        place = inline-place file.node_name rest.1.0 rest.1.1.0 (room-left t told 2 rest.1.1.1.1.0);
+        next = λ between node has.
+            can-image-inline t now.nodes alike joined apart told c none qcow2 file e f taken.device there.0 (record { is = length-is; short = short }) on
+            (ap (λ (a : Told). a.stopped) is.is)
+            between node has;
+      }))
 
   ready-by : (driver : Added (List ℕ)) → c.driver ≡ driver → LooksBy t c driver old now out image told → CanAddBy t c driver out image now.nodes
   ready-by (added.File filename) e looks =
       let taken = taken-out t told c none (record { filename = filename; what = look.File }) (AsFile e refl) old.store now.store out image looks.looks in
-      subst (λ (o : Option Taken). CanAddBy t c (added.File filename) o image now.nodes) (sym taken.is) tt
+      let rest = rw e at (rest-asked t told c none) in
+      subst (λ (o : Option Taken). CanAddBy t c (added.File filename) o image now.nodes) (sym taken.is)
+      (place-of t now.nodes c.node_name 1 alike (fresh-node t told c.node_name rest.0) (omega arith) (room-left t told 1 rest.1.0))
   ready-by (added.Raw raw) e looks = ready-part raw raw.file e refl looks
   ready-by (added.Qcow2 qcow2) e looks = ready-image qcow2 qcow2.file e refl looks
   ready-by (added.CopyOnRead child) e looks =

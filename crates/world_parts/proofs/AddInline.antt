@@ -20,6 +20,7 @@ use Rattle.qmp_rules.specs.Naming.{inline_name}
 use Rattle.qmp_rules.specs.NodeAsks.{is_read_only}
 use Rattle.qmp_rules.specs.Answers.{untold}
 use Rattle.qmp_rules.specs.Table.{Table, kind_in, kinds_from, kinds_of, node_at, node_named}
+use Rattle.qmp_rules.specs.Values.{most_length}
 use Rattle.qmp_rules.specs.declared.ask.Ask.TheVariants as ask
 use Rattle.qmp_rules.specs.declared.change.Change.TheVariants.{AddFile}
 use Rattle.qmp_rules.specs.declared.refusal.Refusal.TheVariants.{NameTaken}
@@ -34,6 +35,7 @@ use Rattle.world_parts.specs.Adding.{Adding, Taken}
 use Rattle.world_parts.specs.Coherent.{AreNodesOf}
 use Rattle.world_parts.specs.Joining.{HasInline}
 use Rattle.world_parts.proofs.AddAlike.{apart-of, id_of}
+use Rattle.world_parts.proofs.AddAsked.{TellsShort}
 use Rattle.world_parts.proofs.AddFacts.{alike-filed}
 use Rattle.world_parts.proofs.AddPlaces.{file-of, free-lowest, place-of}
 use Rattle.world_parts.proofs.AddReady.{size-alike}
@@ -94,7 +96,7 @@ inline-apart t told name (Some own) apart = by_test (bytes_eq own name) refl
 
 module _ (t : Table) (nodes : Nodes) (alike : AreNodesOf t nodes) (joined : IsJoined nodes) (told : Told) (c : Adding) (file : InlineFile (List ℕ))
     (device : Taken) (between : Nodes) (node : ℕ) (has : HasInline c file device nodes between node) (room : length t.nodes + 2 ≤ 64)
-    (length-is : told.length ≡ Some device.size) where
+    (length-is : TellsShort told device.size) where
   abbrev pub row : NodeRecord
   row = inline_row t told c.node_name file
 
@@ -117,12 +119,18 @@ module _ (t : Table) (nodes : Nodes) (alike : AreNodesOf t nodes) (joined : IsJo
   has' = subst (HasInline c file device nodes between) (sym node-is) has
 
   size-is : length_told told ≡ device.size
-  size-is = ap (λ (n : Option ℕ). unwrap_or n 0) length-is
+  size-is = ap (λ (n : Option ℕ). unwrap_or n 0) length-is.is
 
   pub alike-then : AreNodesOf t1 between
   alike-then =
       alike-filed t nodes alike joined row own (free_fresh t (omega (arith, room))) between has'.joined
-      (record { kind = refl; size = size-is; access = refl; place = refl })
+      (record {
+        kind = refl;
+        size = size-is;
+        access = refl;
+        place = refl;
+        small = subst (λ (n : ℕ). n ≤ most_length) (sym size-is) length-is.short;
+      })
       (ap (λ (n : Nodes). n.graph.nodes) has'.is) (ap (λ (n : Nodes). n.rows) has'.is) (ap (λ (n : Nodes). n.graph.edges) has'.is)
 
   rows-then : t1.nodes ≡ t.nodes ++ row ∷ []

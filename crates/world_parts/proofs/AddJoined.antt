@@ -1,7 +1,7 @@
 -- An addition that nothing refuses can be carried out, by what was looked at.
 use Rattle.std.proofs.Common.{◌≡◌, ◌≢◌, ℕ, ◌+◌, ◌<◌, ◌≤◌, Bool, true, false, List, [], ◌∷◌, ◌++◌, length, map, refl, sym, ◌∙◌, ap, subst, arith, Option, Some, None}
-use Rattle.std.specs.Prelude.{Contains, IfSome, codes, not, slice_index_or, option_and_then}
-use Rattle.std.proofs.lemmas.Bool.{eq-eqb}
+use Rattle.std.specs.Prelude.{◌||◌, Contains, IfSome, codes, nat_lt, not, slice_index_or, option_and_then}
+use Rattle.std.proofs.lemmas.Bool.{eq-eqb, ltb-false, or_parts}
 use Rattle.std.proofs.lemmas.List.{get_or-set_other, map-append}
 use Rattle.blk_graph.specs.declared.edge.Edge.{Edge}
 use Rattle.blk_graph.specs.declared.kind.Kind.TheVariants as kinds
@@ -31,8 +31,9 @@ use Rattle.qmp_rules.specs.Naming.{inline_name}
 use Rattle.qmp_rules.specs.NodeAsks.{add_asks, backing_name, is_read_only}
 use Rattle.qmp_rules.specs.Refusals.{refused}
 use Rattle.qmp_rules.specs.Table.{Table, id_named, kinds_of, node_named}
-use Rattle.qmp_rules.specs.Values.{begins_within, ends_within}
+use Rattle.qmp_rules.specs.Values.{begins_within, ends_within, most_length, part_fits}
 use Rattle.qmp_rules.specs.declared.ask.Drivers.TheVariants as drivers
+use Rattle.qmp_rules.specs.declared.refusal.FileFault.TheVariants.{TooLong}
 use Rattle.qmp_rules.specs.declared.refusal.Refusal.TheVariants as refusal
 use Rattle.qmp_rules.specs.declared.rows.NodeRecord.{NodeRecord}
 use Rattle.qmp_rules.specs.declared.told.Look.TheVariants as look
@@ -46,7 +47,7 @@ use Rattle.world_parts.specs.Adding.{Adding, Taken, of_node, opened_sight}
 use Rattle.world_parts.specs.Coherent.{AreNodesOf}
 use Rattle.world_parts.specs.Joining.{CanPutImage, CanPutPart, HasInline, asked_for, backing_for, part_in}
 use Rattle.world_parts.proofs.AddAlike.{id_of}
-use Rattle.world_parts.proofs.AddAsked.{fresh-node, keeps-rule, not-stopped, part-within, rest-asked}
+use Rattle.world_parts.proofs.AddAsked.{TellsShort, fresh-node, keeps-rule, not-stopped, part-within, rest-asked}
 use Rattle.world_parts.proofs.AddImages.{image-fits, image-quiet}
 use Rattle.world_parts.proofs.AddInline.{alike-then, edges-same, file-then, ids-then, kinds-then, next-then, node-is, place-then, room-then, size-then, t1, unsized}
 use Rattle.world_parts.proofs.AddPlaces.{allowed-of, file-of, place-of, unsettled-ids, unsettled-kinds}
@@ -57,19 +58,26 @@ use Rattle.world_parts.proofs.AddTold.{has_look}
 
 module _ (t : Table) (told : Told) (c : Adding) (none : refusal_of t told (command.BlockdevAdd c) ≡ None) (raw : AddRaw (List ℕ))
     (file : InlineFile (List ℕ)) (e : c.driver ≡ added.Raw raw) (f : raw.file ≡ file_ref.Inline file) where
-  looks : (has_look look.Begin (add_asks c) ≡ true) × (has_look look.End (add_asks c) ≡ true)
-  looks = (rw (e, f) refl, rw (e, f) refl)
+  looks : (has_look look.Begin (add_asks c) ≡ true) × (has_look look.End (add_asks c) ≡ true) × (has_look look.File (add_asks c) ≡ true)
+  looks = (rw (e, f) refl, rw (e, f) refl, rw (e, f) refl)
 
   within-by : (name : List ℕ) (begins ends : Bool) (long : Bool)
       → told.stopped ≡ stop_at look.Begin (refused (not begins) (refusal.BadValue (codes "offset")))
       (stop_at look.End (refused (not ends) (refusal.BadValue (codes "size"))) (stop_at look.File (too_long name long) None))
-      → (begins ≡ true) × (ends ≡ true)
+      → (begins ≡ true) × (ends ≡ true) × (long ≡ false)
   within-by name false ends long stops = absurd (not-stopped t told c none look.Begin (refusal.BadValue (codes "offset")) stops looks.0)
   within-by name true false long stops = absurd (not-stopped t told c none look.End (refusal.BadValue (codes "size")) stops looks.1)
-  within-by name true true long stops = (refl, refl)
+  within-by name true true true stops = absurd (not-stopped t told c none look.File (refusal.File name TooLong) stops looks.2)
+  within-by name true true false stops = (refl, refl, refl)
 
-  pub part-inside : (name : List ℕ) (n : ℕ) → told.stopped ≡ raw_stop name raw n → (begins_within raw.offset n ≡ true) × (ends_within raw.offset raw.size n ≡ true)
+  pub part-inside : (name : List ℕ) (n : ℕ) → told.stopped ≡ raw_stop name raw n
+      → (begins_within raw.offset n ≡ true) × (ends_within raw.offset raw.size n ≡ true) × ((nat_lt most_length n || not (part_fits raw.offset raw.size n)) ≡ false)
   part-inside name n stops = within-by name (begins_within raw.offset n) (ends_within raw.offset raw.size n) _ stops
+
+  pub part-short : (name : List ℕ) (n : ℕ) → told.stopped ≡ raw_stop name raw n → n ≤ most_length
+  part-short name n stops =
+      let parts = or_parts (nat_lt most_length n) (not (part_fits raw.offset raw.size n)) (part-inside name n stops).2 in
+      ltb-false most_length n parts.0
 
 -- ---- a node that isn't there has no device
 
@@ -117,7 +125,7 @@ module _ (t : Table) (nodes : Nodes) (alike : AreNodesOf t nodes) (joined : IsJo
 
   -- a part of its file
   module _ (raw : AddRaw (List ℕ)) (file : InlineFile (List ℕ)) (e : c.driver ≡ added.Raw raw) (f : raw.file ≡ file_ref.Inline file) (device : Taken)
-      (length-is : told.length ≡ Some device.size) (stops : told.stopped ≡ raw_stop file.filename raw device.size) (between : Nodes) (node : ℕ)
+      (length-is : TellsShort told device.size) (stops : told.stopped ≡ raw_stop file.filename raw device.size) (between : Nodes) (node : ℕ)
       (has : HasInline c file device nodes between node) where
     part-room : length t.nodes + 2 ≤ 64
     part-room = let rest = rw (e, f) at (rest-asked t told c none) in room-left t told 2 rest.1.1.1.0
@@ -151,6 +159,7 @@ module _ (t : Table) (nodes : Nodes) (alike : AreNodesOf t nodes) (joined : IsJo
         record {
           is_file = file-then t nodes alike joined told c file device between node has part-room length-is;
           within = rw (size-then t nodes alike joined told c file device between node has part-room length-is) within;
+          fits = omega (arith, within, length-is.short);
           place = place-then t nodes alike joined told c file device between node has part-room length-is (fresh-node t told c.node_name rest.0) rest.1.1.0;
           allowed = subst (λ (n : ℕ). IsAllowed between (kind_with kinds.Raw (is_read_only c.options)) (λ id. with_edge (file_edge id n)))
               (node-is t nodes alike joined told c file device between node has part-room length-is) part-allowed;
@@ -158,7 +167,7 @@ module _ (t : Table) (nodes : Nodes) (alike : AreNodesOf t nodes) (joined : IsJo
 
   -- the image in it
   module _ (qcow2 : AddQcow2 (List ℕ)) (file : InlineFile (List ℕ)) (e : c.driver ≡ added.Qcow2 qcow2) (f : qcow2.file ≡ file_ref.Inline file)
-      (device : Taken) (image : Known) (length-is : told.length ≡ Some device.size) (on : IsOpenedOn (of_node 0 device) image)
+      (device : Taken) (image : Known) (length-is : TellsShort told device.size) (on : IsOpenedOn (of_node 0 device) image)
       (stops : told.stopped ≡ image_stop t c.node_name qcow2 (opened_sight image.header)) (between : Nodes) (node : ℕ)
       (has : HasInline c file device nodes between node) where
     image-room : length t.nodes + 2 ≤ 64

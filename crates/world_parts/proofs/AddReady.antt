@@ -1,8 +1,9 @@
 -- The nodes of an addition that nothing refuses can be made.
-use Rattle.std.proofs.Common.{◌≡◌, ℕ, ◌+◌, ◌<◌, ◌≤◌, List, length, refl, sym, ◌∙◌, ap, arith, Option, Some, None}
+use Rattle.std.proofs.Common.{◌≡◌, ℕ, ◌+◌, ◌<◌, ◌≤◌, List, length, refl, sym, subst, ◌∙◌, ap, arith, Option, Some, None}
 use Rattle.std.specs.Prelude.{IfSome, bytes_eq, option_and_then, option_map}
 use Rattle.std.proofs.lemmas.Bool.{not-false}
 use Rattle.blk_graph.specs.declared.edge.Edge.{Edge}
+use Rattle.blk_graph.specs.declared.kind.Kind.{Kind}
 use Rattle.blk_graph.specs.declared.kind.Kind.TheVariants as kinds
 use Rattle.blk_graph.specs.Edits.{with_edge}
 use Rattle.blk_graph.specs.Graph.{HasNode}
@@ -23,6 +24,7 @@ use Rattle.qmp_rules.specs.Changes.{changed, format_edges, with_unsettled}
 use Rattle.qmp_rules.specs.Edits.{edits_of, format_row, free_id, raw_row}
 use Rattle.qmp_rules.specs.NodeAsks.{backing_name, is_read_only}
 use Rattle.qmp_rules.specs.Table.{Table, id_named, node_at, node_named}
+use Rattle.qmp_rules.specs.Values.{most_length}
 use Rattle.qmp_rules.specs.declared.ask.Ask.TheVariants as ask
 use Rattle.qmp_rules.specs.declared.ask.Drivers.TheVariants as drivers
 use Rattle.qmp_rules.specs.declared.rows.NodeRecord.{NodeRecord}
@@ -31,7 +33,7 @@ use Rattle.flat_machine.specs.Wiring.{AreApart}
 use Rattle.flat_machine.proofs.Accepted.{is_protocol}
 use Rattle.flat_machine.proofs.Asked.{found-named, not-refused, room-left, takes-driver}
 use Rattle.world_parts.specs.Adding.{Adding}
-use Rattle.world_parts.specs.Coherent.{AreNodesOf}
+use Rattle.world_parts.specs.Coherent.{AreNodesOf, IsSmall}
 use Rattle.world_parts.specs.Joining.{CanPutFilter, CanPutPart, backing_at, backing_for, part_in}
 use Rattle.world_parts.proofs.AddAsked.{all-asked, fresh-node, keeps-rule, part-within, rest-asked}
 use Rattle.world_parts.proofs.AddPlaces.{allowed-of, file-of, node-of, place-of, row-of, unsettled-ids, unsettled-kinds}
@@ -93,11 +95,14 @@ module _ (t : Table) (nodes : Nodes) (alike : AreNodesOf t nodes) (joined : IsJo
       let begins = not-false _ (not-refused _ _ (rw (found, takes_file) at asks.1.1.1.0)) in
       let ends = not-false _ (not-refused _ _ (rw (found, takes_file) at asks.1.1.1.1.1.0)) in
       let within = part-within raw.offset raw.size row.size begins ends in
+      let small : row.size ≤ most_length =
+      subst (λ (k : Kind). IsSmall k row.size) (is_protocol row.kind takes_file) (row-of t nodes row.id row alike there).2.small in
       let few : length t.nodes < 64 = omega (arith, room) in
       let joins = rw (e, f, found) at (keeps-rule t told c none (rw e refl)) in
       record {
         is_file = file-of t nodes row.id row alike there (is_protocol row.kind takes_file);
         within = rw (size-alike t nodes row.id row alike there) within;
+        fits = omega (arith, within, small);
         place = place-of t nodes c.node_name 1 alike (fresh-node t told c.node_name rest.1.0) (omega arith) room;
         allowed = allowed-of t nodes alike joined few (with_unsettled row.id t.nodes) (unsettled-ids row.id t.nodes) (unsettled-kinds row.id t.nodes)
             (raw_row (free_id t) c.node_name row.size (is_read_only c.options) raw) refl (λ id. with_edge (file_edge id row.id)) joins;

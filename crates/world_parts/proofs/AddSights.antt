@@ -21,7 +21,7 @@ use Rattle.flat_machine.specs.State.{State, Content, Bytes, Blank, Unknown, cont
 use Rattle.flat_machine.specs.Marking.{dirty_bytes}
 use Rattle.flat_machine.specs.Sights.{IsTold, MayStop, Fails, told_by}
 use Rattle.flat_machine.specs.Agreement.{Agrees, Contents}
-use Rattle.flat_machine.specs.Standing.{Stands, IsOfState, IsWhole}
+use Rattle.flat_machine.specs.Standing.{Stands, IsOfState, IsKnownWhole}
 use Rattle.flat_machine.proofs.Accepted.{none-over}
 use Rattle.world_parts.specs.Adding.{Adding, probe}
 use Rattle.world_parts.proofs.AddTold.{looks_at, has_look}
@@ -34,12 +34,12 @@ module _ (opening : List ℕ → Option (List ℕ)) (s : State) (held : Contents
   parts : (list_any (stands_for name) s.table.nodes ≡ false) × (is_lost false (file_state s.table name) ≡ false)
   parts = or_parts (list_any (stands_for name) s.table.nodes) (is_lost false (file_state s.table name)) closed
 
-  whole : (content : Content) → content_in s.files name ≡ Some content → IsWhole content
+  whole : (content : Content) → content_in s.files name ≡ Some content → IsKnownWhole content
   whole content is =
       by_state (file_state s.table name) refl parts.1
       (stands.states name content is (λ row over under. none-over s.table name parts.0 row over))
     where
-      by_state : (state : Option FileState) → file_state s.table name ≡ state → is_lost false state ≡ false → IsOfState state content → IsWhole content
+      by_state : (state : Option FileState) → file_state s.table name ≡ state → is_lost false state ≡ false → IsOfState state content → IsKnownWhole content
       by_state None e kept is_so = is_so
       by_state (Some Made) e kept is_so = is_so
       by_state (Some Used) e kept is_so = absurd (cc kept)

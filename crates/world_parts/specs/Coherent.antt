@@ -9,6 +9,8 @@ use Rattle.blk_history.specs.Machine.{Flight}
 use Rattle.blk_graph.specs.Graph.{NodeRow}
 use Rattle.blk_graph.specs.declared.edge.Edge.{Edge}
 use Rattle.blk_graph.specs.declared.edge.Parent.TheVariants.{Guest as GuestOf}
+use Rattle.blk_graph.specs.declared.kind.Kind.{Kind}
+use Rattle.blk_graph.specs.declared.kind.Kind.TheVariants.{Protocol}
 use Rattle.blk_nodes.specs.Nodes.{Nodes, DeviceState, AreTold, row_at, kind_of}
 use Rattle.blk_nodes.specs.declared.row.Driver.{Driver}
 use Rattle.blk_nodes.specs.declared.row.Driver.TheVariants.{Raw}
@@ -17,6 +19,7 @@ use Rattle.qmp_rules.specs.declared.rows.Device.{Device}
 use Rattle.qmp_rules.specs.declared.rows.NodeRecord.{NodeRecord}
 use Rattle.qmp_rules.specs.Table.{Table, node_at, device_at}
 use Rattle.qmp_rules.specs.Chains.{disk_node}
+use Rattle.qmp_rules.specs.Values.{most_length}
 use Rattle.flat_machine.specs.Agreement.{HasDisk}
 use Rattle.flat_machine.specs.Bitmaps.{AreBitmapsOf}
 use Rattle.flat_machine.specs.Legal.{IsForbidden}
@@ -42,12 +45,18 @@ abbrev pub offset_of : Driver → ℕ
 offset_of (Raw part) = part.offset
 offset_of other = 0
 
+-- a `file` node has no more bytes than one may have
+abbrev pub IsSmall : Kind → ℕ → Type 0
+IsSmall Protocol size = size ≤ most_length
+IsSmall kind size = Unit {0}
+
 -- a node's row says what the node is
 pub record IsRowOf (record' : NodeRecord) (row : Row) : Type 0 where
   pub kind : record'.kind ≡ kind_of row.driver
   pub size : record'.size ≡ row.size
   pub access : record'.read_only ≡ row.is_read_only
   pub place : record'.offset ≡ offset_of row.driver
+  pub small : IsSmall record'.kind record'.size
 
 abbrev pub AreAlike : Option NodeRecord → Option Row → Type 0
 AreAlike None None = Unit {0}

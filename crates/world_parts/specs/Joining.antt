@@ -77,6 +77,7 @@ pub record CanPutPart (nodes : Nodes) (name : List ℕ) (read_only : Bool) (file
     (part : Extent) : Type 0 where
   pub is_file : IsFile nodes file
   pub within : end_of part ≤ size_of nodes file
+  pub fits : end_of part ≤ 9223372036854775808
   pub place : HasPlace nodes name
   pub allowed : IsAllowed nodes (kind_with kinds.Raw read_only) (λ id. with_edge (file_edge id file))
 
@@ -127,9 +128,11 @@ HasInline c file device old new id =
 -- ---- when the nodes of a command can be made
 
 -- over a device, and then the node over that
-abbrev pub CanJoin : Adding → InlineFile (List ℕ) → Taken → Nodes → (Nodes → ℕ → Type 0) → Type 0
-CanJoin c file device nodes Next = (between : Nodes) (node : ℕ)
-    → HasInline c file device nodes between node → Next between node
+pub record CanJoin (c : Adding) (file : InlineFile (List ℕ)) (device : Taken) (nodes : Nodes)
+    (Next : Nodes → ℕ → Type 0) : Type 0 where
+  pub place : HasPlace nodes (inline_name c.node_name file.node_name)
+  pub next : (between : Nodes) (node : ℕ) → HasInline c file device nodes between node
+      → Next between node
 
 -- over the node of a name
 pub record CanJoinAt (t : Table) (name : List ℕ) (Can : NodeRecord → Type 0) : Type 0 where
@@ -157,7 +160,7 @@ CanAddImage t c qcow2 (file_ref.Inline file) (Some device) (Some image) nodes =
 CanAddImage t c qcow2 file out image nodes = ⊥
 
 abbrev pub CanAddBy : Table → Adding → Added (List ℕ) → Option Taken → Option Known → Nodes → Type 0
-CanAddBy t c (added.File filename) (Some device) image nodes = Unit {0}
+CanAddBy t c (added.File filename) (Some device) image nodes = HasPlace nodes c.node_name
 CanAddBy t c (added.Raw raw) out image nodes = CanAddPart t c raw raw.file out nodes
 CanAddBy t c (added.Qcow2 qcow2) out image nodes =
     CanAddImage t c qcow2 qcow2.file out image nodes

@@ -13,7 +13,7 @@ use Rattle.qmp_rules.specs.Room.{HasRoom, Roomy}
 use Rattle.qmp_rules.specs.Table.{Table}
 use Rattle.qmp_rules.specs.declared.refusal.Refusal.{Refusal}
 use Rattle.qmp_rules.specs.declared.told.Told.{Told}
-use Rattle.flat_machine.specs.Wiring.{AreApart}
+use Rattle.flat_machine.specs.Wiring.{TableAtRest}
 use Rattle.world_parts.specs.declared.adding.staging.Staged.{Staged}
 use Rattle.world_parts.specs.declared.adding.staging.Staged.TheVariants as staged
 use Rattle.world_parts.specs.Adding.{Adding, Taken, opens, put_back}
@@ -78,7 +78,7 @@ IsStaged names given told c (staged.Accepted edits text) =
 -- what an addition needs of the table, the openings and the nodes
 pub record CanLook (t : Table) (x : Site) : Type 0 where
   pub alike : AreNodesOf t x.nodes
-  pub apart : AreApart t
+  pub rests : TableAtRest t
   pub closed : AreIn t x.store.opened
 
 -- it was refused after these looks

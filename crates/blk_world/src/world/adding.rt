@@ -1,7 +1,7 @@
 //! Nodes that are added to a world.
 ghost use Rattle.std.specs.Prelude.{◌≡◌, true, IfOk, OnErr, string_bytes};
 ghost use Rattle.qmp_codec.specs.Commands.{seen_command};
-ghost use Rattle.world_commands.specs.Carrying.{IsCarriedAs, IsPutBack};
+ghost use Rattle.world_commands.specs.Carrying.{IsCarriedAs, IsPutBackBy};
 ghost use Rattle.world_parts.specs.Staging.{is_addition};
 
 use crate::world::World;
@@ -21,7 +21,7 @@ impl<S: Store> World<S> {
         requires { is_addition (seen_command command.now) ≡ true }
         ensures carried { IfOk result (λ text. IsCarriedAs self.old self.new given.now
             (seen_command command.now) (string_bytes text)) }
-        ensures back { OnErr result (IsPutBack self.old self.new) }
+        ensures back { OnErr result (IsPutBackBy self.old self.new (seen_command command.now)) }
     {
         let _ = self.nodes.edges();
         add_by(

@@ -1,7 +1,7 @@
 //! Commands that need the table alone, over a world.
 ghost use Rattle.std.specs.Prelude.{◌≡◌, true, IfOk, OnErr, string_bytes};
 ghost use Rattle.qmp_codec.specs.Commands.{seen_command};
-ghost use Rattle.world_commands.specs.Carrying.{IsCarriedAs, IsPutBack, needs_table_alone};
+ghost use Rattle.world_commands.specs.Carrying.{IsCarriedAs, IsPutBackBy, needs_table_alone};
 
 use crate::world::World;
 use blk_base::{NoMemory, Store};
@@ -20,7 +20,7 @@ impl<S: Store> World<S> {
         requires { needs_table_alone (seen_command command.now) ≡ true }
         ensures carried { IfOk result (λ text. IsCarriedAs self.old self.new given.now
             (seen_command command.now) (string_bytes text)) }
-        ensures back { OnErr result (IsPutBack self.old self.new) }
+        ensures back { OnErr result (IsPutBackBy self.old self.new (seen_command command.now)) }
     {
         answer_alone(alloc, &mut self.names, given, command)
     }

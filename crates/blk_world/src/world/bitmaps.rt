@@ -1,7 +1,7 @@
 //! Commands on dirty bitmaps, over a world.
 ghost use Rattle.std.specs.Prelude.{◌≡◌, true, IfOk, OnErr, string_bytes};
 ghost use Rattle.qmp_codec.specs.Commands.{seen_command};
-ghost use Rattle.world_commands.specs.Carrying.{IsCarriedAs, IsPutBack, is_of_bitmaps, prints_counts};
+ghost use Rattle.world_commands.specs.Carrying.{IsCarriedAs, IsPutBackBy, is_of_bitmaps, prints_counts};
 
 use crate::world::World;
 use blk_base::{NoMemory, Store};
@@ -20,7 +20,7 @@ impl<S: Store> World<S> {
         requires { is_of_bitmaps (seen_command command.now) ≡ true }
         ensures carried { IfOk result (λ text. IsCarriedAs self.old self.new given.now
             (seen_command command.now) (string_bytes text)) }
-        ensures back { OnErr result (IsPutBack self.old self.new) }
+        ensures back { OnErr result (IsPutBackBy self.old self.new (seen_command command.now)) }
     {
         answer_bitmaps(alloc, &mut self.names, &mut self.bitmaps, given, command)
     }
@@ -35,7 +35,7 @@ impl<S: Store> World<S> {
         requires { prints_counts (seen_command command.now) ≡ true }
         ensures carried { IfOk result (λ text. IsCarriedAs self.old self.new given.now
             (seen_command command.now) (string_bytes text)) }
-        ensures back { OnErr result (IsPutBack self.old self.new) }
+        ensures back { OnErr result (IsPutBackBy self.old self.new (seen_command command.now)) }
     {
         answer_counts(alloc, &mut self.names, &self.bitmaps, given, command)
     }

@@ -2,6 +2,7 @@
 ghost use Rattle.std.specs.Prelude.{◌≡◌, ℕ, List, None, false, true, is_some};
 ghost use Rattle.blk_base.specs.Files.{is_out};
 ghost use Rattle.blk_history.specs.Fold.{With};
+ghost use Rattle.blk_world.specs.Images.{ImagesAreSound};
 ghost use Rattle.flat_machine.specs.Agreement.{ReadAsDisks};
 ghost use Rattle.flat_machine.specs.Final.{AreDisks};
 ghost use Rattle.flat_machine.specs.State.{State};
@@ -29,6 +30,8 @@ impl<S: Store> World<S> {
             → AreNodesFlushed self.table (S.files result.0) }
         ensures disks { is_some self.files ≡ true → (s : State) → s.table ≡ self.table
             → ReadAsDisks s (contents_of self) → With (S.files result.0) (λ files. AreDisks files s) }
+        ensures sound { is_some self.files ≡ true
+            → With (S.files result.0) (ImagesAreSound self.table) }
         ensures held { is_some self.files ≡ true
             → (name : List ℕ) → told_bytes (S.files result.0) name ≡ held self name }
     {

@@ -1,7 +1,7 @@
 //! Devices of guests in a world that go.
 ghost use Rattle.std.specs.Prelude.{◌≡◌, true, IfOk, OnErr};
 ghost use Rattle.qmp_codec.specs.Commands.{seen_command};
-ghost use Rattle.world_commands.specs.Carrying.{IsCarriedOut, IsPutBack};
+ghost use Rattle.world_commands.specs.Carrying.{IsCarriedOut, IsPutBackBy};
 ghost use Rattle.world_commands.specs.Detaching.{is_detachment};
 
 use crate::world::World;
@@ -22,7 +22,7 @@ impl<S: Store> World<S> {
         requires { is_detachment (seen_command command.now) ≡ true }
         ensures carried { IfOk result (λ carried. IsCarriedOut self.old self.new given.now
             (seen_command command.now) carried) }
-        ensures back { OnErr result (IsPutBack self.old self.new) }
+        ensures back { OnErr result (IsPutBackBy self.old self.new (seen_command command.now)) }
     {
         let _ = self.nodes.edges();
         let carried = detach(

@@ -11,7 +11,7 @@ ghost use Rattle.world_parts.specs.Draining.{is_drain};
 ghost use Rattle.world_parts.specs.Progress.{with_entry};
 ghost use Rattle.world_parts.specs.Saying.{given_line};
 ghost use Rattle.world_parts.specs.Steps.{lifted, onward};
-ghost use Rattle.world_commands.specs.Carrying.{IsCarriedAs, IsCarriedOut, IsExecuted, IsPutBack};
+ghost use Rattle.world_commands.specs.Carrying.{IsCarriedAs, IsCarriedOut, IsExecuted, IsPutBack, IsPutBackBy, IsPutBackIn};
 
 use crate::world::World;
 use blk_base::{NoMemory, Store};
@@ -37,7 +37,7 @@ impl<S: Store> World<S> {
         requires { is_drain (seen_command command.now) ≡ false }
         ensures carried { IfOk result (λ text. IsCarriedAs self.old self.new given.now
             (seen_command command.now) (string_bytes text)) }
-        ensures back { OnErr result (IsPutBack self.old self.new) }
+        ensures back { OnErr result (IsPutBackBy self.old self.new (seen_command command.now)) }
     {
         match command {
             Command::BlockdevAdd(_) => self.carry_addition(alloc, given, command),
@@ -60,7 +60,7 @@ impl<S: Store> World<S> {
         requires { command_at given.now ≡ Ok (seen_command command.now) }
         ensures carried { IfOk result (λ carried. IsCarriedOut self.old self.new given.now
             (seen_command command.now) carried) }
-        ensures back { OnErr result (IsPutBack self.old self.new) }
+        ensures back { OnErr result (IsPutBackBy self.old self.new (seen_command command.now)) }
     {
         match command {
             Command::DeviceDel(_) => self.carry_detachment(alloc, given, command),
@@ -93,7 +93,7 @@ impl<S: Store> World<S> {
         requires room { 0 < self.old.progress.spare.entries }
         ensures done { IfOk result (λ answer.
             IsExecuted self.old self.new (given_line line given.now) answer) }
-        ensures back { OnErr result (IsPutBack self.old self.new) }
+        ensures back { OnErr result (IsPutBackBy self.old self.new (seen_command command)) }
         ensures comes { (o : Opening) → Comes o self.old → Comes o self.new }
     {
         let copy = copied(alloc, given)?;
@@ -120,7 +120,7 @@ impl<S: Store> World<S> {
         requires room { 0 < self.old.progress.spare.entries }
         ensures done { IfOk result (λ answer.
             IsExecuted self.old self.new (given_line line given.now) answer) }
-        ensures back { OnErr result (IsPutBack self.old self.new) }
+        ensures back { OnErr result (self.new ≡ self.old) }
         ensures comes { (o : Opening) → Comes o self.old → Comes o self.new }
     {
         let text = stopped_text(alloc, &self.names, given, stop)?;
@@ -132,13 +132,15 @@ impl<S: Store> World<S> {
     /// Answers a line of the script. A command is carried out or refused, and another line refused; the reply is noted with its
     /// text. Later comes exactly where nothing refuses a command and a request is in flight on a disk that it must drain: the
     /// first guest's, by number. Nothing is noted then, and the guests of those disks are held until a line is answered or a
-    /// command has to come again. Where memory is wanted the world is as before but for openings and counts.
+    /// command has to come again. Where memory is wanted the world is as before but for the opening and the count of what the
+    /// command itself calls.
     pub fn execute(&mut self, alloc: Global, line: u32, text: &str) -> Result<Executed, NoMemory>
         requires open { IsNotDone (seen_state self.old) 0 }
         requires room { 0 < self.old.progress.spare.entries }
         ensures done { IfOk result (λ answer.
             IsExecuted self.old self.new (given_line line text.now) answer) }
         ensures back { OnErr result (IsPutBack self.old self.new) }
+        ensures back_in { OnErr result (IsPutBackIn self.old self.new (command_at text.now)) }
         ensures comes { (o : Opening) → Comes o self.old → Comes o self.new }
     {
         match read_line(alloc, text)? {

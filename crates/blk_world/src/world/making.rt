@@ -1,7 +1,7 @@
 //! Files and images that a world makes.
 ghost use Rattle.std.specs.Prelude.{◌≡◌, true, IfOk, OnErr, string_bytes};
 ghost use Rattle.qmp_codec.specs.Commands.{seen_command};
-ghost use Rattle.world_commands.specs.Carrying.{IsCarriedAs, IsPutBack};
+ghost use Rattle.world_commands.specs.Carrying.{IsCarriedAs, IsPutBackBy};
 ghost use Rattle.world_commands.specs.Making.{is_creation};
 
 use crate::world::World;
@@ -21,7 +21,7 @@ impl<S: Store> World<S> {
         requires { is_creation (seen_command command.now) ≡ true }
         ensures carried { IfOk result (λ text. IsCarriedAs self.old self.new given.now
             (seen_command command.now) (string_bytes text)) }
-        ensures back { OnErr result (IsPutBack self.old self.new) }
+        ensures back { OnErr result (IsPutBackBy self.old self.new (seen_command command.now)) }
     {
         let _ = self.nodes.edges();
         let text = make(

@@ -1,6 +1,8 @@
 //! The nodes that an addition makes.
-ghost use Rattle.std.specs.Prelude.{◌≡◌, ℕ, None, Some, IfOk, IfErr, OnOk, OnErr, option_map, string_bytes};
+ghost use Rattle.std.specs.Prelude.{◌≡◌, ◌≤◌, ℕ, None, Some, IfOk, IfErr, OnOk, OnErr, option_map, string_bytes};
+ghost use Rattle.blk_base.specs.Pieces.{end_of};
 ghost use Rattle.blk_nodes.specs.Nodes.{Nodes as SeenNodes};
+ghost use Rattle.blk_nodes.specs.Overlays.{HasPlace};
 ghost use Rattle.qmp_codec.specs.Nodes.{seen_add_qcow2, seen_add_raw, seen_backing, seen_blockdev_add, seen_file_ref, seen_inline_file};
 ghost use Rattle.qmp_rules.specs.Naming.{inline_name};
 ghost use Rattle.qmp_rules.specs.NodeAsks.{is_read_only};
@@ -10,7 +12,7 @@ use crate::adding::opening::Out;
 use crate::adding::telling::{part_offset, part_size};
 use blk_base::{Device, NoMemory, Span, Text};
 use blk_graph::NodeId;
-use blk_nodes::{Backing, Nodes};
+use blk_nodes::{AddStop, Backing, Nodes};
 use q2_image::Image;
 use qmp_codec::{
     AddQcow2, AddRaw, Added, Backing as Said, BlockdevAdd, FileRef, InlineFile, NodeOptions,
@@ -20,13 +22,14 @@ use std::alloc::Global;
 
 // ---- one node
 
-/// Adds a `file` node over a device that is out. It is given back where the node isn't added.
+/// Adds a `file` node over a device that is out. It is given back for want of memory.
 fn put_file<D: Device>(
     nodes: &mut Nodes<D>,
     name: Text,
     out: Out<D>,
     read_only: bool,
 ) -> Result<NodeId, Out<D>>
+    requires { HasPlace nodes.old name.bytes }
     ensures ok { IfOk result (HasFile name.bytes read_only out nodes.old nodes.new) }
     ensures back { IfErr result (λ back. back ≡ out) }
     ensures err { OnErr result (nodes.new ≡ nodes.old) }
@@ -37,7 +40,8 @@ fn put_file<D: Device>(
             let _ = nodes.edges();
             Ok(node)
         }
-        Err((_, device)) => Err(Out { device, number }),
+        Err((AddStop::NoMemory, device)) => Err(Out { device, number }),
+        Err(_) => unreachable!(),
     }
 }
 
@@ -126,16 +130,15 @@ fn inline_name(alloc: Global, c: &BlockdevAdd, file: &InlineFile) -> Result<Text
     }
 }
 
-/// The part of a file of so many bytes. None ends past 2^63.
-fn part_in(raw: &AddRaw, length: u64) -> Result<Span, NoMemory>
-    ensures { IfOk result (λ part. part ≡ part_in (seen_add_raw raw.now) length) }
+/// The part of a file of so many bytes.
+fn part_in(raw: &AddRaw, length: u64) -> Span
+    requires { end_of (part_in (seen_add_raw raw.now) length) ≤ 9223372036854775808 }
+    ensures { result ≡ part_in (seen_add_raw raw.now) length }
 {
-    let start = part_offset(raw.offset);
-    let len = part_size(raw.offset, raw.size, length);
-    if u128::from(start) + u128::from(len) > 9223372036854775808 {
-        return Err(NoMemory);
+    Span {
+        start: part_offset(raw.offset),
+        len: part_size(raw.offset, raw.size, length),
     }
-    Ok(Span { start, len })
 }
 
 fn backing_for(names: &Names, added: &AddQcow2) -> Backing
@@ -178,6 +181,7 @@ fn add_file<D: Device>(
     c: &BlockdevAdd,
     out: Out<D>,
 ) -> Result<(), Out<D>>
+    requires { HasPlace nodes.old (seen_blockdev_add c.now).node_name }
     ensures ok { OnOk result (HasAddedFile (seen_blockdev_add c.now) (Some out) nodes.old nodes.new) }
     ensures back { IfErr result (λ back. back ≡ out) }
     ensures err { OnErr result (nodes.new ≡ nodes.old) }
@@ -215,12 +219,11 @@ fn add_file_part<D: Device>(
     let Ok(names) = two_names(alloc, c, file) else {
         return Err(out);
     };
-    let Ok(part) = part_in(raw, out.device.length()) else {
-        return Err(out);
-    };
+    let length = out.device.length();
     let (own, name) = (names.own, names.file);
     match put_file(nodes, name, out, is_read_only(&file.options)) {
         Ok(node) => {
+            let part = part_in(raw, length);
             put_part(nodes, own, node, part, is_read_only(&c.options));
             Ok(())
         }
@@ -284,7 +287,7 @@ fn add_part<D: Device>(
     let Some(row) = names.node_named(file) else {
         unreachable!()
     };
-    let part = part_in(raw, row.size)?;
+    let part = part_in(raw, row.size);
     let name = Text::copied(alloc, c.node_name.as_str())?;
     put_part(nodes, name, row.id, part, is_read_only(&c.options));
     Ok(())

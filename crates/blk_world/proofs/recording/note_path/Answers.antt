@@ -1,4 +1,4 @@
-use Rattle.std.proofs.Common.{◌≡◌, ◌<◌, ◌+◌, ◌-◌, sym, ◌∙◌, ap, arith}
+use Rattle.std.proofs.Common.{◌<◌, ◌+◌, ◌-◌, sym, ◌∙◌, ap, arith}
 use Rattle.flat_machine.specs.Bitmaps.{noted_rows}
 use Rattle.flat_machine.specs.Machine.{path_from}
 use Rattle.world_commands.proofs.BitmapsChanged.{path_end, path_none, path_some, path_start}

@@ -1,4 +1,4 @@
-use Rattle.std.proofs.Common.{Ok, List, ℕ, sym, ◌∙◌, subst}
+use Rattle.std.proofs.Common.{Ok, sym, ◌∙◌, subst}
 use Rattle.std.specs.Prelude.{IfOk, OnOk, string_bytes}
 use Rattle.qmp_codec.specs.Commands.{Cmd, seen_command}
 use Rattle.qmp_rules.specs.Table.{Table}
@@ -6,7 +6,7 @@ use Rattle.qmp_rules.specs.Answers.{returned, untold}
 use Rattle.world_commands.specs.Recorded.{AreAfter}
 use Rattle.world_parts.specs.Saying.{IsSaid}
 use Rattle.world_commands.proofs.CarryPlain.{bitmaps-stay}
-use Rattle.world_commands.proofs.CarryInTable.{accepted_said, accepted_changes, accepted_follows, refused_said, refused_unchanged, refused_follows}
+use Rattle.world_commands.proofs.CarryInTable.{accepted_said, accepted_bitmaps, accepted_changes, accepted_follows, refused_bitmaps, refused_said, refused_unchanged, refused_follows}
 use Rattle.world_commands.proofs.bitmaps.answer_bitmaps.Goals as goal
 
 pub returns-in-Ok-clause-said : goal.returns-in-Ok-clause-said
@@ -49,3 +49,15 @@ returns-in-Err-clause-follow c =
     refused_follows c.args.names.now.table
     (seen_command c.args.command.now) string_bytes c.args.given.now c.refused.result c.in-Err.stop c.args.bitmaps.now c.requires.alike
     (bitmaps-stay (seen_command c.args.command.now) c.requires.is) c.in-Err.ensures.refused c.refused.ensures
+
+pub returns-in-Ok-clause-left : goal.returns-in-Ok-clause-left
+returns-in-Ok-clause-left c =
+    let command : Cmd = seen_command c.args.command.now in
+    let after = subst (λ (t : Table). OnOk c.accept.result (AreAfter t command c.args.bitmaps.now c.accept.new.bitmaps))
+    c.prepare.ensures.table c.accept.ensures.bitmaps in
+    accepted_bitmaps c.args.names.now.table command c.accept.result c.args.bitmaps.now c.accept.new.bitmaps c.requires.is c.in-Ok.ensures.accepted after
+
+pub returns-in-Err-clause-left : goal.returns-in-Err-clause-left
+returns-in-Err-clause-left c =
+    refused_bitmaps c.args.names.now.table (seen_command c.args.command.now) string_bytes c.args.given.now c.refused.result c.in-Err.stop
+    c.args.bitmaps.now c.in-Err.ensures.refused c.refused.ensures

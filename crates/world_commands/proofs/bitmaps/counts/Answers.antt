@@ -1,5 +1,4 @@
-use Rattle.std.proofs.Common.{arith, ◌<◌, ◌≡◌, List, length, subst, sym}
-use Rattle.blk_bitmaps.specs.declared.row.Bitmap.{Bitmap}
+use Rattle.std.proofs.Common.{arith, ◌<◌, length, subst, sym}
 use Rattle.world_commands.specs.Recorded.{AreFree}
 use Rattle.world_commands.proofs.BitmapsChanged.{counts-more}
 use Rattle.world_commands.proofs.bitmaps.counts.Goals as goal

@@ -1,7 +1,6 @@
 use Rattle.std.proofs.Common.{◌≡◌, ap, ◌∙◌, None, Some}
 use Rattle.qmp_codec.specs.Bitmaps.{seen_bitmap_add}
 use Rattle.qmp_rules.specs.Asks.{id_or}
-use Rattle.qmp_rules.specs.Values.{amount_or}
 use Rattle.blk_bitmaps.specs.Refusals.{add_refusal}
 use Rattle.world_commands.proofs.BitmapsChanged.{when-none}
 use Rattle.world_commands.proofs.bitmaps.new_bitmap.Goals as goal

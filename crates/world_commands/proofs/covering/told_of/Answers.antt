@@ -1,4 +1,4 @@
-use Rattle.std.proofs.Common.{◌≡◌, [], ◌∷◌, cond, sym, ◌∙◌, ap, subst, List, ℕ}
+use Rattle.std.proofs.Common.{[], ◌∷◌, cond, sym, ◌∙◌, ap, subst, List, ℕ}
 use Rattle.qmp_codec.specs.Commands.{seen_command}
 use Rattle.qmp_codec.specs.Nodes.{seen_snapshot}
 use Rattle.qmp_rules.specs.Table.{id_named}
@@ -19,4 +19,4 @@ returns g c =
     (rw c.in-BlockdevSnapshot.is
     (told_so c.args.names.now.table c.args.nodes.now (seen_snapshot c.in-BlockdevSnapshot.c) c.in_ok-mapped.mapped c.is_overlay_fresh-is_fresh.result
     (c.in_ok-mapped.ensures ∙ ap (λ (name : List ℕ). cond c.is_overlay_fresh-is_fresh.result [] (name ∷ [])) c.as_str-2.ensures.value)
-    (λ node named. c.is_overlay_fresh-is_fresh.ensures node (ap (id_named c.args.names.now.table) c.as_str.ensures.value ∙ named))))
+    (λ node named. c.is_overlay_fresh-is_fresh.ensures node (ap (id_named c.args.names.now.table) c.as_str.ensures.value ∙ named)) c.requires.joined))

@@ -1,9 +1,8 @@
-use Rattle.std.proofs.Common.{◌≡◌, ◌≤◌, length, None, refl, sym, ◌∙◌, ap, subst}
+use Rattle.std.proofs.Common.{◌≡◌, ◌≤◌, length, None, refl, sym, ◌∙◌, subst}
 use Rattle.std.specs.Prelude.{string_bytes}
 use Rattle.qmp_codec.specs.Commands.{Cmd, seen_command}
 use Rattle.qmp_rules.specs.Answers.{refusal_of}
 use Rattle.qmp_rules.specs.Table.{Table}
-use Rattle.qmp_rules.specs.declared.told.Told.{Told}
 use Rattle.world_parts.specs.Deleting.{Ground, ground_in}
 use Rattle.world_commands.specs.Making.{CanCreateBy, told_first}
 use Rattle.world_parts.proofs.CreatedKept.{has_room_less}

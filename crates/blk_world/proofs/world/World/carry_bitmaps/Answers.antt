@@ -25,7 +25,7 @@ pub returns-clause-carried : goal.returns-clause-carried
 returns-clause-carried g c =
     rw (← c.self.view_is) (bitmaps_carried _ c.answer_bitmaps.new.names.table c.answer_bitmaps.new.bitmaps
     (seen_command c.args.command.now) c.requires
-    string_bytes c.args.given.now c.answer_bitmaps.result c.answer_bitmaps.ensures.said c.answer_bitmaps.ensures.changed c.answer_bitmaps.ensures.follow)
+    string_bytes c.args.given.now c.answer_bitmaps.result c.answer_bitmaps.ensures.said c.answer_bitmaps.ensures.changed c.answer_bitmaps.ensures.follow c.answer_bitmaps.ensures.left)
 
 pub returns-clause-back : goal.returns-clause-back
 returns-clause-back g c =

@@ -1,6 +1,6 @@
 use Rattle.std.specs.Prelude.{string_bytes}
 use Rattle.qmp_codec.specs.Commands.{seen_command}
-use Rattle.world_parts.specs.Deleting.{Ground, ground_in}
+use Rattle.world_parts.specs.Deleting.{ground_in}
 use Rattle.world_parts.specs.Face.{Face}
 use Rattle.world_commands.proofs.Belonging.{belong_of}
 use Rattle.world_commands.proofs.Handled.{untouched_back}
@@ -46,7 +46,7 @@ returns-clause-back g c =
       bitmaps = c.self.inside.bitmaps;
     } in
     rw (← c.self.view_is, c.make-text.ensures.earlier)
-    (untouched_back c.make-text.result string_bytes w (ground_in c.make-text.new.store c.make-text.new.nodes) c.make-text.new.names.table c.make-text.ensures.back)
+    (untouched_back c.make-text.result string_bytes w (seen_command c.args.command.now) (ground_in c.make-text.new.store c.make-text.new.nodes) c.make-text.new.names.table c.make-text.ensures.back)
 
 pub invariant_of-self : goal.invariant_of-self
 invariant_of-self g c =

@@ -46,7 +46,7 @@ returns-clause-back g c =
       bitmaps = c.self.inside.bitmaps;
     } in
     rw (← c.self.view_is, c.delete.ensures.earlier)
-    (deletion_back c.delete.result string_bytes w (ground_in c.delete.new.store c.delete.new.nodes) c.delete.new.names.table c.delete.new.bitmaps c.delete.ensures.back
+    (deletion_back c.delete.result string_bytes w (seen_command c.args.command.now) (ground_in c.delete.new.store c.delete.new.nodes) c.delete.new.names.table c.delete.new.bitmaps c.delete.ensures.back
     c.delete.ensures.bitmaps_back)
 
 pub invariant_of-self : goal.invariant_of-self

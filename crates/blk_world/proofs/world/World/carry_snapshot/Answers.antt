@@ -1,8 +1,4 @@
-use Rattle.std.proofs.Common.{◌≡◌, refl, sym, ap, subst}
 use Rattle.qmp_codec.specs.Commands.{seen_command}
-use Rattle.flat_machine.specs.State.{drive_of}
-use Rattle.flat_machine.specs.Wiring.{TableStands}
-use Rattle.world_parts.specs.Coherent.{AreNodesOf}
 use Rattle.world_commands.specs.Detaching.{scene}
 use Rattle.world_parts.specs.Face.{Face}
 use Rattle.blk_world.proofs.CoverHandled.{snapshot_carried, snapshot_whole, snapshot_back}

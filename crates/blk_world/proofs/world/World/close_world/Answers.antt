@@ -11,6 +11,7 @@ use Rattle.world_commands.proofs.CloseLemmas.{closed-by, back-held, none-out, no
 use Rattle.world_commands.proofs.CloseCounts.{given-back, faults-kept, room-kept}
 use Rattle.blk_world.proofs.CloseFiles.{held-then, told-then, nodes-flushed}
 use Rattle.blk_world.proofs.CloseDisks.{all-disks}
+use Rattle.blk_world.proofs.CloseImages.{all-sound}
 use Rattle.blk_world.proofs.world.World.close_world.Goals as goal
 
 pub returns-clause-closed : goal.returns-clause-closed
@@ -73,3 +74,13 @@ returns-clause-disks g c = λ told s same agrees.
     all-disks c.args.self (g.S.Store.files c.into_store.result) joined (subst (λ (w : Face). Unfolds w.nodes) c.self.view_is c.edges.ensures.disks) whole.coherent
     (told-then c.args.self after c.give_all_back-fault.result closed whole.coherent told (whole.tell told))
     (returns-clause-held g c told) s same agrees
+
+pub returns-clause-sound : goal.returns-clause-sound
+returns-clause-sound g c = λ told.
+    let joined : IsJoined c.args.self.nodes = subst (λ (w : Face). IsJoined w.nodes) c.self.view_is c.edges.ensures.joined in
+    let whole : IsWhole c.args.self = subst IsWhole c.self.view_is c.self.invariant in
+    let after : StoreSeen = seen_store (g.S.Store.files c.into_store.result) (g.S.Store.opened c.into_store.result) (g.S.Store.room c.into_store.result) (g.S.Store.faults c.into_store.result) in
+    let closed : IsClosed c.args.self after c.give_all_back-fault.result = returns-clause-closed g c in
+    all-sound c.args.self (g.S.Store.files c.into_store.result) joined whole.coherent (whole.tell told)
+    (told-then c.args.self after c.give_all_back-fault.result closed whole.coherent told (whole.tell told))
+    (returns-clause-held g c told)

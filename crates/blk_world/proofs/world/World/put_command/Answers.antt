@@ -1,15 +1,15 @@
 use Rattle.world_parts.specs.Saying.{given_line}
 use Rattle.std.specs.Prelude.{string_bytes}
 use Rattle.qmp_codec.specs.Commands.{seen_command}
-use Rattle.blk_world.proofs.CarryBack.{put_back_comes, put_back_on}
+use Rattle.blk_world.proofs.CarryBack.{back_by_on, put_back_comes}
 use Rattle.blk_world.proofs.CarryLines.{answered_replied, answered_comes, late_put_off, late_comes}
 use Rattle.blk_world.proofs.world.World.put_command.Goals as goal
 
 pub returns-in_err-copy-clause-back : goal.returns-in_err-copy-clause-back
-returns-in_err-copy-clause-back g c = put_back_on c.from_residual.result c.args.self.now
+returns-in_err-copy-clause-back g c = back_by_on c.from_residual.result c.args.self.now (seen_command c.args.command)
 
 pub returns-in_err-carried-clause-comes : goal.returns-in_err-carried-clause-comes
-returns-in_err-carried-clause-comes g c = put_back_comes c.args.self.now c.carry.new.self c.in_err-carried.ensures.back
+returns-in_err-carried-clause-comes g c = put_back_comes c.args.self.now c.carry.new.self c.in_err-carried.ensures.back.back
 
 pub returns-in-Said-clause-done : goal.returns-in-Said-clause-done
 returns-in-Said-clause-done g c =

@@ -1,7 +1,7 @@
 use Rattle.std.specs.Prelude.{string_bytes}
 use Rattle.qmp_codec.specs.Lines.{seen_stop}
 use Rattle.world_parts.specs.Saying.{given_line}
-use Rattle.blk_world.proofs.CarryBack.{put_back_on}
+use Rattle.blk_world.proofs.CarryBack.{unmoved_on}
 use Rattle.blk_world.proofs.CarryLines.{no_command_replied, no_command_comes}
 use Rattle.blk_world.proofs.world.World.put_stop.Goals as goal
 
@@ -20,7 +20,7 @@ returns-clause-comes g c =
     (seen_stop c.args.stop) c.requires.read c.in_ok-text.ensures o idle comes)
 
 pub returns-in_err-text-clause-back : goal.returns-in_err-text-clause-back
-returns-in_err-text-clause-back g c = put_back_on c.from_residual.result c.args.self.now
+returns-in_err-text-clause-back g c = unmoved_on c.from_residual.result c.args.self.now
 
 pub returns-in_err-copy-clause-back : goal.returns-in_err-copy-clause-back
-returns-in_err-copy-clause-back g c = put_back_on c.from_residual-in_err-copy.result c.args.self.now
+returns-in_err-copy-clause-back g c = unmoved_on c.from_residual-in_err-copy.result c.args.self.now

@@ -10,7 +10,7 @@ use Rattle.world_parts.proofs.AddLooked.{have-files, looked-alike, out-for}
 use Rattle.world_parts.proofs.adding.staging.add.Goals as goal
 
 pub look-requires-clause-files : goal.look-requires-clause-files
-look-requires-clause-files g c = have-files c.args.names.now.table c.args.nodes.now c.requires.can.alike c.requires.can.apart
+look-requires-clause-files g c = have-files c.args.names.now.table c.args.nodes.now c.requires.can.alike c.requires.can.rests.stands.apart
 
 pub end-requires-clause-out : goal.end-requires-clause-out
 end-requires-clause-out g c =
@@ -35,4 +35,4 @@ end-requires-clause-ready g c =
     λ none.
     subst (λ (now_t : Table). CanAdd now_t said x.out x.seen.image c.look.new.nodes) (sym c.stage.ensures.table)
     (ready t x.seen.told said (subst (λ (now_t : Table). refusal_of now_t x.seen.told (AddCommand said) ≡ None) c.stage.ensures.table none) old now alike
-    c.edges.ensures.joined c.requires.can.apart x.out x.seen.image c.in_ok-out.ensures.looked)
+    c.edges.ensures.joined c.requires.can.rests x.out x.seen.image c.in_ok-out.ensures.looked)
