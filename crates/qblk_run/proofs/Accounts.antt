@@ -18,7 +18,7 @@ use Rattle.flat_machine.specs.Final.{AreDisks}
 use Rattle.flat_machine.specs.Machine.{replay}
 use Rattle.flat_machine.specs.Opening.{start}
 use Rattle.flat_machine.specs.Blocked.{IsStuck, ActorWaits}
-use Rattle.flat_machine.specs.Courses.{Course, KeepsOrder, course_of}
+use Rattle.flat_machine.specs.Courses.{Course, KeepsOrder, course_of, course_after}
 use Rattle.flat_machine.specs.Licence.{Counts, AreLicensed}
 use Rattle.flat_machine.specs.declared.opening.Opening.{Opening}
 use Rattle.world_commands.specs.Closing.{IsToldBack, count_back, store_in}
@@ -37,7 +37,7 @@ use Rattle.qblk_run.specs.Rounds.{AllRest, AreDone, IsFirst}
 use Rattle.qblk_run.proofs.Closing.{all-back, behind-back, licensed-later, quiet-run, leaves-files}
 use Rattle.qblk_run.proofs.Flushes.{same-places, all-stand, first-stand, first-above, both-at}
 use Rattle.qblk_run.specs.Devices.{HaveDevices}
-use Rattle.qblk_run.specs.Worlds.{GoesThrough}
+use Rattle.qblk_run.specs.Worlds.{GoesThrough, IsLast}
 use Rattle.qblk_run.proofs.Ending.{is-stuck, is-whole, idle-at}
 use Rattle.qblk_run.proofs.History.{course-ended}
 use Rattle.qblk_run.proofs.Lists.{at-get}
@@ -118,10 +118,12 @@ module _ (old : StoreSeen) (guests : List (List ℕ)) (w v : Face) (store : Stor
       let told : IsToldBack v end.closed.opened f = rw is at end.closed.given.told in
       (told.number, told.from)
 
-  pub run-is : (cast : Cast) (work : Work) → guests_of cast ≡ guests → length work.traces ≡ length guests
+  pub run-is : (cast : Cast) (work : Work) (had : Bool) → guests_of cast ≡ guests → length work.traces ≡ length guests
       → KeepsOrder (course_of work.script work.traces) v.progress.log.events
-      → (room : Room) → GoesThrough (opening_by old guests) (new_world old guests room) v.progress.log.events v → IsRun cast work fault old store account
-  run-is cast work names count order room through = record {
+      → (room : Room) (near : Face)
+      → GoesThrough (opening_by old guests) (course_of work.script work.traces) (new_world old guests room) v.progress.log.events near
+      → IsLast had (course_after (course_of work.script work.traces) v.progress.log.events).script near v → IsRun cast work had fault old store account
+  run-is cast work had names count order room near through is_last = record {
     opening = rw names (opening-of old guests);
     openings = opened;
     room = end.room ∙ stays.room ∙ roomy;
@@ -131,7 +133,16 @@ module _ (old : StoreSeen) (guests : List (List ℕ)) (w v : Face) (store : Stor
     quiet = quiet-run (counts_at_first old account) (counts_at_last store account) v.progress.log.events
         (licensed-later (counts_at_first old account) (counts_now v) (counts_at_last store account) v.progress.log.events later.store later.devices licensed);
     flush = flush;
-    worlds = record { room = room; last = v; through = through; comes = comes; counts_are = refl; closed = end.closed };
+    worlds = record {
+      room = room;
+      near = near;
+      through = through;
+      last = v;
+      is_last = is_last;
+      comes = comes;
+      counts_are = refl;
+      closed = end.closed;
+    };
     files = by_files old.files refl;
   }
     where

@@ -1,5 +1,5 @@
 -- Why a run ended with its status.
-use Rattle.std.proofs.Common.{◌≡◌, ◌⊎◌, ℕ, List, [], ◌∷◌, ◌++◌, length, take, refl, sym, ◌∙◌, ap, subst, arith, Option, Some, None, inl, inr}
+use Rattle.std.proofs.Common.{◌≡◌, ◌⊎◌, ℕ, Bool, true, false, List, [], ◌∷◌, ◌++◌, length, take, refl, sym, ◌∙◌, ap, subst, arith, Option, Some, None, inl, inr}
 use Rattle.std.specs.Prelude.{is_some, MatchOption, option_map}
 use Rattle.std.proofs.lemmas.List.{take_all, take-append-le}
 use Rattle.blk_base.specs.Counts.{Rose}
@@ -18,6 +18,7 @@ use Rattle.flat_machine.specs.State.{State}
 use Rattle.flat_machine.specs.Machine.{after}
 use Rattle.flat_machine.specs.Opening.{start}
 use Rattle.flat_machine.specs.Comes.{jobs_from, transcript_of}
+use Rattle.flat_machine.specs.Courses.{Course, course_of, course_after}
 use Rattle.flat_machine.specs.Licence.{fault_at}
 use Rattle.flat_machine.specs.declared.opening.Opening.{Opening}
 use Rattle.world_commands.specs.Comes.{Comes}
@@ -38,7 +39,7 @@ use Rattle.qblk_run.proofs.Beginnings.{start-keeps}
 use Rattle.qblk_run.proofs.Devices.{run-devices}
 use Rattle.qblk_run.proofs.Worlds.{come-first}
 use Rattle.qblk_run.specs.Devices.{HaveDevices}
-use Rattle.qblk_run.specs.Worlds.{HasCome}
+use Rattle.qblk_run.specs.Worlds.{HasCome, IsLast}
 
 -- ---- the transcript
 
@@ -79,8 +80,11 @@ module _ (cast : Cast) (work : Work) (old new : Setting) (room : Room) (log : Re
   abbrev w : Face
   w = new_world old.store (guests_of cast) room
 
-  abbrev has : HasCome (opening_by old.store (guests_of cast)) w played.now
-  has = played.comes (opening_by old.store (guests_of cast)) w (come-first (opening_by old.store (guests_of cast)) w
+  abbrev course : Course
+  course = course_of work.script work.traces
+
+  abbrev has : HasCome (opening_by old.store (guests_of cast)) course w played.now played.after.script.orders
+  has = played.comes (opening_by old.store (guests_of cast)) course w (come-first (opening_by old.store (guests_of cast)) course w
       (begins (opening_by old.store (guests_of cast)) (opening-of old.store (guests_of cast))) refl)
 
   abbrev comes : Comes (opening_by old.store (guests_of cast)) played.now
@@ -92,17 +96,19 @@ module _ (cast : Cast) (work : Work) (old new : Setting) (room : Room) (log : Re
   abbrev its : Account
   its = account old.store (guests_of cast) w played.now new.store fault refl refl refl refl comes.counted played.stays comes played.end
 
-  run : IsRun cast work fault old.store new.store its
-  run = run-is old.store (guests_of cast) w played.now new.store fault refl refl refl refl comes.counted played.stays comes played.end cast work refl count keeps.order room has.through
+  run : (had : Bool) → IsLast had (course_after course played.now.progress.log.events).script played.now played.now → IsRun cast work had fault old.store new.store its
+  run had is_last =
+      run-is old.store (guests_of cast) w played.now new.store fault refl refl refl refl comes.counted played.stays comes played.end
+      cast work had refl count keeps.order room played.now has.through is_last
 
-  run-as : (x : Option FaultAt) → fault ≡ x → IsRun cast work x old.store new.store its
-  run-as x is = subst (λ (f : Option FaultAt). IsRun cast work f old.store new.store its) is run
+  run-as : (x : Option FaultAt) → fault ≡ x → IsRun cast work true x old.store new.store its
+  run-as x is = subst (λ (f : Option FaultAt). IsRun cast work true f old.store new.store its) is (run true refl)
 
   was : (x : Option FaultAt) → fault ≡ x → (n : ℕ) → new.sent ≡ option_map (λ s. s ++ take n (whole_transcript its)) old.sent → WasRun cast work x old new its n
   was x is n sent = record { inputs = inputs; run = run-as x is; sent = sent }
 
   devices : HaveDevices (guests_of cast) played.now.progress.log.events played.now.table
-  devices = run-devices (opening_by old.store (guests_of cast)) old.store (guests_of cast) room played.now.progress.log.events played.now has.through
+  devices = run-devices (opening_by old.store (guests_of cast)) course old.store (guests_of cast) room played.now.progress.log.events played.now has.through
 
   stopped : HasStopped (is_some old.store.files) work its
   stopped = has-stopped old.store (guests_of cast) w played.now new.store fault refl refl refl refl comes.counted played.stays comes played.end
@@ -141,7 +147,7 @@ module _ (cast : Cast) (work : Work) (old new : Setting) (room : Room) (log : Re
   put good n sent rose = (work, its, n, record { was = was None good n sent; stopped = stopped }, rose, refl)
 
   unsent : new.sent ≡ old.sent → new.sink_faults ≡ old.sink_faults → Answers cast old new NoMemory
-  unsent sent sink = (sent, sink, inr (work, fault, its, inputs, run))
+  unsent sent sink = (sent, sink, inr (work, fault, its, inputs, run false (inl refl)))
 
   by-end : (whole : List ℕ) → whole ≡ whole_transcript its → (x : Option FaultAt) → fault ≡ x → (y : Option (ℕ × Waits Written)) → waiting ≡ y → WentOut old.sent new.sent whole old.sink_faults new.sink_faults
       → Answers cast old new (ended_as x y)

@@ -12,6 +12,7 @@ use Rattle.blk_base.specs.declared.file.File.{File}
 use Rattle.blk_base.specs.declared.file.Opened.{Opened}
 use Rattle.blk_history.specs.Fold.{With}
 use Rattle.blk_history.specs.declared.event.Event.{Event}
+use Rattle.qmp_rules.specs.Table.{Table}
 use Rattle.flat_machine.specs.State.{Left, filename_of}
 use Rattle.flat_machine.specs.Machine.{replay}
 use Rattle.flat_machine.specs.Opening.{start}
@@ -23,6 +24,7 @@ use Rattle.world_commands.specs.Comes.{Comes}
 use Rattle.world_commands.specs.Counting.{HaveNotFallen}
 use Rattle.world_parts.specs.Face.{Face, held, told_bytes, contents_of}
 use Rattle.world_parts.specs.Steps.{StoreSeen}
+use Rattle.blk_world.specs.Images.{ImagesAreSound}
 use Rattle.qblk_run.specs.Run.{HaveStood, LeavesFiles, Account}
 use Rattle.qblk_run.specs.Session.{IsEnd}
 use Rattle.qblk_run.proofs.Lists.{with-some, with-map}
@@ -122,6 +124,7 @@ leaves-files o v a store fault files opening events comes end told is =
     let shows = comes.shows told in
     let s = replay (start o) v.progress.log.events in
     let holds : (name : List ℕ) → bytes_of files name ≡ held v name = λ name. sym (ap (λ x. told_bytes x name) is) ∙ end.held told name in
+    let sound : ImagesAreSound s.table files = subst (λ (t : Table). ImagesAreSound t files) (sym shows.table.table_is) (rw is at (end.sound told)) in
     let disks : AreDisks files s = rw is at (end.disks told s shows.table.table_is shows.contents.disks) in
     rw (opening, events) (record {
       history = comes.history.history told;
@@ -132,4 +135,5 @@ leaves-files o v a store fault files opening events comes end told is =
       };
       flushed = λ none node name named.
           rw is at (end.flushed told none node name (ap (λ (t : _). filename_of t node) (sym shows.table.table_is) ∙ named));
+      sound = sound;
     })

@@ -6,6 +6,7 @@ use Rattle.std.proofs.lemmas.Bool.{false≢true}
 use Rattle.trace_codec.specs.declared.wish.Wish.{Wish}
 use Rattle.trace_codec.specs.declared.order.Order.TheVariants.{Give, Watch}
 use Rattle.trace_codec.specs.Script.{Order}
+use Rattle.blk_history.specs.Fold.{With}
 use Rattle.blk_history.specs.Machine.{Flight}
 use Rattle.blk_history.specs.declared.event.Event.{Event}
 use Rattle.blk_history.specs.declared.event.Event.TheVariants.{Admit, Refuse, Piece, Retire, Reply, Reached, Start, Ready, End, Done}
@@ -26,6 +27,7 @@ use Rattle.qblk_run.proofs.Sums.{entries-set, bytes-set, steps-set}
 use Rattle.qblk_run.proofs.Moves.{move-can}
 use Rattle.qblk_run.proofs.Orders.{stays, rests-advance, move-order, move-lines}
 use Rattle.qblk_run.proofs.Scripts.{script-less, script-can, script-order, script-lines}
+use Rattle.qblk_run.proofs.Worlds.{put-off-flies, put-off-gives, put-off-jobs, put-off-left}
 
 -- ---- a guest that makes no entry
 
@@ -169,14 +171,27 @@ script_drains w v before after (End job outcome offset) own kept was = absurd ow
 
 script-put-off : (w v : Face) (before after : ScriptTask) (tasks : List Task) → CanGoOn w.progress (record { script = before; guests = tasks })
     → IsScriptPutOff w v before after → Continues w v (record { script = before; guests = tasks }) (record { script = after; guests = tasks })
-script-put-off w v before after tasks can off = record {
-  can = rw (off.task, off.progress) can;
-  order = λ orders traces keeps. rw (off.task, off.progress) keeps;
-  lines = λ guests many lines. rw off.progress lines;
-  drains = λ was. record { jobs = off.jobs ∙ was.jobs; command = inr off.off.gives };
-  steps = rw off.task (omega arith);
-  count = refl;
-}
+script-put-off w v before after tasks can off =
+    let same : v.progress ≡ w.progress = ap (λ (u : Face). u.progress) (put-off-left before.orders w v off.off) in
+    record {
+      can = rw (off.task, same) can;
+      order = λ orders traces keeps. rw (off.task, same) keeps;
+      lines = λ guests many lines. rw same lines;
+      drains = λ was. record { jobs = put-off-jobs before.orders w v off.off ∙ was.jobs; command = inr (rw off.task (put-off-gives before.orders w v off.off)) };
+      steps = rw off.task (omega arith);
+      count = refl;
+    }
+
+-- a request in flight is waited for
+put-off-for : (w v : Face) (before after : ScriptTask) → IsScriptPutOff w v before after → IsPutOffFor v.progress after
+put-off-for w v before after off =
+    let same : v.progress ≡ w.progress = ap (λ (u : Face). u.progress) (put-off-left before.orders w v off.off) in
+    let flies = put-off-flies before.orders w v off.off in
+    record {
+      gives = rw off.task (put-off-gives before.orders w v off.off);
+      guest = flies.0;
+      flies = subst (λ (p : Progress). With (slice_get p.guests flies.0) (λ row. IsSome row.flight)) (sym same) flies.1;
+    }
 
 pub script-continues : (w v : Face) (before after : ScriptTask) (tasks : List Task) (moved : Bool) → CanGoOn w.progress (record { script = before; guests = tasks })
     → IsScriptTurn w v before after moved → Continues w v (record { script = before; guests = tasks }) (record { script = after; guests = tasks })
@@ -225,7 +240,7 @@ script-goes w v before after tasks true turn =
     let less = script-less before after turn.0 turn.1.runs turn.1.own in
     omega arith
 script-goes w v before after tasks false (inl turn) = (inl (rw turn.world turn.rests), λ g task below is. absurd (omega arith))
-script-goes w v before after tasks false (inr off) = (inr off.off, λ g task below is. absurd (omega arith))
+script-goes w v before after tasks false (inr off) = (inr (put-off-for w v before after off), λ g task below is. absurd (omega arith))
 
 -- a turn more
 pub goes-on : (w v u : Face) (a b c : Tasks) (n : ℕ) (moved turned : Bool) → Continues w v a b → Goes v a b n moved

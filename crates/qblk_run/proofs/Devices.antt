@@ -39,6 +39,7 @@ use Rattle.blk_base.specs.declared.memory.Room.{Room}
 use Rattle.trace_codec.specs.declared.op.Op.{Op}
 use Rattle.trace_codec.specs.declared.op.Op.TheVariants.{Read, Write, Zero, Flush, Discard}
 use Rattle.qmp_rules.specs.Chains.{disk_node, written_under}
+use Rattle.flat_machine.specs.Courses.{Course, onward}
 use Rattle.flat_machine.specs.declared.opening.Opening.{Opening}
 use Rattle.std.proofs.lemmas.List.{append_assoc}
 use Rattle.world_commands.specs.Comes.{Comes}
@@ -46,6 +47,7 @@ use Rattle.world_parts.specs.Face.{Face}
 use Rattle.world_commands.specs.Piecing.{table_after}
 use Rattle.world_parts.specs.Steps.{StoreSeen, new_world}
 use Rattle.qblk_run.specs.Worlds.{GoesThrough, IsEventOf, IsPieceOf}
+use Rattle.qblk_run.proofs.Worlds.{uneventful-table}
 use Rattle.qblk_run.proofs.LeftDevices.{IsOfDevice, SameDevices, all-leave, leave-command, leave-device-uses, leave-left}
 
 -- ---- texts
@@ -461,16 +463,18 @@ event-devices guests h o w v (Start job) comes event was = absurd event.left
 event-devices guests h o w v (Ready job) comes event was = absurd event.left
 event-devices guests h o w v (End job outcome offset) comes event was = absurd event.left
 
-through-devices : (guests : List (List ℕ)) (o : Opening) (w v : Face) (before h : List Event) → GoesThrough o w h v → AreDevices guests before w.table → AreDevices guests (before ++ h) v.table
-through-devices guests o w v before [] still was = rw (append-nil before, still.table) was
-through-devices guests o w v before (e ∷ h) through was =
+through-devices : (guests : List (List ℕ)) (o : Opening) (c : Course) (w v : Face) (before h : List Event) → GoesThrough o c w h v
+    → AreDevices guests before w.table → AreDevices guests (before ++ h) v.table
+through-devices guests o c w v before [] still was = rw (append-nil before, uneventful-table c.script w v still) was
+through-devices guests o c w v before (e ∷ h) through was =
     let x = through.0 in
     let y = through.1 in
-    let at : AreDevices guests before x.table = rw through.2.table was in
+    let at : AreDevices guests before x.table = rw (uneventful-table c.script w x through.2) was in
     let next = event-devices guests before o x y e through.3 through.4 at in
-    subst (λ (es : List Event). AreDevices guests es v.table) (append_assoc before (e ∷ []) h) (through-devices guests o y v (before ++ e ∷ []) h through.5 next)
+    subst (λ (es : List Event). AreDevices guests es v.table) (append_assoc before (e ∷ []) h) (through-devices guests o (onward c e) y v (before ++ e ∷ []) h through.5 next)
 
 -- a run from its beginning
-pub run-devices : (o : Opening) (store : StoreSeen) (guests : List (List ℕ)) (room : Room) (h : List Event) (v : Face) → GoesThrough o (new_world store guests room) h v → HaveDevices guests h v.table
-run-devices o store guests room h v through =
-    (through-devices guests o (new_world store guests room) v [] h through (record { names = refl; have = λ name g named. refl })).have
+pub run-devices : (o : Opening) (c : Course) (store : StoreSeen) (guests : List (List ℕ)) (room : Room) (h : List Event) (v : Face)
+    → GoesThrough o c (new_world store guests room) h v → HaveDevices guests h v.table
+run-devices o c store guests room h v through =
+    (through-devices guests o c (new_world store guests room) v [] h through (record { names = refl; have = λ name g named. refl })).have

@@ -1,20 +1,23 @@
 -- A run from its inputs on.
-use Rattle.std.proofs.Common.{◌≡◌, ℕ, ◌≤◌, List, [], ◌∷◌, length, map, refl, sym, ◌∙◌, ap, subst, arith, Option, Some, None, inl, inr}
+use Rattle.std.proofs.Common.{◌≡◌, ℕ, ◌≤◌, false, List, [], ◌∷◌, length, map, refl, sym, ◌∙◌, ap, subst, arith, Option, Some, None, inl, inr}
 use Rattle.std.specs.Prelude.{vec_len, IfSome}
 use Rattle.std.proofs.Common.{Vec, Global}
 use Rattle.std.proofs.lemmas.List.{length-map}
 use Rattle.blk_base.specs.Files.{IfTold}
 use Rattle.blk_base.specs.Written.{Written}
 use Rattle.blk_base.specs.declared.fault.FaultAt.{FaultAt}
+use Rattle.blk_base.specs.declared.file.File.{File}
+use Rattle.blk_base.specs.declared.file.Opened.{Opened}
 use Rattle.blk_base.specs.declared.memory.Room.{Room}
 use Rattle.trace_codec.specs.declared.waits.Waits.{Waits}
 use Rattle.trace_codec.specs.declared.wish.Wish.{Wish}
 use Rattle.trace_codec.specs.Script.{Order}
 use Rattle.blk_history.specs.Recorded.{Recorded}
+use Rattle.flat_machine.specs.Courses.{KeepsOrder, course_of, course_after}
 use Rattle.flat_machine.specs.declared.opening.Opening.{Opening}
 use Rattle.world_commands.specs.Comes.{Comes}
 use Rattle.world_parts.specs.Face.{Face}
-use Rattle.world_parts.specs.Progress.{no_progress}
+use Rattle.world_parts.specs.Progress.{Progress, no_progress}
 use Rattle.world_parts.specs.Steps.{StoreSeen, IsOpeningOf, new_world}
 use Rattle.qblk_core.specs.declared.status.Status.{Status}
 use Rattle.qblk_core.specs.declared.status.Status.TheVariants.{NoMemory}
@@ -34,8 +37,8 @@ use Rattle.qblk_run.specs.Tasks.{Tasks, ScriptTask, AreDrainsOf, CanGoOn, HaveLi
 use Rattle.qblk_run.proofs.Answering.{run-answers}
 use Rattle.qblk_run.proofs.Accounts.{opening_by, opening-of, account, run-is}
 use Rattle.qblk_run.proofs.Beginnings.{start-can, start-keeps}
-use Rattle.qblk_run.proofs.Worlds.{come-first}
-use Rattle.qblk_run.specs.Worlds.{HasCome}
+use Rattle.qblk_run.proofs.Worlds.{come-first, undone-progress}
+use Rattle.qblk_run.specs.Worlds.{GoesThrough, HasCome, IsUndoneBy}
 
 -- ---- the beginning
 
@@ -68,17 +71,26 @@ pub given-up : (cast : Cast) (work : Work) (old new : Setting) (room : Room) →
     → new.sent ≡ old.sent → new.sink_faults ≡ old.sink_faults → Answers cast old new NoMemory
 given-up cast work old new room inputs count begins given sent sink =
     let o = opening_by old.store (guests_of cast) in
+    let c = course_of work.script work.traces in
     let w = new_world old.store (guests_of cast) room in
-    let has : HasCome o w given.now = given.comes o w (come-first o w (begins o (opening-of old.store (guests_of cast))) refl) in (
+    let near = given.gives.near in
+    let has : HasCome o c w near given.gives.after.script.orders = given.gives.comes o c w (come-first o c w (begins o (opening-of old.store (guests_of cast))) refl) in
+    let comes : Comes o given.now = given.gives.undone.comes o has.comes in
+    let keeps = given.gives.so.order work.script work.traces (start-keeps work.script work.traces) in
+    let orders = given.gives.after.script.orders in
+    let same : near.progress ≡ given.now.progress = sym (undone-progress orders near given.now given.gives.undone.by) in
+    let left : orders ≡ (course_after c given.now.progress.log.events).script = sym has.left ∙ ap (λ (p : Progress). (course_after c p.log.events).script) same in (
       sent,
       sink,
       inr (
         work,
         given.fault,
-        account old.store (guests_of cast) w given.now new.store given.fault refl refl refl refl has.comes.counted given.stays has.comes given.end,
+        account old.store (guests_of cast) w given.now new.store given.fault refl refl refl refl comes.counted given.stays comes given.end,
         inputs,
-        run-is old.store (guests_of cast) w given.now new.store given.fault refl refl refl refl has.comes.counted given.stays has.comes given.end cast work refl count
-            (given.order work.script work.traces (start-keeps work.script work.traces)) room has.through,
+        run-is old.store (guests_of cast) w given.now new.store given.fault refl refl refl refl comes.counted given.stays comes given.end cast work false refl count
+            (subst (λ (p : Progress). KeepsOrder c p.log.events) same keeps.order) room near
+            (subst (λ (p : Progress). GoesThrough o c w p.log.events near) same has.through)
+            (inr (subst (λ (x : List Order). IsUndoneBy x near given.now) left given.gives.undone.by)),
       ),
     )
 
@@ -106,14 +118,23 @@ not-both words cast format image trace run io =
 
 -- ---- inputs that weren't read
 
+same-store : (a b : StoreSeen) → a.files ≡ b.files → a.opened ≡ b.opened → a.room ≡ b.room → a.faults ≡ b.faults → a ≡ b
+same-store a b files opened room faults =
+    let one : a ≡ record a { files = b.files } = ap (λ (x : Option (List File)). record a { files = x }) files in
+    let two : record a { files = b.files } ≡ record b { room = a.room; faults = a.faults } =
+    ap (λ (x : List Opened). record b { opened = x; room = a.room; faults = a.faults }) opened in
+    let three : record b { room = a.room; faults = a.faults } ≡ record b { faults = a.faults } = ap (λ (n : ℕ). record b { room = n; faults = a.faults }) room in
+    let four : record b { faults = a.faults } ≡ b = ap (λ (n : ℕ). record b { faults = n }) faults in
+    one ∙ two ∙ three ∙ four
+
 pub refused-answers : (cast : Cast) (old new : Setting) (stop : InputStop)
-    → new.store.files ≡ old.store.files → new.store.opened ≡ old.store.opened → new.sent ≡ old.sent → new.sink_faults ≡ old.sink_faults
+    → new.store.files ≡ old.store.files → new.store.opened ≡ old.store.opened → new.store.room ≡ old.store.room → new.sent ≡ old.sent → new.sink_faults ≡ old.sink_faults
     → StopsFor (λ name why line. IfTold old.store.files (IsRefusedInput cast name line why)) old.store.faults new.store.faults stop → Answers cast old new (status_of stop)
-refused-answers cast old new (stops.Refused name line why) files opened sent sink stop =
-    (record { files = files; opened = opened; sent = sent; sink = sink }, (why, refl, stop.0))
-refused-answers cast old new (stops.Failed count) files opened sent sink stop =
+refused-answers cast old new (stops.Refused name line why) files opened room sent sink stop =
+    (record { files = files; opened = opened; sent = sent; sink = sink }, stop.1, (why, refl, stop.0))
+refused-answers cast old new (stops.Failed count) files opened room sent sink stop =
     (record { files = files; opened = opened; sent = sent; sink = sink }, stop.0, stop.1)
-refused-answers cast old new stops.NoMemory files opened sent sink stop = (sent, sink, inl files)
+refused-answers cast old new stops.NoMemory files opened room sent sink stop = (sent, sink, inl (same-store new.store old.store files opened room stop))
 
 -- ---- what was read
 

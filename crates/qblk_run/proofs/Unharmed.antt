@@ -10,6 +10,7 @@ use Rattle.blk_history.specs.declared.event.Event.{Event}
 use Rattle.blk_history.specs.declared.event.Event.TheVariants.{Admit, Refuse, Piece, Retire, Reply, Reached, Start, Ready, End, Done as Ended}
 use Rattle.qmp_codec.specs.Commands.{Cmd}
 use Rattle.qmp_codec.specs.Lines.{command_at}
+use Rattle.flat_machine.specs.Courses.{Course, onward}
 use Rattle.flat_machine.specs.EventLicence.{IsCommandsFull, ReachesDevice, full_in_text}
 use Rattle.flat_machine.specs.Replies.{command_in}
 use Rattle.flat_machine.specs.State.{drive_of}
@@ -65,11 +66,12 @@ full-none w v (Ready job) event space = refl
 full-none w v (End job outcome offset) event space = absurd event.left
 full-none w v (Ended actor) event space = refl
 
-pub none-full : (o : Opening) (w : Face) (h : List Event) (v : Face) (through : GoesThrough o w h v) → HaveSpace o w h v through → filter_map full_in h ≡ []
-none-full o w [] v through space = refl
-none-full o w (e ∷ h) v through space =
+pub none-full : (o : Opening) (c : Course) (w : Face) (h : List Event) (v : Face) (through : GoesThrough o c w h v) → HaveSpace o c w h v through
+    → filter_map full_in h ≡ []
+none-full o c w [] v through space = refl
+none-full o c w (e ∷ h) v through space =
     let none = full-none through.0 through.1 e through.4 space.0 in
-    rw none (none-full o through.1 h v through.5 space.1)
+    rw none (none-full o (onward c e) through.1 h v through.5 space.1)
 
 -- ---- no count rises
 

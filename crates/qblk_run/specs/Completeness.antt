@@ -16,7 +16,7 @@ use Rattle.blk_history.specs.declared.entry.JobEnd.{JobEnd}
 use Rattle.blk_history.specs.declared.entry.JobEnd.TheVariants.{Failed}
 use Rattle.blk_history.specs.declared.event.Event.{Event}
 use Rattle.blk_history.specs.declared.event.Event.TheVariants.{Piece, Reply, End}
-use Rattle.flat_machine.specs.Courses.{is_answered}
+use Rattle.flat_machine.specs.Courses.{Course, is_answered, onward}
 use Rattle.flat_machine.specs.EventLicence.{ReachesDevice, full_by, full_in_text}
 use Rattle.flat_machine.specs.Licence.{faults_of}
 use Rattle.flat_machine.specs.Replies.{command_in}
@@ -89,10 +89,10 @@ HasSpaceFor w (Reply line given command text) =
 HasSpaceFor w e = Unit {0}
 
 -- so it is with each event, in the world before it
-abbrev pub HaveSpace : (o : Opening) (w : Face) (h : List Event) (v : Face) → GoesThrough o w h v → Type 0
-HaveSpace o w [] v through = Unit {0}
-HaveSpace o w (e ∷ h) v through =
-    HasSpaceFor through.0 e × HaveSpace o through.1 h v through.5
+abbrev pub HaveSpace : (o : Opening) (c : Course) (w : Face) (h : List Event) (v : Face) → GoesThrough o c w h v → Type 0
+HaveSpace o c w [] v through = Unit {0}
+HaveSpace o c w (e ∷ h) v through =
+    HasSpaceFor through.0 e × HaveSpace o (onward c e) through.1 h v through.5
 
 -- a count has not risen, and can
 abbrev pub HasStood : ℕ → ℕ → Type 0

@@ -7,6 +7,7 @@ use Rattle.flat_machine.specs.Blocked.{ScriptWaits, TraceWaits}
 use Rattle.world_parts.specs.Face.{Face, seen_state}
 use Rattle.qblk_run.specs.Tasks.{Task, Tasks, AreDrainsOf, CanGoOn, Halts, KeepsTo, HaveLines, Rests, ScriptHalts, ScriptRests, steps_of_tasks}
 use Rattle.qblk_run.specs.Turns.{IsTurn}
+use Rattle.qblk_run.specs.Worlds.{ComesOn, IsUndone}
 
 -- The history still keeps the order of script and traces, and what is left of these are the tasks.
 abbrev pub OrderStays : Face → Face → Tasks → Tasks → Type 0
@@ -26,6 +27,14 @@ pub record Continues (w v : Face) (before after : Tasks) : Type 0 where
   pub drains : AreDrainsOf w before.script → AreDrainsOf v after.script
   pub steps : steps_of_tasks after ≤ steps_of_tasks before
   pub count : length after.guests ≡ length before.guests
+
+-- memory wasn't had for a line of the script, behind some turns
+pub record GivesUp (w v : Face) (before : Tasks) : Type 0 where
+  pub near : Face
+  pub after : Tasks
+  pub so : Continues w near before after
+  pub comes : ComesOn w near before.script.orders after.script.orders
+  pub undone : IsUndone after.script.orders near v
 
 -- each actor is done or waits
 abbrev pub GuestsRest : Face → ℕ → List Task → Type 0

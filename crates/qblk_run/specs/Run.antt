@@ -1,5 +1,5 @@
 -- What a run of a script and traces is, seen from outside.
-use Rattle.std.specs.Prelude.{◌≡◌, ◌⊎◌, ℕ, ◌<◌, ◌≤◌, Bool, true, List, [], ◌++◌, length, map, take, slice_get, All, Option, Some, None, IsSome, is_some, option_map}
+use Rattle.std.specs.Prelude.{◌≡◌, ◌⊎◌, ℕ, ◌<◌, ◌≤◌, Bool, true, false, List, [], ◌++◌, length, map, take, slice_get, All, Option, Some, None, IsSome, is_some, option_map}
 use Rattle.blk_base.specs.Counts.{Rose}
 use Rattle.blk_base.specs.Files.{IfTold}
 use Rattle.blk_base.specs.Written.{Written}
@@ -30,6 +30,7 @@ use Rattle.world_commands.specs.Counting.{HaveNotFallen}
 use Rattle.world_parts.specs.Face.{Face, counts_now}
 use Rattle.world_parts.specs.Steps.{StoreSeen, IsOpeningOf, new_world, seen_store}
 use Rattle.world_commands.specs.Tabling.{IsTableAfter}
+use Rattle.blk_world.specs.Images.{ImagesAreSound}
 use Rattle.qblk_inputs.specs.Inputs.{Work, HasWork, IsRefusedInput}
 use Rattle.qblk_inputs.specs.Words.{Cast, guests_of}
 use Rattle.qblk_inputs.specs.declared.stop.InputFlaw.{InputFlaw}
@@ -41,7 +42,7 @@ use Rattle.qblk_core.specs.declared.status.InputWhy.{InputWhy}
 use Rattle.qblk_core.specs.declared.status.InputWhy.TheVariants as whys
 use Rattle.qblk_core.specs.declared.status.Status.{Status}
 use Rattle.qblk_run.specs.Devices.{HaveDevices}
-use Rattle.qblk_run.specs.Worlds.{GoesThrough}
+use Rattle.qblk_run.specs.Worlds.{GoesThrough, IsLast}
 use Rattle.qblk_core.specs.declared.status.Status.TheVariants.{Done, Usage, Input, Fault, Stuck, NoMemory}
 
 -- what is seen of a store and a sink
@@ -103,12 +104,13 @@ abbrev pub state_after : Opening → List Event → State
 state_after o h = replay (start o) h
 
 -- The history is one of its opening: it is legal, and no mark of it splits a request. Each node of the last table that has a
--- flat disk reads as it, by these files alone; left disks are what their drivers read; and files that no command named for
--- writing are as they were.
+-- flat disk reads as it, by these files alone; left disks are what their drivers read; files that no command named for
+-- writing are as they were; and the image in the file of each qcow2 node of that table is sound.
 pub record LeavesFiles (a : Account) (fault : Option FaultAt) (files : List File) : Type 0 where
   pub history : IsHistoryOf a.opening a.events
   pub left : AreLeftBy a.opening.files (state_after a.opening a.events) files
   pub flushed : fault ≡ None → NodesAreFlushed (state_after a.opening a.events).table files
+  pub sound : ImagesAreSound (state_after a.opening a.events).table files
 
 -- ---- the last flush: each device that is still out, in the order in which they were opened
 
@@ -127,11 +129,19 @@ IsFlushedAs new a (Some fault) =
 
 -- ---- the worlds of a run
 
--- A world was made over the store, the entries are its events, one after another, and it was closed.
-pub record IsPlayedBy (old new : StoreSeen) (a : Account) (fault : Option FaultAt) : Type 0 where
+-- what is left of script and traces behind the history
+abbrev pub course_in : Work → Account → Course
+course_in work a = course_after (course_of work.script work.traces) a.events
+
+-- A world was made over the store, the entries are its events, one after another, and it was closed. Between them nothing happens
+-- but that the script's next line is put off; `had` says whether memory was had for each line.
+pub record IsPlayedBy (work : Work) (had : Bool) (fault : Option FaultAt) (old new : StoreSeen) (a : Account) : Type 0 where
   pub room : Room
+  pub near : Face
+  pub through : GoesThrough a.opening (course_of work.script work.traces)
+      (new_world old a.opening.guests room) a.events near
   pub last : Face
-  pub through : GoesThrough a.opening (new_world old a.opening.guests room) a.events last
+  pub is_last : IsLast had (course_in work a).script near last
   pub comes : Comes a.opening last
   pub counts_are : a.counts ≡ counts_now last
   pub closed : IsClosed last new fault
@@ -141,7 +151,8 @@ pub record IsPlayedBy (old new : StoreSeen) (a : Account) (fault : Option FaultA
 -- Each guest's requests are its trace's, in order, and so it is with the script; each fault that the history names is a
 -- rise of its count in this run, and is named once; where no count has risen, none is named. Of the last flush the first fault is
 -- told. The files are spoken of where the store tells them.
-pub record IsRun (cast : Cast) (work : Work) (fault : Option FaultAt) (old new : StoreSeen) (a : Account) : Type 0 where
+pub record IsRun (cast : Cast) (work : Work) (had : Bool) (fault : Option FaultAt) (old new : StoreSeen)
+    (a : Account) : Type 0 where
   pub opening : IsOpeningOf old (guests_of cast) a.opening
   pub openings : HasOpened old.opened new.opened a.openings
   pub room : new.room ≡ old.room
@@ -150,12 +161,8 @@ pub record IsRun (cast : Cast) (work : Work) (fault : Option FaultAt) (old new :
   pub later : HaveNotSunk a.counts (counts_at_last new a)
   pub quiet : HaveStood (counts_at_first old a) (counts_at_last new a) → faults_of a.events ≡ []
   pub flush : IsFlushedAs new a fault
-  pub worlds : IsPlayedBy old new a fault
+  pub worlds : IsPlayedBy work had fault old new a
   pub files : IfTold old.files (λ told. With new.files (LeavesFiles a fault))
-
--- what is left of script and traces behind the history
-abbrev pub course_in : Work → Account → Course
-course_in work a = course_after (course_of work.script work.traces) a.events
 
 -- Some actor is unfinished, and each of those is blocked; the first is named. The table in which that is so is one that the
 -- entries make, with what is dirty, and the state is the one that the history comes to, where the store tells its files. What
@@ -188,7 +195,7 @@ whole_transcript a = transcript_of a.opening a.events
 -- script and traces are what the words name, they were run, and of the transcript the first n bytes went out
 pub record WasRun (cast : Cast) (work : Work) (fault : Option FaultAt) (old new : Setting) (a : Account) (n : ℕ) : Type 0 where
   pub inputs : IfTold old.store.files (HasWork cast work)
-  pub run : IsRun cast work fault old.store new.store a
+  pub run : IsRun cast work true fault old.store new.store a
   pub sent : new.sent ≡ option_map (λ s. s ++ take n (whole_transcript a)) old.sent
 
 -- all of it did, and no call failed since the last event
@@ -245,15 +252,15 @@ seen_waits (waits.Ended id) = waits.Ended id.bytes
 
 -- an input is refused
 abbrev pub IsRefusedFor : Cast → Setting → Setting → List ℕ → ℕ → InputWhy → Type 0
-IsRefusedFor cast old new name line why = NothingWritten old new
+IsRefusedFor cast old new name line why = NothingWritten old new × (new.store.faults ≡ old.store.faults)
     × ((flaw : InputFlaw) × (why ≡ why_of flaw) × IfTold old.store.files (IsRefusedInput cast name line flaw))
 
--- memory wasn't had: nothing went out, and the files are as the events so far left them
+-- memory wasn't had: nothing went out, and the store is as it was, or as the events so far left it
 abbrev pub IsUnsent : Cast → Setting → Setting → Type 0
 IsUnsent cast old new = (new.sent ≡ old.sent) × (new.sink_faults ≡ old.sink_faults)
-    × ((new.store.files ≡ old.store.files)
+    × ((new.store ≡ old.store)
     ⊎ ((work : Work) × (fault : Option FaultAt) × (a : Account) × IfTold old.store.files (HasWork cast work)
-    × IsRun cast work fault old.store new.store a))
+    × IsRun cast work false fault old.store new.store a))
 
 -- why a run of these words ended so
 abbrev pub Answers : Cast → Setting → Setting → Status → Type 0

@@ -4,22 +4,20 @@ use Rattle.blk_base.specs.Files.{is_out}
 use Rattle.blk_base.specs.Written.{Written}
 use Rattle.blk_base.specs.declared.fault.FaultAt.{FaultAt}
 use Rattle.trace_codec.specs.declared.waits.Waits.{Waits}
-use Rattle.trace_codec.specs.declared.wish.Wish.{Wish}
-use Rattle.trace_codec.specs.Script.{Order}
 use Rattle.blk_history.specs.Fold.{With}
 use Rattle.blk_history.specs.Recorded.{Recorded}
 use Rattle.flat_machine.specs.Agreement.{ReadAsDisks}
-use Rattle.flat_machine.specs.Courses.{KeepsOrder, course_of}
 use Rattle.flat_machine.specs.Final.{AreDisks}
 use Rattle.flat_machine.specs.State.{State}
 use Rattle.world_commands.specs.Closing.{IsClosed, AreNodesFlushed}
 use Rattle.world_parts.specs.Face.{Face, held, told_bytes, contents_of}
 use Rattle.world_parts.specs.Steps.{StoreSeen}
+use Rattle.blk_world.specs.Images.{ImagesAreSound}
 use Rattle.qblk_run.specs.Run.{seen_waits}
-use Rattle.qblk_run.specs.Tasks.{Tasks, KeepsTo}
+use Rattle.qblk_run.specs.Tasks.{Tasks}
 use Rattle.qblk_run.specs.Turns.{StaysIn}
 use Rattle.qblk_run.specs.Worlds.{ComesOn}
-use Rattle.qblk_run.specs.Rounds.{Continues, AllRest, AreDone, IsFirst}
+use Rattle.qblk_run.specs.Rounds.{Continues, GivesUp, AllRest, AreDone, IsFirst}
 
 -- the world was closed, and left its store so
 pub record IsEnd (v : Face) (store : StoreSeen) (fault : Option FaultAt) : Type 0 where
@@ -30,6 +28,7 @@ pub record IsEnd (v : Face) (store : StoreSeen) (fault : Option FaultAt) : Type 
   pub flushed : is_some v.files ≡ true → fault ≡ None → AreNodesFlushed v.table store.files
   pub disks : is_some v.files ≡ true → (s : State) → s.table ≡ v.table
       → ReadAsDisks s (contents_of v) → With store.files (λ files. AreDisks files s)
+  pub sound : is_some v.files ≡ true → With store.files (ImagesAreSound v.table)
   pub held : is_some v.files ≡ true → (name : List ℕ) → told_bytes store.files name ≡ held v name
 
 -- A world was played until no actor could go on, and closed; told are its history, the first fault of the last flushes, and the
@@ -41,18 +40,15 @@ pub record IsPlayed (w : Face) (before : Tasks) (store : StoreSeen) (log : Recor
   pub so : Continues w now before after
   pub rest : AllRest now after
   pub stays : StaysIn w now
-  pub comes : ComesOn w now
+  pub comes : ComesOn w now before.script.orders after.script.orders
   pub log_is : log ≡ now.progress.log
   pub end : IsEnd now store fault
   pub named : MatchOption waiting (AreDone after) (λ r. IsFirst now after r.0 (seen_waits r.1))
 
--- Memory wasn't had for a turn: the world was closed as it was.
+-- Memory wasn't had for a line: the world was closed as that left it.
 pub record IsGivenUp (w : Face) (before : Tasks) (store : StoreSeen) : Type 0 where
   pub now : Face
-  pub order : (script : List Order) (traces : List (List Wish))
-      → KeepsTo script traces w.progress.log.events before
-      → KeepsOrder (course_of script traces) now.progress.log.events
+  pub gives : GivesUp w now before
   pub stays : StaysIn w now
-  pub comes : ComesOn w now
   pub fault : Option FaultAt
   pub end : IsEnd now store fault

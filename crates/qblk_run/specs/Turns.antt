@@ -13,7 +13,8 @@ use Rattle.flat_machine.specs.Marks.{after_reply}
 use Rattle.world_parts.specs.Face.{Face}
 use Rattle.world_parts.specs.Progress.{Progress, answered_in}
 use Rattle.qblk_inputs.specs.Room.{bytes_for}
-use Rattle.qblk_run.specs.Tasks.{Task, ScriptTask, IsTaskOf, entries_of, steps_of, Halts, IsPutOffFor, ScriptRests}
+use Rattle.qblk_run.specs.Tasks.{Task, ScriptTask, IsTaskOf, entries_of, steps_of, Halts, ScriptRests}
+use Rattle.qblk_run.specs.Worlds.{IsPutOffBy}
 
 -- the world of the same run: its store tells as much, and began with the same count and openings
 pub record StaysIn (w v : Face) : Type 0 where
@@ -125,12 +126,10 @@ pub record IsScriptStill (w v : Face) (before after : ScriptTask) : Type 0 where
   pub task : after ≡ before
   pub rests : ScriptRests w after
 
--- its line has to come again: a drain stands for it now
+-- its line has to come again, and is kept for that
 pub record IsScriptPutOff (w v : Face) (before after : ScriptTask) : Type 0 where
   pub task : after ≡ before
-  pub progress : v.progress ≡ w.progress
-  pub jobs : v.drains.jobs ≡ w.drains.jobs
-  pub off : IsPutOffFor v.progress after
+  pub off : IsPutOffBy before.orders w v
 
 abbrev pub IsScriptTurn : Face → Face → ScriptTask → ScriptTask → Bool → Type 0
 IsScriptTurn w v before after true = ScriptMoves w v before after

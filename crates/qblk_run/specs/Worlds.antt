@@ -1,20 +1,26 @@
 -- The worlds that a run goes through: one event of the world after another, each as its call says.
-use Rattle.std.specs.Prelude.{◌≡◌, ℕ, true, List, [], ◌∷◌, ◌++◌, Some}
+use Rattle.std.specs.Prelude.{◌≡◌, ◌⊎◌, ℕ, Bool, true, false, List, [], ◌∷◌, ◌++◌, Some}
+use Rattle.trace_codec.specs.declared.order.Order.TheVariants.{Give}
+use Rattle.trace_codec.specs.Script.{Order}
+use Rattle.blk_history.specs.Fold.{With}
+use Rattle.blk_history.specs.Legal.{IsOver}
 use Rattle.blk_history.specs.Machine.{Flight}
 use Rattle.blk_history.specs.declared.event.Event.{Event}
 use Rattle.blk_history.specs.declared.event.Event.TheVariants.{Admit, Refuse, Piece, Retire, Reply, Reached, Done}
 use Rattle.blk_base.specs.declared.fault.Outcome.{Outcome}
+use Rattle.qmp_codec.specs.Lines.{command_at}
 use Rattle.qmp_rules.specs.Answers.{line_text}
+use Rattle.flat_machine.specs.Courses.{Course, course_after, onward as course_onward}
+use Rattle.flat_machine.specs.Legal.{IsMet, IsNotDone}
 use Rattle.flat_machine.specs.declared.opening.Opening.{Opening}
-use Rattle.blk_world.specs.declared.admission.Admission.TheVariants.{Admitted, Refused as NotAdmitted}
-use Rattle.world_commands.specs.Carrying.{IsReplied}
+use Rattle.world_parts.specs.declared.admission.Admission.TheVariants.{Admitted, Refused as NotAdmitted}
+use Rattle.world_commands.specs.Carrying.{IsReplied, IsPutOff, IsPutBackIn}
 use Rattle.world_commands.specs.Comes.{Comes}
-use Rattle.world_commands.specs.Counting.{RunsOn}
-use Rattle.world_parts.specs.Face.{Face}
+use Rattle.world_parts.specs.Face.{Face, seen_state}
 use Rattle.world_commands.specs.Piecing.{IsPieceMade, HasPieceLicence}
-use Rattle.world_parts.specs.Progress.{flight_at, with_retirement}
+use Rattle.world_parts.specs.Progress.{flight_at, with_retirement, HasNext}
 use Rattle.world_parts.specs.Saying.{given_line}
-use Rattle.world_parts.specs.Steps.{onward, after_admission, IsAnswered, after_wait, after_end}
+use Rattle.world_parts.specs.Steps.{onward, after_admission, IsAnswered, after_wait, after_end, IsIdle}
 
 -- a piece of the guest's request in flight was made, with its cause
 pub record IsPieceOf (w v : Face) (g : ℕ) (outcome : Outcome) : Type 0 where
@@ -39,26 +45,68 @@ IsLeftBy w v (Reached line what) = v ≡ after_wait w line what true
 IsLeftBy w v (Done actor) = v ≡ after_end w actor
 IsLeftBy w v e = ⊥
 
+-- What the call asks of the world that it is made in. Of a request that is asked for, its answer says it.
+abbrev pub MayCome : Face → Event → Type 0
+MayCome w (Piece g r k outcome got) = With (flight_at w.progress.guests g) HasNext
+MayCome w (Retire g r) = With (flight_at w.progress.guests g) IsOver
+MayCome w (Reply line given command text) = IsNotDone (seen_state w) 0
+MayCome w (Reached line what) = IsNotDone (seen_state w) 0 × IsMet (seen_state w) what
+MayCome w (Done actor) = IsNotDone (seen_state w) actor × IsIdle w.progress.guests actor
+MayCome w e = Unit {0}
+
 pub record IsEventOf (w v : Face) (e : Event) : Type 0 where
+  pub may : MayCome w e
   pub adds : v.progress.log.events ≡ w.progress.log.events ++ e ∷ []
   pub left : IsLeftBy w v e
 
--- no event: guests, history and table are the same, and no count falls; a drain may stand now
-pub record IsUneventful (w v : Face) : Type 0 where
-  pub progress : v.progress ≡ w.progress
-  pub table : v.table ≡ w.table
-  pub runs : RunsOn w v
+-- ---- between events
 
--- These entries lead from one world to another. Each world before an entry comes of the opening.
-abbrev pub GoesThrough : Opening → Face → List Event → Face → Type 0
-GoesThrough o w [] v = IsUneventful w v
-GoesThrough o w (e ∷ h) v = (x : Face) × (y : Face) × IsUneventful w x × Comes o x × IsEventOf x y e × GoesThrough o y h v
+-- the script's next line has to come again
+abbrev pub IsPutOffBy : List Order → Face → Face → Type 0
+IsPutOffBy (Give line given ∷ orders) w v = (g : ℕ) × (r : ℕ) × IsPutOff w v (given_line line given) g r
+IsPutOffBy orders w v = ⊥
 
--- a world comes of the opening, and its entries lead to it from the world that the run began with
-pub record HasCome (o : Opening) (first w : Face) : Type 0 where
+-- Nothing has happened, or the script's next line was put off.
+abbrev pub IsUneventful : List Order → Face → Face → Type 0
+IsUneventful orders w v = (v ≡ w) ⊎ IsPutOffBy orders w v
+
+-- These entries lead from one world to another, in which script and traces have this to do at first. Each world before an entry
+-- comes of the opening.
+abbrev pub GoesThrough : Opening → Course → Face → List Event → Face → Type 0
+GoesThrough o c w [] v = IsUneventful c.script w v
+GoesThrough o c w (e ∷ h) v = (x : Face) × (y : Face)
+    × IsUneventful c.script w x × Comes o x × IsEventOf x y e × GoesThrough o (course_onward c e) y h v
+
+-- ---- a world in its run
+
+-- It comes of the opening, its entries lead to it from the world that the run began with, and these lines are left of the
+-- script.
+pub record HasCome (o : Opening) (c : Course) (first w : Face) (orders : List Order) : Type 0 where
   pub comes : Comes o w
-  pub through : GoesThrough o first w.progress.log.events w
+  pub left : (course_after c w.progress.log.events).script ≡ orders
+  pub through : GoesThrough o c first w.progress.log.events w
 
 -- so it is with what is made of a world that has come
-abbrev pub ComesOn : Face → Face → Type 0
-ComesOn w v = (o : Opening) (first : Face) → HasCome o first w → HasCome o first v
+abbrev pub ComesOn : Face → Face → List Order → List Order → Type 0
+ComesOn w v before after =
+    (o : Opening) (c : Course) (first : Face) → HasCome o c first w before → HasCome o c first v after
+
+-- by a guest's turn, which leaves the script as it is
+abbrev pub ComesOnBeside : Face → Face → Type 0
+ComesOnBeside w v = (orders : List Order) → ComesOn w v orders orders
+
+-- ---- want of memory
+
+-- memory wasn't had for the script's next line
+abbrev pub IsUndoneBy : List Order → Face → Face → Type 0
+IsUndoneBy (Give line given ∷ orders) w v = IsPutBackIn w v (command_at given)
+IsUndoneBy orders w v = ⊥
+
+pub record IsUndone (orders : List Order) (w v : Face) : Type 0 where
+  pub by : IsUndoneBy orders w v
+  pub comes : (o : Opening) → Comes o w → Comes o v
+
+-- the world that is closed: the one that the entries lead to, but where memory wasn't had for the line that the script gives next
+abbrev pub IsLast : Bool → List Order → Face → Face → Type 0
+IsLast true orders near last = last ≡ near
+IsLast false orders near last = (last ≡ near) ⊎ IsUndoneBy orders near last

@@ -4,9 +4,10 @@ ghost use Rattle.blk_history.specs.Fold.{With};
 ghost use Rattle.blk_history.specs.Legal.{IsOver};
 ghost use Rattle.blk_history.specs.Machine.{Flight};
 ghost use Rattle.trace_codec.specs.Awaits.{seen_await};
+ghost use Rattle.qmp_codec.specs.Lines.{command_at};
 ghost use Rattle.flat_machine.specs.Legal.{IsMet, IsNotDone};
 ghost use Rattle.flat_machine.specs.declared.opening.Opening.{Opening};
-ghost use Rattle.world_commands.specs.Carrying.{IsExecuted, IsPutBack};
+ghost use Rattle.world_commands.specs.Carrying.{IsExecuted, IsPutBack, IsPutBackIn};
 ghost use Rattle.world_commands.specs.Comes.{Comes};
 ghost use Rattle.world_parts.specs.Face.{Face, seen_state};
 ghost use Rattle.world_commands.specs.Piecing.{IsPieceMade, HasPieceLicence};
@@ -59,6 +60,7 @@ pub(crate) trait Events {
         ensures done { IfOk result (λ answer.
             IsExecuted (face self.old) (face self.new) (given_line line text.now) answer) }
         ensures back { OnErr result (IsPutBack (face self.old) (face self.new)) }
+        ensures back_in { OnErr result (IsPutBackIn (face self.old) (face self.new) (command_at text.now)) }
         ensures stays { StaysIn (face self.old) (face self.new) }
         ensures comes { (o : Opening) → Comes o (face self.old) → Comes o (face self.new) };
 

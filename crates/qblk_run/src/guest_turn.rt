@@ -6,7 +6,7 @@ ghost use Rattle.world_parts.specs.Progress.{answered_in};
 ghost use Rattle.qblk_inputs.specs.Room.{bytes_for};
 ghost use Rattle.qblk_run.specs.Tasks.{entries_of, IsTaskIn};
 ghost use Rattle.qblk_run.specs.Turns.{StaysIn, GuestMoves, IsTurn, waited_in, is_over_in};
-ghost use Rattle.qblk_run.specs.Worlds.{ComesOn};
+ghost use Rattle.qblk_run.specs.Worlds.{ComesOnBeside};
 
 use crate::events::Events;
 use crate::task::{Task, look};
@@ -54,7 +54,7 @@ fn retire<W: Events>(world: &mut W, guest: u32, task: &mut Task)
     requires over { task.old.left ≡ Some 0 }
     ensures moved { GuestMoves (W.face world.old) (W.face world.new) guest task.old task.new }
     ensures stays { StaysIn (W.face world.old) (W.face world.new) }
-    ensures comes { ComesOn (W.face world.old) (W.face world.new) }
+    ensures comes { ComesOnBeside (W.face world.old) (W.face world.new) }
 {
     world.retire(guest);
     task.left = None;
@@ -76,7 +76,7 @@ fn make_piece<W: Events>(world: &mut W, guest: u32, left: u32, task: &mut Task)
     requires more { 0 < left }
     ensures moved { GuestMoves (W.face world.old) (W.face world.new) guest task.old task.new }
     ensures stays { StaysIn (W.face world.old) (W.face world.new) }
-    ensures comes { ComesOn (W.face world.old) (W.face world.new) }
+    ensures comes { ComesOnBeside (W.face world.old) (W.face world.new) }
 {
     let outcome = world.piece(guest);
     task.left = Some(left_after(left, outcome));
@@ -92,7 +92,7 @@ fn end<W: Events>(world: &mut W, guest: u32, task: &mut Task)
     requires entries { entries_of task.old ≤ (W.face world.old).progress.spare.entries }
     ensures moved { GuestMoves (W.face world.old) (W.face world.new) guest task.old task.new }
     ensures stays { StaysIn (W.face world.old) (W.face world.new) }
-    ensures comes { ComesOn (W.face world.old) (W.face world.new) }
+    ensures comes { ComesOnBeside (W.face world.old) (W.face world.new) }
 {
     world.finish(guest + 1);
     task.is_done = true;
@@ -108,7 +108,7 @@ fn ask<W: Events>(world: &mut W, guest: u32, task: &mut Task) -> bool
     requires bytes { bytes_for task.old.wishes ≤ (W.face world.old).progress.spare.bytes }
     ensures turn { IsTurn (W.face world.old) (W.face world.new) guest task.old task.new result }
     ensures stays { StaysIn (W.face world.old) (W.face world.new) }
-    ensures comes { ComesOn (W.face world.old) (W.face world.new) }
+    ensures comes { ComesOnBeside (W.face world.old) (W.face world.new) }
 {
     pass_waits(world, &mut task.next, &mut task.rest);
     match task.next.take() {
@@ -149,7 +149,7 @@ pub(crate) fn guest_turn<W: Events>(world: &mut W, guest: u32, task: &mut Task) 
     requires bytes { bytes_for task.old.wishes ≤ (W.face world.old).progress.spare.bytes }
     ensures turn { IsTurn (W.face world.old) (W.face world.new) guest task.old task.new result }
     ensures stays { StaysIn (W.face world.old) (W.face world.new) }
-    ensures comes { ComesOn (W.face world.old) (W.face world.new) }
+    ensures comes { ComesOnBeside (W.face world.old) (W.face world.new) }
 {
     if task.is_done {
         return false;

@@ -3,6 +3,7 @@ ghost use Rattle.std.specs.Prelude.{ℕ, Bool, List, Option, length};
 ghost use Rattle.blk_base.specs.declared.fault.FaultAt.{FaultAt};
 ghost use Rattle.trace_codec.specs.declared.waits.Waits.{Waits};
 ghost use Rattle.flat_machine.specs.Comes.{IsInOrder};
+ghost use Rattle.flat_machine.specs.Courses.{course_of};
 ghost use Rattle.world_parts.specs.Steps.{StoreSeen, new_world};
 ghost use Rattle.qblk_core.specs.declared.status.Status.{Status};
 ghost use Rattle.qblk_inputs.specs.Inputs.{Work};
@@ -28,9 +29,10 @@ pub fn runs_without_a_rise_name_no_fault()
 /// In a run in which no count rises, and no write would pass a capacity in the world that it is made in, each piece is good, and
 /// no command fails with a call of it.
 pub fn runs_with_space_are_good()
-    ensures { (cast : Cast) (work : Work) (fault : Option FaultAt) (old new : StoreSeen) (a : Account)
-        → (run : IsRun cast work fault old new a)
+    ensures { (cast : Cast) (work : Work) (had : Bool) (fault : Option FaultAt) (old new : StoreSeen) (a : Account)
+        → (run : IsRun cast work had fault old new a)
         → HaveStood (counts_at_first old a) (counts_at_last new a)
-        → HaveSpace a.opening (new_world old a.opening.guests run.worlds.room) a.events
-        run.worlds.last run.worlds.through → MeetsNone a.events }
+        → HaveSpace a.opening (course_of work.script work.traces)
+        (new_world old a.opening.guests run.worlds.room) a.events run.worlds.near run.worlds.through
+        → MeetsNone a.events }
 {}

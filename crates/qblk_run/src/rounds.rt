@@ -1,13 +1,10 @@
 //! Rounds: each actor has its turn, the script first and then the guests by number, until none of them can go on. A line that has
 //! to come again names a guest with a request in flight, which goes on in the same round.
-ghost use Rattle.std.specs.Prelude.{◌≡◌, ◌+◌, ◌<◌, List, length, IfOk, OnOk, OnErr, true, false};
-ghost use Rattle.trace_codec.specs.declared.wish.Wish.{Wish};
-ghost use Rattle.trace_codec.specs.Script.{Order};
-ghost use Rattle.flat_machine.specs.Courses.{KeepsOrder, course_of};
-ghost use Rattle.qblk_run.specs.Tasks.{ScriptTask, AreDrainsOf, CanGoOn, KeepsTo};
-ghost use Rattle.qblk_run.specs.Turns.{StaysIn, IsScriptTurn};
-ghost use Rattle.qblk_run.specs.Rounds.{Continues, AllRest, Goes, HasTurn};
-ghost use Rattle.qblk_run.specs.Worlds.{ComesOn};
+ghost use Rattle.std.specs.Prelude.{◌≡◌, ◌<◌, length, IfOk, OnOk, OnErr};
+ghost use Rattle.qblk_run.specs.Tasks.{ScriptTask, AreDrainsOf, CanGoOn};
+ghost use Rattle.qblk_run.specs.Turns.{StaysIn};
+ghost use Rattle.qblk_run.specs.Rounds.{Continues, GivesUp, AllRest, Goes, HasTurn};
+ghost use Rattle.qblk_run.specs.Worlds.{ComesOn, ComesOnBeside, IsUndone};
 
 use crate::events::Events;
 use crate::guest_turn::guest_turn;
@@ -23,7 +20,7 @@ fn turn_in<W: Events>(world: &mut W, tasks: &mut [Task], guest: u32) -> bool
         (record { script = script; guests = tasks.old }) }
     ensures turn { HasTurn (W.face world.old) (W.face world.new) tasks.old tasks.new guest result }
     ensures stays { StaysIn (W.face world.old) (W.face world.new) }
-    ensures comes { ComesOn (W.face world.old) (W.face world.new) }
+    ensures comes { ComesOnBeside (W.face world.old) (W.face world.new) }
 {
     guest_turn(world, guest, &mut tasks[guest as usize])
 }
@@ -36,7 +33,7 @@ fn next_guest<W: Events>(world: &mut W, actors: &mut Actors, guest: u32) -> bool
     ensures script { actors.new.script ≡ actors.old.script }
     ensures turn { HasTurn (W.face world.old) (W.face world.new) actors.old.guests actors.new.guests guest result }
     ensures stays { StaysIn (W.face world.old) (W.face world.new) }
-    ensures comes { ComesOn (W.face world.old) (W.face world.new) }
+    ensures comes { ComesOnBeside (W.face world.old) (W.face world.new) }
 {
     turn_in(world, actors.guests.as_mut_slice(), guest)
 }
@@ -50,9 +47,10 @@ fn next_script<W: Events>(
     requires can { CanGoOn (W.face world.old).progress actors.old }
     ensures goes { OnOk result (Continues (W.face world.old) (W.face world.new) actors.old actors.new) }
     ensures turn { IfOk result (Goes (W.face world.new) actors.old actors.new 0) }
-    ensures stop { OnErr result ((W.face world.new).progress ≡ (W.face world.old).progress) }
+    ensures stop { OnErr result (IsUndone actors.old.script.orders (W.face world.old) (W.face world.new)) }
     ensures stays { StaysIn (W.face world.old) (W.face world.new) }
-    ensures comes { ComesOn (W.face world.old) (W.face world.new) }
+    ensures comes { OnOk result (ComesOn (W.face world.old) (W.face world.new)
+        actors.old.script.orders actors.new.script.orders) }
 {
     script_turn(alloc, world, &mut actors.script)
 }
@@ -63,9 +61,10 @@ fn round<W: Events>(alloc: Global, world: &mut W, actors: &mut Actors) -> Result
     ensures goes { OnOk result (Continues (W.face world.old) (W.face world.new) actors.old actors.new) }
     ensures round { IfOk result (Goes (W.face world.new) actors.old actors.new
         (length actors.new.guests)) }
-    ensures stop { OnErr result ((W.face world.new).progress ≡ (W.face world.old).progress) }
+    ensures stop { OnErr result (IsUndone actors.old.script.orders (W.face world.old) (W.face world.new)) }
     ensures stays { StaysIn (W.face world.old) (W.face world.new) }
-    ensures comes { ComesOn (W.face world.old) (W.face world.new) }
+    ensures comes { OnOk result (ComesOn (W.face world.old) (W.face world.new)
+        actors.old.script.orders actors.new.script.orders) }
 {
     let mut moved = match next_script(alloc, world, actors) {
         Ok(moved) => moved,
@@ -88,11 +87,10 @@ pub(crate) fn run_rounds<W: Events>(
     requires drains { AreDrainsOf (W.face world.old) actors.old.script }
     ensures goes { OnOk result (Continues (W.face world.old) (W.face world.new) actors.old actors.new) }
     ensures rest { OnOk result (AllRest (W.face world.new) actors.new) }
-    ensures stop { OnErr result ((script : List Order) (traces : List (List Wish))
-        → KeepsTo script traces (W.face world.old).progress.log.events actors.old
-        → KeepsOrder (course_of script traces) (W.face world.new).progress.log.events) }
+    ensures stop { OnErr result (GivesUp (W.face world.old) (W.face world.new) actors.old) }
     ensures stays { StaysIn (W.face world.old) (W.face world.new) }
-    ensures comes { ComesOn (W.face world.old) (W.face world.new) }
+    ensures comes { OnOk result (ComesOn (W.face world.old) (W.face world.new)
+        actors.old.script.orders actors.new.script.orders) }
 {
     loop {
         match round(alloc, world, actors) {

@@ -1,8 +1,8 @@
 //! The script's turn: it makes at most one entry.
-ghost use Rattle.std.specs.Prelude.{◌≡◌, ◌≤◌, IfOk, OnErr};
+ghost use Rattle.std.specs.Prelude.{◌≤◌, IfOk, OnOk, OnErr};
 ghost use Rattle.qblk_run.specs.Tasks.{IsScriptIn, entries_of_script};
 ghost use Rattle.qblk_run.specs.Turns.{StaysIn, IsScriptTurn};
-ghost use Rattle.qblk_run.specs.Worlds.{ComesOn};
+ghost use Rattle.qblk_run.specs.Worlds.{ComesOn, IsUndone};
 
 use crate::events::Events;
 use crate::task::{Script, look};
@@ -20,9 +20,10 @@ pub(crate) fn script_turn<W: Events>(
     requires task { IsScriptIn (W.face world.old).progress script.old }
     requires entries { entries_of_script script.old ≤ (W.face world.old).progress.spare.entries }
     ensures turn { IfOk result (IsScriptTurn (W.face world.old) (W.face world.new) script.old script.new) }
-    ensures stop { OnErr result ((W.face world.new).progress ≡ (W.face world.old).progress) }
+    ensures stop { OnErr result (IsUndone script.old.orders (W.face world.old) (W.face world.new)) }
     ensures stays { StaysIn (W.face world.old) (W.face world.new) }
-    ensures comes { ComesOn (W.face world.old) (W.face world.new) }
+    ensures comes { OnOk result (ComesOn (W.face world.old) (W.face world.new)
+        script.old.orders script.new.orders) }
 {
     if script.is_done {
         return Ok(false);

@@ -97,20 +97,20 @@ returns-in-Refused-clause-turn g c =
     (ap (λ (u : Face). u.drains) c.in-Refused.ensures.kept)
 
 pub returns-in-Admitted-clause-comes : goal.returns-in-Admitted-clause-comes
-returns-in-Admitted-clause-comes g c = λ o first has.
-    come-admitted o first (g.W.Events.face c.args.world.now) (g.W.Events.face c.admit.new.self) has (c.admit.ensures.comes o)
+returns-in-Admitted-clause-comes g c = λ orders o d first has.
+    come-admitted o d first (g.W.Events.face c.args.world.now) (g.W.Events.face c.admit.new.self) orders has (c.admit.ensures.comes o)
     c.args.guest c.in-Some-Ask.op c.in-Admitted.field-0 c.in-Admitted.ensures.answer c.in-Admitted.ensures.kept
 
 pub returns-in-Refused-clause-comes : goal.returns-in-Refused-clause-comes
-returns-in-Refused-clause-comes g c = λ o first has.
-    come-refused o first (g.W.Events.face c.args.world.now) (g.W.Events.face c.admit.new.self) has (c.admit.ensures.comes o)
+returns-in-Refused-clause-comes g c = λ orders o d first has.
+    come-refused o d first (g.W.Events.face c.args.world.now) (g.W.Events.face c.admit.new.self) orders has (c.admit.ensures.comes o)
     c.args.guest c.in-Some-Ask.op c.in-Refused.field-0 c.in-Refused.ensures.answer c.in-Refused.ensures.kept
 
 pub returns-in-Away-clause-comes : goal.returns-in-Away-clause-comes
-returns-in-Away-clause-comes g c = λ o first has. subst (HasCome o first) (sym c.in-Away.ensures.kept) has
+returns-in-Away-clause-comes g c = λ orders o d first has. subst (λ (u : Face). HasCome o d first u orders) (sym c.in-Away.ensures.kept) has
 
 pub returns-in-Held-clause-comes : goal.returns-in-Held-clause-comes
-returns-in-Held-clause-comes g c = λ o first has. subst (HasCome o first) (sym c.in-Held.ensures.kept) has
+returns-in-Held-clause-comes g c = λ orders o d first has. subst (λ (u : Face). HasCome o d first u orders) (sym c.in-Held.ensures.kept) has
 
 pub returns-in-Held-clause-turn : goal.returns-in-Held-clause-turn
 returns-in-Held-clause-turn g c =

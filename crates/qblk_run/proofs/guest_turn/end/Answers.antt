@@ -26,5 +26,7 @@ returns-clause-moved g c = (
 )
 
 pub returns-clause-comes : goal.returns-clause-comes
-returns-clause-comes g c = λ o first has.
-    come-done o first (g.W.Events.face c.args.world.now) (g.W.Events.face c.finish.new.self) has (c.finish.ensures.comes o) (c.args.guest + 1) c.finish.ensures.kept
+returns-clause-comes g c = λ orders o d first has.
+    come-done o d first (g.W.Events.face c.args.world.now) (g.W.Events.face c.finish.new.self) orders has (c.finish.ensures.comes o) (c.args.guest + 1)
+    (is-open (g.W.Events.face c.args.world.now) c.args.guest c.args.task.now c.requires.task c.requires.runs)
+    (is-idle (g.W.Events.face c.args.world.now).progress c.args.guest c.args.task.now c.requires.task c.requires.idle) c.finish.ensures.kept

@@ -24,8 +24,9 @@ returns-clause-moved g c =
     )
 
 pub returns-clause-comes : goal.returns-clause-comes
-returns-clause-comes g c = λ o first has.
+returns-clause-comes g c = λ orders o d first has.
     let w = g.W.Events.face c.args.world.now in
     let v = g.W.Events.face c.piece-outcome.new.self in
     let f = flight-of w.progress c.args.guest c.args.left c.args.task.now c.requires.task c.requires.flying in
-    come-piece o first w v has (c.piece-outcome.ensures.comes o) c.args.guest f.0 c.piece-outcome.result f.1 (c.piece-outcome.ensures.made f.0 f.1)
+    come-piece o d first w v orders has (c.piece-outcome.ensures.comes o) c.args.guest f.0 c.piece-outcome.result f.1
+    (can-go w.progress c.args.guest c.args.left c.args.task.now c.requires.task c.requires.flying c.requires.more) (c.piece-outcome.ensures.made f.0 f.1)

@@ -16,5 +16,6 @@ returns-clause-moved g c = (
 )
 
 pub returns-clause-comes : goal.returns-clause-comes
-returns-clause-comes g c = λ o first has.
-    come-retired o first (g.W.Events.face c.args.world.now) (g.W.Events.face c.retire.new.self) has (c.retire.ensures.comes o) c.args.guest c.retire.ensures.kept
+returns-clause-comes g c = λ orders o d first has.
+    come-retired o d first (g.W.Events.face c.args.world.now) (g.W.Events.face c.retire.new.self) orders has (c.retire.ensures.comes o) c.args.guest
+    (is-over (g.W.Events.face c.args.world.now).progress c.args.guest c.args.task.now c.requires.task c.requires.over) c.retire.ensures.kept

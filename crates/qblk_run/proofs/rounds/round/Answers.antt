@@ -1,6 +1,8 @@
 use Rattle.std.proofs.Common.{◌≡◌, ◌+◌, ◌∙◌, Bool, sym, subst}
 use Rattle.std.specs.Prelude.{◌||◌}
 use Rattle.qblk_run.specs.Rounds.{Goes}
+use Rattle.qblk_run.specs.Tasks.{ScriptTask}
+use Rattle.qblk_run.specs.Worlds.{HasCome}
 use Rattle.qblk_run.proofs.Continuing.{continues-then, goes-on, stays_then}
 use Rattle.qblk_run.proofs.rounds.round.Goals.{then-turned, else-turned}
 use Rattle.qblk_run.proofs.rounds.round.Goals as goal
@@ -22,5 +24,6 @@ loop-guest-preserved g c =
           (goes-on w v u a c.loop-guest.actors c.next_guest-turned.new.actors c.loop-guest.guest c.loop-guest.moved turned c.loop-guest.invariant.so c.loop-guest.invariant.goes
           c.next_guest-turned.ensures.goes c.next_guest-turned.ensures.script c.next_guest-turned.ensures.turn);
       stays = stays_then w v u c.loop-guest.invariant.stays c.next_guest-turned.ensures.stays;
-      comes = λ o first was. c.next_guest-turned.ensures.comes o first (c.loop-guest.invariant.comes o first was);
+      comes = λ o d first was. subst (λ (s : ScriptTask). HasCome o d first u s.orders) (sym c.next_guest-turned.ensures.script)
+          (c.next_guest-turned.ensures.comes c.loop-guest.actors.script.orders o d first (c.loop-guest.invariant.comes o d first was));
     }

@@ -9,5 +9,5 @@ invariant-loop-guest g l = record {
   so : Continues (g.W.Events.face l.fn.world) (g.W.Events.face l.world) l.fn.actors l.actors;
   goes : Goes (g.W.Events.face l.world) l.fn.actors l.actors l.guest l.moved;
   stays : StaysIn (g.W.Events.face l.fn.world) (g.W.Events.face l.world);
-  comes : ComesOn (g.W.Events.face l.fn.world) (g.W.Events.face l.world);
+  comes : ComesOn (g.W.Events.face l.fn.world) (g.W.Events.face l.world) l.fn.actors.script.orders l.actors.script.orders;
 }

@@ -9,7 +9,7 @@ abbrev pub invariant-loop-stop : goal.invariant-loop-stop
 invariant-loop-stop g l = record {
   so : Continues (g.W.Events.face l.fn.world) (g.W.Events.face l.world) l.fn.actors l.actors;
   stays : StaysIn (g.W.Events.face l.fn.world) (g.W.Events.face l.world);
-  comes : ComesOn (g.W.Events.face l.fn.world) (g.W.Events.face l.world);
+  comes : ComesOn (g.W.Events.face l.fn.world) (g.W.Events.face l.world) l.fn.actors.script.orders l.actors.script.orders;
 }
 
 abbrev pub decreases-loop-stop : goal.decreases-loop-stop

@@ -1,11 +1,9 @@
-use Rattle.std.proofs.Common.{◌≡◌, List, ℕ, Option, refl, sym, ◌∙◌, ap, subst}
-use Rattle.blk_base.specs.declared.file.File.{File}
-use Rattle.blk_base.specs.declared.file.Opened.{Opened}
+use Rattle.std.proofs.Common.{◌≡◌, refl, sym, subst}
 use Rattle.blk_base.specs.Files.{IfTold}
 use Rattle.std.specs.Prelude.{map}
 use Rattle.trace_codec.specs.Script.{seen_order}
 use Rattle.qblk_inputs.specs.Inputs.{Work, HasWork}
-use Rattle.qblk_inputs.specs.Words.{Cast, texts_of, cast_of, guests_of}
+use Rattle.qblk_inputs.specs.Words.{Cast, texts_of, cast_of}
 use Rattle.qblk_run.specs.Run.{Answers, Setting, setting, status_of}
 use Rattle.qblk_run.proofs.Runs.{one-cast, refused-answers}
 use Rattle.qblk_run.proofs.run.run_script.Goals as goal
@@ -32,4 +30,4 @@ returns-in-Err-clause-ended g c = λ cast form.
     let old : Setting = setting (g.S.Store.files c.args.store) (g.S.Store.opened c.args.store) (g.S.Store.room c.args.store) (g.S.Store.faults c.args.store) (g.K.Sink.sent c.args.out.now) (g.K.Sink.faults c.args.out.now) in
     let new : Setting = setting (g.S.Store.files c.read_inputs.new.store) (g.S.Store.opened c.read_inputs.new.store) (g.S.Store.room c.read_inputs.new.store) (g.S.Store.faults c.read_inputs.new.store) (g.K.Sink.sent c.args.out.now) (g.K.Sink.faults c.args.out.now) in
     rw c.input_status.ensures (subst (λ (k : Cast). Answers k old new (status_of c.in-Err.stop)) same
-    (refused-answers its old new c.in-Err.stop read.files read.opened refl refl read.stop))
+    (refused-answers its old new c.in-Err.stop read.files read.opened read.room refl refl read.stop))

@@ -1,5 +1,3 @@
-use Rattle.std.proofs.Common.{refl, ap}
-use Rattle.qblk_run.specs.Session.{IsEnd}
 use Rattle.qblk_run.proofs.session.play.Goals as goal
 
 pub returns-in-Ok-clause-made : goal.returns-in-Ok-clause-made
@@ -18,7 +16,26 @@ returns-in-Ok-clause-made g c = record {
     none_out = c.close_world-store.ensures.none_out;
     flushed = c.close_world-store.ensures.named;
     disks = c.close_world-store.ensures.disks;
+    sound = c.close_world-store.ensures.sound;
     held = c.close_world-store.ensures.held;
   };
   named = c.first_waiting-waiting.ensures c.run_rounds-went.new.world c.in-Ok.ensures.rest;
+}
+
+pub returns-in-Err-clause-stopped : goal.returns-in-Err-clause-stopped
+returns-in-Err-clause-stopped g c = λ none. record {
+  now = c.run_rounds-went.new.world;
+  gives = c.in-Err.ensures.stop;
+  stays = c.in-Err.ensures.stays;
+  fault = c.close_world-store.result.2;
+  end = record {
+    closed = c.close_world-store.ensures.closed;
+    faults = c.close_world-store.ensures.faults;
+    room = c.close_world-store.ensures.room;
+    none_out = c.close_world-store.ensures.none_out;
+    flushed = c.close_world-store.ensures.named;
+    disks = c.close_world-store.ensures.disks;
+    sound = c.close_world-store.ensures.sound;
+    held = c.close_world-store.ensures.held;
+  };
 }
