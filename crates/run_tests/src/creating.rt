@@ -1,7 +1,7 @@
 //! Files and images that a script makes.
 
-use crate::files::{EMPTY, Files, WRITTEN, is_so, run};
-use crate::rows::{Left, Line, Row, START, all_left, comes_out, replies, script_of};
+use crate::files::WRITTEN;
+use crate::rows::{Left, Line, ROW, Row, START, all_come_out, comes_out};
 use blk_fakes::FailAt;
 use std::test::Fail;
 
@@ -44,10 +44,7 @@ const WRITES_A_CREATED_IMAGE: Row<'static> = Row {
             r#""driver":"virtio-blk-pci","id":"vda","drive":"format""#,
         ),
     ],
-    files: Files {
-        traces: ["await 9\nwrite -P 9 0 4\nread 0 6\n", ""],
-        ..EMPTY
-    },
+    t: "await 9\nwrite -P 9 0 4\nread 0 6\n",
     causes: &["", "", "", "name c is taken", "", "", "", "", ""],
     rest: "admit vda 0 write 0 4\n\
         done script\n\
@@ -58,6 +55,7 @@ const WRITES_A_CREATED_IMAGE: Row<'static> = Row {
         retire vda 1\n\
         done vda\n",
     left: &[("new.img", Left::Image(&WRITTEN))],
+    ..ROW
 };
 
 /// A guest on the node, which is unsettled.
@@ -68,83 +66,80 @@ const UNSETTLED: Line<'static> = (
 
 /// The device has no room for the image.
 const FINDS_NO_SPACE: Row<'static> = Row {
-    words: "run 1 s",
     lines: &[START, STORAGE, FORMAT, UNSETTLED],
-    files: Files {
-        capacity: 196_608,
-        ..EMPTY
-    },
+    capacity: 196_608,
     causes: &["", "", "nospace dev0", "node storage is not settled"],
-    rest: "done script\n",
-    left: &[],
+    ..ROW
 };
 
 /// The first call of the device fails.
 const FAILS: Row<'static> = Row {
-    words: "run 1 s",
     lines: &[START, STORAGE, FORMAT, UNSETTLED],
-    files: Files {
-        fails: [&[FailAt { call: 0, done: 0 }], &[], &[]],
-        ..EMPTY
-    },
+    device_fails: &[FailAt { call: 0, done: 0 }],
     causes: &["", "", "io dev0 1", "node storage is not settled"],
-    rest: "done script\n",
-    left: &[],
+    ..ROW
 };
+
+static TABLE: [Row<'static>; 3] = [WRITES_A_CREATED_IMAGE, FINDS_NO_SPACE, FAILS];
 
 #[test]
 fn images_are_made_or_not(rt: HostRuntime) -> Result<(), Fail> {
-    for row in &[WRITES_A_CREATED_IMAGE, FINDS_NO_SPACE, FAILS] {
-        let so = comes_out(&rt, row)?;
-        assert!(rt; so, "{}", row.rest);
-    }
-    Ok(())
+    all_come_out(&rt, &TABLE)
 }
 
-/// What is created, and why it isn't.
-const TABLE: [(&str, &str); 4] = [
+/// A command, its arguments, and why it is refused.
+type Refused<'a> = (&'a str, &'a str, &'a str);
+
+static REFUSED: [Refused<'static>; 4] = [
     (
+        "blockdev-create",
         r#""job-id":"c","options":{"driver":"file","filename":"a.img","size":1}"#,
         "file a.img is in use",
     ),
     (
+        "blockdev-create",
         r#""job-id":"c","options":{"driver":"file","filename":"new","size":1048577}"#,
         "file new is too long",
     ),
     (
+        "blockdev-create",
         r#""job-id":"c","options":{"driver":"qcow2","file":"none","size":512}"#,
         "none is not found",
     ),
     (
+        "blockdev-create",
         r#""job-id":"c","options":{"driver":"qcow2","file":"storage","size":513}"#,
         "member size has a value that is not accepted",
     ),
 ];
 
-/// A created image in `a.img`.
-const ONE_IMAGE: Files<'static> = Files {
-    images: [Some(&[]), None],
-    ..EMPTY
+/// A creation that is refused leaves the file as it was, and no job.
+static LEFT: Row<'static> = Row {
+    a: Some(&[]),
+    rest: "reply 4 {\"error\":{\"class\":\"GenericError\",\"desc\":\"c is not found\"}}\n\
+        done script\n",
+    left: &[("a.img", Left::Image(&[]))],
+    ..ROW
 };
 
-const LEFT: [(&str, Left<'static>); 1] = [("a.img", Left::Image(&[]))];
-
-/// Whether a creation is refused for this cause.
-fn refuses(rt: &HostRuntime, arguments: &str, cause: &str) -> Result<bool, Fail> {
-    let lines = [START, STORAGE, ("blockdev-create", arguments), DISMISS];
-    let script = script_of(rt, &lines)?;
-    let mut transcript = replies(rt, &["", "", cause, "c is not found"])?;
-    transcript.push_str("done script\n")?;
-    let ran = run(rt, "run 1 s", script.as_str().as_bytes(), &ONE_IMAGE)?;
-    let said = is_so(rt, &ran, "", transcript.as_str())?;
-    Ok(said && all_left(rt, &ran, &LEFT)?)
+/// Whether a command is refused for its cause.
+fn is_refused(rt: &HostRuntime, refused: &Refused) -> Result<bool, Fail> {
+    let (command, arguments, cause) = *refused;
+    let lines = [START, STORAGE, (command, arguments), DISMISS];
+    let causes = ["", "", cause];
+    let row = Row {
+        lines: &lines,
+        causes: &causes,
+        ..LEFT
+    };
+    comes_out(rt, &row)
 }
 
 #[test]
 fn each_refusal_has_its_cause(rt: HostRuntime) -> Result<(), Fail> {
-    for (arguments, cause) in &TABLE {
-        let so = refuses(&rt, arguments, cause)?;
-        assert!(rt; so, "{arguments}");
+    for row in &REFUSED {
+        let so = is_refused(&rt, row)?;
+        assert!(rt; so, "{} {}", row.1, row.2);
     }
     Ok(())
 }

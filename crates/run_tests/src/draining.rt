@@ -1,7 +1,7 @@
 //! Snapshots and guests that go, while requests are in flight.
 
-use crate::files::{EMPTY, Edits, Files};
-use crate::rows::{Left, Line, Row, START, comes_out};
+use crate::files::Edits;
+use crate::rows::{Left, Line, ROW, Row, START, all_come_out};
 use std::test::Fail;
 
 const BASE: Line<'static> = (
@@ -49,19 +49,14 @@ const OVER_A_GUEST: Row<'static> = Row {
         START,
         BASE,
         GUEST,
-        ("", "await guest vda 1"),
+        ("", "await guest vda 1\n"),
         OVERLAY_FILE,
         OVERLAY,
         SNAPSHOT,
     ],
-    files: Files {
-        traces: [
-            "write -P 1 0 512\nawait 7\nwrite -P 2 512 512\nread 0 1536\n",
-            "",
-        ],
-        images: [Some(&[]), Some(&[])],
-        ..EMPTY
-    },
+    t: "write -P 1 0 512\nawait 7\nwrite -P 2 512 512\nread 0 1536\n",
+    a: Some(&[]),
+    b: Some(&[]),
     causes: &["", "", ""],
     rest: "admit vda 0 write 0 512\n\
         piece vda 0 0 ok\n\
@@ -82,18 +77,14 @@ const OVER_A_GUEST: Row<'static> = Row {
         ("a.img", Left::Image(ONES)),
         ("b.img", Left::Image(ONES_AND_TWOS)),
     ],
+    ..ROW
 };
 
 /// An overlay that holds clusters is refused, and the guest stays.
 const HOLDS_CLUSTERS: Row<'static> = Row {
-    files: Files {
-        traces: [
-            "write -P 1 0 512\nawait 7\nwrite -P 2 512 512\nread 0 1536\n",
-            "",
-        ],
-        images: [Some(&[]), Some(ONES)],
-        ..EMPTY
-    },
+    t: "write -P 1 0 512\nawait 7\nwrite -P 2 512 512\nread 0 1536\n",
+    a: Some(&[]),
+    b: Some(ONES),
     rest: "admit vda 0 write 0 512\n\
         piece vda 0 0 ok\n\
         retire vda 0\n\
@@ -120,11 +111,9 @@ const HOLDS_CLUSTERS: Row<'static> = Row {
 const WAITS: Row<'static> = Row {
     words: "run 1 s vda=t",
     lines: &[START, BASE, GUEST, OVERLAY_FILE, OVERLAY, SNAPSHOT],
-    files: Files {
-        traces: ["write -P 1 0 196608\nread 0 1\n", ""],
-        images: [Some(&[]), Some(&[])],
-        ..EMPTY
-    },
+    t: "write -P 1 0 196608\nread 0 1\n",
+    a: Some(&[]),
+    b: Some(&[]),
     causes: &["", "", ""],
     rest: "admit vda 0 write 0 196608\n\
         reply 4 {\"return\":{}}\n\
@@ -140,6 +129,7 @@ const WAITS: Row<'static> = Row {
         retire vda 1\n\
         done vda\n",
     left: &[("a.img", Left::Bytes(524_288)), ("b.img", Left::Image(&[]))],
+    ..ROW
 };
 
 const SHARES: Line<'static> = (
@@ -164,14 +154,10 @@ const HOLDS_THE_OTHER: Row<'static> = Row {
         SHARES_TOO,
         SNAPSHOT,
     ],
-    files: Files {
-        traces: [
-            "await 6\nwrite -P 1 0 196608\n",
-            "await 6\nread 0 1\nread 0 1\n",
-        ],
-        images: [Some(&[]), Some(&[])],
-        ..EMPTY
-    },
+    t: "await 6\nwrite -P 1 0 196608\n",
+    u: "await 6\nread 0 1\nread 0 1\n",
+    a: Some(&[]),
+    b: Some(&[]),
     causes: &["", "", "", "", "", ""],
     rest: "admit vda 0 write 0 196608\n\
         admit vdb 0 read 0 1\n\
@@ -189,6 +175,7 @@ const HOLDS_THE_OTHER: Row<'static> = Row {
         retire vdb 1\n\
         done vdb\n",
     left: &[("b.img", Left::Image(&[]))],
+    ..ROW
 };
 
 /// A guest goes when its request is over; its node can then be deleted.
@@ -202,11 +189,8 @@ const GOES_LATER: Row<'static> = Row {
         ("device_del", r#""id":"vda""#),
         ("blockdev-del", r#""node-name":"base""#),
     ],
-    files: Files {
-        traces: ["write -P 1 0 131072\n", ""],
-        images: [Some(&[]), None],
-        ..EMPTY
-    },
+    t: "write -P 1 0 131072\n",
+    a: Some(&[]),
     causes: &["", "", ""],
     rest: "admit vda 0 write 0 131072\n\
         piece vda 0 0 ok\n\
@@ -218,22 +202,19 @@ const GOES_LATER: Row<'static> = Row {
         reply 6 {\"return\":{}}\n\
         done script\n",
     left: &[],
+    ..ROW
 };
+
+static OVERLAYS: [Row<'static>; 2] = [OVER_A_GUEST, HOLDS_CLUSTERS];
 
 #[test]
 fn overlays_are_put_over_a_guest(rt: HostRuntime) -> Result<(), Fail> {
-    for row in &[OVER_A_GUEST, HOLDS_CLUSTERS] {
-        let so = comes_out(&rt, row)?;
-        assert!(rt; so, "{}", row.rest);
-    }
-    Ok(())
+    all_come_out(&rt, &OVERLAYS)
 }
+
+static WAITED_FOR: [Row<'static>; 3] = [WAITS, HOLDS_THE_OTHER, GOES_LATER];
 
 #[test]
 fn requests_are_waited_for(rt: HostRuntime) -> Result<(), Fail> {
-    for row in &[WAITS, HOLDS_THE_OTHER, GOES_LATER] {
-        let so = comes_out(&rt, row)?;
-        assert!(rt; so, "{}", row.rest);
-    }
-    Ok(())
+    all_come_out(&rt, &WAITED_FOR)
 }

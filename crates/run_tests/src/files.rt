@@ -1,6 +1,8 @@
 //! Files in memory for a run: the script `s`, the traces `t` and `u`, and the images `a.img` and `b.img`.
-ghost use Rattle.std.specs.Prelude.{◌≡◌, [], IfOk};
+ghost use Rattle.std.specs.Prelude.{◌≡◌, ◌++◌, [], ◌∷◌, false, IfOk, OnOk};
+ghost use Rattle.blk_fakes.specs.Shelf.{is_held};
 
+use crate::rows::Row;
 use blk_base::Text;
 use blk_fakes::{FailAt, MemDevice, MemSink, MemStore};
 use qblk_core::Status;
@@ -8,30 +10,10 @@ use qblk_run::qblk;
 use std::test::Fail;
 
 /// The capacity of a file that a run makes.
-const ROOM: u64 = 1_048_576;
+pub(crate) const ROOM: u64 = 1_048_576;
 
 /// Bytes that are put at places of a file.
 pub(crate) type Edits<'a> = &'a [(usize, &'a [u8])];
-
-/// What lies in the files beside the script.
-#[derive(Clone, Copy)]
-pub(crate) struct Files<'a> {
-    pub(crate) traces: [&'a str; 2],
-    /// Created images with these edits, or no bytes.
-    pub(crate) images: [Option<Edits<'a>>; 2],
-    /// The capacity of an image, where its bytes aren't more.
-    pub(crate) capacity: u64,
-    /// The calls that fail: those of the device of `a.img`, of the store, and of the sink.
-    pub(crate) fails: [&'a [FailAt]; 3],
-}
-
-/// Empty files with room in them. No call fails.
-pub(crate) const EMPTY: Files<'static> = Files {
-    traces: ["", ""],
-    images: [None, None],
-    capacity: ROOM,
-    fails: [&[], &[], &[]],
-};
 
 /// How a run ended, what went out, and the files.
 #[derive(Drop)]
@@ -61,53 +43,55 @@ fn device(
     Ok(dev)
 }
 
-/// The store of these files, of which none is out.
-fn store_of(rt: &HostRuntime, script: &[u8], files: &Files) -> Result<MemStore, Fail>
+/// A device of a created image with these edits, or of no bytes, whose calls of these numbers fail.
+fn image_device(
+    rt: &HostRuntime,
+    edits: Option<Edits>,
+    capacity: u64,
+    fails: &[FailAt],
+) -> Result<MemDevice, Fail> {
+    match edits {
+        Some(edits) => device(rt, image(rt, edits)?.as_slice(), capacity, fails),
+        None => device(rt, &[], capacity, fails),
+    }
+}
+
+/// Adds a file to a store.
+fn add(store: &mut MemStore, name: &str, dev: MemDevice) -> Result<(), Fail>
+    requires { is_held name.now store.old.files ≡ false }
+    ensures { OnOk result (store.new ≡ record store.old {
+      files = store.old.files ++ record { name = name.now; device = dev } ∷ [];
+    }) }
+{
+    if store.add_file(name, dev).is_ok() {
+        Ok(())
+    } else {
+        Err(Fail::new("want of memory"))
+    }
+}
+
+/// The store of a row, of which no file is out.
+fn store_of(rt: &HostRuntime, row: &Row, script: &[u8]) -> Result<MemStore, Fail>
     ensures { IfOk result (λ store. store.opened ≡ []) }
 {
-    let [fails, store_fails, _] = files.fails;
-    let [first, second] = files.traces;
-    let [a, b] = files.images;
-    let (a, b) = (image_or_none(rt, a)?, image_or_none(rt, b)?);
-    let mut store = MemStore::new(rt.alloc(), ROOM, store_fails)?;
-    if let Err((refused, _)) = store.add_file("s", device(rt, script, 0, &[])?) {
-        return Err(Fail::from(refused));
-    }
-    if let Err((refused, _)) = store.add_file("t", device(rt, first.as_bytes(), 0, &[])?) {
-        return Err(Fail::from(refused));
-    }
-    if let Err((refused, _)) = store.add_file("u", device(rt, second.as_bytes(), 0, &[])?) {
-        return Err(Fail::from(refused));
-    }
-    let a = device(rt, a.as_slice(), files.capacity, fails)?;
-    if let Err((refused, _)) = store.add_file("a.img", a) {
-        return Err(Fail::from(refused));
-    }
-    let b = device(rt, b.as_slice(), files.capacity, &[])?;
-    if let Err((refused, _)) = store.add_file("b.img", b) {
-        return Err(Fail::from(refused));
-    }
+    let mut store = MemStore::new(rt.alloc(), ROOM, row.store_fails)?;
+    add(&mut store, "s", device(rt, script, 0, &[])?)?;
+    add(&mut store, "t", device(rt, row.t.as_bytes(), 0, &[])?)?;
+    add(&mut store, "u", device(rt, row.u.as_bytes(), 0, &[])?)?;
+    let a = image_device(rt, row.a, row.capacity, row.device_fails)?;
+    add(&mut store, "a.img", a)?;
+    let b = image_device(rt, row.b, row.capacity, &[])?;
+    add(&mut store, "b.img", b)?;
     Ok(store)
 }
 
-/// Does what the words say, on these files.
-pub(crate) fn run(rt: &HostRuntime, text: &str, script: &[u8], files: &Files) -> Result<Ran, Fail> {
-    let store = store_of(rt, script, files)?;
-    let mut out = MemSink::new(rt.alloc(), 65_536, files.fails[2])?;
-    let words = words(rt, text)?;
+/// Does what the words of a row say, on its files.
+pub(crate) fn run(rt: &HostRuntime, row: &Row, script: &[u8]) -> Result<Ran, Fail> {
+    let store = store_of(rt, row, script)?;
+    let mut out = MemSink::new(rt.alloc(), 65_536, row.sink_fails)?;
+    let words = words(rt, row.words)?;
     let (status, store) = qblk(rt.alloc(), words.as_slice(), store, &mut out);
     Ok(Ran { status, out, store })
-}
-
-/// Whether a run ended so, and its transcript is this.
-pub(crate) fn is_so(
-    rt: &HostRuntime,
-    ran: &Ran,
-    status: &str,
-    transcript: &str,
-) -> Result<bool, Fail> {
-    let text = format!(in rt.alloc(); "{}", ran.status)?;
-    Ok(text.as_str() == status && ran.out.bytes() == transcript.as_bytes())
 }
 
 /// The bytes of a file behind a run.
@@ -154,11 +138,4 @@ pub(crate) fn image(rt: &HostRuntime, edits: Edits) -> Result<Vec<u8>, Fail> {
     put(&mut bytes, &REFCOUNTS);
     put(&mut bytes, edits);
     Ok(bytes)
-}
-
-fn image_or_none(rt: &HostRuntime, edits: Option<Edits>) -> Result<Vec<u8>, Fail> {
-    match edits {
-        Some(edits) => image(rt, edits),
-        None => Ok(Vec::new(rt.alloc())),
-    }
 }

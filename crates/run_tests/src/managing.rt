@@ -1,7 +1,7 @@
 //! Runs of scripts as management tools write them.
 
-use crate::files::{EMPTY, Files, WRITTEN};
-use crate::rows::{Left, Line, Row, START, comes_out};
+use crate::files::WRITTEN;
+use crate::rows::{Left, Line, ROW, Row, START, all_come_out};
 use std::test::Fail;
 
 /// An image in `a.img`.
@@ -16,17 +16,15 @@ const OVERLAY: Line<'static> = (
     r#""driver":"qcow2","node-name":"ov","file":{"driver":"file","filename":"b.img"},"backing":"base""#,
 );
 
+const BEFORE: &str = r#"{"execute":"query-block-jobs","id":5}
+hello
+{"execute":"qmp_capabilities"}
+{"execute":"qmp_capabilities","id":["x"]}
+{"execute":"query-block-jobs","id":"last"}
+"#;
+
 const BEFORE_NEGOTIATION: Row<'static> = Row {
-    words: "run 1 s",
-    lines: &[
-        ("", r#"{"execute":"query-block-jobs","id":5}"#),
-        ("", "hello"),
-        ("", r#"{"execute":"qmp_capabilities"}"#),
-        ("", r#"{"execute":"qmp_capabilities","id":["x"]}"#),
-        ("", r#"{"execute":"query-block-jobs","id":"last"}"#),
-    ],
-    files: EMPTY,
-    causes: &[],
+    lines: &[("", BEFORE)],
     rest: r#"reply 1 {"error":{"class":"CommandNotFound","desc":"capabilities are not negotiated"},"id":5}
 reply 2 {"error":{"class":"GenericError","desc":"the line is not a JSON command"}}
 reply 3 {"return":{}}
@@ -34,7 +32,7 @@ reply 4 {"error":{"class":"CommandNotFound","desc":"capabilities are negotiated 
 reply 5 {"id":"last","return":[]}
 done script
 "#,
-    left: &[],
+    ..ROW
 };
 
 /// A guest over one that writes is refused.
@@ -57,11 +55,10 @@ const OVER_A_WRITER: Row<'static> = Row {
             r#""driver":"virtio-blk-pci","id":"vdb","drive":"base","share-rw":"on""#,
         ),
     ],
-    files: Files {
-        traces: ["await 6\nwrite -P 1 0 1\n", "await 6\nread 0 2\nread 0 2\n"],
-        images: [Some(&[]), Some(&[])],
-        ..EMPTY
-    },
+    t: "await 6\nwrite -P 1 0 1\n",
+    u: "await 6\nread 0 2\nread 0 2\n",
+    a: Some(&[]),
+    b: Some(&[]),
     causes: &[
         "",
         "",
@@ -83,6 +80,7 @@ const OVER_A_WRITER: Row<'static> = Row {
         retire vdb 1\n\
         done vdb\n",
     left: &[("b.img", Left::Image(&[]))],
+    ..ROW
 };
 
 const OVERLAY_TAKES_THE_WRITES: Row<'static> = Row {
@@ -95,17 +93,12 @@ const OVERLAY_TAKES_THE_WRITES: Row<'static> = Row {
             "device_add",
             r#""driver":"virtio-blk","id":"vda","drive":"ov""#,
         ),
-        ("", "await guest vda 3"),
+        ("", "await guest vda 3\n"),
         ("query-named-block-nodes", ""),
     ],
-    files: Files {
-        traces: [
-            "write -P 9 65534 4\nwrite -z 0 65536\nflush\nawait 6\nread 65530 10\n",
-            "",
-        ],
-        images: [Some(&WRITTEN), Some(&[])],
-        ..EMPTY
-    },
+    t: "write -P 9 65534 4\nwrite -z 0 65536\nflush\nawait 6\nread 65530 10\n",
+    a: Some(&WRITTEN),
+    b: Some(&[]),
     causes: &["", "", "", ""],
     rest: "admit vda 0 write 65534 4\n\
         piece vda 0 0 ok\n\
@@ -133,6 +126,7 @@ const OVERLAY_TAKES_THE_WRITES: Row<'static> = Row {
         ("a.img", Left::Image(&WRITTEN)),
         ("b.img", Left::Bytes(458_752)),
     ],
+    ..ROW
 };
 
 const READ_ONLY_DRIVE: Row<'static> = Row {
@@ -161,16 +155,10 @@ const READ_ONLY_DRIVE: Row<'static> = Row {
             "\"driver\":\"scsi-hd\",\"id\":\"vda\",\"drive\":\"format\",\"bus\":\"scsi0.0\",\
             \"bootindex\":1,\"write-cache\":\"on\"",
         ),
-        ("", "await guest vda 4"),
+        ("", "await guest vda 4\n"),
     ],
-    files: Files {
-        traces: [
-            "read 0 6\nwrite -P 1 0 1\ndiscard 0 1\nread 1048575 2\nflush\n",
-            "",
-        ],
-        images: [Some(&WRITTEN), None],
-        ..EMPTY
-    },
+    t: "read 0 6\nwrite -P 1 0 1\ndiscard 0 1\nread 1048575 2\nflush\n",
+    a: Some(&WRITTEN),
     causes: &[
         "",
         "",
@@ -192,6 +180,7 @@ const READ_ONLY_DRIVE: Row<'static> = Row {
         retire vda 4\n\
         done vda\n",
     left: &[("a.img", Left::Image(&WRITTEN))],
+    ..ROW
 };
 
 /// A filter reads as its node.
@@ -211,11 +200,9 @@ const FILTER: Row<'static> = Row {
         ),
         ("blockdev-del", r#""node-name":"filter""#),
     ],
-    files: Files {
-        traces: ["await 6\nread 0 6\nwrite -P 7 1 1\nread 0 6\n", ""],
-        images: [Some(&WRITTEN), Some(&[])],
-        ..EMPTY
-    },
+    t: "await 6\nread 0 6\nwrite -P 7 1 1\nread 0 6\n",
+    a: Some(&WRITTEN),
+    b: Some(&[]),
     causes: &["", "", "", "", "", "node filter is in use by vda"],
     rest: "admit vda 0 read 0 6\n\
         done script\n\
@@ -229,6 +216,7 @@ const FILTER: Row<'static> = Row {
         retire vda 2\n\
         done vda\n",
     left: &[("a.img", Left::Image(&WRITTEN))],
+    ..ROW
 };
 
 /// There is room for the first cluster and its table.
@@ -242,15 +230,9 @@ const NO_SPACE: Row<'static> = Row {
             r#""driver":"virtio-blk","id":"vda","drive":"base""#,
         ),
     ],
-    files: Files {
-        traces: [
-            "await 3\nwrite -P 9 0 4\nwrite -P 2 65536 1\nread 65535 2\n",
-            "",
-        ],
-        images: [Some(&[]), None],
-        capacity: 393_216,
-        ..EMPTY
-    },
+    t: "await 3\nwrite -P 9 0 4\nwrite -P 2 65536 1\nread 65535 2\n",
+    a: Some(&[]),
+    capacity: 393_216,
     causes: &["", "", ""],
     rest: "admit vda 0 write 0 4\n\
         done script\n\
@@ -265,22 +247,19 @@ const NO_SPACE: Row<'static> = Row {
         retire vda 2\n\
         done vda\n",
     left: &[("a.img", Left::Image(&WRITTEN))],
+    ..ROW
 };
+
+static ANSWERED: [Row<'static>; 3] = [BEFORE_NEGOTIATION, OVER_A_WRITER, READ_ONLY_DRIVE];
 
 #[test]
 fn scripts_are_answered(rt: HostRuntime) -> Result<(), Fail> {
-    for row in &[BEFORE_NEGOTIATION, OVER_A_WRITER, READ_ONLY_DRIVE] {
-        let so = comes_out(&rt, row)?;
-        assert!(rt; so, "{}", row.rest);
-    }
-    Ok(())
+    all_come_out(&rt, &ANSWERED)
 }
+
+static WRITTEN_SO: [Row<'static>; 3] = [OVERLAY_TAKES_THE_WRITES, FILTER, NO_SPACE];
 
 #[test]
 fn writes_go_where_they_belong(rt: HostRuntime) -> Result<(), Fail> {
-    for row in &[OVERLAY_TAKES_THE_WRITES, FILTER, NO_SPACE] {
-        let so = comes_out(&rt, row)?;
-        assert!(rt; so, "{}", row.rest);
-    }
-    Ok(())
+    all_come_out(&rt, &WRITTEN_SO)
 }

@@ -1,10 +1,9 @@
 //! Dirty bitmaps: what a write marks, and what merges make of it.
 
-use crate::files::{EMPTY, Files};
-use crate::rows::{Row, START, comes_out};
+use crate::rows::{ROW, Row, START, all_come_out};
 use std::test::Fail;
 
-const MARKS: Row<'static> = Row {
+static TABLE: [Row<'static>; 1] = [Row {
     words: "run 1 s vda=t",
     lines: &[
         START,
@@ -20,7 +19,7 @@ const MARKS: Row<'static> = Row {
             "device_add",
             r#""driver":"virtio-blk","id":"vda","drive":"d""#,
         ),
-        ("", "await guest vda 1"),
+        ("", "await guest vda 1\n"),
         ("query-named-block-nodes", ""),
         (
             "block-dirty-bitmap-add",
@@ -46,11 +45,8 @@ const MARKS: Row<'static> = Row {
         ),
         ("query-named-block-nodes", ""),
     ],
-    files: Files {
-        traces: ["await 4\nwrite -P 1 1000 100\n", ""],
-        images: [Some(&[]), None],
-        ..EMPTY
-    },
+    t: "await 4\nwrite -P 1 1000 100\n",
+    a: Some(&[]),
     causes: &["", "", "", ""],
     rest: "admit vda 0 write 1000 100\n\
         piece vda 0 0 ok\n\
@@ -82,12 +78,10 @@ const MARKS: Row<'static> = Row {
         {\"busy\":false,\"count\":65536,\"granularity\":65536,\"name\":\"b\",\"persistent\":false,\"recording\":true}],\
         \"drv\":\"qcow2\",\"node-name\":\"d\",\"ro\":false,\"size\":1048576}]}\n\
         done script\n",
-    left: &[],
-};
+    ..ROW
+}];
 
 #[test]
 fn writes_mark_granules(rt: HostRuntime) -> Result<(), Fail> {
-    let so = comes_out(&rt, &MARKS)?;
-    assert!(rt; so);
-    Ok(())
+    all_come_out(&rt, &TABLE)
 }

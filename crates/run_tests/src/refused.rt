@@ -1,7 +1,7 @@
 //! Commands that are refused: each is told why, and leaves nodes and files as they were.
 
-use crate::files::{EMPTY, Files, is_so, run};
-use crate::rows::{Left, Line, Row, START, all_left, comes_out, replies, script_of};
+use crate::files::Edits;
+use crate::rows::{Left, Line, ROW, Row, START, all_come_out, comes_out};
 use std::test::Fail;
 
 /// An image in `a.img`, and a guest on it.
@@ -15,16 +15,22 @@ const GUEST: Line<'static> = (
     r#""driver":"virtio-blk","id":"vda","drive":"d""#,
 );
 
-/// What is asked then, and what is answered.
+/// What is asked then.
 const QUERY: Line<'static> = ("query-named-block-nodes", "");
 
-const NODES: &str =
-    r##"{"return":[{"dirty-bitmaps":[],"drv":"file","node-name":"#d","ro":false,"size":393216},{"dirty-bitmaps":[],"drv":"qcow2","node-name":"d","ro":false,"size":1048576}]}"##;
+/// A created image of half the size.
+const HALF: Edits<'static> = &[(24, &[0, 0, 0, 0, 0, 8, 0, 0])];
+
+/// What is answered then.
+const NODES_STAY: &str = "reply 5 {\"return\":[\
+    {\"dirty-bitmaps\":[],\"drv\":\"file\",\"node-name\":\"#d\",\"ro\":false,\"size\":393216},\
+    {\"dirty-bitmaps\":[],\"drv\":\"qcow2\",\"node-name\":\"d\",\"ro\":false,\"size\":1048576}]}\n\
+    done script\n";
 
 /// A command, its arguments, and why it is refused.
 type Refused<'a> = (&'a str, &'a str, &'a str);
 
-const TABLE: [Refused<'static>; 23] = [
+static TABLE: [Refused<'static>; 11] = [
     ("blockdev-del", "", "member node-name is missing"),
     (
         "blockdev-del",
@@ -68,6 +74,9 @@ const TABLE: [Refused<'static>; 23] = [
         r#""driver":"ide-hd","id":"vdb","drive":"d""#,
         "permission conflict on node d: vda asks write, vdb does not share it",
     ),
+];
+
+static ADDITIONS: [Refused<'static>; 12] = [
     (
         "blockdev-add",
         r#""driver":"file","node-name":"d","filename":"b.img""#,
@@ -130,43 +139,48 @@ const TABLE: [Refused<'static>; 23] = [
     ),
 ];
 
-/// A created image in `a.img`, and one of half the size in `b.img`.
-const FILES: Files<'static> = Files {
-    images: [Some(&[]), Some(&HALF)],
-    ..EMPTY
+/// A command that is refused leaves nodes and files as they were.
+static LEFT: Row<'static> = Row {
+    a: Some(&[]),
+    b: Some(HALF),
+    rest: NODES_STAY,
+    left: &[("a.img", Left::Image(&[])), ("b.img", Left::Image(HALF))],
+    ..ROW
 };
 
-const HALF: [(usize, &[u8]); 1] = [(24, &[0, 0, 0, 0, 0, 8, 0, 0])];
-
-const LEFT: [(&str, Left<'static>); 2] = [
-    ("a.img", Left::Image(&[])),
-    ("b.img", Left::Image(&HALF)),
-];
-
-/// Whether a command is refused for its cause, and the nodes stay.
-fn refuses(rt: &HostRuntime, row: &Refused) -> Result<bool, Fail> {
-    let (command, arguments, cause) = *row;
-    let script = script_of(rt, &[START, IMAGE, GUEST, (command, arguments), QUERY])?;
-    let replies = replies(rt, &["", "", "", cause])?;
-    let replies = replies.as_str();
-    let transcript = format!(in rt.alloc(); "{replies}reply 5 {NODES}\ndone script\n")?;
-    let ran = run(rt, "run 1 s", script.as_str().as_bytes(), &FILES)?;
-    let said = is_so(rt, &ran, "", transcript.as_str())?;
-    Ok(said && all_left(rt, &ran, &LEFT)?)
+/// Whether a command is refused for its cause.
+fn is_refused(rt: &HostRuntime, refused: &Refused) -> Result<bool, Fail> {
+    let (command, arguments, cause) = *refused;
+    let lines = [START, IMAGE, GUEST, (command, arguments), QUERY];
+    let causes = ["", "", "", cause];
+    let row = Row {
+        lines: &lines,
+        causes: &causes,
+        ..LEFT
+    };
+    comes_out(rt, &row)
 }
 
 #[test]
 fn each_refusal_has_its_cause(rt: HostRuntime) -> Result<(), Fail> {
     for row in &TABLE {
-        let so = refuses(&rt, row)?;
-        assert!(rt; so, "{}", row.1);
+        let so = is_refused(&rt, row)?;
+        assert!(rt; so, "{} {}", row.1, row.2);
+    }
+    Ok(())
+}
+
+#[test]
+fn each_refusal_of_an_addition_has_its_cause(rt: HostRuntime) -> Result<(), Fail> {
+    for row in &ADDITIONS {
+        let so = is_refused(&rt, row)?;
+        assert!(rt; so, "{} {}", row.1, row.2);
     }
     Ok(())
 }
 
 /// A refused file can be opened by the next command.
-const OPENED_LATER: Row<'static> = Row {
-    words: "run 1 s",
+static OPENED_LATER: [Row<'static>; 1] = [Row {
     lines: &[
         START,
         IMAGE,
@@ -186,7 +200,8 @@ const OPENED_LATER: Row<'static> = Row {
         ),
         QUERY,
     ],
-    files: FILES,
+    a: Some(&[]),
+    b: Some(HALF),
     causes: &[
         "",
         "",
@@ -200,12 +215,10 @@ const OPENED_LATER: Row<'static> = Row {
         {\"dirty-bitmaps\":[],\"drv\":\"file\",\"node-name\":\"#d\",\"ro\":false,\"size\":393216},\
         {\"dirty-bitmaps\":[],\"drv\":\"qcow2\",\"node-name\":\"d\",\"ro\":false,\"size\":1048576}]}\n\
         done script\n",
-    left: &[],
-};
+    ..ROW
+}];
 
 #[test]
 fn a_refused_file_can_be_opened_by_the_next_command(rt: HostRuntime) -> Result<(), Fail> {
-    let so = comes_out(&rt, &OPENED_LATER)?;
-    assert!(rt; so);
-    Ok(())
+    all_come_out(&rt, &OPENED_LATER)
 }

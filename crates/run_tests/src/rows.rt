@@ -1,9 +1,10 @@
 //! Rows of tests: a script, and what comes of it.
 
-use crate::files::{Edits, Files, Ran, bytes_of, image, is_so, run};
+use crate::files::{Edits, ROOM, Ran, bytes_of, image, run};
+use blk_fakes::FailAt;
 use std::test::Fail;
 
-/// A line of a script: a command with its arguments, or, without a command, the line as it is.
+/// A line of a script: a command with its arguments. Without a command it is text as it stands.
 pub(crate) type Line<'a> = (&'a str, &'a str);
 
 /// The first line of a script.
@@ -18,12 +19,29 @@ pub(crate) enum Left<'a> {
     Bytes(usize),
 }
 
-/// A run that ends as it should, and what comes of it.
+/// A run, and what comes of it.
 #[derive(Clone, Copy)]
 pub(crate) struct Row<'a> {
     pub(crate) words: &'a str,
+    /// The script: these lines, so many times, and these bytes behind them.
     pub(crate) lines: &'a [Line<'a>],
-    pub(crate) files: Files<'a>,
+    pub(crate) times: usize,
+    pub(crate) tail: &'a [u8],
+    /// The traces `t` and `u`.
+    pub(crate) t: &'a str,
+    pub(crate) u: &'a str,
+    /// What is in `a.img` and `b.img`: a created image with these edits, or no bytes.
+    pub(crate) a: Option<Edits<'a>>,
+    pub(crate) b: Option<Edits<'a>>,
+    /// The capacity of an image, where its bytes aren't more.
+    pub(crate) capacity: u64,
+    /// The calls that fail: of the device of `a.img`, of the store, and of the sink.
+    pub(crate) device_fails: &'a [FailAt],
+    pub(crate) store_fails: &'a [FailAt],
+    pub(crate) sink_fails: &'a [FailAt],
+    /// How the run ends.
+    pub(crate) exit: u8,
+    pub(crate) status: &'a str,
     /// What the first lines are answered: nothing, or why they are refused.
     pub(crate) causes: &'a [&'a str],
     /// The lines of the transcript behind these answers.
@@ -31,38 +49,97 @@ pub(crate) struct Row<'a> {
     pub(crate) left: &'a [(&'a str, Left<'a>)],
 }
 
-/// The script of these lines.
-pub(crate) fn script_of(rt: &HostRuntime, lines: &[Line]) -> Result<String, Fail> {
-    let mut script = String::new(rt.alloc());
-    for (command, text) in lines {
-        if command.is_empty() {
-            script.push_str(text)?;
-        } else {
-            let line = format!(in rt.alloc();
-                r#"{{"execute":"{command}","arguments":{{{text}}}}}"#
-            )?;
-            script.push_str(line.as_str())?;
-        }
-        script.push_str("\n")?;
+/// An empty script over empty files, whose run ends well.
+pub(crate) const ROW: Row<'static> = Row {
+    words: "run 1 s",
+    lines: &[],
+    times: 1,
+    tail: &[],
+    t: "",
+    u: "",
+    a: None,
+    b: None,
+    capacity: ROOM,
+    device_fails: &[],
+    store_fails: &[],
+    sink_fails: &[],
+    exit: 0,
+    status: "",
+    causes: &[],
+    rest: "done script\n",
+    left: &[],
+};
+
+/// Puts these texts behind others.
+fn put(bytes: &mut Vec<u8>, texts: &[&str]) -> Result<(), Fail> {
+    for text in texts {
+        bytes.extend_from_slice(text.as_bytes())?;
     }
+    Ok(())
+}
+
+/// Puts a line behind a script.
+fn put_line(script: &mut Vec<u8>, line: &Line) -> Result<(), Fail> {
+    let (command, text) = *line;
+    if command.is_empty() {
+        return put(script, &[text]);
+    }
+    put(
+        script,
+        &[
+            "{\"execute\":\"",
+            command,
+            "\",\"arguments\":{",
+            text,
+            "}}\n",
+        ],
+    )
+}
+
+/// The script of a row.
+fn script_of(rt: &HostRuntime, row: &Row) -> Result<Vec<u8>, Fail> {
+    let mut script = Vec::new(rt.alloc());
+    for _ in 0..row.times {
+        for line in row.lines {
+            put_line(&mut script, line)?;
+        }
+    }
+    script.extend_from_slice(row.tail)?;
     Ok(script)
 }
 
-/// Lines of a transcript that tell what was answered: nothing, or the cause of a refusal.
-pub(crate) fn replies(rt: &HostRuntime, causes: &[&str]) -> Result<String, Fail> {
-    let mut text = String::new(rt.alloc());
-    for (before, cause) in causes.iter().enumerate() {
-        let line = before.saturating_add(1);
-        let reply = if cause.is_empty() {
-            format!(in rt.alloc(); "reply {line} {{\"return\":{{}}}}\n")?
-        } else {
-            format!(in rt.alloc();
-                "reply {line} {{\"error\":{{\"class\":\"GenericError\",\"desc\":\"{cause}\"}}}}\n"
-            )?
-        };
-        text.push_str(reply.as_str())?;
+/// Puts what a line is answered behind a transcript: nothing, or the cause of a refusal.
+fn put_reply(
+    rt: &HostRuntime,
+    transcript: &mut Vec<u8>,
+    line: usize,
+    cause: &str,
+) -> Result<(), Fail> {
+    let number = format!(in rt.alloc(); "{line}")?;
+    let number = number.as_str();
+    if cause.is_empty() {
+        return put(transcript, &["reply ", number, " {\"return\":{}}\n"]);
     }
-    Ok(text)
+    put(
+        transcript,
+        &[
+            "reply ",
+            number,
+            " {\"error\":{\"class\":\"GenericError\",\"desc\":\"",
+            cause,
+            "\"}}\n",
+        ],
+    )
+}
+
+/// The transcript of a row.
+fn transcript_of(rt: &HostRuntime, row: &Row) -> Result<Vec<u8>, Fail> {
+    let mut transcript = Vec::new(rt.alloc());
+    for (before, cause) in row.causes.iter().enumerate() {
+        put_reply(rt, &mut transcript, before.saturating_add(1), cause)?;
+    }
+    put(&mut transcript, &[row.rest])?;
+    Ok(transcript)
 }
 
 /// Whether a file is left so.
@@ -75,7 +152,7 @@ fn is_left(rt: &HostRuntime, ran: &Ran, name: &str, left: Left) -> Result<bool, 
 }
 
 /// Whether each of the files is left so.
-pub(crate) fn all_left(rt: &HostRuntime, ran: &Ran, left: &[(&str, Left)]) -> Result<bool, Fail> {
+fn all_left(rt: &HostRuntime, ran: &Ran, left: &[(&str, Left)]) -> Result<bool, Fail> {
     for (name, bytes) in left {
         if !is_left(rt, ran, name, *bytes)? {
             return Ok(false);
@@ -84,11 +161,31 @@ pub(crate) fn all_left(rt: &HostRuntime, ran: &Ran, left: &[(&str, Left)]) -> Re
     Ok(true)
 }
 
+/// Whether a run ended as its row says, with this transcript.
+fn is_so(rt: &HostRuntime, ran: &Ran, row: &Row, transcript: &[u8]) -> Result<bool, Fail> {
+    let text = format!(in rt.alloc(); "{}", ran.status)?;
+    Ok(
+        text.as_str() == row.status
+            && ran.status.exit() == row.exit
+            && ran.out.bytes() == transcript,
+    )
+}
+
 /// Whether a row comes out so.
 pub(crate) fn comes_out(rt: &HostRuntime, row: &Row) -> Result<bool, Fail> {
-    let script = script_of(rt, row.lines)?;
-    let mut transcript = replies(rt, row.causes)?;
-    transcript.push_str(row.rest)?;
-    let ran = run(rt, row.words, script.as_str().as_bytes(), &row.files)?;
-    Ok(is_so(rt, &ran, "", transcript.as_str())? && all_left(rt, &ran, row.left)?)
+    let script = script_of(rt, row)?;
+    let transcript = transcript_of(rt, row)?;
+    let ran = run(rt, row, script.as_slice())?;
+    Ok(is_so(rt, &ran, row, transcript.as_slice())? && all_left(rt, &ran, row.left)?)
+}
+
+/// Carries out rows. The first that doesn't come out so is the failure.
+pub(crate) fn all_come_out(rt: &HostRuntime, rows: &[Row]) -> Result<(), Fail> {
+    for (number, row) in rows.iter().enumerate() {
+        if !comes_out(rt, row)? {
+            let (words, rest) = (row.words, row.rest);
+            return Err(Fail::new(format_args!("row {number}: {words}: {rest}")));
+        }
+    }
+    Ok(())
 }
