@@ -7,19 +7,32 @@ mod shown;
 
 use blk_base::Text;
 use qmp_codec::{
-    Class, Event, EventName, JobKind, Reply, print_event, print_reply, read_command, read_id,
+    Class, CodecStop, Event, EventName, JobKind, Reply, print_event, print_reply, read_command,
+    read_id,
 };
 use serde_json::Value;
 use std::alloc::Global;
 use std::process::Abort;
 use std::test::Fail;
 
+fn stop_text(alloc: Global, stop: &CodecStop) -> Result<String, Fail> {
+    Ok(format!(in alloc; "{stop}")?)
+}
+
 // What a line is read as, in words.
 fn answer(alloc: Global, line: &str) -> Result<String, Fail> {
-    Ok(match read_command(alloc, line) {
-        Ok(command) => shown::shown(alloc, &command)?,
-        Err(stop) => format!(in alloc; "{stop}")?,
-    })
+    match read_command(alloc, line) {
+        Ok(command) => shown::shown(alloc, &command),
+        Err(stop) => stop_text(alloc, &stop),
+    }
+}
+
+// The id that the answer to a line repeats.
+fn id_text(alloc: Global, line: &str) -> Result<String, Fail> {
+    let Some(id) = read_id(alloc, line)? else {
+        return Ok(String::from_str(alloc, "none")?);
+    };
+    Ok(id.to_string(alloc)?)
 }
 
 // Rows of a command, its arguments, and what they are read as.
@@ -49,10 +62,7 @@ fn whole_lines(rt: HostRuntime) -> Result<(), Fail> {
     for (line, want, repeated) in lines::LINES {
         let got = answer(rt.alloc(), line)?;
         assert!(rt; got.as_str() == *want, "{line}: {got}");
-        let id = match read_id(rt.alloc(), line)? {
-            Some(id) => id.to_string(rt.alloc())?,
-            None => String::from_str(rt.alloc(), "none")?,
-        };
+        let id = id_text(rt.alloc(), line)?;
         assert!(rt; id.as_str() == *repeated, "{line}: {id}");
     }
     Ok(())
@@ -179,18 +189,28 @@ fn copied(alloc: Global, error: Option<&str>) -> Result<Option<Text>, Fail> {
     }
 }
 
+// The line of an event of a job that has done 512 bytes.
+fn printed(
+    alloc: Global,
+    name: EventName,
+    kind: JobKind,
+    error: Option<&str>,
+) -> Result<Text, Fail> {
+    let event = Event {
+        name,
+        device: Text::copied(alloc, "m0")?,
+        error: copied(alloc, error)?,
+        len: 65_536,
+        offset: 512,
+        kind,
+    };
+    Ok(print_event(alloc, &event)?)
+}
+
 #[test]
 fn events(rt: HostRuntime) -> Result<(), Fail> {
     for (name, kind, error, want) in EVENTS {
-        let event = Event {
-            name: *name,
-            device: Text::copied(rt.alloc(), "m0")?,
-            error: copied(rt.alloc(), *error)?,
-            len: 65_536,
-            offset: 512,
-            kind: *kind,
-        };
-        let got = print_event(rt.alloc(), &event)?;
+        let got = printed(rt.alloc(), *name, *kind, *error)?;
         assert!(rt; got.as_str() == *want);
     }
     Ok(())

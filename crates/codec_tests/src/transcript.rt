@@ -239,15 +239,37 @@ fn line_of_a_read(rt: HostRuntime) -> Result<(), Fail> {
     Ok(())
 }
 
+// The entry of a reply.
+fn reply(given: Text, text: Text) -> Entry
+    ensures named { HasName (record {
+      guests = codes "a" ∷ codes "guest2" ∷ [];
+      jobs = record { id = codes "b"; kind = JobKind.Backup; size = 131072 } ∷ [];
+    }) (event_of [] result) }
+    ensures within { PointsWithin 0 result }
+{
+    Entry::Reply {
+        line: 4,
+        given,
+        command: Understood::new(None),
+        text,
+    }
+}
+
+#[test]
+fn line_of_a_reply(rt: HostRuntime) -> Result<(), Fail> {
+    let given = Text::copied(rt.alloc(), "hello")?;
+    let text = Text::copied(rt.alloc(), "{\"return\":{}}")?;
+    says(
+        &rt,
+        rt.alloc(),
+        reply(given, text),
+        &[],
+        "reply 4 {\"return\":{}}\n",
+    )
+}
+
 #[test]
 fn lines_of_the_script(rt: HostRuntime) -> Result<(), Fail> {
-    let entry = Entry::Reply {
-        line: 4,
-        given: Text::copied(rt.alloc(), "hello")?,
-        command: Understood::new(None),
-        text: Text::copied(rt.alloc(), "{\"return\":{}}")?,
-    };
-    says(&rt, rt.alloc(), entry, &[], "reply 4 {\"return\":{}}\n")?;
     let what = Await::Guest {
         guest: 0,
         requests: 2,
@@ -260,8 +282,7 @@ fn lines_of_the_script(rt: HostRuntime) -> Result<(), Fail> {
     let script = Entry::Done { actor: 0 };
     says(&rt, rt.alloc(), script, &[], "done script\n")?;
     let guest = Entry::Done { actor: 2 };
-    says(&rt, rt.alloc(), guest, &[], "done guest2\n")?;
-    Ok(())
+    says(&rt, rt.alloc(), guest, &[], "done guest2\n")
 }
 
 #[test]
