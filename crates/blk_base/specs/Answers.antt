@@ -19,30 +19,41 @@ abbrev pub LacksFile : List ℕ → List File → Type 0
 LacksFile name files = file_at name files ≡ None
 
 -- why a file is opened or not
-abbrev pub OpenAnswers : {A : Type 0} → List ℕ → Option (List File) → List Opened → ℕ → ℕ → Result A StoreStop → Type 0
-OpenAnswers name files opened before now (Ok dev) = IsIn name opened × IfTold files (HasFile name (λ _. Unit {0}))
-OpenAnswers name files opened before now (Err Absent) = IsIn name opened × IfTold files (LacksFile name)
+abbrev pub OpenAnswers : {A : Type 0} → List ℕ → Option (List File) → List Opened → ℕ → ℕ
+    → Result A StoreStop → Type 0
+OpenAnswers name files opened before now (Ok dev) =
+    IsIn name opened × IfTold files (HasFile name (λ _. Unit {0}))
+OpenAnswers name files opened before now (Err Absent) =
+    IsIn name opened × IfTold files (LacksFile name)
 OpenAnswers name files opened before now (Err InUse) = IsTrue (is_out name opened)
 OpenAnswers name files opened before now (Err TooLong) = ⊥
-OpenAnswers name files opened before now (Err Failed) = IsIn name opened × IfTold files (HasFile name (λ _. Unit {0})) × Rose before now
+OpenAnswers name files opened before now (Err Failed) =
+    IsIn name opened × IfTold files (HasFile name (λ _. Unit {0})) × Rose before now
 OpenAnswers name files opened before now (Err NoMemory) = Unit {0}
 
 -- why a file of that length is made or not, where files that are made have this room
-abbrev pub CreateAnswers : {A : Type 0} → List ℕ → ℕ → ℕ → List Opened → ℕ → ℕ → Result A StoreStop → Type 0
+abbrev pub CreateAnswers : {A : Type 0} → List ℕ → ℕ → ℕ → List Opened → ℕ → ℕ → Result A StoreStop
+    → Type 0
 CreateAnswers name len room opened before now (Ok done) = IsIn name opened × (len ≤ room)
 CreateAnswers name len room opened before now (Err Absent) = ⊥
 CreateAnswers name len room opened before now (Err InUse) = IsTrue (is_out name opened)
 CreateAnswers name len room opened before now (Err TooLong) = IsIn name opened × (room < len)
-CreateAnswers name len room opened before now (Err Failed) = IsIn name opened × (len ≤ room) × Rose before now
+CreateAnswers name len room opened before now (Err Failed) =
+    IsIn name opened × (len ≤ room) × Rose before now
 CreateAnswers name len room opened before now (Err NoMemory) = Unit {0}
 
 -- why a whole file of at most that length is read or not
-abbrev pub ReadAnswers : {A : Type 0} → List ℕ → ℕ → Option (List File) → List Opened → ℕ → ℕ → Result A StoreStop → Type 0
-ReadAnswers name limit files opened before now (Ok bytes) = IsIn name opened × IfTold files (HasFile name (λ f. length f.bytes ≤ limit))
-ReadAnswers name limit files opened before now (Err Absent) = IsIn name opened × IfTold files (LacksFile name)
+abbrev pub ReadAnswers : {A : Type 0} → List ℕ → ℕ → Option (List File) → List Opened → ℕ → ℕ
+    → Result A StoreStop → Type 0
+ReadAnswers name limit files opened before now (Ok bytes) =
+    IsIn name opened × IfTold files (HasFile name (λ f. length f.bytes ≤ limit))
+ReadAnswers name limit files opened before now (Err Absent) =
+    IsIn name opened × IfTold files (LacksFile name)
 ReadAnswers name limit files opened before now (Err InUse) = IsTrue (is_out name opened)
-ReadAnswers name limit files opened before now (Err TooLong) = IsIn name opened × IfTold files (HasFile name (λ f. limit < length f.bytes))
-ReadAnswers name limit files opened before now (Err Failed) = IsIn name opened × IfTold files (HasFile name (λ f. length f.bytes ≤ limit)) × Rose before now
+ReadAnswers name limit files opened before now (Err TooLong) =
+    IsIn name opened × IfTold files (HasFile name (λ f. limit < length f.bytes))
+ReadAnswers name limit files opened before now (Err Failed) =
+    IsIn name opened × IfTold files (HasFile name (λ f. length f.bytes ≤ limit)) × Rose before now
 ReadAnswers name limit files opened before now (Err NoMemory) = Unit {0}
 
 -- the count is as before, but where the store failed

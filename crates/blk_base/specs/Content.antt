@@ -7,7 +7,8 @@ bytes_at bytes offset n = take n (drop offset bytes ++ replicate n 0)
 
 -- bytes put over what stands at an offset; a gap past the end is zeros
 unfoldable pub overwritten : List ℕ → ℕ → List ℕ → List ℕ
-overwritten old offset bytes = take offset (old ++ replicate offset 0) ++ bytes ++ drop (offset + length bytes) old
+overwritten old offset bytes =
+    take offset (old ++ replicate offset 0) ++ bytes ++ drop (offset + length bytes) old
 
 -- what a write leaves; one of no bytes leaves all as it is
 abbrev pub with_bytes : List ℕ → ℕ → List ℕ → List ℕ
@@ -37,8 +38,10 @@ after_writes bytes (w ∷ ws) = after_writes (with_bytes bytes w.offset w.bytes)
 -- the log with one more write; one of no bytes is none
 abbrev pub log_with : Log → ℕ → List ℕ → Log
 log_with log offset [] = log
-log_with log offset (byte ∷ bytes) = record log { writes = log.writes ++ record { offset = offset; bytes = byte ∷ bytes } ∷ [] }
+log_with log offset (byte ∷ bytes) =
+    record log { writes = log.writes ++ record { offset = offset; bytes = byte ∷ bytes } ∷ [] }
 
 -- a log that is still kept is the one before with this write
 abbrev pub GoesOn : Option Log → ℕ → List ℕ → Option Log → Type 0
-GoesOn old offset bytes new = (log : Log) → new ≡ Some log → option_map (λ l. log_with l offset bytes) old ≡ Some log
+GoesOn old offset bytes new =
+    (log : Log) → new ≡ Some log → option_map (λ l. log_with l offset bytes) old ≡ Some log

@@ -41,7 +41,8 @@ pub record Wrote {D : Type 0} (g : Ghosts D) (ws : List Write) (old new : D) : T
   pub content : g.content new ≡ option_map (λ b. after_writes b ws) (g.content old)
   pub size : g.size new ≡ size_after_writes (g.size old) ws
   -- a log that is still kept, and one behind which nothing was written
-  pub log : (l : Log) → g.log new ≡ Some l → option_map (λ l. log_after_writes l ws) (g.log old) ≡ Some l
+  pub log : (l : Log) → g.log new ≡ Some l
+      → option_map (λ l. log_after_writes l ws) (g.log old) ≡ Some l
   pub same_log : are_none ws ≡ true → g.log new ≡ g.log old
   pub flushed : g.is_flushed new ≡ option_map (λ f. are_none ws && f) (g.is_flushed old)
   pub capacity : g.capacity new ≡ g.capacity old
@@ -60,7 +61,8 @@ StopsBy (Some NoSpace) ws capacity before now = (capacity < end_of_writes ws) ×
 
 -- what a call leaves that makes these writes, by the stop that it tells: all of them are made, or those before the
 -- one at which it stops, and of that one a cut
-pub record Writes {D : Type 0} (g : Ghosts D) (ws : List Write) (stop : Option DevStop) (old new : D) : Type 0 where
+pub record Writes {D : Type 0} (g : Ghosts D) (ws : List Write) (stop : Option DevStop)
+    (old new : D) : Type 0 where
   pub made : List Write
   pub part : IsMade stop ws made
   pub wrote : Wrote g made old new
@@ -72,5 +74,6 @@ stop_of (Ok done) = None
 stop_of (Err stop) = Some stop
 
 -- P relates what a device tells to what it would hold wherever these writes are stopped, and behind the last
-abbrev pub AtEachStopOf : {D : Type 0} → Ghosts D → (List ℕ → List ℕ → Type 0) → List Write → D → Type 0
+abbrev pub AtEachStopOf : {D : Type 0} → Ghosts D → (List ℕ → List ℕ → Type 0) → List Write → D
+    → Type 0
 AtEachStopOf g P ws dev = (b : List ℕ) → g.content dev ≡ Some b → AtEachStop (P b) ws b

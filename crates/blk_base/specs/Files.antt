@@ -12,7 +12,8 @@ file_at name (f ∷ files) = if bytes_eq name f.name then Some f else file_at na
 -- the files with this one in the place of the one of its name, or at the end
 abbrev pub put_file : File → List File → List File
 put_file file [] = file ∷ []
-put_file file (f ∷ files) = if bytes_eq file.name f.name then file ∷ files else f ∷ put_file file files
+put_file file (f ∷ files) =
+    if bytes_eq file.name f.name then file ∷ files else f ∷ put_file file files
 
 -- the files but the one of that name
 abbrev pub other_files : List ℕ → List File → List File
@@ -30,7 +31,9 @@ is_out name opened = list_any (is_out_as name) opened
 -- the record once the device of that name is back with this count
 abbrev pub given_back : List ℕ → ℕ → List Opened → List Opened
 given_back name count [] = []
-given_back name count (o ∷ opened) = if is_out_as name o then record o { returned = Some count } ∷ opened else o ∷ given_back name count opened
+given_back name count (o ∷ opened) =
+    if is_out_as name o then record o { returned = Some count } ∷ opened
+    else o ∷ given_back name count opened
 
 -- a fact about what is told; nothing is asked of what is not
 abbrev pub IfTold : {A : Type 0} → Option A → (A → Type 0) → Type 0

@@ -16,7 +16,8 @@ block_size = 65536
 
 -- how many blocks a span meets, none where it is empty
 unfoldable pub count_of_pieces : Extent → ℕ
-count_of_pieces span = if span.len == 0 then 0 else (end_of span - 1) / block_size + 1 - span.start / block_size
+count_of_pieces span =
+    if span.len == 0 then 0 else (end_of span - 1) / block_size + 1 - span.start / block_size
 
 -- cut k: what the span shares with the k-th block that it meets, counted from 0
 unfoldable pub piece_of : Extent → ℕ → Extent

@@ -47,7 +47,8 @@ pub trait Device {
 
     /// Reads `buf.len()` bytes from `off` on, zeros past the end. A failed read leaves `buf` with any bytes.
     fn read_at(&mut self, off: u64, buf: &mut [u8]) -> Result<(), DevFault>
-        ensures read { OnOk result ((b : List ℕ) → content self.old ≡ Some b → buf.new ≡ bytes_at b off (length buf.old)) }
+        ensures read { OnOk result
+            ((b : List ℕ) → content self.old ≡ Some b → buf.new ≡ bytes_at b off (length buf.old)) }
         ensures failed { OnErr result (Rose (faults self.old) (faults self.new)) }
         ensures quiet { OnOk result (faults self.new ≡ faults self.old) }
         ensures faults { faults self.old ≤ faults self.new }
@@ -59,7 +60,8 @@ pub trait Device {
 
     /// Writes all of `bytes` at `off`. A write within one sector of 512 bytes is whole or nothing.
     fn write_at(&mut self, off: u64, bytes: &[u8]) -> Result<(), WriteStop>
-        ensures written { content self.new ≡ option_map (λ b. with_bytes b off (taken result bytes.now)) (content self.old) }
+        ensures written { content self.new
+            ≡ option_map (λ b. with_bytes b off (taken result bytes.now)) (content self.old) }
         ensures size { size self.new ≡ size_with (size self.old) off (taken result bytes.now) }
         ensures log { GoesOn (log self.old) off (taken result bytes.now) (log self.new) }
         ensures flushed { is_flushed self.new ≡ option_map (λ _. false) (is_flushed self.old) }
@@ -67,8 +69,10 @@ pub trait Device {
         // it is refused for want of space exactly above the capacity, and then untouched
         ensures fits { OnOk result (off + length bytes.now ≤ capacity self.old) }
         ensures no_space { IfErr result (λ stop. stop.why ≡ Stop.NoSpace →
-            (capacity self.old < off + length bytes.now) × (stop.done ≡ 0) × (faults self.new ≡ faults self.old)) }
-        ensures failed { IfErr result (λ stop. stop.why ≡ Stop.Failed → (off + length bytes.now ≤ capacity self.old)
+            (capacity self.old < off + length bytes.now) × (stop.done ≡ 0)
+            × (faults self.new ≡ faults self.old)) }
+        ensures failed { IfErr result
+            (λ stop. stop.why ≡ Stop.Failed → (off + length bytes.now ≤ capacity self.old)
             × IsFailedWrite off stop.done (length bytes.now) (faults self.old) (faults self.new)) }
         ensures quiet { OnOk result (faults self.new ≡ faults self.old) }
         ensures faults { faults self.old ≤ faults self.new }
@@ -76,7 +80,8 @@ pub trait Device {
 
     /// Returns once all that was written is kept.
     fn flush(&mut self) -> Result<(), DevFault>
-        ensures flushed { is_flushed self.new ≡ option_map (λ f. is_ok result || f) (is_flushed self.old) }
+        ensures flushed { is_flushed self.new
+            ≡ option_map (λ f. is_ok result || f) (is_flushed self.old) }
         ensures failed { OnErr result (Rose (faults self.old) (faults self.new)) }
         ensures quiet { OnOk result (faults self.new ≡ faults self.old) }
         ensures faults { faults self.old ≤ faults self.new }
@@ -100,8 +105,10 @@ pub trait Device {
     ghost told_size: { (d : Self) (b : List ℕ) → content d ≡ Some b → size d ≡ length b };
 
     /// It then tells whether it is flushed.
-    ghost told_flushed: { (d : Self) (b : List ℕ) → content d ≡ Some b → is_some (is_flushed d) ≡ true };
+    ghost told_flushed: { (d : Self) (b : List ℕ) → content d ≡ Some b
+        → is_some (is_flushed d) ≡ true };
 
     /// The bytes are those before the first write of the list, changed by the list.
-    ghost told_log: { (d : Self) (b : List ℕ) (l : Log) → content d ≡ Some b → log d ≡ Some l → b ≡ after_writes l.before l.writes };
+    ghost told_log: { (d : Self) (b : List ℕ) (l : Log) → content d ≡ Some b → log d ≡ Some l
+        → b ≡ after_writes l.before l.writes };
 }

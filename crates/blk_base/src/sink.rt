@@ -18,8 +18,10 @@ pub trait Sink {
 
     /// Sends the bytes. Where it fails, some of the first of them went out.
     fn put(&mut self, bytes: &[u8]) -> Result<(), SinkFault>
-        ensures sent { OnOk result (sent self.new ≡ option_map (λ s. s ++ bytes.now) (sent self.old)) }
-        ensures partly { OnErr result ((n : ℕ) × (sent self.new ≡ option_map (λ s. s ++ take n bytes.now) (sent self.old))) }
+        ensures sent { OnOk result
+            (sent self.new ≡ option_map (λ s. s ++ bytes.now) (sent self.old)) }
+        ensures partly { OnErr result
+            ((n : ℕ) × (sent self.new ≡ option_map (λ s. s ++ take n bytes.now) (sent self.old))) }
         ensures failed { OnErr result (Rose (faults self.old) (faults self.new)) }
         ensures quiet { OnOk result (faults self.new ≡ faults self.old) }
         ensures faults { faults self.old ≤ faults self.new };

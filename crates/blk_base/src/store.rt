@@ -41,11 +41,15 @@ pub trait Store {
 
     /// Takes a file out. The n-th opening of a run, counted from 0, is device n. A refusal leaves all as it was.
     fn open_file(&mut self, name: &str) -> Result<Self::Dev, StoreStop>
-        ensures device { IfOk result (λ dev. IsDeviceOf (files self.old) name.now (Self.Dev.content dev) (Self.Dev.capacity dev) (Self.Dev.is_flushed dev)) }
+        ensures device { IfOk result
+            (λ dev. IsDeviceOf (files self.old) name.now (Self.Dev.content dev)
+            (Self.Dev.capacity dev) (Self.Dev.is_flushed dev)) }
         ensures opened { MatchResult result
-            (λ dev. opened self.new ≡ opened self.old ++ record { name = name.now; faults = Self.Dev.faults dev; returned = None } ∷ [])
+            (λ dev. opened self.new ≡ opened self.old
+            ++ record { name = name.now; faults = Self.Dev.faults dev; returned = None } ∷ [])
             (λ _. opened self.new ≡ opened self.old) }
-        ensures cause { OpenAnswers name.now (files self.old) (opened self.old) (faults self.old) (faults self.new) result }
+        ensures cause { OpenAnswers name.now (files self.old) (opened self.old) (faults self.old)
+            (faults self.new) result }
         ensures quiet { StandsUnlessFailed (faults self.old) (faults self.new) result }
         ensures files { files self.new ≡ files self.old }
         ensures room { room self.new ≡ room self.old }
@@ -54,10 +58,20 @@ pub trait Store {
     /// Makes the file hold `len` zero bytes, whether it was there or not. After `Failed` that file may hold any
     /// bytes or be absent; after every other refusal all files are as before.
     fn create_file(&mut self, name: &str, len: u64) -> Result<(), StoreStop>
-        ensures made { OnOk result (files self.new ≡ option_map (put_file (record { name = name.now; bytes = replicate len 0; capacity = room self.old; is_flushed = true })) (files self.old)) }
+        ensures made { OnOk result
+            (files self.new
+            ≡ option_map
+            (put_file (record {
+              name = name.now;
+              bytes = replicate len 0;
+              capacity = room self.old;
+              is_flushed = true;
+            })) (files self.old)) }
         ensures others { OnErr result (LeavesOthers name.now (files self.old) (files self.new)) }
-        ensures refused { IfErr result (λ e. e ≢ StoreStop.Failed → files self.new ≡ files self.old) }
-        ensures cause { CreateAnswers name.now len (room self.old) (opened self.old) (faults self.old) (faults self.new) result }
+        ensures refused { IfErr result
+            (λ e. e ≢ StoreStop.Failed → files self.new ≡ files self.old) }
+        ensures cause { CreateAnswers name.now len (room self.old) (opened self.old)
+            (faults self.old) (faults self.new) result }
         ensures quiet { StandsUnlessFailed (faults self.old) (faults self.new) result }
         ensures opened { opened self.new ≡ opened self.old }
         ensures room { room self.new ≡ room self.old }
@@ -66,7 +80,8 @@ pub trait Store {
     /// The whole file, where it has at most `limit` bytes.
     fn read_all(&mut self, name: &str, limit: u64) -> Result<Bytes, StoreStop>
         ensures read { IfOk result (λ bytes. IfTold (files self.old) (HoldsBytes name.now bytes)) }
-        ensures cause { ReadAnswers name.now limit (files self.old) (opened self.old) (faults self.old) (faults self.new) result }
+        ensures cause { ReadAnswers name.now limit (files self.old) (opened self.old)
+            (faults self.old) (faults self.new) result }
         ensures quiet { StandsUnlessFailed (faults self.old) (faults self.new) result }
         ensures files { files self.new ≡ files self.old }
         ensures opened { opened self.new ≡ opened self.old }
@@ -76,8 +91,11 @@ pub trait Store {
     /// Takes a device back. The file then holds what the device does.
     fn give_back(&mut self, name: &str, dev: Self::Dev)
         requires { IsTrue (is_out name.now (opened self.old)) }
-        ensures files { files self.new ≡ files_with_returned name.now (Self.Dev.content dev) (Self.Dev.capacity dev) (Self.Dev.is_flushed dev) (files self.old) }
-        ensures opened { opened self.new ≡ given_back name.now (Self.Dev.faults dev) (opened self.old) }
+        ensures files { files self.new
+            ≡ files_with_returned name.now (Self.Dev.content dev) (Self.Dev.capacity dev)
+            (Self.Dev.is_flushed dev) (files self.old) }
+        ensures opened { opened self.new
+            ≡ given_back name.now (Self.Dev.faults dev) (opened self.old) }
         ensures room { room self.new ≡ room self.old }
         ensures faults { faults self.new ≡ faults self.old };
 

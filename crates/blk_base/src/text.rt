@@ -17,7 +17,10 @@ impl Model for Text {
 
     ghost Value = { Written };
 
-    ghost view = { λ t. record { bytes = string_bytes t.text; spare = string_capacity t.text - string_len t.text } };
+    ghost view = { λ t. record {
+      bytes = string_bytes t.text;
+      spare = string_capacity t.text - string_len t.text;
+    } };
 }
 
 impl Text {

@@ -23,7 +23,8 @@ pub data Call : Type 0 where
 -- the first row that passes a test is changed
 abbrev pub with_first : (Bitmap → Bool) → (Bitmap → Bitmap) → List Bitmap → List Bitmap
 with_first test change [] = []
-with_first test change (row ∷ rows) = if test row then change row ∷ rows else row ∷ with_first test change rows
+with_first test change (row ∷ rows) =
+    if test row then change row ∷ rows else row ∷ with_first test change rows
 
 -- it is gone
 abbrev pub without_first : (Bitmap → Bool) → List Bitmap → List Bitmap
@@ -40,7 +41,8 @@ with_source rows node name (Some source) = with_first (is_named node name) (join
 
 abbrev pub with_sources : List Bitmap → ℕ → List ℕ → List Source → List Bitmap
 with_sources rows node name [] = rows
-with_sources rows node name (source ∷ sources) = with_sources (with_source rows node name (source_of rows source)) node name sources
+with_sources rows node name (source ∷ sources) =
+    with_sources (with_source rows node name (source_of rows source)) node name sources
 
 abbrev pub after : List Bitmap → Call → List Bitmap
 after rows (Add node name size granularity on) = rows ++ added node name size granularity on ∷ []

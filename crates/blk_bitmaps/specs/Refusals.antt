@@ -45,7 +45,11 @@ job_of (Some row) = row.busy
 -- the job of the first of the sources that is busy
 abbrev pub first_job : List Bitmap → List Source → Option ℕ
 first_job rows [] = None
-first_job rows (source ∷ sources) = elim (job_of (source_of rows source)) as (λ _. Option ℕ) [ Some job ↦ Some job | None ↦ first_job rows sources ]
+first_job rows (source ∷ sources) =
+    elim (job_of (source_of rows source)) as (λ _. Option ℕ) [
+      | Some job ↦ Some job
+      | None ↦ first_job rows sources
+    ]
 
 abbrev pub has_size : ℕ → Option Bitmap → Bool
 has_size size None = true

@@ -53,19 +53,34 @@ filled row = record row { dirty = replicate (length row.dirty) true }
 
 -- granule k has a byte of the span
 abbrev pub touches : ℕ → Extent → ℕ → Bool
-touches granularity span k = nat_lt 0 span.len && (nat_lt (granularity * k) (span.start + span.len) && nat_lt span.start (granularity * (k + 1)))
+touches granularity span k =
+    nat_lt 0 span.len
+    && (nat_lt (granularity * k) (span.start + span.len)
+    && nat_lt span.start (granularity * (k + 1)))
 
 -- each granule with a byte of the span is dirty
 abbrev pub written : Extent → Bitmap → Bitmap
-written span row = record row { dirty = those_below (length row.dirty) (λ k. contains row.dirty k || touches row.granularity span k) }
+written span row =
+    record row {
+      dirty = those_below (length row.dirty)
+          (λ k. contains row.dirty k || touches row.granularity span k);
+    }
 
 -- each granule that overlaps a dirty one of the source is dirty
 abbrev pub joined : Bitmap → Bitmap → Bitmap
-joined source row = record row { dirty = merged (record { mine = row.granularity; theirs = source.granularity }) row.dirty source.dirty }
+joined source row =
+    record row {
+      dirty = merged (record { mine = row.granularity; theirs = source.granularity })
+          row.dirty source.dirty;
+    }
 
 -- a job uses the row: what was dirty is put aside, and what is written from now on is dirty
 abbrev pub used : ℕ → Bitmap → Bitmap
-used job row = record row { busy = Some job; dirty = replicate (length row.dirty) false; frozen = Some row.dirty }
+used job row = record row {
+  busy = Some job;
+  dirty = replicate (length row.dirty) false;
+  frozen = Some row.dirty;
+}
 
 -- a set with what was put aside
 abbrev pub with_frozen : List Bool → Option (List Bool) → List Bool
@@ -74,7 +89,11 @@ with_frozen set (Some old) = those_below (length set) (λ k. contains set k || c
 
 -- the use ends: after a success what was put aside is dropped, else it is dirty again
 abbrev pub given_back : Bool → Bitmap → Bitmap
-given_back success row = record row { busy = None; dirty = if success then row.dirty else with_frozen row.dirty row.frozen; frozen = None }
+given_back success row = record row {
+  busy = None;
+  dirty = if success then row.dirty else with_frozen row.dirty row.frozen;
+  frozen = None;
+}
 
 abbrev pub is_aside : Option (List Bool) → ℕ → Bool
 is_aside None k = false

@@ -72,7 +72,8 @@ impl Bitmaps {
         granularity: u64,
         enabled: bool,
     ) -> Result<Bitmap, BitmapStop>
-        ensures answer { MatchOption (add_refusal self.now node name.bytes granularity) (IfErr result (λ stop. stop ≡ BitmapStop.NoMemory)) (λ stop. result ≡ Err stop) }
+        ensures answer { MatchOption (add_refusal self.now node name.bytes granularity)
+            (IfErr result (λ stop. stop ≡ BitmapStop.NoMemory)) (λ stop. result ≡ Err stop) }
         ensures row { IfOk result (λ row. row ≡ added node name size granularity enabled) }
         ensures countable { IfOk result IsCountable }
         ensures room { OnOk result (length self.now < 64) }
@@ -98,8 +99,10 @@ impl Bitmaps {
         granularity: u64,
         enabled: bool,
     ) -> Result<(), BitmapStop>
-        ensures answer { MatchOption (add_refusal self.old node name.bytes granularity) (IfErr result (λ stop. stop ≡ BitmapStop.NoMemory)) (λ stop. result ≡ Err stop) }
-        ensures done { OnOk result (self.new ≡ after self.old (Add node name size granularity enabled)) }
+        ensures answer { MatchOption (add_refusal self.old node name.bytes granularity)
+            (IfErr result (λ stop. stop ≡ BitmapStop.NoMemory)) (λ stop. result ≡ Err stop) }
+        ensures done { OnOk result
+            (self.new ≡ after self.old (Add node name size granularity enabled)) }
         ensures refused { OnErr result (self.new ≡ self.old) }
     {
         let row = self.prepare(node, name, size, granularity, enabled)?;
@@ -109,7 +112,8 @@ impl Bitmaps {
 
     /// Removes a bitmap that no job uses.
     pub fn remove(&mut self, node: NodeId, name: &str) -> Result<(), BitmapStop>
-        ensures answer { MatchOption (use_refusal (find self.old node name.now)) (IsOk result) (λ stop. result ≡ Err stop) }
+        ensures answer { MatchOption (use_refusal (find self.old node name.now)) (IsOk result)
+            (λ stop. result ≡ Err stop) }
         ensures done { OnOk result (self.new ≡ after self.old (Remove node name.now)) }
         ensures refused { OnErr result (self.new ≡ self.old) }
     {
@@ -127,7 +131,8 @@ impl Bitmaps {
 
     /// From now on the bitmap records writes.
     pub fn enable(&mut self, node: NodeId, name: &str) -> Result<(), BitmapStop>
-        ensures answer { MatchOption (use_refusal (find self.old node name.now)) (IsOk result) (λ stop. result ≡ Err stop) }
+        ensures answer { MatchOption (use_refusal (find self.old node name.now)) (IsOk result)
+            (λ stop. result ≡ Err stop) }
         ensures done { OnOk result (self.new ≡ after self.old (Enable node name.now)) }
         ensures refused { OnErr result (self.new ≡ self.old) }
     {
@@ -136,7 +141,8 @@ impl Bitmaps {
 
     /// From now on the bitmap records no writes; what is dirty stays so.
     pub fn disable(&mut self, node: NodeId, name: &str) -> Result<(), BitmapStop>
-        ensures answer { MatchOption (use_refusal (find self.old node name.now)) (IsOk result) (λ stop. result ≡ Err stop) }
+        ensures answer { MatchOption (use_refusal (find self.old node name.now)) (IsOk result)
+            (λ stop. result ≡ Err stop) }
         ensures done { OnOk result (self.new ≡ after self.old (Disable node name.now)) }
         ensures refused { OnErr result (self.new ≡ self.old) }
     {
@@ -145,7 +151,8 @@ impl Bitmaps {
 
     /// Nothing of the bitmap is dirty any more.
     pub fn clear(&mut self, node: NodeId, name: &str) -> Result<(), BitmapStop>
-        ensures answer { MatchOption (use_refusal (find self.old node name.now)) (IsOk result) (λ stop. result ≡ Err stop) }
+        ensures answer { MatchOption (use_refusal (find self.old node name.now)) (IsOk result)
+            (λ stop. result ≡ Err stop) }
         ensures done { OnOk result (self.new ≡ after self.old (Clear node name.now)) }
         ensures refused { OnErr result (self.new ≡ self.old) }
     {
@@ -156,7 +163,9 @@ impl Bitmaps {
     /// nodes and of other granularities, with disks of the same size; the target may be among them. All are looked at
     /// before the first is merged.
     pub fn merge(&mut self, node: NodeId, target: &str, sources: &Sources) -> Result<(), BitmapStop>
-        ensures answer { MatchOption (merge_refusal self.old (find self.old node target.now) sources.now) (IsOk result) (λ stop. result ≡ Err stop) }
+        ensures answer { MatchOption
+            (merge_refusal self.old (find self.old node target.now) sources.now) (IsOk result)
+            (λ stop. result ≡ Err stop) }
         ensures done { OnOk result (self.new ≡ after self.old (Merge node target.now sources.now)) }
         ensures refused { OnErr result (self.new ≡ self.old) }
     {
@@ -167,7 +176,8 @@ impl Bitmaps {
 
     /// Merges one bitmap into another, where both are there, whatever their use and sizes.
     pub fn merge_one(&mut self, node: NodeId, target: &str, source_node: NodeId, source: &str)
-        ensures { self.new ≡ with_source self.old node target.now (find self.old source_node source.now) }
+        ensures { self.new
+            ≡ with_source self.old node target.now (find self.old source_node source.now) }
     {
         merge::merge_named(self.rows.as_mut_slice(), node, target, source_node, source);
     }
@@ -188,7 +198,8 @@ impl Bitmaps {
 
     /// A job begins to use the bitmap: what is dirty is put aside for it, and what is written from now on is kept apart.
     pub fn freeze(&mut self, node: NodeId, name: &str, job: u32) -> Result<(), BitmapStop>
-        ensures answer { MatchOption (use_refusal (find self.old node name.now)) (IfErr result (λ stop. stop ≡ BitmapStop.NoMemory)) (λ stop. result ≡ Err stop) }
+        ensures answer { MatchOption (use_refusal (find self.old node name.now))
+            (IfErr result (λ stop. stop ≡ BitmapStop.NoMemory)) (λ stop. result ≡ Err stop) }
         ensures done { OnOk result (self.new ≡ after self.old (Freeze node name.now job)) }
         ensures refused { OnErr result (self.new ≡ self.old) }
     {
@@ -219,7 +230,8 @@ fn judge_new(
     name: &str,
     granularity: u64,
 ) -> Result<Granularity, BitmapStop>
-    ensures answer { MatchOption (add_refusal rows.now node name.now granularity) (result ≡ Ok granularity) (λ stop. result ≡ Err stop) }
+    ensures answer { MatchOption (add_refusal rows.now node name.now granularity)
+        (result ≡ Ok granularity) (λ stop. result ≡ Err stop) }
     ensures room { OnOk result (length rows.now < 64) }
 {
     if find(rows, node, name).is_some() {

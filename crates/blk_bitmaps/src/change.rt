@@ -17,8 +17,10 @@ pub(crate) fn turn(
     name: &str,
     on: bool,
 ) -> Result<(), BitmapStop>
-    ensures answer { MatchOption (use_refusal (find rows.old node name.now)) (IsOk result) (λ stop. result ≡ Err stop) }
-    ensures done { OnOk result (rows.new ≡ with_first (is_named node name.now) (turned on) rows.old) }
+    ensures answer { MatchOption (use_refusal (find rows.old node name.now)) (IsOk result)
+        (λ stop. result ≡ Err stop) }
+    ensures done { OnOk result
+        (rows.new ≡ with_first (is_named node name.now) (turned on) rows.old) }
     ensures refused { OnErr result (rows.new ≡ rows.old) }
 {
     let place = free_place(rows, node, name)?;
@@ -27,7 +29,8 @@ pub(crate) fn turn(
 }
 
 pub(crate) fn empty(rows: &mut [Bitmap], node: NodeId, name: &str) -> Result<(), BitmapStop>
-    ensures answer { MatchOption (use_refusal (find rows.old node name.now)) (IsOk result) (λ stop. result ≡ Err stop) }
+    ensures answer { MatchOption (use_refusal (find rows.old node name.now)) (IsOk result)
+        (λ stop. result ≡ Err stop) }
     ensures done { OnOk result (rows.new ≡ with_first (is_named node name.now) emptied rows.old) }
     ensures refused { OnErr result (rows.new ≡ rows.old) }
 {
@@ -43,8 +46,10 @@ pub(crate) fn freeze(
     name: &str,
     job: u32,
 ) -> Result<(), BitmapStop>
-    ensures answer { MatchOption (use_refusal (find rows.old node name.now)) (IfErr result (λ stop. stop ≡ BitmapStop.NoMemory)) (λ stop. result ≡ Err stop) }
-    ensures done { OnOk result (rows.new ≡ with_first (is_named node name.now) (used job) rows.old) }
+    ensures answer { MatchOption (use_refusal (find rows.old node name.now))
+        (IfErr result (λ stop. stop ≡ BitmapStop.NoMemory)) (λ stop. result ≡ Err stop) }
+    ensures done { OnOk result
+        (rows.new ≡ with_first (is_named node name.now) (used job) rows.old) }
     ensures refused { OnErr result (rows.new ≡ rows.old) }
 {
     let place = free_place(rows, node, name)?;

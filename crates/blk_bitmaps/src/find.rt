@@ -24,7 +24,8 @@ pub(crate) fn find<'a>(rows: &'a [Bitmap], node: NodeId, name: &str) -> Option<&
 
 /// The place of a row that no job uses.
 pub(crate) fn free_place(rows: &[Bitmap], node: NodeId, name: &str) -> Result<usize, BitmapStop>
-    ensures answer { MatchOption (use_refusal (find rows.now node name.now)) (IsOk result) (λ stop. result ≡ Err stop) }
+    ensures answer { MatchOption (use_refusal (find rows.now node name.now)) (IsOk result)
+        (λ stop. result ≡ Err stop) }
     ensures place { IfOk result (λ place. position (is_named node name.now) rows.now ≡ Some place) }
     ensures within { IfOk result (λ place. place < length rows.now) }
 {

@@ -18,7 +18,8 @@ pub(crate) fn judge(
     target: &str,
     sources: &[Source],
 ) -> Result<(), BitmapStop>
-    ensures { MatchOption (merge_refusal rows.now (find rows.now node target.now) sources.now) (IsOk result) (λ stop. result ≡ Err stop) }
+    ensures { MatchOption (merge_refusal rows.now (find rows.now node target.now) sources.now)
+        (IsOk result) (λ stop. result ≡ Err stop) }
 {
     match find(rows, node, target) {
         Some(row) => judge_sources(rows, row, sources),
@@ -27,7 +28,8 @@ pub(crate) fn judge(
 }
 
 fn judge_sources(rows: &[Bitmap], row: &Bitmap, sources: &[Source]) -> Result<(), BitmapStop>
-    ensures { MatchOption (sources_refusal rows.now row.now sources.now) (IsOk result) (λ stop. result ≡ Err stop) }
+    ensures { MatchOption (sources_refusal rows.now row.now sources.now) (IsOk result)
+        (λ stop. result ≡ Err stop) }
 {
     if is_absent(rows, sources) {
         return Err(BitmapStop::NotFound);
@@ -117,7 +119,8 @@ pub(crate) fn merge_named(
     source_node: NodeId,
     source: &str,
 )
-    ensures { rows.new ≡ with_source rows.old node target.now (find rows.old source_node source.now) }
+    ensures { rows.new
+        ≡ with_source rows.old node target.now (find rows.old source_node source.now) }
 {
     let Some(from) = place_of(rows, source_node, source) else {
         return;
@@ -132,7 +135,9 @@ pub(crate) fn merge_named(
 fn join(rows: &mut [Bitmap], from: usize, to: usize)
     requires from { from < length rows.old }
     requires to { to < length rows.old }
-    ensures { (d : Bitmap) → rows.new ≡ slice_set rows.old to (joined (slice_index_or rows.old from d) (slice_index_or rows.old to d)) }
+    ensures { (d : Bitmap)
+        → rows.new ≡ slice_set rows.old to
+        (joined (slice_index_or rows.old from d) (slice_index_or rows.old to d)) }
 {
     if from < to {
         let (front, back) = rows.split_at_mut(to);

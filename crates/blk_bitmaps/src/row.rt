@@ -39,7 +39,9 @@ struct GranuleSpan {
 impl Bitmap {
     /// How many bytes the dirty granules have, those that a job's use put aside among them; at most 2^64 - 1.
     pub fn dirty_bytes(&self) -> u64
-        ensures { result ≡ min (dirty_below self.now (length self.now.dirty) * self.now.granularity) (2 ^ 64 - 1) }
+        ensures { result
+            ≡ min (dirty_below self.now (length self.now.dirty) * self.now.granularity)
+            (2 ^ 64 - 1) }
     {
         let mut count = 0;
         for granule in 0..self.dirty.granules() {
@@ -125,7 +127,8 @@ impl Bitmap {
     }
 
     pub(crate) fn release(&mut self, job: u32, success: bool)
-        ensures { self.new ≡ (if is_used_by job self.old then given_back success self.old else self.old) }
+        ensures { self.new
+            ≡ (if is_used_by job self.old then given_back success self.old else self.old) }
     {
         if self.busy == Some(job) {
             self.busy = None;
@@ -159,7 +162,8 @@ fn fill(set: &mut DirtySet)
 
 /// Adds the members of a set of granules of the same size.
 fn unite(set: &mut DirtySet, other: &DirtySet)
-    ensures { set.new ≡ those_below (length set.old) (λ k. contains set.old k || contains other.now k) }
+    ensures { set.new
+        ≡ those_below (length set.old) (λ k. contains set.old k || contains other.now k) }
 {
     set.merge_from(other, Ratio { mine: 1, theirs: 1 });
 }
@@ -167,7 +171,8 @@ fn unite(set: &mut DirtySet, other: &DirtySet)
 /// Adds the granules that have a byte of a span.
 fn mark(set: &mut DirtySet, granularity: u64, span: Span)
     requires { 0 < granularity }
-    ensures { set.new ≡ those_below (length set.old) (λ k. contains set.old k || touches granularity span k) }
+    ensures { set.new
+        ≡ those_below (length set.old) (λ k. contains set.old k || touches granularity span k) }
 {
     let granules = touched(granularity, span, set.granules());
     set.set_span(granules.from, granules.to);
@@ -178,7 +183,8 @@ fn touched(granularity: u64, span: Span, count: u64) -> GranuleSpan
     requires { 0 < granularity }
     ensures order { result.from ≤ result.to }
     ensures within { result.to ≤ count }
-    ensures span { (k : ℕ) → k < count → in_span result.from result.to k ≡ touches granularity span k }
+    ensures span { (k : ℕ) → k < count
+        → in_span result.from result.to k ≡ touches granularity span k }
 {
     if span.len == 0 {
         return GranuleSpan { from: 0, to: 0 };

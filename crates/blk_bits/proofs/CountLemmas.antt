@@ -7,7 +7,7 @@ use Rattle.std.proofs.lemmas.Simd.{ones-mask_l_cons}
 use Rattle.std.proofs.lemmas.List.{nil_from_length, length-drop, same_lists, get_or-drop}
 use Rattle.std.proofs.lemmas.List.Sums.{sum_by-cons, sum_by-take-drop, count_by-le-length}
 use Rattle.blk_bits.specs.Granules.{member_count}
-use Rattle.blk_bits.specs.Words.{word_count, words_of}
+use Rattle.blk_bits.specs.Words.{word_count, words_of_bits}
 use Rattle.blk_bits.proofs.LevelLemmas.{Keeps, words-kept}
 
 ones-part : (bits : List Bool) → count_ones (mask_l bits) ≡ member_count bits
@@ -38,7 +38,7 @@ by_parts set a (suc n) =
     omega (arith, first, rest, ones, split, behind, end)
 
 pub count-kept : (set : List Bool) (words : List ℕ) → Keeps set words → sum_by count_ones words ≡ member_count set
-unfolding words_of
+unfolding words_of_bits
 count-kept set words keeps =
     let parts = by_parts set 0 (word_count (length set)) in
     let none = ap member_count (nil_from_length (drop (64 * (0 + word_count (length set))) set) (omega (arith, length-drop (64 * (0 + word_count (length set))) set))) in

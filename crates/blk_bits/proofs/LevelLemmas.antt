@@ -13,7 +13,7 @@ use Rattle.std.proofs.lemmas.Simd.{bit_mask_l, mask_l-lt}
 use Rattle.std.proofs.lemmas.List.{get_or_past, get_or-take, get_or-drop, get_or-replicate, length-replicate, length-take, length-map}
 use Rattle.std.proofs.lemmas.List.FromFn.{fill_by_all, length-map-range_with_len, get_or-map-range_with_len}
 use Rattle.blk_bits.specs.Granules.{contains, those_below}
-use Rattle.blk_bits.specs.Words.{word_count, words_of, used_words, has_bit, bits_in, HasWords}
+use Rattle.blk_bits.specs.Words.{word_count, words_of_bits, used_words, has_bit, bits_in, HasWords}
 use Rattle.blk_bits.proofs.GranuleLemmas.{contains-those_below}
 
 -- some words keep these truth values
@@ -58,8 +58,8 @@ bit-kept set words keeps w i below =
     let is = keeps.bit (64 * w + i) in
     rw (word, place) at is
 
-pub words-kept : (set : List Bool) (words : List ℕ) → Keeps set words → words ≡ words_of set
-unfolding words_of
+pub words-kept : (set : List Bool) (words : List ℕ) → Keeps set words → words ≡ words_of_bits set
+unfolding words_of_bits
 words-kept set words keeps =
     fill_by_all (λ w. mask_l (take (64 * w + 64 - 64 * w) (drop (64 * w) set))) words (word_count (length set)) 0 keeps.count
     (λ w below.
@@ -76,19 +76,19 @@ words-kept set words keeps =
     small part short = omega (arith, mask_l-lt part, pow-le-pow_right {n = 2} (lit< tt) {i = length part} {j = 64} short)
 
 pub length-used_words : (set : List Bool) → length (used_words set) ≡ word_count (length set)
-unfolding used_words words_of
+unfolding used_words words_of_bits
 length-used_words set =
-    length-map (words_of set) (λ word. not (eqb word 0))
+    length-map (words_of_bits set) (λ word. not (eqb word 0))
     ∙ length-map-range_with_len (λ w. mask_l (take (64 * w + 64 - 64 * w) (drop (64 * w) set))) 0 (word_count (length set))
 
 pub used-kept : (set : List Bool) (words : List ℕ) → Keeps set words → (i : ℕ) → contains (used_words set) i ≡ not (eqb (get_or words i 0) 0)
 unfolding used_words
 used-kept set words keeps i =
-    get_or-map (λ word. not (eqb word 0)) (words_of set) i 0 ∙ ap (λ ws. not (eqb (get_or ws i 0) 0)) (sym (words-kept set words keeps))
+    get_or-map (λ word. not (eqb word 0)) (words_of_bits set) i 0 ∙ ap (λ ws. not (eqb (get_or ws i 0) 0)) (sym (words-kept set words keeps))
 
 -- the words of some truth values keep them
-pub keeps-words_of : (set : List Bool) → Keeps set (words_of set)
-unfolding words_of
+pub keeps-words_of : (set : List Bool) → Keeps set (words_of_bits set)
+unfolding words_of_bits
 keeps-words_of set = record {
   count = length-map-range_with_len part_word 0 (word_count (length set));
   bit = λ k. elim (cases_lt (k / 64) (word_count (length set))) [
@@ -158,8 +158,8 @@ word_same old new w old-fits new-fits same = same_from_bits_below 64 (get_or new
 pub unused-none : (set : List Bool) (k : ℕ) → contains (used_words set) (k / 64) ≡ false → contains set k ≡ false
 unused-none set k none =
     let keeps = keeps-words_of set in
-    let zero_word : not (eqb (get_or (words_of set) (k / 64) 0) 0) ≡ false = sym (used-kept set (words_of set) keeps (k / 64)) ∙ none in
-    sym (keeps.bit k) ∙ no_bit (words_of set) k (was (get_or (words_of set) (k / 64) 0) zero_word)
+    let zero_word : not (eqb (get_or (words_of_bits set) (k / 64) 0) 0) ≡ false = sym (used-kept set (words_of_bits set) keeps (k / 64)) ∙ none in
+    sym (keeps.bit k) ∙ no_bit (words_of_bits set) k (was (get_or (words_of_bits set) (k / 64) 0) zero_word)
   where
     was : (n : ℕ) → not (eqb n 0) ≡ false → n ≡ 0
     was n is = grind (arith, nat_tests)

@@ -3,7 +3,7 @@ use Rattle.std.proofs.Common.{◌≡◌, ◌≢◌, ◌⊎◌, ℕ, zero, suc, �
 use Rattle.std.proofs.lemmas.Bool.{cases_lt, cases_eq}
 use Rattle.std.proofs.lemmas.List.{get_or_past, get_or-replicate, length-replicate, get_or_append_left, get_or-append_right, length-append}
 use Rattle.blk_bits.specs.Granules.{contains, LeastFrom, HasNoneFrom}
-use Rattle.blk_bits.specs.Words.{word_count, words_of, used_words, kept_at, AreAbove, IsAboveLast}
+use Rattle.blk_bits.specs.Words.{word_count, words_of_bits, used_words, kept_at, AreAbove, IsAboveLast}
 use Rattle.blk_bits.proofs.LevelLemmas.{length-used_words, used-kept, keeps-words_of, word_zero}
 use Rattle.blk_bits.proofs.WriteLemmas.{same_sets}
 
@@ -121,8 +121,8 @@ used-clean n =
     same_sets (used_words (replicate n false)) (replicate (word_count n) false)
     (length-used_words (replicate n false) ∙ ap word_count (length-replicate n false) ∙ sym (length-replicate (word_count n) false))
     (λ i.
-    let zero_word = word_zero (words_of (replicate n false)) i keeps.fits (λ k here. keeps.bit k ∙ same_everywhere n k false) in
-    used-kept (replicate n false) (words_of (replicate n false)) keeps i ∙ ap (λ word. not (eqb word 0)) zero_word ∙ sym (same_everywhere (word_count n) i false))
+    let zero_word = word_zero (words_of_bits (replicate n false)) i keeps.fits (λ k here. keeps.bit k ∙ same_everywhere n k false) in
+    used-kept (replicate n false) (words_of_bits (replicate n false)) keeps i ∙ ap (λ word. not (eqb word 0)) zero_word ∙ sym (same_everywhere (word_count n) i false))
 
 pub clean-kept : (n k : ℕ) → kept_at (replicate n false) k ≡ replicate (length (kept_at (replicate n false) k)) false
 clean-kept n zero = ap (λ m. replicate m false) (sym (length-replicate n false))

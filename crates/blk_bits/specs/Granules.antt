@@ -28,16 +28,20 @@ without_span set from to = those_below (length set) (λ k. contains set k && not
 
 -- granule k of the one size shares a unit with granule j of the other
 abbrev pub overlaps : Ratio → ℕ → ℕ → Bool
-overlaps ratio k j = nat_lt (ratio.mine * k) (ratio.theirs * (j + 1)) && nat_lt (ratio.theirs * j) (ratio.mine * (k + 1))
+overlaps ratio k j =
+    nat_lt (ratio.mine * k) (ratio.theirs * (j + 1))
+    && nat_lt (ratio.theirs * j) (ratio.mine * (k + 1))
 
 -- granule k does so with one of the members below a number
 abbrev pub overlaps_member : Ratio → List Bool → ℕ → ℕ → Bool
 overlaps_member ratio other k zero = false
-overlaps_member ratio other k (suc j) = (contains other j && overlaps ratio k j) || overlaps_member ratio other k j
+overlaps_member ratio other k (suc j) =
+    (contains other j && overlaps ratio k j) || overlaps_member ratio other k j
 
 -- a set with every granule that overlaps a member of the other
 abbrev pub merged : Ratio → List Bool → List Bool → List Bool
-merged ratio set other = those_below (length set) (λ k. contains set k || overlaps_member ratio other k (length other))
+merged ratio set other =
+    those_below (length set) (λ k. contains set k || overlaps_member ratio other k (length other))
 
 -- the least member from a number on
 pub record LeastFrom (set : List Bool) (from least : ℕ) : Type 0 where

@@ -11,12 +11,14 @@ abbrev pub word_count : ℕ → ℕ
 word_count bits = (bits + 63) / 64
 
 -- the words that keep some truth values, 64 in each: the first of them is the lowest bit of the first word
-unfoldable pub words_of : List Bool → List ℕ
-words_of bits = map (λ word. mask_l (slice_range bits (64 * word) (64 * word + 64))) (range_with_len 0 (word_count (length bits)))
+unfoldable pub words_of_bits : List Bool → List ℕ
+words_of_bits bits =
+    map (λ word. mask_l (slice_range bits (64 * word) (64 * word + 64)))
+    (range_with_len 0 (word_count (length bits)))
 
 -- which of these words aren't 0
 unfoldable pub used_words : List Bool → List Bool
-used_words bits = map (λ word. not (word == 0)) (words_of bits)
+used_words bits = map (λ word. not (word == 0)) (words_of_bits bits)
 
 -- what the words of level k keep: of the first the members, of each further one which words of the level below aren't 0
 abbrev pub kept_at : List Bool → ℕ → List Bool

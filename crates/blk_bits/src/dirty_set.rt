@@ -1,6 +1,6 @@
 ghost use Rattle.std.specs.Prelude.{◌≡◌, ◌<◌, ◌≤◌, ◌↔◌, ℕ, true, false, length, replicate, MatchOption, IfOk, IfSome, IsNone};
 ghost use Rattle.blk_bits.specs.Granules.{contains, with_span, without_span, merged, LeastFrom, HasNoneFrom, member_count};
-ghost use Rattle.blk_bits.specs.Words.{words_of, kept_at, IsAboveLast, AreAbove, with_written, either};
+ghost use Rattle.blk_bits.specs.Words.{words_of_bits, kept_at, IsAboveLast, AreAbove, with_written, either};
 
 use crate::level::Level;
 use crate::ratio::{GranuleSpan, Ratio};
@@ -89,7 +89,7 @@ impl DirtySet {
 
     /// The words of a level, or None above the last one.
     pub fn level(&self, k: u32) -> Option<&[u64]>
-        ensures words { IfSome result (λ words. words.now ≡ words_of (kept_at self.now k)) }
+        ensures words { IfSome result (λ words. words.now ≡ words_of_bits (kept_at self.now k)) }
         ensures last { IsNone result ↔ IsAboveLast self.now k }
     {
         match k.checked_sub(1) {

@@ -2,7 +2,7 @@
 ghost use Rattle.std.specs.Prelude.{◌≡◌, ℕ, ◌+◌, ◌-◌, ◌*◌, ◌/◌, ◌^◌, ◌<◌, ◌≤◌, max, true, false, ◌||◌, length, replicate, slice_index, sum_by, count_ones, MatchOption, IfOk};
 ghost use Rattle.std.specs.Int.{div_ceil};
 ghost use Rattle.blk_bits.specs.Granules.{contains, member_count, LeastFrom};
-ghost use Rattle.blk_bits.specs.Words.{word_count, words_of, used_words, with_written, either, has_bit, lacks};
+ghost use Rattle.blk_bits.specs.Words.{word_count, words_of_bits, used_words, with_written, either, has_bit, lacks};
 
 use crate::ratio::GranuleSpan;
 use crate::words::write_bits;
@@ -50,7 +50,7 @@ impl Level {
     }
 
     pub(crate) fn words(&self) -> &[u64]
-        ensures { result.now ≡ words_of self.now }
+        ensures { result.now ≡ words_of_bits self.now }
     {
         self.words.as_slice()
     }
@@ -70,7 +70,9 @@ impl Level {
 
     /// The least member from `from` on, of those in the same word.
     pub(crate) fn next_in_word(&self, from: u64) -> Option<u64>
-        ensures { MatchOption result ((k : ℕ) → from ≤ k → k / 64 ≡ from / 64 → contains self.now k ≡ false) (LeastFrom self.now from) }
+        ensures { MatchOption result
+            ((k : ℕ) → from ≤ k → k / 64 ≡ from / 64 → contains self.now k ≡ false)
+            (LeastFrom self.now from) }
     {
         let word = self.words.get((from / 64) as usize)?;
         let ahead = *word >> (from % 64);
@@ -104,7 +106,8 @@ impl Level {
         requires order { span.from ≤ span.to }
         requires within { span.to ≤ length self.old }
         ensures written { self.new ≡ with_written self.old span.from span.to value }
-        ensures above { used_words self.new ≡ with_written (used_words self.old) result.from result.to value }
+        ensures above { used_words self.new
+            ≡ with_written (used_words self.old) result.from result.to value }
         ensures order { result.from ≤ result.to }
         ensures within { result.to ≤ word_count (length self.old) }
     {
@@ -134,8 +137,11 @@ impl Level {
 fn turned_words(words: &[u64], span: GranuleSpan, value: bool) -> GranuleSpan
     requires order { span.from < span.to }
     requires within { span.to ≤ 64 * length words.now }
-    ensures from { result.from ≡ span.from / 64 + lacks (slice_index words.now (span.from / 64)) value }
-    ensures to { result.to ≡ max ((span.to - 1) / 64 + 1 - lacks (slice_index words.now ((span.to - 1) / 64)) value) result.from }
+    ensures from { result.from
+        ≡ span.from / 64 + lacks (slice_index words.now (span.from / 64)) value }
+    ensures to { result.to
+        ≡ max ((span.to - 1) / 64 + 1 - lacks (slice_index words.now ((span.to - 1) / 64)) value)
+        result.from }
 {
     let first = span.from / 64;
     let last = (span.to - 1) / 64;

@@ -21,8 +21,10 @@ impl Ratio {
         requires { 0 < self.mine }
         ensures order { result.from ≤ result.to }
         ensures within { result.to ≤ count }
-        ensures ends { (k : ℕ) → k < count → (k < result.to ↔ (self.mine * k < self.theirs * span.to)) }
-        ensures begins { (k : ℕ) → k < result.to → (result.from ≤ k ↔ (self.theirs * span.from < self.mine * (k + 1))) }
+        ensures ends { (k : ℕ) → k < count
+            → (k < result.to ↔ (self.mine * k < self.theirs * span.to)) }
+        ensures begins { (k : ℕ) → k < result.to
+            → (result.from ≤ k ↔ (self.theirs * span.from < self.mine * (k + 1))) }
     {
         let mine = u128::from(self.mine);
         let theirs = u128::from(self.theirs);

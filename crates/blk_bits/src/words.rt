@@ -8,7 +8,8 @@ ghost use Rattle.blk_bits.specs.Words.{has_bit};
 pub(crate) fn write_bits(words: &mut [u64], from: usize, to: usize, value: bool)
     requires order { from < to }
     requires within { to ≤ 64 * length words.old }
-    ensures written { (k : ℕ) → has_bit words.new k ≡ (if in_span from to k then value else has_bit words.old k) }
+    ensures written { (k : ℕ)
+        → has_bit words.new k ≡ (if in_span from to k then value else has_bit words.old k) }
     ensures fits { (k : ℕ) → slice_index words.new k < 2 ^ 64 }
 {
     let first = from / 64;
@@ -28,7 +29,9 @@ fn write_word(words: &mut [u64], word: usize, from: usize, to: usize, value: boo
     requires there { word < length words.old }
     requires order { from < to }
     requires within { to ≤ 64 }
-    ensures { (k : ℕ) → has_bit words.new k ≡ (if in_span (64 * word + from) (64 * word + to) k then value else has_bit words.old k) }
+    ensures { (k : ℕ)
+        → has_bit words.new k
+        ≡ (if in_span (64 * word + from) (64 * word + to) k then value else has_bit words.old k) }
 {
     words[word] = with_bits(words[word], from, to, value);
 }
@@ -37,7 +40,9 @@ fn write_word(words: &mut [u64], word: usize, from: usize, to: usize, value: boo
 fn with_bits(word: u64, from: usize, to: usize, value: bool) -> u64
     requires order { from < to }
     requires within { to ≤ 64 }
-    ensures { (k : ℕ) → k < 64 → bit_at result k ≡ (if in_span from to k then (if value then 1 else 0) else bit_at word k) }
+    ensures { (k : ℕ) → k < 64
+        → bit_at result k
+        ≡ (if in_span from to k then (if value then 1 else 0) else bit_at word k) }
 {
     let mask = span_mask(from, to);
     if value { word | mask } else { word & !mask }
@@ -56,7 +61,9 @@ fn span_mask(from: usize, to: usize) -> u64
 fn fill_words(words: &mut [u64], from: usize, to: usize, value: bool)
     requires order { from ≤ to }
     requires within { to ≤ length words.old }
-    ensures { (k : ℕ) → has_bit words.new k ≡ (if in_span (64 * from) (64 * to) k then value else has_bit words.old k) }
+    ensures { (k : ℕ)
+        → has_bit words.new k
+        ≡ (if in_span (64 * from) (64 * to) k then value else has_bit words.old k) }
 {
     fill(&mut words[from..to], if value { u64::MAX } else { 0 });
 }

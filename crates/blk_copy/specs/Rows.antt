@@ -12,7 +12,8 @@ has_row job cluster rows = list_any (is_of job cluster) rows
 
 -- just this row is there, its position too
 abbrev pub is_in_flight : Transfer → List Transfer → Bool
-is_in_flight t rows = list_any (λ row. is_of t.job t.cluster row && (row.position == t.position)) rows
+is_in_flight t rows =
+    list_any (λ row. is_of t.job t.cluster row && (row.position == t.position)) rows
 
 -- all rows but that of this job and cluster
 abbrev pub without_row : ℕ → ℕ → List Transfer → List Transfer

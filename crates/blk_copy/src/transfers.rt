@@ -61,7 +61,8 @@ impl Transfers {
     /// Ends the transfer of a job and cluster, and says whether there was one.
     pub fn close_row(&mut self, job: u32, cluster: u64) -> bool
         ensures found { result ≡ has_row job cluster self.old.rows }
-        ensures closed { self.new ≡ record self.old { rows = without_row job cluster self.old.rows } }
+        ensures closed { self.new
+            ≡ record self.old { rows = without_row job cluster self.old.rows } }
     {
         let found = self
             .rows

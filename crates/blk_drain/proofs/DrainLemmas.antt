@@ -7,7 +7,7 @@ use Rattle.std.proofs.lemmas.List.Elements.{Contains-push_cases, Contains-append
 use Rattle.std.proofs.lemmas.Bool.{eqb-true, eqb-false}
 use Rattle.std.specs.Prelude.{◌==◌}
 use Rattle.blk_drain.specs.declared.drains.GuestRow.{GuestRow}
-use Rattle.blk_drain.specs.Drains.{idle, row_of, drain_count, in_flight, Counted, readiness}
+use Rattle.blk_drain.specs.Drains.{idle, row_of_guest, drain_count, in_flight, Counted, readiness}
 use Rattle.blk_drain.specs.declared.drains.Readiness.{Readiness}
 use Rattle.blk_drain.specs.declared.drains.Readiness.TheVariants.{Drained, Waiting}
 
@@ -20,7 +20,7 @@ Counted-none change rows = record {
 
 -- the row of a guest read out of a slice
 pub row_at : (rows : List GuestRow) (guest : ℕ) (row : GuestRow) → guest < length rows → row ≡ get_or rows guest row
-    → row ≡ row_of rows guest
+    → row ≡ row_of_guest rows guest
 row_at rows guest row within is = is ∙ get_or_default rows guest row idle within
 
 -- one more guest, whose count was not changed before
@@ -42,7 +42,7 @@ Counted-push change done old mid guest row counted within fresh drains request =
   requests = λ g. by_test g (g == guest) refl;
 }
   where
-    own : row_of (set mid guest row) guest ≡ row
+    own : row_of_guest (set mid guest row) guest ≡ row
     own = get_or-set_same mid guest row idle within
 
     own_count : drain_count (set mid guest row) guest ≡ change (drain_count mid guest)

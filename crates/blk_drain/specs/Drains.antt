@@ -10,25 +10,28 @@ abbrev pub idle : GuestRow
 idle = record { drains = 0; request = None }
 
 -- a guest's row; the guests' rows stand by number
-abbrev pub row_of : List GuestRow → ℕ → GuestRow
-row_of rows guest = slice_index_or rows guest idle
+abbrev pub row_of_guest : List GuestRow → ℕ → GuestRow
+row_of_guest rows guest = slice_index_or rows guest idle
 
 -- how many drains hold a guest
 abbrev pub drain_count : List GuestRow → ℕ → ℕ
-drain_count rows guest = (row_of rows guest).drains
+drain_count rows guest = (row_of_guest rows guest).drains
 
 -- a guest's request in flight
 abbrev pub in_flight : List GuestRow → ℕ → Option ℕ
-in_flight rows guest = (row_of rows guest).request
+in_flight rows guest = (row_of_guest rows guest).request
 
 -- a guest has this request in flight, or none; all else stays
 abbrev pub with_request : List GuestRow → ℕ → Option ℕ → List GuestRow
-with_request rows guest request = slice_set rows guest (record (row_of rows guest) { request = request })
+with_request rows guest request =
+    slice_set rows guest (record (row_of_guest rows guest) { request = request })
 
 -- each of these guests' counts is changed so, no other guest's, and no request
 pub record Counted (change : ℕ → ℕ) (guests : List ℕ) (old new : List GuestRow) : Type 0 where
-  pub named : (guest : ℕ) → Contains guests guest → drain_count new guest ≡ change (drain_count old guest)
-  pub others : (guest : ℕ) → (Contains guests guest → ⊥) → drain_count new guest ≡ drain_count old guest
+  pub named : (guest : ℕ) → Contains guests guest
+      → drain_count new guest ≡ change (drain_count old guest)
+  pub others : (guest : ℕ) → (Contains guests guest → ⊥)
+      → drain_count new guest ≡ drain_count old guest
   pub requests : (guest : ℕ) → in_flight new guest ≡ in_flight old guest
 
 -- one more, up to the last number that the count can hold

@@ -1,5 +1,5 @@
 ghost use Rattle.std.specs.Prelude.{◌≡◌, ◌≢◌, ◌↔◌, ℕ, ◌<◌, ◌≤◌, List, Contains, All, AllPairs, length, replicate, Some, None, IfOk, IsSome};
-ghost use Rattle.blk_drain.specs.Drains.{idle, row_of, drain_count, in_flight, with_request, Counted, risen, fallen, readiness};
+ghost use Rattle.blk_drain.specs.Drains.{idle, row_of_guest, drain_count, in_flight, with_request, Counted, risen, fallen, readiness};
 
 use blk_base::NoMemory;
 use std::alloc::Global;
@@ -66,7 +66,7 @@ impl Drains {
     /// The row of a guest.
     pub fn row(&self, guest: u32) -> GuestRow
         requires { guest < 64 }
-        ensures { result ≡ row_of self.now guest }
+        ensures { result ≡ row_of_guest self.now guest }
     {
         self.rows[guest as usize]
     }
@@ -77,7 +77,8 @@ impl Drains {
         requires idle { in_flight self.old guest ≡ None }
         ensures held { (result ≡ Gate1.Held) ↔ (drain_count self.old guest ≢ 0) }
         ensures admitted { (result ≡ Gate1.Admitted) ↔ (drain_count self.old guest ≡ 0) }
-        ensures begun { result ≡ Gate1.Admitted → self.new ≡ with_request self.old guest (Some request) }
+        ensures begun { result ≡ Gate1.Admitted
+            → self.new ≡ with_request self.old guest (Some request) }
         ensures kept { result ≡ Gate1.Held → self.new ≡ self.old }
     {
         let row = &mut self.rows[guest as usize];
@@ -120,7 +121,8 @@ impl Drains {
     pub fn ready(&self, guests: &[u32]) -> Readiness
         requires { All (λ guest. guest < 64) guests.now }
         ensures first { result ≡ readiness self.now guests.now }
-        ensures drained { (result ≡ Readiness.Drained) ↔ ((guest : ℕ) → Contains guests.now guest → in_flight self.now guest ≡ None) }
+        ensures drained { (result ≡ Readiness.Drained) ↔
+            ((guest : ℕ) → Contains guests.now guest → in_flight self.now guest ≡ None) }
     {
         for guest in guests {
             if let Some(request) = self.rows[*guest as usize].request {

@@ -10,7 +10,7 @@ use Rattle.blk_base.specs.Files.{file_at, put_file, is_out_as, is_out, given_bac
 use Rattle.blk_base.specs.declared.file.File.{File}
 use Rattle.blk_base.specs.declared.file.Opened.{Opened}
 use Rattle.blk_fakes.specs.Disk.{DeviceState}
-use Rattle.blk_fakes.specs.Shelf.{FileState, told_as, told_file, place_of, is_held, device_at, remade, zeros_as, zeroed, with_made, with_device}
+use Rattle.blk_fakes.specs.Shelf.{FileState, told_as, told_file, shelf_place, is_held, device_at, remade, zeros_as, zeroed, with_made, with_device}
 
 same_from : (a b : List ℕ) → bytes_eq a b ≡ true → a ≡ b
 same_from a b is = (bytes_eq-Decides a b).0 is
@@ -61,7 +61,7 @@ file_put name (f ∷ files) (suc at) d dev is =
 pub record IsNowhere (name : List ℕ) (files : List FileState) : Type 0 where
   pub none : (k : ℕ) (d : FileState) → k < length files → bytes_eq name (get_or files k d).name ≡ false
 
-pub missing : (name : List ℕ) (files : List FileState) → place_of name files ≡ None → IsNowhere name files
+pub missing : (name : List ℕ) (files : List FileState) → shelf_place name files ≡ None → IsNowhere name files
 missing name files is = record { none = λ k d below. nowhere (λ (f : FileState). bytes_eq name f.name) files d is k below }
 
 nowhere_later : (name : List ℕ) (f : FileState) (files : List FileState) → IsNowhere name (f ∷ files) → IsNowhere name files
@@ -168,18 +168,18 @@ out_more q o (p ∷ opened) files held here out = out_more_by (is_out_as q p) (i
     (λ h. out_more q o opened files (λ g. held (or_right (is_out_as q p) (is_out q opened) g)) here h)
 
 -- a row that was read at the place of its name
-pub file_read : (name : List ℕ) (files : List FileState) (at : ℕ) (r : FileState) → place_of name files ≡ Some at → r ≡ get_or files at r → file_at name (map told_file files) ≡ Some (told_as name r.device)
+pub file_read : (name : List ℕ) (files : List FileState) (at : ℕ) (r : FileState) → shelf_place name files ≡ Some at → r ≡ get_or files at r → file_at name (map told_file files) ≡ Some (told_as name r.device)
 file_read name files at r place read =
     let is = first (λ (f : FileState). bytes_eq name f.name) files at r place in
     let named : name ≡ (get_or files at r).name = same_from name (get_or files at r).name is.passes in
     let same : told_as (get_or files at r).name (get_or files at r).device ≡ told_as name r.device = rw (← named) (ap (λ (f : FileState). told_as name f.device) (sym read)) in
     file_found name files at r is ∙ ap (λ (f : File). Some f) same
 
-pub device_read : (name : List ℕ) (files : List FileState) (at : ℕ) (r : FileState) → place_of name files ≡ Some at → r ≡ get_or files at r → device_at name files ≡ Some r.device
+pub device_read : (name : List ℕ) (files : List FileState) (at : ℕ) (r : FileState) → shelf_place name files ≡ Some at → r ≡ get_or files at r → device_at name files ≡ Some r.device
 device_read name files at r place read =
     device_found name files at r (first (λ (f : FileState). bytes_eq name f.name) files at r place) ∙ ap (λ (f : FileState). Some f.device) (sym read)
 
-pub put_at_place : (name : List ℕ) (files : List FileState) (at : ℕ) (d : FileState) (dev : DeviceState) → place_of name files ≡ Some at
+pub put_at_place : (name : List ℕ) (files : List FileState) (at : ℕ) (d : FileState) (dev : DeviceState) → shelf_place name files ≡ Some at
     → map told_file (set files at (record (get_or files at d) { device = dev })) ≡ put_file (told_as name dev) (map told_file files)
 put_at_place name files at d dev place = file_put name files at d dev (first (λ (f : FileState). bytes_eq name f.name) files at d place)
 
@@ -199,10 +199,10 @@ out_push q o opened files false held here out = held out
 pub zeros_told : (name : List ℕ) (dev old : DeviceState) (len room : ℕ) → dev ≡ remade old len room → told_as name dev ≡ zeros_as name len room
 zeros_told name dev old len room is = ap (λ (d : DeviceState). told_as name d) is
 
-pub lacks : (name : List ℕ) (files : List FileState) → place_of name files ≡ None → file_at name (map told_file files) ≡ None
+pub lacks : (name : List ℕ) (files : List FileState) → shelf_place name files ≡ None → file_at name (map told_file files) ≡ None
 lacks name files is = file_missing name files (missing name files is)
 
-pub has_file : (name : List ℕ) (files : List FileState) (at : ℕ) → place_of name files ≡ Some at → (f : File) × (file_at name (map told_file files) ≡ Some f) × Unit {0}
+pub has_file : (name : List ℕ) (files : List FileState) (at : ℕ) → shelf_place name files ≡ Some at → (f : File) × (file_at name (map told_file files) ≡ Some f) × Unit {0}
 has_file name [] at place = absurd (cc place)
 has_file name (f ∷ files) at place =
     let is = first (λ (f : FileState). bytes_eq name f.name) (f ∷ files) at f place in
@@ -216,7 +216,7 @@ device_put name (f ∷ files) zero d dev is = rw is.passes refl
 device_put name (f ∷ files) (suc at) d dev is =
     rw (is.before 0 (omega arith)) (ap (λ (fs : List FileState). f ∷ fs) (device_put name files at d dev (later _ f files at d is)))
 
-pub device_at_place : (name : List ℕ) (files : List FileState) (at : ℕ) (d : FileState) (dev : DeviceState) → place_of name files ≡ Some at
+pub device_at_place : (name : List ℕ) (files : List FileState) (at : ℕ) (d : FileState) (dev : DeviceState) → shelf_place name files ≡ Some at
     → set files at (record (get_or files at d) { device = dev }) ≡ with_device name dev files
 device_at_place name files at d dev place = device_put name files at d dev (first (λ (f : FileState). bytes_eq name f.name) files at d place)
 
@@ -228,7 +228,7 @@ zeros_put name (f ∷ files) zero d len room is = rw is.passes refl
 zeros_put name (f ∷ files) (suc at) d len room is =
     rw (is.before 0 (omega arith)) (ap (λ (fs : List FileState). f ∷ fs) (zeros_put name files at d len room (later _ f files at d is)))
 
-pub made_at_place : (name : List ℕ) (files : List FileState) (at : ℕ) (r : FileState) (dev : DeviceState) (len room : ℕ) → place_of name files ≡ Some at → r ≡ get_or files at r
+pub made_at_place : (name : List ℕ) (files : List FileState) (at : ℕ) (r : FileState) (dev : DeviceState) (len room : ℕ) → shelf_place name files ≡ Some at → r ≡ get_or files at r
     → dev ≡ remade r.device len room → set files at (record (get_or files at r) { device = dev }) ≡ with_made name len room files
 made_at_place name files at r dev len room place read is =
     let same : dev ≡ remade (get_or files at r).device len room = is ∙ ap (λ (f : FileState). remade f.device len room) read in

@@ -13,7 +13,8 @@ pub record LogState : Type 0 where
 
 -- the log, while it is kept
 abbrev pub log_of : LogState → Option Log
-log_of log = if log.is_kept then Some (record { before = log.before; writes = log.writes }) else None
+log_of log =
+    if log.is_kept then Some (record { before = log.before; writes = log.writes }) else None
 
 -- a write of so many bytes goes in
 abbrev pub goes_in : LogState → ℕ → Bool
@@ -29,7 +30,9 @@ with_write log offset bytes = record log {
 
 -- the log after one more write: it ends with a write past its room
 abbrev pub logged_with : LogState → ℕ → List ℕ → LogState
-logged_with log offset bytes = if goes_in log (length bytes) then with_write log offset bytes else record log { is_kept = false }
+logged_with log offset bytes =
+    if goes_in log (length bytes) then with_write log offset bytes
+    else record log { is_kept = false }
 
 -- the log after a write; one of no bytes is none
 abbrev pub log_after : LogState → ℕ → List ℕ → LogState
@@ -42,7 +45,8 @@ torn_at offset n done = min done (n - 1) - (offset + min done (n - 1)) % 512
 
 -- write k is that
 abbrev pub WriteAt : List Write → ℕ → ℕ → List ℕ → Type 0
-WriteAt writes k offset bytes = slice_get writes k ≡ Some (record { offset = offset; bytes = bytes })
+WriteAt writes k offset bytes =
+    slice_get writes k ≡ Some (record { offset = offset; bytes = bytes })
 
 -- bytes, the log of the writes to them, and the room with which a log begins
 pub record DiskState : Type 0 where
@@ -57,8 +61,8 @@ pub record DiskState : Type 0 where
 abbrev pub told_by : List ℕ → LogState → List ℕ
 told_by bytes log = if log.is_kept then after_writes log.before log.writes else bytes
 
-abbrev pub bytes_of : DiskState → List ℕ
-bytes_of disk = told_by disk.bytes disk.log
+abbrev pub device_bytes : DiskState → List ℕ
+device_bytes disk = told_by disk.bytes disk.log
 
 -- a device: its bytes, and its calls
 pub record DeviceState : Type 0 where
@@ -69,7 +73,13 @@ pub record DeviceState : Type 0 where
 abbrev pub fresh : List ℕ → ℕ → ℕ → ℕ → DiskState
 fresh bytes capacity writes room = record {
   bytes = bytes;
-  log = record { is_kept = true; before = bytes; writes = []; writes_left = writes; bytes_left = room };
+  log = record {
+    is_kept = true;
+    before = bytes;
+    writes = [];
+    writes_left = writes;
+    bytes_left = room;
+  };
   log_writes = writes;
   log_bytes = room;
   capacity = capacity;

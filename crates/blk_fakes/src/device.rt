@@ -27,7 +27,7 @@ impl Model for MemDevice {
 impl MemDevice {
     ghost use Rattle.std.specs.Prelude.{◌≡◌, ◌+◌, ◌<◌, ◌≤◌, if◌then◌else◌, [], length, replicate, Some, None, IfOk, IfErr, OnOk, OnErr};
     ghost use Rattle.blk_base.specs.Counts.{IsFailedWrite};
-    ghost use Rattle.blk_fakes.specs.Disk.{DeviceState, WriteAt, bytes_of, fresh};
+    ghost use Rattle.blk_fakes.specs.Disk.{DeviceState, WriteAt, device_bytes, fresh};
     ghost use Rattle.blk_fakes.specs.Calls.{no_calls};
     ghost use Rattle.blk_fakes.specs.Shelf.{remade};
 
@@ -42,7 +42,11 @@ impl MemDevice {
         log_bytes: u64,
     ) -> Result<Self, NoMemory>
         requires { length bytes.now ≤ capacity }
-        ensures { IfOk result (λ d. d ≡ record { disk = fresh bytes.now capacity log_writes log_bytes; calls = no_calls fails.now }) }
+        ensures { IfOk result
+            (λ d. d ≡ record {
+              disk = fresh bytes.now capacity log_writes log_bytes;
+              calls = no_calls fails.now;
+            }) }
     {
         let room = LogRoom {
             writes: log_writes,
@@ -66,7 +70,11 @@ impl MemDevice {
     /// A device of so many zeros, with room for a log of 1,024 writes and 4,194,304 bytes. None of its calls fails.
     pub(crate) fn zeroed(alloc: Global, len: u64, capacity: u64) -> Result<Self, NoMemory>
         requires { len ≤ capacity }
-        ensures { IfOk result (λ d. d ≡ record { disk = fresh (replicate len 0) capacity 1024 4194304; calls = no_calls [] }) }
+        ensures { IfOk result
+            (λ d. d ≡ record {
+              disk = fresh (replicate len 0) capacity 1024 4194304;
+              calls = no_calls [];
+            }) }
     {
         let room = LogRoom {
             writes: 1024,
@@ -90,14 +98,15 @@ impl MemDevice {
     }
 
     pub fn bytes(&self) -> &[u8]
-        ensures { result.now ≡ bytes_of self.now.disk }
+        ensures { result.now ≡ device_bytes self.now.disk }
     {
         self.disk.bytes()
     }
 
     /// The number of writes in the log, and none where no log is kept any more.
     pub fn logged(&self) -> Option<u64>
-        ensures { result ≡ (if self.now.disk.log.is_kept then Some (length self.now.disk.log.writes) else None) }
+        ensures { result
+            ≡ (if self.now.disk.log.is_kept then Some (length self.now.disk.log.writes) else None) }
     {
         self.disk.log().count()
     }
@@ -114,18 +123,18 @@ impl MemDevice {
 impl Device for MemDevice {
     ghost use Rattle.std.specs.Prelude.{not, None, ◌⊎◌, ◌≡◌, ◌↔◌, ◌+◌, ◌<◌, ◌≤◌, ◌||◌, ℕ, Bool, true, false, List, length, Some, refl, option_map, is_some, is_ok, IsTrue, IfErr, OnOk, OnErr};
     ghost use Rattle.blk_base.specs.Content.{Log, after_writes, GoesOn, bytes_at, with_bytes, size_with};
-    ghost use Rattle.blk_fakes.specs.Disk.{DeviceState, bytes_of, log_of, log_after, torn_at};
+    ghost use Rattle.blk_fakes.specs.Disk.{DeviceState, device_bytes, log_of, log_after, torn_at};
     ghost use Rattle.blk_base.specs.Counts.{IsFailedWrite, taken};
     ghost use Rattle.blk_fakes.specs.Calls.{fails_next, with_go, done_at, after_call, write_fails};
     ghost use Rattle.blk_fakes.specs.Laws.{size_told, log_told};
 
-    ghost content = { λ d. Some (bytes_of d.disk) };
+    ghost content = { λ d. Some (device_bytes d.disk) };
 
     ghost is_flushed = { λ d. Some d.disk.is_flushed };
 
     ghost log = { λ d. log_of d.disk.log };
 
-    ghost size = { λ d. length (bytes_of d.disk) };
+    ghost size = { λ d. length (device_bytes d.disk) };
 
     ghost capacity = { λ d. d.disk.capacity };
 
@@ -134,7 +143,8 @@ impl Device for MemDevice {
     /// Fails exactly where the list says so.
     fn read_at(&mut self, off: u64, buf: &mut [u8]) -> Result<(), DevFault>
         ensures goes { is_ok result ≡ not (fails_next self.old.calls) }
-        ensures read { OnOk result (buf.new ≡ bytes_at (bytes_of self.old.disk) off (length buf.old)) }
+        ensures read { OnOk result
+            (buf.new ≡ bytes_at (device_bytes self.old.disk) off (length buf.old)) }
         ensures after { self.new ≡ record self.old { calls = with_go self.old.calls } }
         ensures faults { self.old.calls.faults ≤ self.new.calls.faults }
     {
@@ -148,22 +158,34 @@ impl Device for MemDevice {
 
     /// Fails exactly where the list says so, unless it has no bytes.
     fn write_at(&mut self, off: u64, bytes: &[u8]) -> Result<(), WriteStop>
-        ensures goes { OnOk result ((done_at self.old.calls.made self.old.calls.fails ≡ None) ⊎ (length bytes.now ≡ 0)) }
-        ensures torn { IfErr result (λ stop. stop.why ≡ Stop.Failed → option_map (torn_at off (length bytes.now)) (done_at self.old.calls.made self.old.calls.fails) ≡ Some stop.done) }
+        ensures goes { OnOk result
+            ((done_at self.old.calls.made self.old.calls.fails ≡ None) ⊎ (length bytes.now ≡ 0)) }
+        ensures torn { IfErr result
+            (λ stop. stop.why ≡ Stop.Failed
+            → option_map (torn_at off (length bytes.now))
+            (done_at self.old.calls.made self.old.calls.fails) ≡ Some stop.done) }
         ensures calls { self.new.calls ≡ after_call (write_fails result) self.old.calls }
-        ensures room { (self.new.disk.log_writes ≡ self.old.disk.log_writes) × (self.new.disk.log_bytes ≡ self.old.disk.log_bytes) }
-        ensures kept { self.new.disk.log ≡ log_after self.old.disk.log off (taken result bytes.now) }
+        ensures room { (self.new.disk.log_writes ≡ self.old.disk.log_writes)
+            × (self.new.disk.log_bytes ≡ self.old.disk.log_bytes) }
+        ensures kept { self.new.disk.log
+            ≡ log_after self.old.disk.log off (taken result bytes.now) }
 
         // what each device promises
-        ensures written { bytes_of self.new.disk ≡ with_bytes (bytes_of self.old.disk) off (taken result bytes.now) }
-        ensures size { length (bytes_of self.new.disk) ≡ size_with (length (bytes_of self.old.disk)) off (taken result bytes.now) }
-        ensures log { GoesOn (log_of self.old.disk.log) off (taken result bytes.now) (log_of self.new.disk.log) }
+        ensures written { device_bytes self.new.disk
+            ≡ with_bytes (device_bytes self.old.disk) off (taken result bytes.now) }
+        ensures size { length (device_bytes self.new.disk)
+            ≡ size_with (length (device_bytes self.old.disk)) off (taken result bytes.now) }
+        ensures log { GoesOn (log_of self.old.disk.log) off (taken result bytes.now)
+            (log_of self.new.disk.log) }
         ensures flushed { self.new.disk.is_flushed ≡ false }
         ensures fits { OnOk result (off + length bytes.now ≤ self.old.disk.capacity) }
         ensures no_space { IfErr result (λ stop. stop.why ≡ Stop.NoSpace →
-            (self.old.disk.capacity < off + length bytes.now) × (stop.done ≡ 0) × (self.new.calls.faults ≡ self.old.calls.faults)) }
-        ensures failed { IfErr result (λ stop. stop.why ≡ Stop.Failed → (off + length bytes.now ≤ self.old.disk.capacity)
-            × IsFailedWrite off stop.done (length bytes.now) self.old.calls.faults self.new.calls.faults) }
+            (self.old.disk.capacity < off + length bytes.now) × (stop.done ≡ 0)
+            × (self.new.calls.faults ≡ self.old.calls.faults)) }
+        ensures failed { IfErr result
+            (λ stop. stop.why ≡ Stop.Failed → (off + length bytes.now ≤ self.old.disk.capacity)
+            × IsFailedWrite off stop.done (length bytes.now) self.old.calls.faults
+            self.new.calls.faults) }
         ensures faults { self.old.calls.faults ≤ self.new.calls.faults }
         ensures capacity { self.new.disk.capacity ≡ self.old.disk.capacity }
     {
@@ -195,7 +217,14 @@ impl Device for MemDevice {
     /// Fails exactly where the list says so.
     fn flush(&mut self) -> Result<(), DevFault>
         ensures goes { is_ok result ≡ not (fails_next self.old.calls) }
-        ensures after { self.new ≡ record { disk = record self.old.disk { is_flushed = is_ok result || self.old.disk.is_flushed }; calls = with_go self.old.calls } }
+        ensures after { self.new
+            ≡ record {
+              disk = record self.old.disk {
+                is_flushed = is_ok result
+                    || self.old.disk.is_flushed;
+              };
+              calls = with_go self.old.calls;
+            } }
         ensures faults { self.old.calls.faults ≤ self.new.calls.faults }
     {
         if self.calls.go() {

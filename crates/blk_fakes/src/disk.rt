@@ -39,7 +39,7 @@ impl Model for Disk {
 impl Disk {
     ghost use Rattle.std.specs.Prelude.{◌≡◌, ◌↔◌, ◌+◌, ◌^◌, ◌<◌, ◌≤◌, true, false, [], length, replicate, Some, None, IsTrue, IfOk, OnOk, OnErr};
     ghost use Rattle.blk_base.specs.Content.{Write, bytes_at, with_bytes, size_with, GoesOn};
-    ghost use Rattle.blk_fakes.specs.Disk.{DiskState, LogState, WriteAt, bytes_of, log_of, log_after, fresh};
+    ghost use Rattle.blk_fakes.specs.Disk.{DiskState, LogState, WriteAt, device_bytes, log_of, log_after, fresh};
 
     /// These bytes, flushed, and an empty log.
     pub fn new(
@@ -68,7 +68,8 @@ impl Disk {
         log_room: LogRoom,
     ) -> Result<Self, NoMemory>
         requires { len ≤ capacity }
-        ensures { IfOk result (λ d. d ≡ fresh (replicate len 0) capacity log_room.writes log_room.bytes) }
+        ensures { IfOk result
+            (λ d. d ≡ fresh (replicate len 0) capacity log_room.writes log_room.bytes) }
     {
         let bytes = zeros_with_room(alloc, len, capacity)?;
         let log = WriteLog::new(alloc, &bytes, log_room)?;
@@ -95,7 +96,7 @@ impl Disk {
 
     pub fn bytes(&self) -> &[u8]
         ensures stored { result.now ≡ self.now.bytes }
-        ensures told { result.now ≡ bytes_of self.now }
+        ensures told { result.now ≡ device_bytes self.now }
     {
         self.bytes.as_slice()
     }
@@ -134,7 +135,7 @@ impl Disk {
 
     /// Reads the bytes from an offset on, zeros past the end.
     pub fn read(&self, off: u64, buf: &mut [u8])
-        ensures { buf.new ≡ bytes_at (bytes_of self.now) off (length buf.old) }
+        ensures { buf.new ≡ bytes_at (device_bytes self.now) off (length buf.old) }
     {
         copy_out(self.bytes.as_slice(), off, buf);
     }
@@ -148,11 +149,13 @@ impl Disk {
     /// Writes all of the bytes. Takes no memory.
     pub fn write(&mut self, off: u64, written: &[u8])
         requires { off + length written.now ≤ self.old.capacity }
-        ensures told { bytes_of self.new ≡ with_bytes (bytes_of self.old) off written.now }
-        ensures size { length (bytes_of self.new) ≡ size_with (length (bytes_of self.old)) off written.now }
+        ensures told { device_bytes self.new ≡ with_bytes (device_bytes self.old) off written.now }
+        ensures size { length (device_bytes self.new)
+            ≡ size_with (length (device_bytes self.old)) off written.now }
         ensures kept { self.new.log ≡ log_after self.old.log off written.now }
         ensures log { GoesOn (log_of self.old.log) off written.now (log_of self.new.log) }
-        ensures room { (self.new.log_writes ≡ self.old.log_writes) × (self.new.log_bytes ≡ self.old.log_bytes) }
+        ensures room { (self.new.log_writes ≡ self.old.log_writes)
+            × (self.new.log_bytes ≡ self.old.log_bytes) }
         ensures capacity { self.new.capacity ≡ self.old.capacity }
         ensures flushed { self.new.is_flushed ≡ self.old.is_flushed }
     {

@@ -58,7 +58,14 @@ impl WriteLog {
 
     /// No write yet.
     pub fn new(alloc: Global, before: &[u8], room: LogRoom) -> Result<Self, NoMemory>
-        ensures { IfOk result (λ l. l ≡ record { is_kept = true; before = before.now; writes = []; writes_left = room.writes; bytes_left = room.bytes }) }
+        ensures { IfOk result
+            (λ l. l ≡ record {
+              is_kept = true;
+              before = before.now;
+              writes = [];
+              writes_left = room.writes;
+              bytes_left = room.bytes;
+            }) }
     {
         Ok(WriteLog {
             is_kept: true,

@@ -77,7 +77,8 @@ impl Opening {
     ghost use Rattle.blk_base.specs.Files.{is_out_as};
 
     pub fn new(alloc: Global, name: &str, faults: u64) -> Result<Self, NoMemory>
-        ensures { IfOk result (λ o. o ≡ record { name = name.now; faults = faults; returned = None }) }
+        ensures { IfOk result
+            (λ o. o ≡ record { name = name.now; faults = faults; returned = None }) }
     {
         Ok(Opening {
             name: Text::copied(alloc, name)?,

@@ -33,7 +33,8 @@ impl MemSink {
 
     /// A sink with room for so many bytes in all, which is taken now, and whose puts of those numbers fail.
     pub fn new(alloc: Global, room: u64, fails: &[FailAt]) -> Result<Self, NoMemory>
-        ensures { IfOk result (λ s. s ≡ record { sent = []; room = room; calls = no_calls fails.now }) }
+        ensures { IfOk result
+            (λ s. s ≡ record { sent = []; room = room; calls = no_calls fails.now }) }
     {
         Ok(MemSink {
             bytes: with_room(alloc, &[], room)?,
@@ -62,10 +63,16 @@ impl Sink for MemSink {
 
     /// Fails exactly where the list says so or the bytes don't fit.
     fn put(&mut self, bytes: &[u8]) -> Result<(), SinkFault>
-        ensures goes { OnOk result ((done_at self.old.calls.made self.old.calls.fails ≡ None) × (length bytes.now ≤ fitting self.old (length bytes.now))) }
+        ensures goes { OnOk result
+            ((done_at self.old.calls.made self.old.calls.fails ≡ None)
+            × (length bytes.now ≤ fitting self.old (length bytes.now))) }
         ensures sent { OnOk result (self.new.sent ≡ self.old.sent ++ bytes.now) }
-        ensures partly { OnErr result (self.new.sent ≡ self.old.sent ++ take (sent_at self.old (length bytes.now)) bytes.now) }
-        ensures cause { OnErr result (IsTrue (fails_next self.old.calls) ⊎ (fitting self.old (length bytes.now) < length bytes.now)) }
+        ensures partly { OnErr result
+            (self.new.sent ≡ self.old.sent
+            ++ take (sent_at self.old (length bytes.now)) bytes.now) }
+        ensures cause { OnErr result
+            (IsTrue (fails_next self.old.calls)
+            ⊎ (fitting self.old (length bytes.now) < length bytes.now)) }
         ensures calls { self.new.calls ≡ after_call (not (is_ok result)) self.old.calls }
         ensures room { self.new.room ≡ self.old.room }
         ensures failed { OnErr result (Rose self.old.calls.faults self.new.calls.faults) }

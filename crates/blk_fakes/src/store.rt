@@ -23,7 +23,12 @@ impl Model for MemStore {
 
     ghost Value = { StoreState };
 
-    ghost view = { λ s. record { files = s.files.items; opened = s.openings.items; room = s.room; calls = s.calls } };
+    ghost view = { λ s. record {
+      files = s.files.items;
+      opened = s.openings.items;
+      room = s.room;
+      calls = s.calls;
+    } };
 
     ghost invariant = { λ s. OutAreHeld s.openings.items s.files.items };
 }
@@ -33,12 +38,13 @@ impl MemStore {
     ghost use Rattle.blk_base.specs.Files.{file_at, put_file, is_out, is_out_as, given_back};
     ghost use Rattle.std.specs.List.{position};
     ghost use Rattle.blk_base.specs.Stored.{HoldsBytes};
-    ghost use Rattle.blk_fakes.specs.Shelf.{FileState, StoreState, told_as, told_files, zeros_as, place_of, is_held, device_at, with_made};
+    ghost use Rattle.blk_fakes.specs.Shelf.{FileState, StoreState, told_as, told_files, zeros_as, shelf_place, is_held, device_at, with_made};
     ghost use Rattle.blk_fakes.specs.Calls.{no_calls};
 
     /// A store with no file yet, whose calls of those numbers fail. Files that it makes have the capacity `room`.
     pub fn new(alloc: Global, room: u64, fails: &[FailAt]) -> Result<Self, NoMemory>
-        ensures { IfOk result (λ s. s ≡ record { files = []; opened = []; room = room; calls = no_calls fails.now }) }
+        ensures { IfOk result
+            (λ s. s ≡ record { files = []; opened = []; room = room; calls = no_calls fails.now }) }
     {
         Ok(MemStore {
             files: Vec::new(alloc),
@@ -56,7 +62,7 @@ impl MemStore {
     }
 
     fn find(&self, name: &str) -> Option<usize>
-        ensures { result ≡ place_of name.now self.now.files }
+        ensures { result ≡ shelf_place name.now self.now.files }
     {
         self.files.iter().position(|f| name == f.name())
     }
@@ -72,7 +78,11 @@ impl MemStore {
     /// Adds a file, which is this device. After a refusal the store is as before, and gives the device back.
     pub fn add_file(&mut self, name: &str, dev: MemDevice) -> Result<(), (NoMemory, MemDevice)>
         requires { is_held name.now self.old.files ≡ false }
-        ensures ok { OnOk result (self.new ≡ record self.old { files = self.old.files ++ record { name = name.now; device = dev } ∷ [] }) }
+        ensures ok { OnOk result
+            (self.new ≡ record self.old {
+              files = self.old.files
+                  ++ record { name = name.now; device = dev } ∷ [];
+            }) }
         ensures err { OnErr result (self.new ≡ self.old) }
         ensures device { IfErr result (λ e. e.1 ≡ dev) }
     {
@@ -88,8 +98,12 @@ impl MemStore {
 
     /// The device of a file that is not out.
     pub fn file(&self, name: &str) -> Option<&MemDevice>
-        ensures some { IfSome result (λ d. (is_out name.now self.now.opened ≡ false) × (device_at name.now self.now.files ≡ Some d.now)) }
-        ensures none { IfNone result (IsTrue (is_out name.now self.now.opened) ⊎ (device_at name.now self.now.files ≡ None)) }
+        ensures some { IfSome result
+            (λ d. (is_out name.now self.now.opened ≡ false)
+            × (device_at name.now self.now.files ≡ Some d.now)) }
+        ensures none { IfNone result
+            (IsTrue (is_out name.now self.now.opened)
+            ⊎ (device_at name.now self.now.files ≡ None)) }
     {
         if self.is_out(name) {
             return None;
@@ -102,7 +116,8 @@ impl MemStore {
 
     /// The name of a file by its place, counted from 0, those that are out among them.
     pub fn name_at(&self, k: u64) -> Option<&str>
-        ensures some { IfSome result (λ n. option_map (λ f. f.name) (slice_get self.now.files k) ≡ Some n.now) }
+        ensures some { IfSome result
+            (λ n. option_map (λ f. f.name) (slice_get self.now.files k) ≡ Some n.now) }
         ensures none { IfNone result (length self.now.files ≤ k) }
     {
         if k < self.files.len() as u64 {
@@ -115,7 +130,11 @@ impl MemStore {
     /// Puts a device in the place of that of a file.
     fn set_device(&mut self, at: usize, dev: MemDevice)
         requires { at < length self.old.files }
-        ensures { (d : FileState) → self.new ≡ record self.old { files = set self.old.files at (record (get_or self.old.files at d) { device = dev }) } }
+        ensures { (d : FileState)
+            → self.new ≡ record self.old {
+              files = set self.old.files at
+                  (record (get_or self.old.files at d) { device = dev });
+            } }
     {
         let file = &mut self.files[at];
         file.set_device(dev);
@@ -124,7 +143,7 @@ impl MemStore {
     /// The place of a file that is out.
     fn place_of_out(&self, name: &str) -> usize
         requires { IsTrue (is_out name.now self.now.opened) }
-        ensures { place_of name.now self.now.files ≡ Some result }
+        ensures { shelf_place name.now self.now.files ≡ Some result }
     {
         let _ = &self.files;
         match self.find(name) {
@@ -135,7 +154,7 @@ impl MemStore {
 
     /// The bytes of a file, by its place.
     fn bytes_at(&self, name: &str, at: usize) -> &[u8]
-        requires { place_of name.now self.now.files ≡ Some at }
+        requires { shelf_place name.now self.now.files ≡ Some at }
         ensures { HoldsBytes name.now result.now (told_files self.now) }
     {
         self.files[at].device().bytes()
@@ -143,10 +162,16 @@ impl MemStore {
 
     /// A copy of the device of a file, which is out from now on.
     fn lend(&mut self, name: &str, at: usize) -> Result<MemDevice, NoMemory>
-        requires { place_of name.now self.old.files ≡ Some at }
+        requires { shelf_place name.now self.old.files ≡ Some at }
         ensures device { IfOk result (λ dev. device_at name.now self.old.files ≡ Some dev) }
-        ensures told { IfOk result (λ dev. file_at name.now (told_files self.old) ≡ Some (told_as name.now dev)) }
-        ensures ok { IfOk result (λ dev. self.new ≡ record self.old { opened = self.old.opened ++ record { name = name.now; faults = dev.calls.faults; returned = None } ∷ [] }) }
+        ensures told { IfOk result
+            (λ dev. file_at name.now (told_files self.old) ≡ Some (told_as name.now dev)) }
+        ensures ok { IfOk result
+            (λ dev. self.new
+            ≡ record self.old {
+              opened = self.old.opened
+                  ++ record { name = name.now; faults = dev.calls.faults; returned = None } ∷ [];
+            }) }
         ensures err { OnErr result (self.new ≡ self.old) }
     {
         let dev = self.files[at].device().copied(self.alloc)?;
@@ -157,7 +182,11 @@ impl MemStore {
     /// Notes that the device of a file is out, which has failed so often.
     fn note_opening(&mut self, name: &str, faults: u64) -> Result<(), NoMemory>
         requires { IsTrue (is_held name.now self.old.files) }
-        ensures ok { OnOk result (self.new ≡ record self.old { opened = self.old.opened ++ record { name = name.now; faults = faults; returned = None } ∷ [] }) }
+        ensures ok { OnOk result
+            (self.new ≡ record self.old {
+              opened = self.old.opened
+                  ++ record { name = name.now; faults = faults; returned = None } ∷ [];
+            }) }
         ensures err { OnErr result (self.new ≡ self.old) }
     {
         let opening = Opening::new(self.alloc, name, faults)?;
@@ -167,10 +196,13 @@ impl MemStore {
 
     /// Makes a file hold zeros that is there.
     fn make_again(&mut self, name: &str, at: usize, len: u64) -> Result<(), NoMemory>
-        requires place { place_of name.now self.old.files ≡ Some at }
+        requires place { shelf_place name.now self.old.files ≡ Some at }
         requires fits { len ≤ self.old.room }
-        ensures ok { OnOk result (told_files self.new ≡ put_file (zeros_as name.now len self.old.room) (told_files self.old)) }
-        ensures devices { OnOk result (self.new.files ≡ with_made name.now len self.old.room self.old.files) }
+        ensures ok { OnOk result
+            (told_files self.new
+            ≡ put_file (zeros_as name.now len self.old.room) (told_files self.old)) }
+        ensures devices { OnOk result
+            (self.new.files ≡ with_made name.now len self.old.room self.old.files) }
         ensures err { OnErr result (self.new ≡ self.old) }
         ensures rest { self.new ≡ record self.old { files = self.new.files } }
     {
@@ -181,10 +213,13 @@ impl MemStore {
 
     /// Makes a file of zeros that is not there.
     fn make_anew(&mut self, name: &str, len: u64) -> Result<(), NoMemory>
-        requires place { place_of name.now self.old.files ≡ None }
+        requires place { shelf_place name.now self.old.files ≡ None }
         requires fits { len ≤ self.old.room }
-        ensures ok { OnOk result (told_files self.new ≡ put_file (zeros_as name.now len self.old.room) (told_files self.old)) }
-        ensures devices { OnOk result (self.new.files ≡ with_made name.now len self.old.room self.old.files) }
+        ensures ok { OnOk result
+            (told_files self.new
+            ≡ put_file (zeros_as name.now len self.old.room) (told_files self.old)) }
+        ensures devices { OnOk result
+            (self.new.files ≡ with_made name.now len self.old.room self.old.files) }
         ensures err { OnErr result (self.new ≡ self.old) }
         ensures rest { self.new ≡ record self.old { files = self.new.files } }
     {
@@ -198,8 +233,11 @@ impl MemStore {
 
     fn make(&mut self, name: &str, len: u64) -> Result<(), NoMemory>
         requires { len ≤ self.old.room }
-        ensures ok { OnOk result (told_files self.new ≡ put_file (zeros_as name.now len self.old.room) (told_files self.old)) }
-        ensures devices { OnOk result (self.new.files ≡ with_made name.now len self.old.room self.old.files) }
+        ensures ok { OnOk result
+            (told_files self.new
+            ≡ put_file (zeros_as name.now len self.old.room) (told_files self.old)) }
+        ensures devices { OnOk result
+            (self.new.files ≡ with_made name.now len self.old.room self.old.files) }
         ensures err { OnErr result (self.new ≡ self.old) }
         ensures rest { self.new ≡ record self.old { files = self.new.files } }
     {
@@ -211,7 +249,8 @@ impl MemStore {
 
     /// Counts in the record of openings that the device of that name is back.
     fn set_returned(&mut self, name: &str, faults: u64)
-        ensures { self.new ≡ record self.old { opened = given_back name.now faults self.old.opened } }
+        ensures { self.new
+            ≡ record self.old { opened = given_back name.now faults self.old.opened } }
     {
         match self.place_of_opening(name) {
             Some(at) => {
@@ -229,7 +268,7 @@ impl Store for MemStore {
     ghost use Rattle.blk_base.specs.Files.{file_at, put_file, is_out, given_back};
     ghost use Rattle.blk_base.specs.Answers.{OpenAnswers, CreateAnswers, ReadAnswers};
     ghost use Rattle.blk_fakes.specs.Calls.{fails_next, after_call, store_fails};
-    ghost use Rattle.blk_fakes.specs.Disk.{bytes_of};
+    ghost use Rattle.blk_fakes.specs.Disk.{device_bytes};
     ghost use Rattle.blk_fakes.specs.Shelf.{StoreState, told_as, told_files, zeros_as, device_at, with_made, with_device};
 
     type Dev = MemDevice;
@@ -246,16 +285,21 @@ impl Store for MemStore {
     fn open_file(&mut self, name: &str) -> Result<MemDevice, StoreStop>
         ensures lent { IfOk result (λ dev. device_at name.now self.old.files ≡ Some dev) }
         ensures goes { OnOk result (fails_next self.old.calls ≡ false) }
-        ensures fails { IfErr result (λ e. e ≡ StoreStop.Failed → fails_next self.old.calls ≡ true) }
+        ensures fails { IfErr result
+            (λ e. e ≡ StoreStop.Failed → fails_next self.old.calls ≡ true) }
         ensures calls { self.new.calls ≡ after_call (store_fails result) self.old.calls }
         ensures devices { self.new.files ≡ self.old.files }
 
         // what each store promises
-        ensures device { IfOk result (λ dev. IsDeviceOf (Some (told_files self.old)) name.now (Some (bytes_of dev.disk)) dev.disk.capacity (Some dev.disk.is_flushed)) }
+        ensures device { IfOk result
+            (λ dev. IsDeviceOf (Some (told_files self.old)) name.now (Some (device_bytes dev.disk))
+            dev.disk.capacity (Some dev.disk.is_flushed)) }
         ensures opened { MatchResult result
-            (λ dev. self.new.opened ≡ self.old.opened ++ record { name = name.now; faults = dev.calls.faults; returned = None } ∷ [])
+            (λ dev. self.new.opened ≡ self.old.opened
+            ++ record { name = name.now; faults = dev.calls.faults; returned = None } ∷ [])
             (λ _. self.new.opened ≡ self.old.opened) }
-        ensures cause { OpenAnswers name.now (Some (told_files self.old)) self.old.opened self.old.calls.faults self.new.calls.faults result }
+        ensures cause { OpenAnswers name.now (Some (told_files self.old)) self.old.opened
+            self.old.calls.faults self.new.calls.faults result }
         ensures room { self.new.room ≡ self.old.room }
         ensures faults { self.old.calls.faults ≤ self.new.calls.faults }
     {
@@ -280,15 +324,19 @@ impl Store for MemStore {
     /// Fails exactly where the list says so, unless the file is out or the length is above the room.
     fn create_file(&mut self, name: &str, len: u64) -> Result<(), StoreStop>
         ensures goes { OnOk result (fails_next self.old.calls ≡ false) }
-        ensures fails { IfErr result (λ e. e ≡ StoreStop.Failed → fails_next self.old.calls ≡ true) }
+        ensures fails { IfErr result
+            (λ e. e ≡ StoreStop.Failed → fails_next self.old.calls ≡ true) }
         ensures calls { self.new.calls ≡ after_call (store_fails result) self.old.calls }
         ensures devices { MatchResult result
             (λ _. self.new.files ≡ with_made name.now len self.old.room self.old.files)
             (λ _. self.new.files ≡ self.old.files) }
 
         // what each store promises
-        ensures made { OnOk result (told_files self.new ≡ put_file (zeros_as name.now len self.old.room) (told_files self.old)) }
-        ensures cause { CreateAnswers name.now len self.old.room self.old.opened self.old.calls.faults self.new.calls.faults result }
+        ensures made { OnOk result
+            (told_files self.new
+            ≡ put_file (zeros_as name.now len self.old.room) (told_files self.old)) }
+        ensures cause { CreateAnswers name.now len self.old.room self.old.opened
+            self.old.calls.faults self.new.calls.faults result }
         ensures opened { self.new.opened ≡ self.old.opened }
         ensures room { self.new.room ≡ self.old.room }
         ensures faults { self.old.calls.faults ≤ self.new.calls.faults }
@@ -314,13 +362,15 @@ impl Store for MemStore {
     /// Fails exactly where the list says so, unless there is no such file, it is out, or it is longer than the limit.
     fn read_all(&mut self, name: &str, limit: u64) -> Result<Bytes, StoreStop>
         ensures goes { OnOk result (fails_next self.old.calls ≡ false) }
-        ensures fails { IfErr result (λ e. e ≡ StoreStop.Failed → fails_next self.old.calls ≡ true) }
+        ensures fails { IfErr result
+            (λ e. e ≡ StoreStop.Failed → fails_next self.old.calls ≡ true) }
         ensures calls { self.new.calls ≡ after_call (store_fails result) self.old.calls }
         ensures devices { self.new.files ≡ self.old.files }
 
         // what each store promises
         ensures read { IfOk result (λ bytes. HoldsBytes name.now bytes (told_files self.old)) }
-        ensures cause { ReadAnswers name.now limit (Some (told_files self.old)) self.old.opened self.old.calls.faults self.new.calls.faults result }
+        ensures cause { ReadAnswers name.now limit (Some (told_files self.old)) self.old.opened
+            self.old.calls.faults self.new.calls.faults result }
         ensures opened { self.new.opened ≡ self.old.opened }
         ensures room { self.new.room ≡ self.old.room }
         ensures faults { self.old.calls.faults ≤ self.new.calls.faults }
@@ -352,7 +402,8 @@ impl Store for MemStore {
         ensures calls { self.new.calls ≡ self.old.calls }
 
         // what each store promises
-        ensures files { told_files self.new ≡ put_file (told_as name.now dev) (told_files self.old) }
+        ensures files { told_files self.new
+            ≡ put_file (told_as name.now dev) (told_files self.old) }
         ensures opened { self.new.opened ≡ given_back name.now dev.calls.faults self.old.opened }
         ensures room { self.new.room ≡ self.old.room }
         ensures faults { self.old.calls.faults ≤ self.new.calls.faults }

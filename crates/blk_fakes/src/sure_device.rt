@@ -25,7 +25,7 @@ impl Model for SureDevice {
 impl SureDevice {
     ghost use Rattle.std.specs.Prelude.{◌≡◌, ◌<◌, ◌≤◌, if◌then◌else◌, [], length, Some, None, IfOk};
     ghost use Rattle.blk_fakes.specs.Calls.{NeverFails, no_calls};
-    ghost use Rattle.blk_fakes.specs.Disk.{DeviceState, WriteAt, bytes_of, fresh};
+    ghost use Rattle.blk_fakes.specs.Disk.{DeviceState, WriteAt, device_bytes, fresh};
 
     /// A device of these bytes, flushed. All its capacity is taken now, and room for a log of so many writes, of so
     /// many bytes in all.
@@ -37,7 +37,11 @@ impl SureDevice {
         log_bytes: u64,
     ) -> Result<Self, NoMemory>
         requires { length bytes.now ≤ capacity }
-        ensures { IfOk result (λ d. d ≡ record { disk = fresh bytes.now capacity log_writes log_bytes; calls = no_calls [] }) }
+        ensures { IfOk result
+            (λ d. d ≡ record {
+              disk = fresh bytes.now capacity log_writes log_bytes;
+              calls = no_calls [];
+            }) }
     {
         let dev = MemDevice::new(alloc, bytes, capacity, &[], log_writes, log_bytes)?;
         Ok(SureDevice { dev })
@@ -59,14 +63,15 @@ impl SureDevice {
     }
 
     pub fn bytes(&self) -> &[u8]
-        ensures { result.now ≡ bytes_of self.now.disk }
+        ensures { result.now ≡ device_bytes self.now.disk }
     {
         self.dev.bytes()
     }
 
     /// The number of writes in the log, and none where no log is kept any more.
     pub fn logged(&self) -> Option<u64>
-        ensures { result ≡ (if self.now.disk.log.is_kept then Some (length self.now.disk.log.writes) else None) }
+        ensures { result
+            ≡ (if self.now.disk.log.is_kept then Some (length self.now.disk.log.writes) else None) }
     {
         self.dev.logged()
     }
@@ -85,16 +90,16 @@ impl Device for SureDevice {
     ghost use Rattle.blk_base.specs.Content.{GoesOn, bytes_at, with_bytes, size_with};
     ghost use Rattle.blk_base.specs.Counts.{taken};
     ghost use Rattle.blk_base.specs.declared.device.Stop.TheVariants.{NoSpace};
-    ghost use Rattle.blk_fakes.specs.Disk.{DeviceState, bytes_of, log_of, log_after};
+    ghost use Rattle.blk_fakes.specs.Disk.{DeviceState, device_bytes, log_of, log_after};
     ghost use Rattle.blk_fakes.specs.Laws.{size_told, log_told};
 
-    ghost content = { λ d. Some (bytes_of d.disk) };
+    ghost content = { λ d. Some (device_bytes d.disk) };
 
     ghost is_flushed = { λ d. Some d.disk.is_flushed };
 
     ghost log = { λ d. log_of d.disk.log };
 
-    ghost size = { λ d. length (bytes_of d.disk) };
+    ghost size = { λ d. length (device_bytes d.disk) };
 
     ghost capacity = { λ d. d.disk.capacity };
 
@@ -104,7 +109,7 @@ impl Device for SureDevice {
     #[tactic(auto, using(crate::proofs::Sure::next_goes, crate::proofs::Sure::sure_after))]
     fn read_at(&mut self, off: u64, buf: &mut [u8]) -> Result<(), DevFault>
         ensures ok { IsOk result }
-        ensures read { buf.new ≡ bytes_at (bytes_of self.old.disk) off (length buf.old) }
+        ensures read { buf.new ≡ bytes_at (device_bytes self.old.disk) off (length buf.old) }
         ensures disk { self.new.disk ≡ self.old.disk }
     {
         self.dev.read_at(off, buf)
@@ -115,13 +120,18 @@ impl Device for SureDevice {
     fn write_at(&mut self, off: u64, bytes: &[u8]) -> Result<(), WriteStop>
         ensures ok { IsOk result ↔ (off + length bytes.now ≤ self.old.disk.capacity) }
         ensures stop { IfErr result (λ stop. (stop.why ≡ NoSpace) × (stop.done ≡ 0)) }
-        ensures kept { self.new.disk.log ≡ log_after self.old.disk.log off (taken result bytes.now) }
-        ensures room { (self.new.disk.log_writes ≡ self.old.disk.log_writes) × (self.new.disk.log_bytes ≡ self.old.disk.log_bytes) }
+        ensures kept { self.new.disk.log
+            ≡ log_after self.old.disk.log off (taken result bytes.now) }
+        ensures room { (self.new.disk.log_writes ≡ self.old.disk.log_writes)
+            × (self.new.disk.log_bytes ≡ self.old.disk.log_bytes) }
 
         // what each device promises
-        ensures written { bytes_of self.new.disk ≡ with_bytes (bytes_of self.old.disk) off (taken result bytes.now) }
-        ensures size { length (bytes_of self.new.disk) ≡ size_with (length (bytes_of self.old.disk)) off (taken result bytes.now) }
-        ensures log { GoesOn (log_of self.old.disk.log) off (taken result bytes.now) (log_of self.new.disk.log) }
+        ensures written { device_bytes self.new.disk
+            ≡ with_bytes (device_bytes self.old.disk) off (taken result bytes.now) }
+        ensures size { length (device_bytes self.new.disk)
+            ≡ size_with (length (device_bytes self.old.disk)) off (taken result bytes.now) }
+        ensures log { GoesOn (log_of self.old.disk.log) off (taken result bytes.now)
+            (log_of self.new.disk.log) }
         ensures flushed { self.new.disk.is_flushed ≡ false }
         ensures capacity { self.new.disk.capacity ≡ self.old.disk.capacity }
     {

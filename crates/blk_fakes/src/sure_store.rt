@@ -30,7 +30,8 @@ impl SureStore {
 
     /// A store with no file yet. Files that it makes have the capacity `room`.
     pub fn new(alloc: Global, room: u64) -> Result<Self, NoMemory>
-        ensures { IfOk result (λ s. s ≡ record { files = []; opened = []; room = room; calls = no_calls [] }) }
+        ensures { IfOk result
+            (λ s. s ≡ record { files = []; opened = []; room = room; calls = no_calls [] }) }
     {
         let store = MemStore::new(alloc, room, &[])?;
         Ok(SureStore { store })
@@ -40,7 +41,11 @@ impl SureStore {
     #[tactic(auto, using(crate::proofs::Sure::none_added))]
     pub fn add_file(&mut self, name: &str, dev: SureDevice) -> Result<(), (NoMemory, SureDevice)>
         requires { is_held name.now self.old.files ≡ false }
-        ensures ok { OnOk result (self.new ≡ record self.old { files = self.old.files ++ record { name = name.now; device = dev } ∷ [] }) }
+        ensures ok { OnOk result
+            (self.new ≡ record self.old {
+              files = self.old.files
+                  ++ record { name = name.now; device = dev } ∷ [];
+            }) }
         ensures err { OnErr result (self.new ≡ self.old) }
         ensures device { IfErr result (λ e. e.1 ≡ dev) }
     {
@@ -52,15 +57,20 @@ impl SureStore {
 
     /// What a file holds that is not out: the device in memory, to be looked at.
     pub fn file(&self, name: &str) -> Option<&MemDevice>
-        ensures some { IfSome result (λ d. (is_out name.now self.now.opened ≡ false) × (device_at name.now self.now.files ≡ Some d.now)) }
-        ensures none { IfNone result (IsTrue (is_out name.now self.now.opened) ⊎ (device_at name.now self.now.files ≡ None)) }
+        ensures some { IfSome result
+            (λ d. (is_out name.now self.now.opened ≡ false)
+            × (device_at name.now self.now.files ≡ Some d.now)) }
+        ensures none { IfNone result
+            (IsTrue (is_out name.now self.now.opened)
+            ⊎ (device_at name.now self.now.files ≡ None)) }
     {
         self.store.file(name)
     }
 
     /// The name of a file by its place, counted from 0, those that are out among them.
     pub fn name_at(&self, k: u64) -> Option<&str>
-        ensures some { IfSome result (λ n. option_map (λ f. f.name) (slice_get self.now.files k) ≡ Some n.now) }
+        ensures some { IfSome result
+            (λ n. option_map (λ f. f.name) (slice_get self.now.files k) ≡ Some n.now) }
         ensures none { IfNone result (length self.now.files ≤ k) }
     {
         self.store.name_at(k)
@@ -72,7 +82,7 @@ impl Store for SureStore {
     ghost use Rattle.blk_base.specs.Answers.{OpenAnswers, CreateAnswers, ReadAnswers};
     ghost use Rattle.blk_base.specs.Files.{put_file, is_out, given_back};
     ghost use Rattle.blk_base.specs.Stored.{IsDeviceOf, HoldsBytes};
-    ghost use Rattle.blk_fakes.specs.Disk.{bytes_of};
+    ghost use Rattle.blk_fakes.specs.Disk.{device_bytes};
     ghost use Rattle.blk_fakes.specs.Shelf.{StoreState, told_as, told_files, zeros_as, device_at, with_made, with_device};
 
     type Dev = SureDevice;
@@ -93,11 +103,15 @@ impl Store for SureStore {
         ensures devices { self.new.files ≡ self.old.files }
 
         // what each store promises
-        ensures device { IfOk result (λ dev. IsDeviceOf (Some (told_files self.old)) name.now (Some (bytes_of dev.disk)) dev.disk.capacity (Some dev.disk.is_flushed)) }
+        ensures device { IfOk result
+            (λ dev. IsDeviceOf (Some (told_files self.old)) name.now (Some (device_bytes dev.disk))
+            dev.disk.capacity (Some dev.disk.is_flushed)) }
         ensures opened { MatchResult result
-            (λ dev. self.new.opened ≡ self.old.opened ++ record { name = name.now; faults = 0; returned = None } ∷ [])
+            (λ dev. self.new.opened ≡ self.old.opened
+            ++ record { name = name.now; faults = 0; returned = None } ∷ [])
             (λ _. self.new.opened ≡ self.old.opened) }
-        ensures cause { OpenAnswers name.now (Some (told_files self.old)) self.old.opened 0 0 result }
+        ensures cause { OpenAnswers name.now (Some (told_files self.old)) self.old.opened 0 0
+            result }
         ensures room { self.new.room ≡ self.old.room }
     {
         match self.store.open_file(name) {
@@ -115,7 +129,9 @@ impl Store for SureStore {
             (λ _. self.new.files ≡ self.old.files) }
 
         // what each store promises
-        ensures made { OnOk result (told_files self.new ≡ put_file (zeros_as name.now len self.old.room) (told_files self.old)) }
+        ensures made { OnOk result
+            (told_files self.new
+            ≡ put_file (zeros_as name.now len self.old.room) (told_files self.old)) }
         ensures cause { CreateAnswers name.now len self.old.room self.old.opened 0 0 result }
         ensures opened { self.new.opened ≡ self.old.opened }
         ensures room { self.new.room ≡ self.old.room }
@@ -131,7 +147,8 @@ impl Store for SureStore {
 
         // what each store promises
         ensures read { IfOk result (λ bytes. HoldsBytes name.now bytes (told_files self.old)) }
-        ensures cause { ReadAnswers name.now limit (Some (told_files self.old)) self.old.opened 0 0 result }
+        ensures cause { ReadAnswers name.now limit (Some (told_files self.old)) self.old.opened 0 0
+            result }
         ensures opened { self.new.opened ≡ self.old.opened }
         ensures room { self.new.room ≡ self.old.room }
     {
@@ -144,7 +161,8 @@ impl Store for SureStore {
         ensures devices { self.new.files ≡ with_device name.now dev self.old.files }
 
         // what each store promises
-        ensures files { told_files self.new ≡ put_file (told_as name.now dev) (told_files self.old) }
+        ensures files { told_files self.new
+            ≡ put_file (told_as name.now dev) (told_files self.old) }
         ensures opened { self.new.opened ≡ given_back name.now 0 self.old.opened }
         ensures room { self.new.room ≡ self.old.room }
     {

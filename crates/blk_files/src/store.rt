@@ -92,7 +92,8 @@ impl<'a, R: Files> FileStore<'a, R> {
 
     /// Counts in the record of openings that the device of that name is back.
     fn set_returned(&mut self, name: &str, faults: u64, failure: Option<io::Error>)
-        ensures { self.new ≡ record self.old { opened = given_back name.now faults self.old.opened } }
+        ensures { self.new
+            ≡ record self.old { opened = given_back name.now faults self.old.opened } }
     {
         match self.place_of_opening(name) {
             Some(at) => {
@@ -118,7 +119,8 @@ impl<'a, R: Files> FileStore<'a, R> {
 
     /// What an error of the system is answered as.
     fn stopped(&mut self, name: &str, error: io::Error) -> StoreStop
-        ensures stop { (result ≡ StoreStop.Absent) ⊎ (result ≡ StoreStop.NoMemory) ⊎ ((result ≡ StoreStop.Failed) × Rose self.old.faults self.new.faults) }
+        ensures stop { (result ≡ StoreStop.Absent) ⊎ (result ≡ StoreStop.NoMemory)
+            ⊎ ((result ≡ StoreStop.Failed) × Rose self.old.faults self.new.faults) }
         ensures kept { self.new ≡ record self.old { faults = self.new.faults } }
         ensures quiet { StandsAt self.old.faults self.new.faults result }
         ensures faults { self.old.faults ≤ self.new.faults }

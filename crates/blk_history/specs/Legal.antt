@@ -38,12 +38,14 @@ pub record CanAdmit (op : Op) (row : Guest) (node : Node) : Type 0 where
 -- what an outcome says: of a read that is good the disk's bytes, of a torn write its first bytes
 abbrev pub Tells : Outcome → Op → Extent → Option (List ℕ) → List ℕ → Type 0
 Tells Good op part disk got = With disk (λ bytes. got ≡ shown_in op part bytes)
-Tells (Torn done dev count) op part disk got = IsTrue (is_write op) × (0 < done) × (done < part.len) × (got ≡ [])
+Tells (Torn done dev count) op part disk got =
+    IsTrue (is_write op) × (0 < done) × (done < part.len) × (got ≡ [])
 Tells (Io dev count) op part disk got = got ≡ []
 Tells (NoSpace dev) op part disk got = got ≡ []
 
 -- piece k is the next of the request in flight, and its outcome tells what is so
-pub record IsNextPiece (f : Flight) (k : ℕ) (outcome : Outcome) (disk : Option (List ℕ)) (got : List ℕ) : Type 0 where
+pub record IsNextPiece (f : Flight) (k : ℕ) (outcome : Outcome) (disk : Option (List ℕ))
+    (got : List ℕ) : Type 0 where
   pub running : f.is_stopped ≡ false
   pub next : k ≡ f.next
   pub within : k < pieces_of f.op
@@ -55,9 +57,16 @@ IsOver f = (f.next ≡ pieces_of f.op) ⊎ (f.is_stopped ≡ true)
 
 -- the entry fits the state before it
 abbrev pub Fits : State → Event → Type 0
-Fits s (Admit g r op) = With (guest_at s g) (λ row. With (node_at s row.node) (λ node. IsNext row r × CanAdmit op row node))
-Fits s (Refuse g r op why) = With (guest_at s g) (λ row. With (node_at s row.node) (λ node. IsNext row r × IsRefusedFor op row node why))
-Fits s (Piece g r k outcome got) = With (guest_at s g) (λ row. With row.flight (λ f. (r ≡ row.done) × IsNextPiece f k outcome (disk_in s.disks row.node) got))
+Fits s (Admit g r op) =
+    With (guest_at s g)
+    (λ row. With (node_at s row.node) (λ node. IsNext row r × CanAdmit op row node))
+Fits s (Refuse g r op why) =
+    With (guest_at s g)
+    (λ row. With (node_at s row.node) (λ node. IsNext row r × IsRefusedFor op row node why))
+Fits s (Piece g r k outcome got) =
+    With (guest_at s g)
+    (λ row. With row.flight
+    (λ f. (r ≡ row.done) × IsNextPiece f k outcome (disk_in s.disks row.node) got))
 Fits s (Retire g r) = With (guest_at s g) (λ row. With row.flight (λ f. (r ≡ row.done) × IsOver f))
 Fits s e = ⊥
 

@@ -37,7 +37,8 @@ abbrev pub counted : List ℕ → List Event → List ℕ
 counted = run (λ counts e. last_named counts (named_in e))
 
 abbrev pub HaveRisen : List ℕ → List Event → Type 0
-HaveRisen = Each (λ counts e. last_named counts (named_in e)) (λ counts e. RoseSince counts (named_in e))
+HaveRisen =
+    Each (λ counts e. last_named counts (named_in e)) (λ counts e. RoseSince counts (named_in e))
 
 -- no entry names a fault
 abbrev pub NameNone : List Event → Type 0

@@ -112,18 +112,21 @@ abbrev pub offset_part : ℕ → List ℕ
 offset_part offset = codes ",\"offset\":" ++ decimal offset
 
 abbrev pub kind_part : JobLine → List ℕ
-kind_part job = codes ",\"speed\":0,\"type\":\"" ++ ((kind_text job.kind ++ codes "\"") ++ codes "}")
+kind_part job =
+    codes ",\"speed\":0,\"type\":\"" ++ ((kind_text job.kind ++ codes "\"") ++ codes "}")
 
 abbrev pub progress_part : JobLine → ℕ → List ℕ
 progress_part job offset = length_part job ++ (offset_part offset ++ kind_part job)
 
 abbrev pub name_part : EventName → List ℕ
 name_part name =
-    codes ",\"event\":\"" ++ (event_word name ++ codes "\",\"timestamp\":{\"microseconds\":-1,\"seconds\":-1}}")
+    codes ",\"event\":\""
+    ++ (event_word name ++ codes "\",\"timestamp\":{\"microseconds\":-1,\"seconds\":-1}}")
 
 -- with a blank before it
 abbrev pub event_parts : JobLine → EventName → Option Fault → ℕ → List ℕ
-event_parts job name fault offset = device_part job.id ++ (error_part fault ++ (progress_part job offset ++ name_part name))
+event_parts job name fault offset =
+    device_part job.id ++ (error_part fault ++ (progress_part job offset ++ name_part name))
 
 -- a fault's words print as they are
 abbrev pub IsPlainFault : Option Fault → Type 0

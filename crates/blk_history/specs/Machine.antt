@@ -86,7 +86,8 @@ past_piece outcome row = record row { flight = option_map (one_further outcome) 
 -- what piece k of a request in flight does to the disk of its guest's node
 abbrev pub with_piece : ℕ → Option Flight → ℕ → Outcome → State → State
 with_piece node None k outcome s = s
-with_piece node (Some f) k outcome s = with_disk node (done_in f.op (piece f.op k) (done_by outcome (piece f.op k))) s
+with_piece node (Some f) k outcome s =
+    with_disk node (done_in f.op (piece f.op k) (done_by outcome (piece f.op k))) s
 
 abbrev pub piece_done : Option Guest → ℕ → Outcome → State → State
 piece_done None k outcome s = s
@@ -96,7 +97,8 @@ piece_done (Some row) k outcome s = with_piece row.node row.flight k outcome s
 abbrev pub after : State → Event → State
 after s (Admit g r op) = with_guest g (admitted op) s
 after s (Refuse g r op why) = with_guest g finished s
-after s (Piece g r k outcome got) = with_guest g (past_piece outcome) (piece_done (guest_at s g) k outcome s)
+after s (Piece g r k outcome got) =
+    with_guest g (past_piece outcome) (piece_done (guest_at s g) k outcome s)
 after s (Retire g r) = with_guest g finished s
 after s e = s
 

@@ -17,9 +17,11 @@ pub record Recorded : Type 0 where
 abbrev pub event_of : List ℕ → Entry → Event
 event_of bytes (entries.Admit g r op) = events.Admit g r op
 event_of bytes (entries.Refuse g r op why) = events.Refuse g r op why
-event_of bytes (entries.Piece g r k outcome got) = events.Piece g r k outcome (slice_range bytes got.start (end_of got))
+event_of bytes (entries.Piece g r k outcome got) =
+    events.Piece g r k outcome (slice_range bytes got.start (end_of got))
 event_of bytes (entries.Retire g r) = events.Retire g r
-event_of bytes (entries.Reply line given command text) = events.Reply line given.bytes command text.bytes
+event_of bytes (entries.Reply line given command text) =
+    events.Reply line given.bytes command text.bytes
 event_of bytes (entries.Reached line what) = events.Reached line what
 event_of bytes (entries.Start job) = events.Start job
 event_of bytes (entries.Ready job) = events.Ready job

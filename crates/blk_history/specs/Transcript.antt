@@ -55,7 +55,8 @@ good_words (byte ∷ bytes) = codes "ok" ∷ runs_text (byte ∷ bytes) ∷ []
 
 abbrev pub outcome_words : Outcome → List ℕ → List (List ℕ)
 outcome_words Good got = good_words got
-outcome_words (Torn done dev count) got = codes "torn" ∷ decimal done ∷ dev_word dev ∷ decimal count ∷ []
+outcome_words (Torn done dev count) got =
+    codes "torn" ∷ decimal done ∷ dev_word dev ∷ decimal count ∷ []
 outcome_words (Io dev count) got = codes "io" ∷ dev_word dev ∷ decimal count ∷ []
 outcome_words (NoSpace dev) got = codes "nospace" ∷ dev_word dev ∷ []
 
@@ -127,18 +128,26 @@ abbrev pub ready_words : JobLine → List (List ℕ)
 ready_words job = job.id ∷ event_text job event.Ready None job.size ∷ []
 
 abbrev pub end_words : JobLine → JobEnd → ℕ → List (List ℕ)
-end_words job outcome offset = (job.id ∷ result_words outcome) ++ event_text job (event_name outcome) (fault_of outcome) offset ∷ []
+end_words job outcome offset =
+    (job.id ∷ result_words outcome) ++ event_text job (event_name outcome) (fault_of outcome) offset
+    ∷ []
 
 abbrev pub line_of : RowNames → Event → List ℕ
-line_of names (Admit g r op) = sentence (codes "admit") (guest_word names g ∷ decimal r ∷ op_words op)
-line_of names (Refuse g r op why) = sentence (codes "refuse") ((guest_word names g ∷ decimal r ∷ op_words op) ++ refused_word why ∷ [])
-line_of names (Piece g r k outcome got) = sentence (codes "piece") (guest_word names g ∷ decimal r ∷ decimal k ∷ outcome_words outcome got)
+line_of names (Admit g r op) =
+    sentence (codes "admit") (guest_word names g ∷ decimal r ∷ op_words op)
+line_of names (Refuse g r op why) =
+    sentence (codes "refuse")
+    ((guest_word names g ∷ decimal r ∷ op_words op) ++ refused_word why ∷ [])
+line_of names (Piece g r k outcome got) =
+    sentence (codes "piece")
+    (guest_word names g ∷ decimal r ∷ decimal k ∷ outcome_words outcome got)
 line_of names (Retire g r) = sentence (codes "retire") (guest_word names g ∷ decimal r ∷ [])
 line_of names (Reply line given command text) = sentence (codes "reply") (decimal line ∷ text ∷ [])
 line_of names (Reached line what) = sentence (codes "reached") (decimal line ∷ [])
 line_of names (Start job) = sentence (codes "start") (start_words (job_line names job))
 line_of names (Ready job) = sentence (codes "ready") (ready_words (job_line names job))
-line_of names (End job outcome offset) = sentence (codes "end") (end_words (job_line names job) outcome offset)
+line_of names (End job outcome offset) =
+    sentence (codes "end") (end_words (job_line names job) outcome offset)
 line_of names (Done actor) = sentence (codes "done") (actor_word names actor ∷ [])
 
 -- all lines, in order

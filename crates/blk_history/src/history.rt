@@ -42,7 +42,13 @@ impl History {
 
     /// No entry yet, and room for so many entries and bytes.
     pub fn with_room(alloc: Global, room: Room) -> Result<Self, NoMemory>
-        ensures { IfOk result (λ h. h ≡ record { events = []; bytes = []; room = room.entries; byte_room = room.bytes }) }
+        ensures { IfOk result
+            (λ h. h ≡ record {
+              events = [];
+              bytes = [];
+              room = room.entries;
+              byte_room = room.bytes;
+            }) }
     {
         let entries = Vec::with_capacity(alloc, room.entries as usize)?;
         let bytes = Vec::with_capacity(alloc, room.bytes as usize)?;
@@ -55,7 +61,11 @@ impl History {
 
     /// Makes room for so many more entries and bytes, where there is less. A refusal leaves the history as it was.
     pub fn reserve(&mut self, room: Room) -> Result<(), NoMemory>
-        ensures ok { OnOk result (self.new ≡ record self.old { room = max self.old.room room.entries; byte_room = max self.old.byte_room room.bytes }) }
+        ensures ok { OnOk result
+            (self.new ≡ record self.old {
+              room = max self.old.room room.entries;
+              byte_room = max self.old.byte_room room.bytes;
+            }) }
         ensures err { OnErr result (self.new ≡ self.old) }
     {
         self.entries.reserve(room.entries as usize)?;
@@ -71,7 +81,11 @@ impl History {
     pub fn push(&mut self, entry: Entry)
         requires room { 0 < self.old.room }
         requires within { PointsWithin (length self.old.bytes) entry }
-        ensures { self.new ≡ record self.old { events = self.old.events ++ event_of self.old.bytes entry ∷ []; room = self.old.room - 1 } }
+        ensures { self.new
+            ≡ record self.old {
+              events = self.old.events ++ event_of self.old.bytes entry ∷ [];
+              room = self.old.room - 1;
+            } }
     {
         push_entry(&mut self.entries, entry);
         self.room.entries -= 1;
@@ -81,7 +95,11 @@ impl History {
     pub fn push_read(&mut self, bytes: &[u8]) -> Span
         requires room { length bytes.now ≤ self.old.byte_room }
         ensures place { result ≡ record { start = length self.old.bytes; len = length bytes.now } }
-        ensures kept { self.new ≡ record self.old { bytes = self.old.bytes ++ bytes.now; byte_room = self.old.byte_room - length bytes.now } }
+        ensures kept { self.new
+            ≡ record self.old {
+              bytes = self.old.bytes ++ bytes.now;
+              byte_room = self.old.byte_room - length bytes.now;
+            } }
     {
         let start = self.bytes.len() as u64;
         push_bytes(&mut self.bytes, bytes);
@@ -124,9 +142,12 @@ impl History {
     pub fn line(&self, at: u64, names: &Rows, out: &mut Text) -> Result<(), NoMemory>
         requires within { at < length self.now.events }
         requires named { At self.now.events at (HasName names.now) }
-        ensures ok { At self.now.events at (λ e. OnOk result (Appends out.old out.new (line_of names.now e) (line_room names.now e))) }
+        ensures ok { At self.now.events at
+            (λ e. OnOk result
+            (Appends out.old out.new (line_of names.now e) (line_room names.now e))) }
         ensures err { OnErr result (out.new ≡ out.old) }
-        ensures room { At self.now.events at (λ e. line_room names.now e ≤ out.old.spare → IsOk result) }
+        ensures room { At self.now.events at
+            (λ e. line_room names.now e ≤ out.old.spare → IsOk result) }
     {
         write_line(out, &self.entries[at as usize], &self.bytes, names)
     }

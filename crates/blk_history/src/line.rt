@@ -88,7 +88,8 @@ fn push_good(out: &mut Text, got: &[u8])
 
 fn push_outcome(out: &mut Text, outcome: Outcome, got: &[u8])
     requires { 80 + 5 * length got.now ≤ out.old.spare }
-    ensures { Appends out.old out.new (blanked (outcome_words outcome got.now)) (80 + 5 * length got.now) }
+    ensures { Appends out.old out.new (blanked (outcome_words outcome got.now))
+        (80 + 5 * length got.now) }
 {
     match outcome {
         Outcome::Good => push_good(out, got),
@@ -125,7 +126,8 @@ fn actor_name(names: &Rows, actor: u32) -> &str
 fn push_actor(out: &mut Text, names: &Rows, actor: u32)
     requires named { HasActor names.now actor }
     requires room { 7 + actor_room names.now actor ≤ out.old.spare }
-    ensures { Appends out.old out.new (32 ∷ actor_word names.now actor) (7 + actor_room names.now actor) }
+    ensures { Appends out.old out.new (32 ∷ actor_word names.now actor)
+        (7 + actor_room names.now actor) }
 {
     match actor.checked_sub(1) {
         Some(guest) => push_word(out, names.guest(guest)),
@@ -137,7 +139,8 @@ fn push_actor(out: &mut Text, names: &Rows, actor: u32)
 fn longer(entry: &Entry, bytes: &[u8], names: &Rows) -> Option<usize>
     requires within { PointsWithin (length bytes.now) entry.now }
     requires named { HasName names.now (event_of bytes.now entry.now) }
-    ensures { SomeIff result (long_part names.now (event_of bytes.now entry.now) < 2 ^ 64) (long_part names.now (event_of bytes.now entry.now)) }
+    ensures { SomeIff result (long_part names.now (event_of bytes.now entry.now) < 2 ^ 64)
+        (long_part names.now (event_of bytes.now entry.now)) }
 {
     match entry {
         Entry::Admit { guest, .. } | Entry::Refuse { guest, .. } | Entry::Retire { guest, .. } => {
@@ -160,7 +163,8 @@ fn longer(entry: &Entry, bytes: &[u8], names: &Rows) -> Option<usize>
 fn needed(entry: &Entry, bytes: &[u8], names: &Rows) -> Option<usize>
     requires within { PointsWithin (length bytes.now) entry.now }
     requires named { HasName names.now (event_of bytes.now entry.now) }
-    ensures { SomeIff result (line_room names.now (event_of bytes.now entry.now) < 2 ^ 64) (line_room names.now (event_of bytes.now entry.now)) }
+    ensures { SomeIff result (line_room names.now (event_of bytes.now entry.now) < 2 ^ 64)
+        (line_room names.now (event_of bytes.now entry.now)) }
 {
     longer(entry, bytes, names)?.checked_add(256)
 }
@@ -170,7 +174,8 @@ fn push_line(out: &mut Text, entry: &Entry, bytes: &[u8], names: &Rows)
     requires within { PointsWithin (length bytes.now) entry.now }
     requires named { HasName names.now (event_of bytes.now entry.now) }
     requires room { line_room names.now (event_of bytes.now entry.now) ≤ out.old.spare }
-    ensures { Appends out.old out.new (line_of names.now (event_of bytes.now entry.now)) (line_room names.now (event_of bytes.now entry.now)) }
+    ensures { Appends out.old out.new (line_of names.now (event_of bytes.now entry.now))
+        (line_room names.now (event_of bytes.now entry.now)) }
 {
     match entry {
         Entry::Admit { guest, request, op } => {
@@ -253,9 +258,12 @@ pub(crate) fn write_line(
 ) -> Result<(), NoMemory>
     requires within { PointsWithin (length bytes.now) entry.now }
     requires named { HasName names.now (event_of bytes.now entry.now) }
-    ensures ok { OnOk result (Appends out.old out.new (line_of names.now (event_of bytes.now entry.now)) (line_room names.now (event_of bytes.now entry.now))) }
+    ensures ok { OnOk result
+        (Appends out.old out.new (line_of names.now (event_of bytes.now entry.now))
+        (line_room names.now (event_of bytes.now entry.now))) }
     ensures err { OnErr result (out.new ≡ out.old) }
-    ensures room { line_room names.now (event_of bytes.now entry.now) ≤ out.old.spare → IsOk result }
+    ensures room { line_room names.now (event_of bytes.now entry.now) ≤ out.old.spare
+        → IsOk result }
 {
     let spare = out.spare();
     let room = needed(entry, bytes, names).ok_or(NoMemory)?;

@@ -139,7 +139,8 @@ fn push_name(out: &mut Text, name: EventName)
 /// Puts a blank and what a job tells at the end, part by part.
 fn push_parts(out: &mut Text, job: &JobName, name: EventName, fault: Option<Fault>, offset: u64)
     requires { 239 + length job.now.id ≤ out.old.spare }
-    ensures words { Appends out.old out.new (event_parts job.now name fault offset) (239 + length job.now.id) }
+    ensures words { Appends out.old out.new (event_parts job.now name fault offset)
+        (239 + length job.now.id) }
     ensures plain { IsPlainFault fault }
 {
     push_device(out, job.id());
@@ -152,7 +153,8 @@ fn push_parts(out: &mut Text, job: &JobName, name: EventName, fault: Option<Faul
 fn push_event(out: &mut Text, job: &JobName, name: EventName, fault: Option<Fault>, offset: u64)
     requires plain { IsPlain job.now.id }
     requires room { 239 + length job.now.id ≤ out.old.spare }
-    ensures { Appends out.old out.new (32 ∷ event_text job.now name fault offset) (239 + length job.now.id) }
+    ensures { Appends out.old out.new (32 ∷ event_text job.now name fault offset)
+        (239 + length job.now.id) }
 {
     push_parts(out, job, name, fault, offset);
 }
@@ -170,7 +172,8 @@ pub(crate) fn push_start(out: &mut Text, job: &JobName)
 pub(crate) fn push_ready(out: &mut Text, job: &JobName)
     requires plain { IsPlain job.now.id }
     requires room { 240 + 2 * length job.now.id ≤ out.old.spare }
-    ensures { Appends out.old out.new (blanked (ready_words job.now)) (240 + 2 * length job.now.id) }
+    ensures { Appends out.old out.new (blanked (ready_words job.now))
+        (240 + 2 * length job.now.id) }
 {
     push_word(out, job.id());
     push_event(out, job, EventName::Ready, None, job.size());
@@ -201,7 +204,8 @@ fn end_fault(outcome: JobEnd) -> Option<Fault>
 pub(crate) fn push_end(out: &mut Text, job: &JobName, outcome: JobEnd, offset: u64)
     requires plain { IsPlain job.now.id }
     requires room { 288 + 2 * length job.now.id ≤ out.old.spare }
-    ensures { Appends out.old out.new (blanked (end_words job.now outcome offset)) (288 + 2 * length job.now.id) }
+    ensures { Appends out.old out.new (blanked (end_words job.now outcome offset))
+        (288 + 2 * length job.now.id) }
 {
     push_word(out, job.id());
     push_result(out, outcome);

@@ -8,7 +8,7 @@ use Rattle.blk_lock.specs.declared.known.View.{View}
 use Rattle.blk_lock.specs.declared.known.Known.{Known}
 use Rattle.blk_lock.specs.declared.known.Stage.{Stage}
 use Rattle.blk_lock.specs.declared.known.Stage.TheVariants.{Spent, Fresh, Joined, Rest, Waiting, Out, Counted}
-use Rattle.blk_lock.specs.Rooms.{no_room, less, IsWithin}
+use Rattle.blk_lock.specs.Rooms.{no_room, less, IsWithinRoom}
 use Rattle.blk_lock.specs.Stamps.{is_among, may_make, entries_of, stamped, made_by, OthersAdd}
 use Rattle.blk_lock.specs.Stages.{is_settled, ticket_of}
 use Rattle.blk_lock.specs.Views.{mine}
@@ -53,13 +53,13 @@ pub mine-put : {E O : Type 0} (made : List E) (spare : Room) (v : View E O) → 
 mine-put made spare v named = made_by-stamped v.names v.name (less (unwrap_or v.turn no_room) spare) v.seen made named
 
 -- a turn that took no room leaves its pass's
-pub less-none : (room had now : Room) → IsWithin had now → less room (less had now) ≡ room
+pub less-none : (room had now : Room) → IsWithinRoom had now → less room (less had now) ≡ room
 less-none room had now h =
     let e : room.entries - (had.entries - now.entries) ≡ room.entries = (let le : had.entries ≤ now.entries = h.0 in omega arith) in
     let b : room.bytes - (had.bytes - now.bytes) ≡ room.bytes = (let le : had.bytes ≤ now.bytes = h.1 in omega arith) in
     λ i. record { entries = e i; bytes = b i }
 
-pub unspent : (room now : Room) (turn : Option Room) → IfSome turn (λ had. IsWithin had now) → less room (less (unwrap_or turn no_room) now) ≡ room
+pub unspent : (room now : Room) (turn : Option Room) → IfSome turn (λ had. IsWithinRoom had now) → less room (less (unwrap_or turn no_room) now) ≡ room
 unspent room now None h = less-none room no_room now (omega arith, omega arith)
 unspent room now (Some had) h = less-none room had now h
 
@@ -105,7 +105,7 @@ module _ {W E O : Type 0} (history : W → List E) (actor : E → Option ℕ) (s
     pub out : p.stage ≡ Out ticket
     pub grown : history world ≡ entries_of p.view.seen ++ made_since p.view.seen (history world)
     pub opened : IfSome p.view.opening (comes world)
-    pub room : IsWithin (less (unwrap_or p.view.turn no_room) (spare world)) p.view.room
+    pub room : IsWithinRoom (less (unwrap_or p.view.turn no_room) (spare world)) p.view.room
     pub allowed : All (λ e. may_make p.view.actors (actor e) ≡ true) (made_since p.view.seen (history world))
 
   module _ (opening : O) (start : Room) where

@@ -11,10 +11,10 @@ use Rattle.blk_base.specs.declared.memory.Room.{Room}
 use Rattle.blk_lock.specs.declared.known.Stamped.{Stamped}
 use Rattle.blk_lock.specs.declared.known.Known.{Known}
 use Rattle.blk_lock.specs.declared.known.Stage.TheVariants.{Rest}
-use Rattle.blk_lock.specs.Rooms.{Measure, in_entries, in_bytes, amount, IsWithin}
+use Rattle.blk_lock.specs.Rooms.{Measure, in_entries, in_bytes, amount, IsWithinRoom}
 use Rattle.blk_lock.specs.Stamps.{is_among, entries_of, taken, made_by, IsOthers}
 use Rattle.blk_lock.specs.Stages.{IsLive, is_out}
-use Rattle.blk_lock.specs.Order.{MayGive, IsSound, Has, IsHome, first_known}
+use Rattle.blk_lock.specs.Order.{MayGive, IsSoundPass, Has, IsHome, first_known}
 use Rattle.blk_lock.proofs.Tests.{not_both, is_among-one}
 use Rattle.blk_lock.proofs.Histories.{All-then, All-later, OthersAdd-same}
 use Rattle.blk_lock.proofs.Made.{made_from-all}
@@ -36,7 +36,7 @@ module _ {W E O : Type 0} (history : W → List E) (spare : W → Room) (comes :
     pub told : history world ≡ entries_of v.view.seen
     pub opened : IfSome v.view.opening (comes world)
     pub made : made_by v.view.names v.view.seen ≡ enumerate_from 0 (history world)
-    pub room : IsWithin v.view.room (spare world)
+    pub room : IsWithinRoom v.view.room (spare world)
 
   pub whole_as : (v : Known E O) (taken : Option W) (world x : W) → taken ≡ Some world → taken ≡ Some x → IsWhole v world → IsWhole v x
   whole_as v taken world x is its h = let same : world ≡ x = (let e : Some world ≡ Some x = sym is ∙ its in cc) in subst (IsWhole v) same h
@@ -55,7 +55,7 @@ module _ {W E O : Type 0} (history : W → List E) (actor : E → Option ℕ) (s
         served = 0;
         log = [];
         words = refl;
-        sound = one (IsSound actor opening 0 []) record { opened = refl; named = refl; shared = omega arith; goes_on = OthersAdd-same actor ([] ∷ []) first.view.actors []; stands = tt };
+        sound = one (IsSoundPass actor opening 0 []) record { opened = refl; named = refl; shared = omega arith; goes_on = OthersAdd-same actor ([] ∷ []) first.view.actors []; stands = tt };
         apart = λ i j p q ne hi hj. absurd (ne ((at_one first p i hi.0).0 ∙ sym (at_one first q j hj.0).0));
         unnamed = λ i j p q hi hj. let a = (at_one first p i hi.0).1 in let b = (at_one first q j hj.0).1 in
             subst (λ (x : Known E O × Known E O). (n : List ℕ) → is_among x.1.view.names n ≡ true → MayGive x.0.view n → ⊥) (λ k. (a k, b k))
@@ -86,7 +86,7 @@ module _ {W E O : Type 0} (history : W → List E) (actor : E → Option ℕ) (s
       alone j q h = dite (ℕ_discrete j id) (λ e. e)
           (λ ne. let two = total-two (λ p. p.view.shares) s.views id j v q (λ e. ne (sym e)) at h.0 in let some_share = (r.sound j q h).shared in let sum = r.shares in absurd (omega arith))
 
-      mine : IsSound actor opening r.drawn r.log v
+      mine : IsSoundPass actor opening r.drawn r.log v
       mine = r.sound id v here
 
       is_home : IsHome history spare comes opening r.log s.homes s.views

@@ -12,7 +12,7 @@ use Rattle.blk_lock.specs.declared.known.Stage.{Stage}
 use Rattle.blk_lock.specs.Rooms.{Measure, amount}
 use Rattle.blk_lock.specs.Stamps.{is_among, taken, OthersAdd}
 use Rattle.blk_lock.specs.Stages.{IsLive, ticket_of, is_out}
-use Rattle.blk_lock.specs.Order.{StandsAt, MayGive, IsSound, AreApart, Has, rooms, IsHome, IsAway, InOrder}
+use Rattle.blk_lock.specs.Order.{StandsAt, MayGive, IsSoundPass, AreApart, Has, rooms, IsHome, IsAway, InOrder}
 use Rattle.blk_lock.proofs.Tests.{not_both}
 use Rattle.blk_lock.proofs.Histories.{All-then}
 use Rattle.blk_lock.proofs.Passes.{total-set, moved, AreApart-sym, on_each, on_pairs, on_all_pairs, makers_stay}
@@ -55,7 +55,7 @@ module _ {W E O : Type 0} (history : W → List E) (actor : E → Option ℕ) (s
           → words ≡ drawn ∷ served ∷ length log ∷ []
           → OthersAdd actor v.view.names v.view.actors seen log
           → StandsAt actor drawn log w.view stage
-          → ((j : ℕ) (q : Known E O) → j ≢ id → Has s.views j q → IsSound actor opening drawn log q)
+          → ((j : ℕ) (q : Known E O) → j ≢ id → Has s.views j q → IsSoundPass actor opening drawn log q)
           → All (IsNamed s.views) log
           → ((k : Measure) → rooms k (set s.views id w) + taken k log ≤ amount k start)
           → Place served log homes (set s.views id w)
@@ -66,7 +66,7 @@ module _ {W E O : Type 0} (history : W → List E) (actor : E → Option ℕ) (s
             served = served;
             log = log;
             words = words_are;
-            sound = on_each s.views id w (IsSound actor opening drawn log) record { opened = mine.opened; named = mine.named; shared = mine.shared; goes_on = goes_on; stands = stands } others;
+            sound = on_each s.views id w (IsSoundPass actor opening drawn log) record { opened = mine.opened; named = mine.named; shared = mine.shared; goes_on = goes_on; stands = stands } others;
             apart = on_pairs s.views id w AreApart
                 (λ j q ne h. let a = r.apart id j v q (λ e. ne (sym e)) here h in record { names = a.names; actors = a.actors; tickets = only j q ne h })
                 AreApart-sym r.apart;

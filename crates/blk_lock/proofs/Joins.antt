@@ -14,7 +14,7 @@ use Rattle.blk_lock.specs.declared.known.Stage.TheVariants.{Fresh, Joined, Rest}
 use Rattle.blk_lock.specs.Rooms.{Measure, in_entries, in_bytes, amount, no_room, plus}
 use Rattle.blk_lock.specs.Stamps.{is_among}
 use Rattle.blk_lock.specs.Stages.{IsLive, is_out}
-use Rattle.blk_lock.specs.Order.{HaveNoneInCommon, Unites, StandsAt, MayGive, IsSound, AreApart, Has, rooms, IsHome, IsAway}
+use Rattle.blk_lock.specs.Order.{HaveNoneInCommon, Unites, StandsAt, MayGive, IsSoundPass, AreApart, Has, rooms, IsHome, IsAway}
 use Rattle.blk_lock.specs.Plays.{longer, joined_known, spent_known, resting, Settles}
 use Rattle.blk_lock.specs.Plays as plays
 use Rattle.blk_lock.proofs.Tests.{not_both, is_among-left, is_among-right, is_among-cases, has_actor-cases}
@@ -83,16 +83,16 @@ module _ {W E O : Type 0} (history : W → List E) (actor : E → Option ℕ) (s
     away : Has s.views other u
     away = (there, subst IsLive (sym rests) tt)
 
-    mine : IsSound actor opening r.drawn r.log v
+    mine : IsSoundPass actor opening r.drawn r.log v
     mine = r.sound id v here
 
-    its : IsSound actor opening r.drawn r.log u
+    its : IsSoundPass actor opening r.drawn r.log u
     its = r.sound other u away
 
     apart_two : HaveNoneInCommon v.view.names v.view.actors u.view.names u.view.actors
     apart_two = let a = r.apart id other v u (λ e. ne (sym e)) here away in record { no_name = a.names; no_actor = a.actors }
 
-    sound_both : IsSound actor opening r.drawn r.log both
+    sound_both : IsSoundPass actor opening r.drawn r.log both
     sound_both = record {
       opened = mine.opened;
       named = is_among-left v.view.names u.view.names v.view.name mine.named;
@@ -171,7 +171,7 @@ module _ {W E O : Type 0} (history : W → List E) (actor : E → Option ℕ) (s
       served = r.served;
       log = r.log;
       words = r.words;
-      sound = joined_each s.views id other both (IsSound actor opening r.drawn r.log) sound_both r.sound;
+      sound = joined_each s.views id other both (IsSoundPass actor opening r.drawn r.log) sound_both r.sound;
       apart = joined_pairs s.views id other both AreApart apart_both AreApart-sym r.apart;
       unnamed = joined_all_pairs s.views id other both Unnamed (unnamed_by id v here) (λ j q h. (r.unnamed id j v q here h, unnamed_by j q h)) r.unnamed;
       made = All-then (IsNamed history actor spare comes opening start s.views) (IsNamed history actor spare comes opening start passes) (λ m. maker m.maker) r.log r.made;

@@ -11,10 +11,10 @@ use Rattle.blk_lock.specs.declared.known.View.{View}
 use Rattle.blk_lock.specs.declared.known.Known.{Known}
 use Rattle.blk_lock.specs.declared.known.Stage.{Stage}
 use Rattle.blk_lock.specs.declared.known.Stage.TheVariants.{Spent, Fresh, Joined, Rest, Waiting, Out, Counted}
-use Rattle.blk_lock.specs.Rooms.{Measure, in_entries, in_bytes, amount, no_room, less, IsWithin}
+use Rattle.blk_lock.specs.Rooms.{Measure, in_entries, in_bytes, amount, no_room, less, IsWithinRoom}
 use Rattle.blk_lock.specs.Stamps.{is_among, has_actor, is_by, may_make, entries_of, stamped, IsOthers, OthersAdd}
 use Rattle.blk_lock.specs.Stages.{IsLive, ticket_of, is_out}
-use Rattle.blk_lock.specs.Order.{IsDrawn, StandsAt, IsSound, AreApart, Has, rooms, IsAway}
+use Rattle.blk_lock.specs.Order.{IsDrawn, StandsAt, IsSoundPass, AreApart, Has, rooms, IsAway}
 use Rattle.blk_lock.specs.Plays.{made_since, counted_known, Counts, Serves}
 use Rattle.blk_lock.proofs.Tests.{not_true, not_both, is_among-left, is_among-right, has_actor-left, has_actor-right}
 use Rattle.blk_lock.proofs.Histories.{All-then, OthersAdd-same, OthersAdd-more, IsOthers-fewer}
@@ -26,7 +26,7 @@ pub amount-less : (k : Measure) (a b : Room) → amount k (less a b) ≡ amount 
 amount-less in_entries a b = refl
 amount-less in_bytes a b = refl
 
-pub within : (k : Measure) (a b : Room) → IsWithin a b → amount k a ≤ amount k b
+pub within : (k : Measure) (a b : Room) → IsWithinRoom a b → amount k a ≤ amount k b
 within in_entries a b h = h.0
 within in_bytes a b h = h.1
 
@@ -103,7 +103,7 @@ module _ {W E O : Type 0} (history : W → List E) (actor : E → Option ℕ) (s
   -- what a turn made is counted
   module _ (s : St) (r : Lawful s) (id t : ℕ) (v : Known E O) (world : W) (at : get_elem? s.views id ≡ some v) (out : v.stage ≡ Out t)
       (grown : history world ≡ entries_of v.view.seen ++ made_since v.view.seen (history world))
-      (fits : IsWithin (less (unwrap_or v.view.turn no_room) (spare world)) v.view.room)
+      (fits : IsWithinRoom (less (unwrap_or v.view.turn no_room) (spare world)) v.view.room)
       (allowed : All (λ e. may_make v.view.actors (actor e) ≡ true) (made_since v.view.seen (history world))) where
     abbrev made : List E
     made = made_since v.view.seen (history world)
@@ -126,7 +126,7 @@ module _ {W E O : Type 0} (history : W → List E) (actor : E → Option ℕ) (s
     live : IsLive v.stage
     live = subst IsLive (sym out) tt
 
-    mine : IsSound actor opening r.drawn r.log v
+    mine : IsSoundPass actor opening r.drawn r.log v
     mine = r.sound id v (at, live)
 
     stands : IsDrawn r.drawn ticket × (v.view.seen ≡ r.log)
@@ -189,7 +189,7 @@ module _ {W E O : Type 0} (history : W → List E) (actor : E → Option ℕ) (s
 
   pub counts : (slots id t : ℕ) (me : M) (world : W) → me.0.stage ≡ Out t → me.1 ≡ (0, Some world) ∷ []
       → history world ≡ entries_of me.0.view.seen ++ made_since me.0.view.seen (history world)
-      → IsWithin (less (unwrap_or me.0.view.turn no_room) (spare world)) me.0.view.room
+      → IsWithinRoom (less (unwrap_or me.0.view.turn no_room) (spare world)) me.0.view.room
       → All (λ e. may_make me.0.view.actors (actor e) ≡ true) (made_since me.0.view.seen (history world))
       → Allows Lawful slots id me 2 (λ _. length (history world)) (λ _ m. Counts history spare me m)
   counts slots id t me world out hand grown fits allowed s r _ at _ =

@@ -10,10 +10,10 @@ use Rattle.blk_lock.specs.declared.known.Stamped.{Stamped}
 use Rattle.blk_lock.specs.declared.known.View.{View}
 use Rattle.blk_lock.specs.declared.known.Known.{Known}
 use Rattle.blk_lock.specs.declared.known.Stage.TheVariants.{Rest}
-use Rattle.blk_lock.specs.Rooms.{Measure, amount, IsWithin}
+use Rattle.blk_lock.specs.Rooms.{Measure, amount, IsWithinRoom}
 use Rattle.blk_lock.specs.Stamps.{is_among, has_actor, is_by, IsOthers}
 use Rattle.blk_lock.specs.Stages.{IsLive, is_out}
-use Rattle.blk_lock.specs.Order.{StandsAt, MayGive, IsSound, AreApart, Has, rooms, IsHome, IsAway}
+use Rattle.blk_lock.specs.Order.{StandsAt, MayGive, IsSoundPass, AreApart, Has, rooms, IsHome, IsAway}
 use Rattle.blk_lock.specs.Plays.{without, list_of, split_known, fresh_known}
 use Rattle.blk_lock.proofs.Tests.{not_true, not_both, or_cases, is_among-here, is_among-one, has_actor-without}
 use Rattle.blk_lock.proofs.Histories.{All-then, All-later, OthersAdd-fewer}
@@ -105,7 +105,7 @@ module _ {W E O : Type 0} (history : W → List E) (actor : E → Option ℕ) (s
   Lawful = Rule history actor spare comes opening start
 
   module _ (s : St) (r : Lawful s) (id : ℕ) (v : Known E O) (room : Room) (given : Option ℕ) (at : get_elem? s.views id ≡ some v) (rest : v.stage ≡ Rest)
-      (enough : 2 ≤ v.view.shares) (fits : IsWithin room v.view.room) (held : IfSome given (λ a. has_actor v.view.actors a ≡ true)) where
+      (enough : 2 ≤ v.view.shares) (fits : IsWithinRoom room v.view.room) (held : IfSome given (λ a. has_actor v.view.actors a ≡ true)) where
     abbrev left : Known E O
     left = split_known room given v
 
@@ -124,7 +124,7 @@ module _ {W E O : Type 0} (history : W → List E) (actor : E → Option ℕ) (s
     here : Has s.views id v
     here = (at, live)
 
-    mine : IsSound actor opening r.drawn r.log v
+    mine : IsSoundPass actor opening r.drawn r.log v
     mine = r.sound id v here
 
     -- nobody has the new name
@@ -151,7 +151,7 @@ module _ {W E O : Type 0} (history : W → List E) (actor : E → Option ℕ) (s
         not_by None h = refl
         not_by (Some a) h = not_true (has_actor (list_of given) a) (λ t. not_both (has_actor v.view.actors a) (was_held a t) h)
 
-    sound_right : IsSound actor opening r.drawn r.log right
+    sound_right : IsSoundPass actor opening r.drawn r.log right
     sound_right = record {
       opened = mine.opened;
       named = is_among-here name [];
@@ -164,7 +164,7 @@ module _ {W E O : Type 0} (history : W → List E) (actor : E → Option ℕ) (s
       stands = none_made;
     }
 
-    sound_left : IsSound actor opening r.drawn r.log left
+    sound_left : IsSoundPass actor opening r.drawn r.log left
     sound_left = record {
       opened = mine.opened;
       named = mine.named;
@@ -252,7 +252,7 @@ module _ {W E O : Type 0} (history : W → List E) (actor : E → Option ℕ) (s
       served = r.served;
       log = r.log;
       words = r.words;
-      sound = push_each passes right (IsSound actor opening r.drawn r.log) sound_right (on_each s.views id left (IsSound actor opening r.drawn r.log) sound_left (λ j q ne h. r.sound j q h));
+      sound = push_each passes right (IsSoundPass actor opening r.drawn r.log) sound_right (on_each s.views id left (IsSoundPass actor opening r.drawn r.log) sound_left (λ j q ne h. r.sound j q h));
       apart = push_pairs passes right AreApart apart_right AreApart-sym (on_pairs s.views id left AreApart apart_left AreApart-sym r.apart);
       unnamed = push_all_pairs passes right Unnamed unnamed_itself unnamed_right unnamed_passes;
       made = All-then (IsNamed history actor spare comes opening start s.views) (IsNamed history actor spare comes opening start (passes ++ right ∷ [])) (λ m. makers m.maker) r.log r.made;
@@ -261,6 +261,6 @@ module _ {W E O : Type 0} (history : W → List E) (actor : E → Option ℕ) (s
       place = place r.place;
     }
 
-  pub splits : (id : ℕ) (v : Known E O) (room : Room) (given : Option ℕ) → v.stage ≡ Rest → 2 ≤ v.view.shares → IsWithin room v.view.room → IfSome given (λ a. has_actor v.view.actors a ≡ true)
+  pub splits : (id : ℕ) (v : Known E O) (room : Room) (given : Option ℕ) → v.stage ≡ Rest → 2 ≤ v.view.shares → IsWithinRoom room v.view.room → IfSome given (λ a. has_actor v.view.actors a ≡ true)
       → Splits Lawful id v (split_known room given v) (fresh_known room given v)
   splits id v room given rest enough fits held s r at = splits_one s r id v room given at rest enough fits held

@@ -28,13 +28,15 @@ module _ {E : Type 0} where
   GoesOn actor log side = OthersAdd actor side.names side.actors side.seen log
 
 -- two passes have no name and no actor in common
-pub record HaveNoneInCommon (names : List (List ℕ)) (actors : List ℕ) (names' : List (List ℕ)) (actors' : List ℕ) : Type 0 where
+pub record HaveNoneInCommon (names : List (List ℕ)) (actors : List ℕ) (names' : List (List ℕ))
+    (actors' : List ℕ) : Type 0 where
   pub no_name : (n : List ℕ) → is_among names n ≡ true → is_among names' n ≡ true → ⊥
   pub no_actor : (a : ℕ) → has_actor actors a ≡ true → has_actor actors' a ≡ true → ⊥
 
 module _ {E O : Type 0} where
   -- a pass that two were joined into goes on from both
-  pub record Unites (actor : E → Option ℕ) (log : List (Stamped E)) (v : View E O) (left right : Side E) : Type 0 where
+  pub record Unites (actor : E → Option ℕ) (log : List (Stamped E)) (v : View E O)
+      (left right : Side E) : Type 0 where
     pub names : v.names ≡ left.names ++ right.names
     pub actors : v.actors ≡ left.actors ++ right.actors
     pub apart : HaveNoneInCommon left.names left.actors right.names right.actors
@@ -55,7 +57,8 @@ module _ {E O : Type 0} where
   MayGive v name = (k : ℕ) × (rest : List ℕ) × (v.splits < k) × (name ≡ v.name ++ k ∷ rest)
 
   -- what holds of each pass: it has seen a beginning of the log, and the rest of it others made
-  pub record IsSound (actor : E → Option ℕ) (opening : O) (drawn : ℕ) (log : List (Stamped E)) (p : Known E O) : Type 0 where
+  pub record IsSoundPass (actor : E → Option ℕ) (opening : O) (drawn : ℕ) (log : List (Stamped E))
+      (p : Known E O) : Type 0 where
     pub opened : p.view.opening ≡ Some opening
     pub named : is_among p.view.names p.view.name ≡ true
     pub shared : 0 < p.view.shares
@@ -78,7 +81,9 @@ module _ {E O : Type 0} where
 
 module _ {W E O : Type 0} where
   -- the value is in its slot. Its history is the log, and its spare room is enough for all passes
-  pub record IsHome (history : W → List E) (spare : W → Room) (comes : W → O → Type 0) (opening : O) (log : List (Stamped E)) (homes : List (mathlib.Core.Option.Option (Option W))) (passes : List (Known E O)) : Type 0 where
+  pub record IsHome (history : W → List E) (spare : W → Room) (comes : W → O → Type 0) (opening : O)
+      (log : List (Stamped E)) (homes : List (mathlib.Core.Option.Option (Option W)))
+      (passes : List (Known E O)) : Type 0 where
     pub world : W
     pub in_slot : homes ≡ some (Some world) ∷ []
     pub told : history world ≡ entries_of log
@@ -87,7 +92,8 @@ module _ {W E O : Type 0} where
     pub none_out : (i : ℕ) (p : Known E O) → get_elem? passes i ≡ some p → is_out p.stage ≡ false
 
   -- the value is out with the pass whose ticket is served
-  pub record IsAway (served : ℕ) (homes : List (mathlib.Core.Option.Option (Option W))) (passes : List (Known E O)) : Type 0 where
+  pub record IsAway (served : ℕ) (homes : List (mathlib.Core.Option.Option (Option W)))
+      (passes : List (Known E O)) : Type 0 where
     pub holder : ℕ
     pub pass : Known E O
     pub had : Room
@@ -97,20 +103,28 @@ module _ {W E O : Type 0} where
     pub turn : pass.view.turn ≡ Some had
     pub empty : homes ≡ none ∷ []
     pub has_room : (k : Measure) → rooms k passes ≤ amount k had
-    pub alone : (i : ℕ) (p : Known E O) → get_elem? passes i ≡ some p → is_out p.stage ≡ true → i ≡ holder
+    pub alone : (i : ℕ) (p : Known E O) → get_elem? passes i ≡ some p → is_out p.stage ≡ true
+        → i ≡ holder
 
-  pub record InOrder (history : W → List E) (actor : E → Option ℕ) (spare : W → Room) (comes : W → O → Type 0) (opening : O) (start : Room) (s : State (Option W) (Known E O)) : Type 0 where
+  pub record InOrder (history : W → List E) (actor : E → Option ℕ) (spare : W → Room)
+      (comes : W → O → Type 0) (opening : O) (start : Room)
+      (s : State (Option W) (Known E O)) : Type 0 where
     pub drawn : ℕ
     pub served : ℕ
     pub log : List (Stamped E)
     pub words : s.words ≡ drawn ∷ served ∷ length log ∷ []
-    pub sound : (i : ℕ) (p : Known E O) → Has s.views i p → IsSound actor opening drawn log p
-    pub apart : (i j : ℕ) (p q : Known E O) → i ≢ j → Has s.views i p → Has s.views j q → AreApart p q
-    pub unnamed : (i j : ℕ) (p q : Known E O) → Has s.views i p → Has s.views j q → (n : List ℕ) → is_among q.view.names n ≡ true → MayGive p.view n → ⊥
-    pub made : All (λ m. (i : ℕ) × (p : Known E O) × Has s.views i p × (is_among p.view.names m.maker ≡ true)) log
+    pub sound : (i : ℕ) (p : Known E O) → Has s.views i p → IsSoundPass actor opening drawn log p
+    pub apart : (i j : ℕ) (p q : Known E O) → i ≢ j → Has s.views i p → Has s.views j q
+        → AreApart p q
+    pub unnamed : (i j : ℕ) (p q : Known E O) → Has s.views i p → Has s.views j q → (n : List ℕ)
+        → is_among q.view.names n ≡ true → MayGive p.view n → ⊥
+    pub made : All
+        (λ m. (i : ℕ) × (p : Known E O) × Has s.views i p × (is_among p.view.names m.maker ≡ true))
+        log
     pub shares : total (λ p. p.view.shares) s.views ≡ 1024
     pub in_room : (k : Measure) → rooms k s.views + taken k log ≤ amount k start
-    pub place : IsHome history spare comes opening log s.homes s.views ⊎ IsAway served s.homes s.views
+    pub place : IsHome history spare comes opening log s.homes s.views
+        ⊎ IsAway served s.homes s.views
 
 module _ {E O : Type 0} where
   -- the view that the first pass has: of a value with this room to spare

@@ -25,5 +25,5 @@ plus a b = record { entries = a.entries + b.entries; bytes = a.bytes + b.bytes }
 abbrev pub less : Room → Room → Room
 less a b = record { entries = a.entries - b.entries; bytes = a.bytes - b.bytes }
 
-abbrev pub IsWithin : Room → Room → Type 0
-IsWithin a b = (a.entries ≤ b.entries) × (a.bytes ≤ b.bytes)
+abbrev pub IsWithinRoom : Room → Room → Type 0
+IsWithinRoom a b = (a.entries ≤ b.entries) × (a.bytes ≤ b.bytes)

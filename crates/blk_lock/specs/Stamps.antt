@@ -36,7 +36,9 @@ module _ {E : Type 0} where
   -- the entries that one turn of the pass of this name made, the first with the room that they took
   abbrev pub stamped : List ℕ → Room → List E → List (Stamped E)
   stamped name took [] = []
-  stamped name took (e ∷ es) = record { entry = e; maker = name; took = Some took } ∷ map (λ x. record { entry = x; maker = name; took = None }) es
+  stamped name took (e ∷ es) =
+      record { entry = e; maker = name; took = Some took }
+      ∷ map (λ x. record { entry = x; maker = name; took = None }) es
 
   -- the room that all turns of a history took
   abbrev pub taken : Measure → List (Stamped E) → ℕ
@@ -45,19 +47,22 @@ module _ {E : Type 0} where
 
   -- the entries that those of these names made, each with its place
   abbrev pub made_by : List (List ℕ) → List (Stamped E) → List (ℕ × E)
-  made_by names stamps = map (λ p. (p.0, p.1.entry)) (filter (λ p. is_among names p.1.maker) (enumerate_from 0 stamps))
+  made_by names stamps =
+      map (λ p. (p.0, p.1.entry)) (filter (λ p. is_among names p.1.maker) (enumerate_from 0 stamps))
 
   -- what this actor made, in its order
   abbrev pub done_by : (E → Option ℕ) → ℕ → List (Stamped E) → List E
   done_by actor a stamps = filter (λ e. is_by (a ∷ []) (actor e)) (entries_of stamps)
 
   -- others made it: neither a pass of these names, nor one of these actors
-  pub record IsOthers (actor : E → Option ℕ) (names : List (List ℕ)) (actors : List ℕ) (s : Stamped E) : Type 0 where
+  pub record IsOthers (actor : E → Option ℕ) (names : List (List ℕ)) (actors : List ℕ)
+      (s : Stamped E) : Type 0 where
     pub by_another : is_among names s.maker ≡ false
     pub of_another : is_by actors (actor s.entry) ≡ false
 
   -- the one history begins with the other, and goes on with what others made
-  pub record OthersAdd (actor : E → Option ℕ) (names : List (List ℕ)) (actors : List ℕ) (before after : List (Stamped E)) : Type 0 where
+  pub record OthersAdd (actor : E → Option ℕ) (names : List (List ℕ)) (actors : List ℕ)
+      (before after : List (Stamped E)) : Type 0 where
     pub rest : List (Stamped E)
     pub begins : after ≡ before ++ rest
     pub by_others : All (IsOthers actor names actors) rest

@@ -6,7 +6,7 @@ use Rattle.blk_lock.specs.declared.logged.Logged.{Ghosts}
 use Rattle.blk_lock.specs.declared.pass.Pass.{Pass}
 use Rattle.blk_lock.specs.declared.turns.Turns.{Turns}
 use Rattle.blk_base.specs.declared.memory.Room.{Room}
-use Rattle.blk_lock.specs.Rooms.{less, IsWithin}
+use Rattle.blk_lock.specs.Rooms.{less, IsWithinRoom}
 use Rattle.blk_lock.specs.Stamps.{may_make, entries_of, made_by, OthersAdd}
 use Rattle.blk_lock.specs.Plays.{made_since}
 
@@ -46,8 +46,8 @@ module _ {E O : Type 0} where
 
   -- of what was to spare at the take no more is gone than the pass's room
   abbrev pub KeepsRoom : View E O → Room → Type 0
-  KeepsRoom v spare = IsSomeAnd v.turn (λ had. IsWithin (less had spare) v.room)
+  KeepsRoom v spare = IsSomeAnd v.turn (λ had. IsWithinRoom (less had spare) v.room)
 
   -- nothing is gone of what was to spare at the take
   abbrev pub KeepsSpare : View E O → Room → Type 0
-  KeepsSpare v spare = IfSome v.turn (λ had. IsWithin had spare)
+  KeepsSpare v spare = IfSome v.turn (λ had. IsWithinRoom had spare)

@@ -14,7 +14,8 @@ pub(crate) struct InTurn<W> {
 
 impl<W: Logged> TableRule<Option<W>, Known<W::Entry, W::Opening>, (Snapshot<W>, Named<W::Opening>)>
     for InTurn<W> {
-    ghost holds = { λ key. InOrder W.history W.actor W.spare W.comes key.1.opening (W.spare key.0.value) };
+    ghost holds = { λ key. InOrder W.history W.actor W.spare W.comes key.1.opening
+        (W.spare key.0.value) };
 
     ghost first = { λ key. first_known key.1.opening (W.spare key.0.value) };
 }

@@ -1,16 +1,16 @@
 -- The runs of some bytes are the one list of longest runs that stands for them.
 use Rattle.std.proofs.Common.{◌≡◌, ◌≢◌, ℕ, zero, suc, ◌+◌, ◌-◌, ◌<◌, List, [], ◌∷◌, ◌++◌, true, false, eqb, replicate, refl, ap, sym, ◌∙◌, subst, arith, add-one, eq-eqb, ne_eqb, ⊎_elim}
 use Rattle.std.proofs.lemmas.Bool.{cases_Bool, eqb-true, eqb-false}
-use Rattle.blk_runs.specs.Runs.{Run, with_byte, runs_of, bytes_of, AreLongest}
+use Rattle.blk_runs.specs.Runs.{Run, with_byte, runs_of, bytes_of_runs, AreLongest}
 
-bytes_of-with_byte : (b : ℕ) (rs : List Run) → bytes_of (with_byte b rs) ≡ b ∷ bytes_of rs
+bytes_of-with_byte : (b : ℕ) (rs : List Run) → bytes_of_runs (with_byte b rs) ≡ b ∷ bytes_of_runs rs
 bytes_of-with_byte b [] = refl
 bytes_of-with_byte b (r ∷ rs) = ⊎_elim
     (λ e. rw e (rw add-one (rw (eqb-true b r.byte e) refl)))
     (λ e. rw e refl)
     (cases_Bool (eqb b r.byte))
 
-pub bytes_of-runs_of : (bytes : List ℕ) → bytes_of (runs_of bytes) ≡ bytes
+pub bytes_of-runs_of : (bytes : List ℕ) → bytes_of_runs (runs_of bytes) ≡ bytes
 bytes_of-runs_of [] = refl
 bytes_of-runs_of (b ∷ bytes) = bytes_of-with_byte b (runs_of bytes) ∙ ap (λ bs. b ∷ bs) (bytes_of-runs_of bytes)
 
@@ -44,15 +44,15 @@ runs_of-replicate (suc n) b bytes h =
     let same : eqb b b ≡ true = eq-eqb b b refl in
     ap (with_byte b) (runs_of-replicate n b bytes h) ∙ rw same (rw add-one refl)
 
-one_more : (r : Run) (rs : List Run) → 0 < r.count → IsApart r.byte rs → runs_of (bytes_of rs) ≡ rs → runs_of (bytes_of (r ∷ rs)) ≡ r ∷ rs
+one_more : (r : Run) (rs : List Run) → 0 < r.count → IsApart r.byte rs → runs_of (bytes_of_runs rs) ≡ rs → runs_of (bytes_of_runs (r ∷ rs)) ≡ r ∷ rs
 one_more r rs some apart same =
     let e : r.count ≡ suc (r.count - 1) = omega arith in
-    ap (λ n. runs_of (replicate n r.byte ++ bytes_of rs)) e
-    ∙ runs_of-replicate (r.count - 1) r.byte (bytes_of rs) (subst (IsApart r.byte) (sym same) apart)
-    ∙ ap (λ n. record { byte = r.byte; count = n } ∷ runs_of (bytes_of rs)) (sym e)
+    ap (λ n. runs_of (replicate n r.byte ++ bytes_of_runs rs)) e
+    ∙ runs_of-replicate (r.count - 1) r.byte (bytes_of_runs rs) (subst (IsApart r.byte) (sym same) apart)
+    ∙ ap (λ n. record { byte = r.byte; count = n } ∷ runs_of (bytes_of_runs rs)) (sym e)
     ∙ ap (λ qs. r ∷ qs) same
 
-pub runs_of-bytes_of : (rs : List Run) → AreLongest rs → runs_of (bytes_of rs) ≡ rs
+pub runs_of-bytes_of : (rs : List Run) → AreLongest rs → runs_of (bytes_of_runs rs) ≡ rs
 runs_of-bytes_of [] h = refl
 runs_of-bytes_of (r ∷ []) h = one_more r [] h tt refl
 runs_of-bytes_of (r ∷ q ∷ rs) h = one_more r (q ∷ rs) h.0 h.1 (runs_of-bytes_of (q ∷ rs) h.2)

@@ -10,10 +10,10 @@ use Rattle.std.proofs.lemmas.List.{drop_more, take_rest, get_or_default, length-
 use Rattle.std.proofs.lemmas.List.Elements.{All-nil, All-cons, All-head, All-tail, All-append, All-map, All-replicate}
 use Rattle.std.proofs.lemmas.List.Splits.{slice_split_at, slice_split_none, join_with_byte-slice_split}
 use Rattle.std.specs.Int.Digits.{digits_of}
-use Rattle.blk_runs.specs.Runs.{Run, run_text, text_of, bytes_of, runs_of, runs_text, AreLongest}
+use Rattle.blk_runs.specs.Runs.{Run, run_text, text_of, bytes_of_runs, runs_of, runs_text, AreLongest}
 use Rattle.blk_runs.proofs.Longest.{bytes_of-runs_of, AreLongest-runs_of, runs_of-bytes_of}
 use Rattle.blk_runs.specs.declared.reading.Read.{Read}
-use Rattle.blk_runs.specs.Reading.{IsRun, IsBlock, IsRead, HasRead, IsFirstSpace, last_byte, words_of}
+use Rattle.blk_runs.specs.Reading.{IsBlockRun, IsBlock, AreBlockRuns, HasRead, IsFirstSpace, last_byte, words_of}
 
 -- ---- the text of one run
 
@@ -41,7 +41,7 @@ glyph-shown d = ne_eqb (digit_glyph false d) 32 (λ is. elim (cases_lt d 10) [
   | inr high ↦ omega (arith, glyph-high d high)
 ])
 
-pub same-run : (r q : Run) → IsRun r → IsRun q → run_text r ≡ run_text q → r ≡ q
+pub same-run : (r q : Run) → IsBlockRun r → IsBlockRun q → run_text r ≡ run_text q → r ≡ q
 same-run r q is are same =
     let high = glyphs (r.byte / 16) (q.byte / 16) (omega (arith, is.byte)) (omega (arith, are.byte)) (cc same) in
     let low = glyphs (r.byte % 16) (q.byte % 16) (omega arith) (omega arith) (cc same) in
@@ -50,7 +50,7 @@ same-run r q is are same =
     rw (byte, count) refl
 
 -- no blank stands in it
-pub run-shown : (r : Run) → IsRun r → All (λ b. eqb b 32 ≡ false) (run_text r)
+pub run-shown : (r : Run) → IsBlockRun r → All (λ b. eqb b 32 ≡ false) (run_text r)
 run-shown r is =
     let P : ℕ → Type 0 = λ b. eqb b 32 ≡ false in
     let digits : All P (decimal r.count) =
@@ -61,14 +61,14 @@ run-shown r is =
 
 -- ---- the words of a text of runs
 
-pub words-of-runs : (r : Run) (rs : List Run) → All IsRun (r ∷ rs) → words_of (text_of (r ∷ rs)) ≡ map run_text (r ∷ rs)
-words-of-runs r [] are = slice_split_none (λ b. eqb b 32) (run_text r) (run-shown r (All-head IsRun r [] are))
+pub words-of-runs : (r : Run) (rs : List Run) → All IsBlockRun (r ∷ rs) → words_of (text_of (r ∷ rs)) ≡ map run_text (r ∷ rs)
+words-of-runs r [] are = slice_split_none (λ b. eqb b 32) (run_text r) (run-shown r (All-head IsBlockRun r [] are))
 words-of-runs r (q ∷ rs) are =
-    slice_split_at (λ b. eqb b 32) (run_text r) 32 (text_of (q ∷ rs)) (run-shown r (All-head IsRun r (q ∷ rs) are)) refl
-    ∙ ap (λ ws. run_text r ∷ ws) (words-of-runs q rs (All-tail IsRun r (q ∷ rs) are))
+    slice_split_at (λ b. eqb b 32) (run_text r) 32 (text_of (q ∷ rs)) (run-shown r (All-head IsBlockRun r (q ∷ rs) are)) refl
+    ∙ ap (λ ws. run_text r ∷ ws) (words-of-runs q rs (All-tail IsBlockRun r (q ∷ rs) are))
 
 -- a text that isn't empty is that of some runs, whose texts are its words
-pub runs-in-words : (rs : List Run) (text : List ℕ) → All IsRun rs → text_of rs ≡ text → text ≢ [] → map run_text rs ≡ words_of text
+pub runs-in-words : (rs : List Run) (text : List ℕ) → All IsBlockRun rs → text_of rs ≡ text → text ≢ [] → map run_text rs ≡ words_of text
 runs-in-words [] text are is some = absurd (some (sym is))
 runs-in-words (r ∷ rs) text are is some = sym (words-of-runs r rs are) ∙ ap words_of is
 
@@ -90,19 +90,19 @@ pub record Goes (front rs : List Run) (word : List ℕ) (more : List (List ℕ))
   pub run : Run
   pub back : List Run
   pub whole : rs ≡ front ++ run ∷ back
-  pub is : IsRun run
+  pub is : IsBlockRun run
   pub text : run_text run ≡ word
   pub rest : map run_text back ≡ more
 
-pub goes : (front rs : List Run) (word : List ℕ) (more : List (List ℕ)) → All IsRun front → All IsRun rs
+pub goes : (front rs : List Run) (word : List ℕ) (more : List (List ℕ)) → All IsBlockRun front → All IsBlockRun rs
     → map run_text rs ≡ map run_text front ++ word ∷ more → Goes front rs word more
 goes [] [] word more fronts are same = absurd (let bad : ⊥ = cc same in bad)
 goes [] (q ∷ rs) word more fronts are same =
-    record { run = q; back = rs; whole = refl; is = All-head IsRun q rs are; text = cc same; rest = cc same }
+    record { run = q; back = rs; whole = refl; is = All-head IsBlockRun q rs are; text = cc same; rest = cc same }
 goes (r ∷ front) [] word more fronts are same = absurd (let bad : ⊥ = cc same in bad)
 goes (r ∷ front) (q ∷ rs) word more fronts are same =
-    let first : q ≡ r = same-run q r (All-head IsRun q rs are) (All-head IsRun r front fronts) (cc same) in
-    let further = goes front rs word more (All-tail IsRun r front fronts) (All-tail IsRun q rs are) (cc same) in
+    let first : q ≡ r = same-run q r (All-head IsBlockRun q rs are) (All-head IsBlockRun r front fronts) (cc same) in
+    let further = goes front rs word more (All-tail IsBlockRun r front fronts) (All-tail IsBlockRun q rs are) (cc same) in
     record {
       run = further.run;
       back = further.back;
@@ -113,29 +113,29 @@ goes (r ∷ front) (q ∷ rs) word more fronts are same =
     }
 
 -- and no words are left
-pub all-gone : (front rs : List Run) → All IsRun front → All IsRun rs → map run_text rs ≡ map run_text front → rs ≡ front
+pub all-gone : (front rs : List Run) → All IsBlockRun front → All IsBlockRun rs → map run_text rs ≡ map run_text front → rs ≡ front
 all-gone [] [] fronts are same = refl
 all-gone [] (q ∷ rs) fronts are same = absurd (let bad : ⊥ = cc same in bad)
 all-gone (r ∷ front) [] fronts are same = absurd (let bad : ⊥ = cc same in bad)
 all-gone (r ∷ front) (q ∷ rs) fronts are same =
-    let first : q ≡ r = same-run q r (All-head IsRun q rs are) (All-head IsRun r front fronts) (cc same) in
-    let rest = all-gone front rs (All-tail IsRun r front fronts) (All-tail IsRun q rs are) (cc same) in
+    let first : q ≡ r = same-run q r (All-head IsBlockRun q rs are) (All-head IsBlockRun r front fronts) (cc same) in
+    let rest = all-gone front rs (All-tail IsBlockRun r front fronts) (All-tail IsBlockRun q rs are) (cc same) in
     both q r rs front first rest
 
 -- ---- one run more
 
-pub bytes-joined : (front back : List Run) → length (bytes_of (front ++ back)) ≡ length (bytes_of front) + length (bytes_of back)
+pub bytes-joined : (front back : List Run) → length (bytes_of_runs (front ++ back)) ≡ length (bytes_of_runs front) + length (bytes_of_runs back)
 bytes-joined [] back = omega arith
 bytes-joined (r ∷ front) back =
-    let here = length-append (replicate r.count r.byte) (bytes_of (front ++ back)) in
-    let there = length-append (replicate r.count r.byte) (bytes_of front) in
+    let here = length-append (replicate r.count r.byte) (bytes_of_runs (front ++ back)) in
+    let there = length-append (replicate r.count r.byte) (bytes_of_runs front) in
     omega (arith, here, there, bytes-joined front back)
 
-run-length : (r : Run) (back : List Run) → length (bytes_of (r ∷ back)) ≡ r.count + length (bytes_of back)
-run-length r back = length-append (replicate r.count r.byte) (bytes_of back) ∙ ap (λ n. n + length (bytes_of back)) (length-replicate r.count r.byte)
+run-length : (r : Run) (back : List Run) → length (bytes_of_runs (r ∷ back)) ≡ r.count + length (bytes_of_runs back)
+run-length r back = length-append (replicate r.count r.byte) (bytes_of_runs back) ∙ ap (λ n. n + length (bytes_of_runs back)) (length-replicate r.count r.byte)
 
-pub bytes-with : (front back : List Run) (r : Run) → length (bytes_of (front ++ r ∷ back)) ≡ length (bytes_of front) + (r.count + length (bytes_of back))
-bytes-with front back r = bytes-joined front (r ∷ back) ∙ ap (λ n. length (bytes_of front) + n) (run-length r back)
+pub bytes-with : (front back : List Run) (r : Run) → length (bytes_of_runs (front ++ r ∷ back)) ≡ length (bytes_of_runs front) + (r.count + length (bytes_of_runs back))
+bytes-with front back r = bytes-joined front (r ∷ back) ∙ ap (λ n. length (bytes_of_runs front) + n) (run-length r back)
 
 longest-with : (front : List Run) (r : Run) → AreLongest front → 0 < r.count → last_byte front ≢ Some r.byte → AreLongest (front ++ r ∷ [])
 longest-with [] r are some apart = some
@@ -152,13 +152,13 @@ last-with [] r = refl
 last-with (x ∷ []) r = refl
 last-with (x ∷ y ∷ front) r = last-with (y ∷ front) r
 
-pub read-with : (front : List Run) (read next : Read) (r : Run) → IsRun r → HasRead front read → read.last ≢ Some r.byte → read.len + r.count ≤ 65536
+pub read-with : (front : List Run) (read next : Read) (r : Run) → IsBlockRun r → HasRead front read → read.last ≢ Some r.byte → read.len + r.count ≤ 65536
     → next.last ≡ Some r.byte → next.len ≡ read.len + r.count → HasRead (front ++ r ∷ []) next
 read-with front read next r is has apart within last len =
     let more = bytes-with front [] r in
     record {
       are = record {
-        each = All-append IsRun front (r ∷ []) has.are.each (All-cons IsRun r [] is (All-nil IsRun));
+        each = All-append IsBlockRun front (r ∷ []) has.are.each (All-cons IsBlockRun r [] is (All-nil IsBlockRun));
         longest = longest-with front r has.are.longest is.some (λ same. apart (has.last ∙ same));
         within = omega (arith, more, within, has.len);
       };
@@ -167,10 +167,10 @@ read-with front read next r is has apart within last len =
     }
 
 -- what is read of longer lists
-pub read-apart : (front back : List Run) (read : Read) (r : Run) → HasRead front read → IsRead (front ++ r ∷ back) → read.last ≢ Some r.byte
+pub read-apart : (front back : List Run) (read : Read) (r : Run) → HasRead front read → AreBlockRuns (front ++ r ∷ back) → read.last ≢ Some r.byte
 read-apart front back read r has are same = longest-apart front back r are.longest (sym has.last ∙ same)
 
-pub read-within : (front back : List Run) (read : Read) (r : Run) → HasRead front read → IsRead (front ++ r ∷ back) → read.len + r.count ≤ 65536
+pub read-within : (front back : List Run) (read : Read) (r : Run) → HasRead front read → AreBlockRuns (front ++ r ∷ back) → read.len + r.count ≤ 65536
 read-within front back read r has are = omega (arith, bytes-with front back r, are.within, has.len)
 
 -- ---- the first word
@@ -196,11 +196,11 @@ uncut text none = slice_split_none (λ b. eqb b 32) text (λ k d below. ne_eqb _
 -- so it is where these runs were read so far and these words are left
 pub record Reads (text : List ℕ) (front : List Run) (left : List (List ℕ)) : Type 0 where
   pub some : text ≢ []
-  pub are : All IsRun front
+  pub are : All IsBlockRun front
   pub words : map run_text front ++ left ≡ words_of text
 
 pub goes-on : (text : List ℕ) (front rs : List Run) (word : List ℕ) (more : List (List ℕ)) → Reads text front (word ∷ more)
-    → All IsRun rs → text_of rs ≡ text → Goes front rs word more
+    → All IsBlockRun rs → text_of rs ≡ text → Goes front rs word more
 goes-on text front rs word more reads are is =
     goes front rs word more reads.are are (runs-in-words rs text are is reads.some ∙ sym reads.words)
 
@@ -209,10 +209,10 @@ map-with [] r left = refl
 map-with (x ∷ front) r left = ap (λ ws. run_text x ∷ ws) (map-with front r left)
 
 pub reads-with : (text : List ℕ) (front : List Run) (r : Run) (word : List ℕ) (more : List (List ℕ)) → Reads text front (word ∷ more)
-    → IsRun r → run_text r ≡ word → Reads text (front ++ r ∷ []) more
+    → IsBlockRun r → run_text r ≡ word → Reads text (front ++ r ∷ []) more
 reads-with text front r word more reads is same = record {
   some = reads.some;
-  are = All-append IsRun front (r ∷ []) reads.are (All-cons IsRun r [] is (All-nil IsRun));
+  are = All-append IsBlockRun front (r ∷ []) reads.are (All-cons IsBlockRun r [] is (All-nil IsBlockRun));
   words = map-with front r more ∙ ap (λ w. map run_text front ++ w ∷ more) same ∙ reads.words;
 }
 
@@ -220,17 +220,17 @@ reads-with text front r word more reads is same = record {
 pub read-all : (text : List ℕ) (front : List Run) → Reads text front [] → text_of front ≡ text
 read-all text front reads = words-of-text front text (sym (append-nil (map run_text front)) ∙ reads.words)
 
-pub only-read : (text : List ℕ) (front rs : List Run) → Reads text front [] → All IsRun rs → text_of rs ≡ text → rs ≡ front
+pub only-read : (text : List ℕ) (front rs : List Run) → Reads text front [] → All IsBlockRun rs → text_of rs ≡ text → rs ≡ front
 only-read text front rs reads are is =
     all-gone front rs reads.are are (runs-in-words rs text are is reads.some ∙ sym reads.words ∙ append-nil (map run_text front))
 
 pub begin : (text : List ℕ) → text ≢ [] → Reads text [] (words_of text)
-begin text some = record { some = some; are = All-nil IsRun; words = refl }
+begin text some = record { some = some; are = All-nil IsBlockRun; words = refl }
 
-pub bytes-pushed : (front : List Run) (r : Run) → bytes_of front ++ replicate r.count r.byte ≡ bytes_of (front ++ r ∷ [])
+pub bytes-pushed : (front : List Run) (r : Run) → bytes_of_runs front ++ replicate r.count r.byte ≡ bytes_of_runs (front ++ r ∷ [])
 bytes-pushed [] r = sym (append-nil (replicate r.count r.byte))
 bytes-pushed (x ∷ front) r =
-    append_assoc (replicate x.count x.byte) (bytes_of front) (replicate r.count r.byte)
+    append_assoc (replicate x.count x.byte) (bytes_of_runs front) (replicate r.count r.byte)
     ∙ ap (λ bs. replicate x.count x.byte ++ bs) (bytes-pushed front r)
 
 -- ---- the runs of a block
@@ -255,37 +255,37 @@ behind : (P : ℕ → Type 0) (n b : ℕ) (bytes : List ℕ) → All P (replicat
 behind P zero b bytes all = all
 behind P (suc n) b bytes all = behind P n b bytes (All-tail P b (replicate n b ++ bytes) all)
 
-small-runs : (rs : List Run) → AreLongest rs → length (bytes_of rs) ≤ 65536 → All (λ b. b < 256) (bytes_of rs) → All IsRun rs
-small-runs [] are within small = All-nil IsRun
+small-runs : (rs : List Run) → AreLongest rs → length (bytes_of_runs rs) ≤ 65536 → All (λ b. b < 256) (bytes_of_runs rs) → All IsBlockRun rs
+small-runs [] are within small = All-nil IsBlockRun
 small-runs (r ∷ rs) are within small =
     let len = run-length r rs in
     let some = longest-some r rs are in
-    All-cons IsRun r rs
-    (record { byte = first-byte (λ b. b < 256) r (bytes_of rs) some small; some = some; count = omega (arith, len, within) })
-    (small-runs rs (longest-tail r rs are) (omega (arith, len, within)) (behind (λ b. b < 256) r.count r.byte (bytes_of rs) small))
+    All-cons IsBlockRun r rs
+    (record { byte = first-byte (λ b. b < 256) r (bytes_of_runs rs) some small; some = some; count = omega (arith, len, within) })
+    (small-runs rs (longest-tail r rs are) (omega (arith, len, within)) (behind (λ b. b < 256) r.count r.byte (bytes_of_runs rs) small))
 
-pub block-read : (bytes : List ℕ) → IsBlock bytes → IsRead (runs_of bytes)
+pub block-read : (bytes : List ℕ) → IsBlock bytes → AreBlockRuns (runs_of bytes)
 block-read bytes block =
     let whole = bytes_of-runs_of bytes in
     let longest = AreLongest-runs_of bytes in
-    let within : length (bytes_of (runs_of bytes)) ≤ 65536 = omega (arith, ap length whole, block.within) in
+    let within : length (bytes_of_runs (runs_of bytes)) ≤ 65536 = omega (arith, ap length whole, block.within) in
     record {
       each = small-runs (runs_of bytes) longest within (subst (All (λ b. b < 256)) (sym whole) block.small);
       longest = longest;
       within = within;
     }
 
-small-bytes : (rs : List Run) → All IsRun rs → All (λ b. b < 256) (bytes_of rs)
+small-bytes : (rs : List Run) → All IsBlockRun rs → All (λ b. b < 256) (bytes_of_runs rs)
 small-bytes [] are = All-nil (λ b. b < 256)
 small-bytes (r ∷ rs) are =
-    All-append (λ b. b < 256) (replicate r.count r.byte) (bytes_of rs)
-    (All-replicate (λ b. b < 256) r.count r.byte (All-head IsRun r rs are).byte)
-    (small-bytes rs (All-tail IsRun r rs are))
+    All-append (λ b. b < 256) (replicate r.count r.byte) (bytes_of_runs rs)
+    (All-replicate (λ b. b < 256) r.count r.byte (All-head IsBlockRun r rs are).byte)
+    (small-bytes rs (All-tail IsBlockRun r rs are))
 
-pub read-block : (rs : List Run) → IsRead rs → IsBlock (bytes_of rs)
+pub read-block : (rs : List Run) → AreBlockRuns rs → IsBlock (bytes_of_runs rs)
 read-block rs are = record { within = are.within; small = small-bytes rs are.each }
 
-pub text-of-read : (rs : List Run) → IsRead rs → runs_text (bytes_of rs) ≡ text_of rs
+pub text-of-read : (rs : List Run) → AreBlockRuns rs → runs_text (bytes_of_runs rs) ≡ text_of rs
 unfolding runs_text
 text-of-read rs are = ap text_of (runs_of-bytes_of rs are.longest)
 

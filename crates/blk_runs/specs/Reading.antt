@@ -1,7 +1,7 @@
 -- Texts that are the runs of a block.
 use Rattle.std.specs.Prelude.{◌≡◌, ◌≢◌, ℕ, ◌<◌, ◌≤◌, ◌==◌, List, [], ◌∷◌, length, slice_index, All, Option, Some, None}
 use Rattle.std.specs.List.{slice_split}
-use Rattle.blk_runs.specs.Runs.{Run, AreLongest, bytes_of}
+use Rattle.blk_runs.specs.Runs.{Run, AreLongest, bytes_of_runs}
 use Rattle.blk_runs.specs.declared.reading.ReadRun.{ReadRun}
 use Rattle.blk_runs.specs.declared.reading.Read.{Read}
 
@@ -11,7 +11,7 @@ pub record IsBlock (bytes : List ℕ) : Type 0 where
   pub small : All (λ b. b < 256) bytes
 
 -- a run of a block
-pub record IsRun (r : Run) : Type 0 where
+pub record IsBlockRun (r : Run) : Type 0 where
   pub byte : r.byte < 256
   pub some : 0 < r.count
   pub count : r.count ≤ 65536
@@ -20,10 +20,10 @@ abbrev pub seen_run : ReadRun → Run
 seen_run r = record { byte = r.byte; count = r.count }
 
 -- longest runs of a block
-pub record IsRead (rs : List Run) : Type 0 where
-  pub each : All IsRun rs
+pub record AreBlockRuns (rs : List Run) : Type 0 where
+  pub each : All IsBlockRun rs
   pub longest : AreLongest rs
-  pub within : length (bytes_of rs) ≤ 65536
+  pub within : length (bytes_of_runs rs) ≤ 65536
 
 -- the byte of the last run
 abbrev pub last_byte : List Run → Option ℕ
@@ -33,9 +33,9 @@ last_byte (r ∷ q ∷ rs) = last_byte (q ∷ rs)
 
 -- these runs were read so far
 pub record HasRead (front : List Run) (read : Read) : Type 0 where
-  pub are : IsRead front
+  pub are : AreBlockRuns front
   pub last : read.last ≡ last_byte front
-  pub len : read.len ≡ length (bytes_of front)
+  pub len : read.len ≡ length (bytes_of_runs front)
 
 -- ---- words
 

@@ -11,7 +11,9 @@ pub record Run : Type 0 where
 -- One byte more before some runs joins the first of them where that is of the same byte, and else is a run of its own.
 abbrev pub with_byte : ℕ → List Run → List Run
 with_byte b [] = record { byte = b; count = 1 } ∷ []
-with_byte b (r ∷ rs) = if b == r.byte then record { byte = b; count = r.count + 1 } ∷ rs else record { byte = b; count = 1 } ∷ r ∷ rs
+with_byte b (r ∷ rs) =
+    if b == r.byte then record { byte = b; count = r.count + 1 } ∷ rs
+    else record { byte = b; count = 1 } ∷ r ∷ rs
 
 -- the runs of some bytes, each as long as possible
 abbrev pub runs_of : List ℕ → List Run
@@ -19,9 +21,9 @@ runs_of [] = []
 runs_of (b ∷ bytes) = with_byte b (runs_of bytes)
 
 -- the bytes that some runs stand for
-abbrev pub bytes_of : List Run → List ℕ
-bytes_of [] = []
-bytes_of (r ∷ rs) = replicate r.count r.byte ++ bytes_of rs
+abbrev pub bytes_of_runs : List Run → List ℕ
+bytes_of_runs [] = []
+bytes_of_runs (r ∷ rs) = replicate r.count r.byte ++ bytes_of_runs rs
 
 -- no run is empty, and none is of the same byte as the next
 abbrev pub AreLongest : List Run → Type 0
@@ -31,7 +33,8 @@ AreLongest (r ∷ q ∷ rs) = (0 < r.count) × (r.byte ≢ q.byte) × AreLongest
 
 -- two lower-case hexadecimal digits, `*`, and the count in decimal
 abbrev pub run_text : Run → List ℕ
-run_text r = digit_glyph false (r.byte / 16) ∷ digit_glyph false (r.byte % 16) ∷ 42 ∷ decimal r.count
+run_text r =
+    digit_glyph false (r.byte / 16) ∷ digit_glyph false (r.byte % 16) ∷ 42 ∷ decimal r.count
 
 -- the texts of some runs, parted by single spaces
 abbrev pub text_of : List Run → List ℕ

@@ -4,7 +4,8 @@ use Rattle.std.specs.Fmt.{digit_glyph}
 
 -- each of the first n bytes differs from the one behind it
 abbrev pub AreSingle : ℕ → List ℕ → Type 0
-AreSingle n bytes = (k : ℕ) → k < n → (k + 1 < length bytes) × (slice_index bytes k ≢ slice_index bytes (k + 1))
+AreSingle n bytes =
+    (k : ℕ) → k < n → (k + 1 < length bytes) × (slice_index bytes k ≢ slice_index bytes (k + 1))
 
 -- the run of one byte, and a space
 abbrev pub single_text : ℕ → List ℕ

@@ -4,7 +4,7 @@
 ghost use Rattle.std.specs.Prelude.{◌≡◌, ◌+◌, ◌*◌, ◌<◌, ◌≤◌, ◌++◌, ◌∷◌, ℕ, List, IsOk, OnOk, OnErr, length, false};
 ghost use Rattle.std.specs.Fmt.{digit_glyph};
 ghost use Rattle.blk_base.specs.Written.{memory_of};
-ghost use Rattle.blk_runs.specs.Runs.{Run, AreLongest, runs_of, bytes_of, run_text, runs_text};
+ghost use Rattle.blk_runs.specs.Runs.{Run, AreLongest, runs_of, bytes_of_runs, run_text, runs_text};
 
 mod lanes;
 mod reading;
@@ -43,8 +43,10 @@ pub fn push_runs(out: &mut Text, bytes: &[u8]) -> Result<(), NoMemory>
 /// Writes the run that a byte begins, and a space where bytes follow it that don't join. It gives those.
 fn push_first<'a>(out: &mut Text, byte: u8, after: &'a [u8]) -> &'a [u8]
     requires { 5 * length (byte ∷ after.now) ≤ out.old.spare }
-    ensures written { out.new.bytes ++ runs_text result.now ≡ out.old.bytes ++ runs_text (byte ∷ after.now) }
-    ensures room { out.old.spare + 5 * length result.now ≤ out.new.spare + 5 * length (byte ∷ after.now) }
+    ensures written { out.new.bytes ++ runs_text result.now ≡ out.old.bytes
+        ++ runs_text (byte ∷ after.now) }
+    ensures room { out.old.spare + 5 * length result.now
+        ≤ out.new.spare + 5 * length (byte ∷ after.now) }
     ensures memory { memory_of out.old ≤ memory_of out.new }
     ensures fewer { length result.now ≤ length after.now }
 {
@@ -60,8 +62,10 @@ fn push_first<'a>(out: &mut Text, byte: u8, after: &'a [u8]) -> &'a [u8]
 /// Writes one run.
 fn push_run(out: &mut Text, byte: u8, count: u64)
     requires { length (run_text (record { byte = byte; count = count })) ≤ out.old.spare }
-    ensures written { out.new.bytes ≡ out.old.bytes ++ run_text (record { byte = byte; count = count }) }
-    ensures room { out.old.spare ≤ out.new.spare + length (run_text (record { byte = byte; count = count })) }
+    ensures written { out.new.bytes ≡ out.old.bytes
+        ++ run_text (record { byte = byte; count = count }) }
+    ensures room { out.old.spare
+        ≤ out.new.spare + length (run_text (record { byte = byte; count = count })) }
     ensures memory { memory_of out.old ≤ memory_of out.new }
 {
     out.push_ascii(hex_digit(byte / 16));
@@ -85,7 +89,7 @@ fn hex_digit(digit: u8) -> u8
 
 /// The runs of some bytes stand for these bytes and are longest, and no other longest runs stand for them.
 pub fn runs_are_longest()
-    ensures whole { (bytes : List ℕ) → bytes_of (runs_of bytes) ≡ bytes }
+    ensures whole { (bytes : List ℕ) → bytes_of_runs (runs_of bytes) ≡ bytes }
     ensures longest { (bytes : List ℕ) → AreLongest (runs_of bytes) }
-    ensures only { (rs : List Run) → AreLongest rs → runs_of (bytes_of rs) ≡ rs }
+    ensures only { (rs : List Run) → AreLongest rs → runs_of (bytes_of_runs rs) ≡ rs }
 {}

@@ -1,9 +1,9 @@
 //! Runs that are read back.
 ghost use Rattle.std.specs.Prelude.{◌≡◌, ◌≢◌, ◌↔◌, ◌+◌, ◌*◌, ◌/◌, ◌%◌, ◌^◌, ◌<◌, ◌≤◌, ◌++◌, ◌∷◌, ℕ, List, All, Err, Some, IfOk, MatchOption, IfSome, IfNone, IsTrue, length, false, decimal, replicate, vec_len, vec_capacity};
 ghost use Rattle.std.specs.Fmt.{digit_glyph};
-ghost use Rattle.blk_runs.specs.Runs.{Run, run_text, runs_text, bytes_of, text_of};
+ghost use Rattle.blk_runs.specs.Runs.{Run, run_text, runs_text, bytes_of_runs, text_of};
 ghost use Rattle.std.specs.Option.{option_copied};
-ghost use Rattle.blk_runs.specs.Reading.{IsRun, IsBlock, IsRead, seen_run, words_of, words_behind, IsFirstSpace};
+ghost use Rattle.blk_runs.specs.Reading.{IsBlockRun, IsBlock, AreBlockRuns, seen_run, words_of, words_behind, IsFirstSpace};
 
 use blk_base::{Bytes, NoMemory};
 use std::alloc::Global;
@@ -40,7 +40,8 @@ struct ReadRun {
 /// The bytes whose runs a text is.
 pub fn read_runs(alloc: Global, text: &str) -> Result<Bytes, RunsStop>
     ensures ok { IfOk result (λ bytes. IsBlock bytes × (runs_text bytes ≡ text.now)) }
-    ensures bad { (result ≡ Err RunsStop.BadRun) ↔ ((bytes : List ℕ) → IsBlock bytes → runs_text bytes ≡ text.now → ⊥) }
+    ensures bad { (result ≡ Err RunsStop.BadRun) ↔
+        ((bytes : List ℕ) → IsBlock bytes → runs_text bytes ≡ text.now → ⊥) }
 {
     let Some(len) = measure(text.as_bytes()) else {
         return Err(RunsStop::BadRun);
@@ -58,14 +59,16 @@ struct Read {
 impl Read {
     ghost use Rattle.std.specs.Prelude.{◌≡◌, ◌∷◌, ◌++◌, [], List, MatchOption};
     ghost use Rattle.blk_runs.specs.Runs.{Run};
-    ghost use Rattle.blk_runs.specs.Reading.{HasRead, IsRead, seen_run, IsRun};
+    ghost use Rattle.blk_runs.specs.Reading.{HasRead, AreBlockRuns, seen_run, IsBlockRun};
 
     /// With one run more, where they are still the runs of a block.
     fn with(self, run: ReadRun) -> Option<Self>
-        requires { IsRun (seen_run run) }
+        requires { IsBlockRun (seen_run run) }
         ensures { MatchOption result
-            ((front back : List Run) → HasRead front self → IsRead (front ++ seen_run run ∷ back) → ⊥)
-            (λ read. (front : List Run) → HasRead front self → HasRead (front ++ seen_run run ∷ []) read) }
+            ((front back : List Run) → HasRead front self
+            → AreBlockRuns (front ++ seen_run run ∷ back) → ⊥)
+            (λ read. (front : List Run) → HasRead front self
+            → HasRead (front ++ seen_run run ∷ []) read) }
     {
         let len = self.len.checked_add(run.count as usize)?;
         if self.last == Some(run.byte) {
@@ -83,8 +86,9 @@ impl Read {
 
 /// How many bytes the runs of a text stand for, where it is the runs of a block.
 fn measure(text: &[u8]) -> Option<usize>
-    ensures { MatchOption result ((rs : List Run) → IsRead rs → text_of rs ≡ text.now → ⊥)
-        (λ n. (rs : List Run) × IsRead rs × (text_of rs ≡ text.now) × (length (bytes_of rs) ≡ n)) }
+    ensures { MatchOption result ((rs : List Run) → AreBlockRuns rs → text_of rs ≡ text.now → ⊥)
+        (λ n. (rs : List Run) × AreBlockRuns rs × (text_of rs ≡ text.now)
+        × (length (bytes_of_runs rs) ≡ n)) }
 {
     if text.is_empty() {
         return Some(0);
@@ -107,8 +111,10 @@ fn measure(text: &[u8]) -> Option<usize>
 
 /// The bytes of a text that is runs of so many.
 fn read_bytes(alloc: Global, text: &[u8], len: usize) -> Result<Bytes, NoMemory>
-    requires { (rs : List Run) × IsRead rs × (text_of rs ≡ text.now) × (length (bytes_of rs) ≡ len) }
-    ensures { (rs : List Run) → IsRead rs → text_of rs ≡ text.now → IfOk result (λ bytes. bytes ≡ bytes_of rs) }
+    requires { (rs : List Run) × AreBlockRuns rs × (text_of rs ≡ text.now)
+        × (length (bytes_of_runs rs) ≡ len) }
+    ensures { (rs : List Run) → AreBlockRuns rs → text_of rs ≡ text.now
+        → IfOk result (λ bytes. bytes ≡ bytes_of_runs rs) }
 {
     let mut bytes = Vec::with_capacity(alloc, len)?;
     if text.is_empty() {
@@ -158,8 +164,8 @@ fn push_times(bytes: &mut Vec<u8>, run: ReadRun)
 
 /// The run that a word is.
 fn read_run(word: &[u8]) -> Option<ReadRun>
-    ensures { MatchOption result ((r : Run) → IsRun r → run_text r ≡ word.now → ⊥)
-        (λ r. IsRun (seen_run r) × (run_text (seen_run r) ≡ word.now)) }
+    ensures { MatchOption result ((r : Run) → IsBlockRun r → run_text r ≡ word.now → ⊥)
+        (λ r. IsBlockRun (seen_run r) × (run_text (seen_run r) ≡ word.now)) }
 {
     let [high, low, b'*', digits @ ..] = word else {
         return None;
@@ -172,7 +178,8 @@ fn read_run(word: &[u8]) -> Option<ReadRun>
 /// The byte of two hexadecimal digits.
 fn read_byte(high: u8, low: u8) -> Option<u8>
     ensures { MatchOption result
-        ((b : ℕ) → b < 256 → digit_glyph false (b / 16) ≡ high → digit_glyph false (b % 16) ≡ low → ⊥)
+        ((b : ℕ) → b < 256 → digit_glyph false (b / 16) ≡ high → digit_glyph false (b % 16) ≡ low
+        → ⊥)
         (λ b. (digit_glyph false (b / 16) ≡ high) × (digit_glyph false (b % 16) ≡ low)) }
 {
     let high = digit_of(high)?;

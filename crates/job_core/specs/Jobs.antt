@@ -9,8 +9,8 @@ use Rattle.job_core.specs.declared.stop.JobStop.{JobStop}
 use Rattle.job_core.specs.declared.stop.JobStop.TheVariants.{IdTaken, TooMany}
 
 -- the row of a slot; numbers past the last slot have none
-abbrev pub row_at : JobTable → ℕ → Option JobRow
-row_at table slot = slice_index_or table.slots slot None
+abbrev pub job_row_at : JobTable → ℕ → Option JobRow
+job_row_at table slot = slice_index_or table.slots slot None
 
 abbrev pub row_count : List (Option JobRow) → ℕ
 row_count slots = count_by is_some slots
@@ -27,7 +27,13 @@ slot_of slots id = position (has_id id) slots
 -- a slot has a row of a job that is ready
 abbrev pub is_ready : Option JobRow → Bool
 is_ready None = false
-is_ready (Some row) = elim row.state as (λ _. Bool) [ Created ↦ false | Running ↦ false | Ready ↦ true | Concluded ↦ false ]
+is_ready (Some row) =
+    elim row.state as (λ _. Bool) [
+      | Created ↦ false
+      | Running ↦ false
+      | Ready ↦ true
+      | Concluded ↦ false
+    ]
 
 -- what a new job is answered: the lowest free slot, where no row has its id and one is free
 abbrev pub entry_answer : List (Option JobRow) → List ℕ → Result ℕ JobStop
@@ -45,14 +51,21 @@ created id starts group = record { id = id; number = starts; state = Created; gr
 
 -- a job more was started, and has this row in this slot; the count of starts stands at its last value
 abbrev pub with_row : JobTable → ℕ → JobRow → JobTable
-with_row table slot row = record { slots = slice_set table.slots slot (Some row); starts = min (table.starts + 1) (2 ^ 32 - 1) }
+with_row table slot row = record {
+  slots = slice_set table.slots slot (Some row);
+  starts = min (table.starts + 1) (2 ^ 32 - 1);
+}
 
 abbrev pub moved : JobState → JobRow → JobRow
 moved state row = record row { state = state }
 
 -- the job of a slot is in this state; all else stays
 abbrev pub in_state : JobTable → ℕ → JobState → JobTable
-in_state table slot state = record table { slots = slice_set table.slots slot (option_map (moved state) (row_at table slot)) }
+in_state table slot state =
+    record table {
+      slots = slice_set table.slots slot
+          (option_map (moved state) (job_row_at table slot));
+    }
 
 -- a slot is free
 abbrev pub without_row : JobTable → ℕ → JobTable

@@ -8,5 +8,7 @@ pub record JobTable : Type 0 where
 
 -- no two slots have rows with the same id
 abbrev pub DifferentIds : List (Option JobRow) → Type 0
-DifferentIds slots = (i j : ℕ) (a b : JobRow) → slice_index_or slots i None ≡ Some a → slice_index_or slots j None ≡ Some b
+DifferentIds slots =
+    (i j : ℕ) (a b : JobRow) → slice_index_or slots i None ≡ Some a
+    → slice_index_or slots j None ≡ Some b
     → a.id.bytes ≡ b.id.bytes → i ≡ j

@@ -1,6 +1,6 @@
 //! The table and its calls.
 ghost use Rattle.std.specs.Prelude.{◌≡◌, ◌↔◌, ◌<◌, length, replicate, position, None, IfOk, IsSome, OnErr, IsSomeAnd, MatchOption, is_none, vec_len, if◌then◌else◌};
-ghost use Rattle.job_core.specs.Jobs.{row_at, has_id, is_ready, slot_of, row_count, created, with_row, without_row, in_state, IsStep, entry_answer};
+ghost use Rattle.job_core.specs.Jobs.{job_row_at, has_id, is_ready, slot_of, row_count, created, with_row, without_row, in_state, IsStep, entry_answer};
 ghost use Rattle.job_core.specs.Table.{DifferentIds};
 
 use crate::row::{JobRow, JobState};
@@ -27,7 +27,10 @@ impl Model for Jobs {
 
     ghost view = { λ jobs. record { slots = jobs.slots.items; starts = jobs.starts } };
 
-    ghost invariant = { λ jobs. record { count : vec_len jobs.slots ≡ 16; different : DifferentIds jobs.slots.items } };
+    ghost invariant = { λ jobs. record {
+      count : vec_len jobs.slots ≡ 16;
+      different : DifferentIds jobs.slots.items;
+    } };
 }
 
 impl Jobs {
@@ -52,8 +55,10 @@ impl Jobs {
     /// has (`IdTaken`) and a full table (`TooMany`).
     pub fn enter(&mut self, id: Text, group: Option<u32>) -> Result<u32, JobStop>
         ensures answer { result ≡ entry_answer self.old.slots id.bytes }
-        ensures many { (result ≡ Err JobStop.TooMany) ↔ ((slot_of self.old.slots id.bytes ≡ None) × (row_count self.old.slots ≡ 16)) }
-        ensures entered { IfOk result (λ slot. self.new ≡ with_row self.old slot (created id self.old.starts group)) }
+        ensures many { (result ≡ Err JobStop.TooMany) ↔
+            ((slot_of self.old.slots id.bytes ≡ None) × (row_count self.old.slots ≡ 16)) }
+        ensures entered { IfOk result
+            (λ slot. self.new ≡ with_row self.old slot (created id self.old.starts group)) }
         ensures refused { OnErr result (self.new ≡ self.old) }
     {
         let slot = slot_for(self.slots.as_slice(), id.as_str())?;
@@ -69,7 +74,7 @@ impl Jobs {
 
     /// Takes a job one step along its life cycle.
     pub fn advance(&mut self, slot: u32, to: JobState)
-        requires { IsSomeAnd (row_at self.old slot) (λ row. IsStep row.state to) }
+        requires { IsSomeAnd (job_row_at self.old slot) (λ row. IsStep row.state to) }
         ensures { self.new ≡ in_state self.old slot to }
     {
         if let Some(row) = &mut self.slots[slot as usize] {
@@ -79,7 +84,8 @@ impl Jobs {
 
     /// The slot of the job to cancel, by force or not. What a cancel does is the job's own affair.
     pub fn cancel(&mut self, id: &str, force: bool) -> Result<u32, JobStop>
-        ensures answer { MatchOption (slot_of self.old.slots id.now) (result ≡ Err JobStop.NotActive) (λ slot. result ≡ Ok slot) }
+        ensures answer { MatchOption (slot_of self.old.slots id.now)
+            (result ≡ Err JobStop.NotActive) (λ slot. result ≡ Ok slot) }
         ensures same { self.new ≡ self.old }
     {
         let _ = force;
@@ -91,8 +97,10 @@ impl Jobs {
 
     /// The slot of the job to complete, which must be ready.
     pub fn complete(&mut self, id: &str) -> Result<u32, JobStop>
-        ensures answer { MatchOption (slot_of self.old.slots id.now) (result ≡ Err JobStop.NotActive)
-            (λ slot. result ≡ (if is_ready (row_at self.old slot) then Ok slot else Err JobStop.NotReady)) }
+        ensures answer { MatchOption (slot_of self.old.slots id.now)
+            (result ≡ Err JobStop.NotActive)
+            (λ slot. result
+            ≡ (if is_ready (job_row_at self.old slot) then Ok slot else Err JobStop.NotReady)) }
         ensures same { self.new ≡ self.old }
     {
         let slots = self.slots.as_slice();
@@ -105,7 +113,7 @@ impl Jobs {
 
     /// Frees a slot.
     pub fn remove(&mut self, slot: u32)
-        requires { IsSome (row_at self.old slot) }
+        requires { IsSome (job_row_at self.old slot) }
         ensures { self.new ≡ without_row self.old slot }
     {
         self.slots[slot as usize] = None;
@@ -128,7 +136,8 @@ fn free_slots(alloc: Global) -> Result<Vec<Option<JobRow>>, NoMemory>
 fn slot_for(slots: &[Option<JobRow>], id: &str) -> Result<usize, JobStop>
     requires { length slots.now ≡ 16 }
     ensures answer { result ≡ entry_answer slots.now id.now }
-    ensures many { (result ≡ Err JobStop.TooMany) ↔ ((slot_of slots.now id.now ≡ None) × (row_count slots.now ≡ 16)) }
+    ensures many { (result ≡ Err JobStop.TooMany) ↔
+        ((slot_of slots.now id.now ≡ None) × (row_count slots.now ≡ 16)) }
     ensures entered { IfOk result (λ slot. (slot < 16) × (slot_of slots.now id.now ≡ None)) }
 {
     find_slot(slots, id)

@@ -27,7 +27,8 @@ pub record HasRun (v w : View Entry Opening) (first count rounds : ℕ) : Type 0
   pub free : w.turn ≡ None
   pub shares : w.shares ≡ v.shares
   pub actors : (a : ℕ) → has_actor v.actors a ≡ true → has_actor w.actors a ≡ true
-  pub own : (a : ℕ) → first ≤ a → a < first + count → done_by actor_of a w.seen ≡ done_by actor_of a v.seen ++ script a rounds
+  pub own : (a : ℕ) → first ≤ a → a < first + count
+      → done_by actor_of a w.seen ≡ done_by actor_of a v.seen ++ script a rounds
 
 -- the pass of one actor may write its script
 pub record MayWrite (v : View Entry Opening) (actor rounds : ℕ) : Type 0 where

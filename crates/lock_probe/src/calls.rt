@@ -43,7 +43,11 @@ pub fn exchange<R: Wait>(
     requires room { 0 < (view pass.old).room.entries }
     requires actor { has_actor (view pass.old).actors entry.actor ≡ true }
     ensures lock { lock_of pass.new ≡ lock_of pass.old }
-    ensures pass { view pass.new ≡ record (view pass.old) { seen = (view pass.new).seen; room = less (view pass.old).room one_entry } }
+    ensures pass { view pass.new
+        ≡ record (view pass.old) {
+          seen = (view pass.new).seen;
+          room = less (view pass.old).room one_entry;
+        } }
     ensures event { Makes (view pass.old) (view pass.new) entry result }
 {
     let mut turn = turns.take(rt, pass);

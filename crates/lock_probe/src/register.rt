@@ -35,7 +35,11 @@ impl Model for Register {
 
     ghost Value = { Face };
 
-    ghost view = { λ r. record { value = r.value; log = r.log.items; spare = record { entries = vec_capacity r.log - vec_len r.log; bytes = 0 } } };
+    ghost view = { λ r. record {
+      value = r.value;
+      log = r.log.items;
+      spare = record { entries = vec_capacity r.log - vec_len r.log; bytes = 0 };
+    } };
 }
 
 impl Logged for Register {
@@ -81,7 +85,12 @@ impl Register {
     pub fn swap(&mut self, entry: Entry) -> u64
         requires { 0 < self.old.spare.entries }
         ensures answer { result ≡ self.old.value }
-        ensures new { self.new ≡ record self.old { value = entry.value; log = self.old.log ++ entry ∷ []; spare = less self.old.spare one_entry } }
+        ensures new { self.new
+            ≡ record self.old {
+              value = entry.value;
+              log = self.old.log ++ entry ∷ [];
+              spare = less self.old.spare one_entry;
+            } }
     {
         let before = self.value;
         self.log.push_reserved(entry);

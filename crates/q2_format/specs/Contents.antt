@@ -21,7 +21,8 @@ byte_by_entry file c backing place Reserved = 0
 
 -- the byte at a place of the disk that a tree gives
 abbrev pub byte_by_tree : List ℕ → ℕ → Tree → List ℕ → ℕ → ℕ
-byte_by_tree file c tree backing place = byte_by_entry file c backing place (l2_entry (l2_word_of tree c (place / c)))
+byte_by_tree file c tree backing place =
+    byte_by_entry file c backing place (l2_entry (l2_word_of tree c (place / c)))
 
 -- the guest's byte at a place of an image, straight from the file's bytes
 unfoldable pub guest_byte : List ℕ → List ℕ → ℕ → ℕ

@@ -34,7 +34,13 @@ pub record CanBeCreated (size : ℕ) (name format : Option (List ℕ)) : Type 0 
 
 -- in the shape that is supported: clusters of 64 KiB and refcounts of 16 bits
 abbrev pub creation_of : ℕ → Option (List ℕ) → Option (List ℕ) → Creation
-creation_of size name format = record { cluster_bits = 16; refcount_order = 4; size = size; name = name; format = format }
+creation_of size name format = record {
+  cluster_bits = 16;
+  refcount_order = 4;
+  size = size;
+  name = name;
+  format = format;
+}
 
 abbrev pub created_cluster_size : Creation → ℕ
 created_cluster_size new = cluster_size new.cluster_bits
@@ -69,7 +75,8 @@ created_name_offset new = created_cluster_size new / 2
 
 -- where the ending extension begins: at 112, or behind the one that names the backing format
 abbrev pub created_end_extension : Creation → ℕ
-created_end_extension new = option_map_or (λ (format : List ℕ). 120 + (length format + 7) / 8 * 8) new.format 112
+created_end_extension new =
+    option_map_or (λ (format : List ℕ). 120 + (length format + 7) / 8 * 8) new.format 112
 
 -- the bytes from one place to another are 0
 abbrev pub AreZeros : List ℕ → ℕ → ℕ → Type 0
@@ -114,7 +121,8 @@ pub record HasCreatedExtensions (new : Creation) (file : List ℕ) : Type 0 wher
 
 pub record HasCreatedName (new : Creation) (file : List ℕ) : Type 0 where
   pub text : IfSome new.name (λ name. bytes_at file (created_name_offset new) (length name) ≡ name)
-  pub behind : AreZeros file (created_name_offset new + option_map_or length new.name 0) (created_cluster_size new)
+  pub behind : AreZeros file (created_name_offset new + option_map_or length new.name 0)
+      (created_cluster_size new)
 
 pub record HasCreatedHeader (new : Creation) (file : List ℕ) : Type 0 where
   pub fields : HasCreatedFields new file
@@ -136,7 +144,8 @@ created_header new = record {
   snaps_offset = 0;
   compat = 0;
   autoclear = 0;
-  name = option_map (λ (name : List ℕ). record { at = created_name_offset new; len = length name }) new.name;
+  name = option_map
+      (λ (name : List ℕ). record { at = created_name_offset new; len = length name }) new.name;
   format = option_map (λ (format : List ℕ). record { at = 120; len = length format }) new.format;
   ext_end = created_end_extension new + 8;
   ended = true;
@@ -148,13 +157,15 @@ created_length new = created_clusters new * created_cluster_size new
 
 -- The refcount table that begins at a place: its first entry names the one block.
 pub record HasCreatedTable (new : Creation) (file : List ℕ) (at : ℕ) : Type 0 where
-  pub entry : (k : ℕ) → k < created_table_clusters new * entries_in_cluster (created_cluster_size new)
+  pub entry : (k : ℕ)
+      → k < created_table_clusters new * entries_in_cluster (created_cluster_size new)
       → number_at file (at + 8 * k) 8 ≡ (if k == 0 then created_block_offset new else 0)
 
 -- The refcount block that begins at a place: it counts each created cluster once.
 pub record HasCreatedCounts (new : Creation) (file : List ℕ) (at : ℕ) : Type 0 where
   pub count : (k : ℕ) → k < block_entries (created_cluster_size new) new.refcount_order
-      → number_at file (at + k * refcount_bytes new.refcount_order) (refcount_bytes new.refcount_order)
+      → number_at file (at + k * refcount_bytes new.refcount_order)
+      (refcount_bytes new.refcount_order)
       ≡ (if nat_lt k (created_clusters new) then 1 else 0)
 
 -- what stands behind the header's cluster; a longer file has any bytes behind the created clusters

@@ -96,7 +96,12 @@ format_after file at format =
 
 -- the list from a place on, in an area that ends at `end`, where `format` was found before
 unfoldable pub extension_list : ℕ → List ℕ → ℕ → ℕ → Option Place → ExtensionList
-extension_list zero file at end format = record { overruns = false; format = format; end = min at end; ended = false }
+extension_list zero file at end format = record {
+  overruns = false;
+  format = format;
+  end = min at end;
+  ended = false;
+}
 extension_list (suc steps) file at end format =
     if nat_lt end (at + 8)
     then record { overruns = false; format = format; end = min at end; ended = false }
@@ -112,7 +117,8 @@ extensions_from file at end format = extension_list end file at end format
 
 -- the area ends at the backing name where one is present, and else with the header's cluster
 abbrev pub area_end : List ℕ → ℕ
-area_end file = option_map_or (λ (name : Place). name.at) (name_of file) (cluster_size (cluster_bits_of file))
+area_end file =
+    option_map_or (λ (name : Place). name.at) (name_of file) (cluster_size (cluster_bits_of file))
 
 -- the extensions of a file
 unfoldable pub extensions_of : List ℕ → ExtensionList
@@ -155,7 +161,8 @@ unfoldable pub format_refusal : List ℕ → ℕ → Option HeaderStop
 format_refusal file len = first (
     refused_where (not (magic_of file == 0x514649fb)) Magic
     ∷ refused_where (not (version_of file == 3)) Version
-    ∷ refused_where (nat_lt (header_length_of file) MIN_HEADER_LENGTH || nat_lt len (header_length_of file)) Short
+    ∷ refused_where
+    (nat_lt (header_length_of file) MIN_HEADER_LENGTH || nat_lt len (header_length_of file)) Short
     ∷ [])
 
 -- the shapes that are supported
@@ -170,7 +177,8 @@ unfoldable pub profile_refusal : List ℕ → Option HeaderStop
 profile_refusal file = first (
     refused_where (not (supports_cluster_bits (cluster_bits_of file))) ClusterBits
     ∷ refused_where (not (supports_refcount_order (refcount_order_of file))) RefcountOrder
-    ∷ refused_where (not (incompatible_of file == 0)) (Feature (trailing_zeros w64 (incompatible_of file)))
+    ∷ refused_where (not (incompatible_of file == 0))
+    (Feature (trailing_zeros w64 (incompatible_of file)))
     ∷ refused_where (not (crypt_method_of file == 0)) Crypt
     ∷ refused_where (not (nb_snapshots_of file == 0)) Snapshots
     ∷ [])
@@ -184,7 +192,8 @@ is_bad_name file name =
     || not (is_utf8 (bytes_at file name.at name.len))
 
 unfoldable pub name_refusal : List ℕ → Option HeaderStop
-name_refusal file = refused_where (option_map_or (is_bad_name file) (name_of file) false) BackingName
+name_refusal file =
+    refused_where (option_map_or (is_bad_name file) (name_of file) false) BackingName
 
 -- the header ends past its cluster, or an extension past its area
 unfoldable pub extension_refusal : List ℕ → Option HeaderStop
@@ -227,7 +236,9 @@ pub record IsWithinLimits (h : Header) (len : ℕ) : Type 0 where
   pub header_in_file : h.header_length ≤ len
   pub header_in_cluster : h.header_length ≤ cluster_size h.cluster_bits
   pub no_snapshots : h.nb_snaps ≡ 0
-  pub name : IfSome h.name (λ name. LiesWithin h.header_length (cluster_size h.cluster_bits) name × (name.len ≤ MAX_NAME_LENGTH))
+  pub name : IfSome h.name
+      (λ name. LiesWithin h.header_length (cluster_size h.cluster_bits) name
+      × (name.len ≤ MAX_NAME_LENGTH))
   pub format : IfSome h.format (LiesWithin h.header_length (cluster_size h.cluster_bits))
   pub list : h.ext_end ≤ cluster_size h.cluster_bits
   pub disk : h.size ≤ MAX_DISK_SIZE

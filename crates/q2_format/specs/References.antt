@@ -37,7 +37,8 @@ tree_uses c tree cluster =
 -- how often an image names a cluster
 unfoldable pub uses : List ℕ → Header → ℕ → ℕ
 uses file h cluster =
-    structure_uses h (refcount_table file h) cluster + tree_uses (cluster_size h.cluster_bits) (active_tree file h) cluster
+    structure_uses h (refcount_table file h) cluster + tree_uses (cluster_size h.cluster_bits)
+    (active_tree file h) cluster
 
 -- No cluster from this one on is named, where every offset lies in the file: the tables begin there, and may end past it.
 abbrev pub cluster_bound : Header → ℕ → ℕ
@@ -51,4 +52,5 @@ reach_of h len =
     let c = cluster_size h.cluster_bits in
     let per_block = block_entries c h.refcount_order in
     let n = clusters_for c len + clusters_for c h.size + h.l1_size in
-    min (n + n / (per_block / 2) + 65536) (min MAX_FILE_CLUSTERS (h.ref_clusters * entries_in_cluster c * per_block))
+    min (n + n / (per_block / 2) + 65536)
+    (min MAX_FILE_CLUSTERS (h.ref_clusters * entries_in_cluster c * per_block))

@@ -14,11 +14,14 @@ middle_of h = cluster_size h.cluster_bits / 2
 
 -- the present name has a byte among those from the middle of the cluster on that a name may take
 abbrev pub is_in_middle : Header → Place → Bool
-is_in_middle h name = nat_lt name.at (middle_of h + MAX_NAME_LENGTH) && nat_lt (middle_of h) (name.at + name.len)
+is_in_middle h name =
+    nat_lt name.at (middle_of h + MAX_NAME_LENGTH) && nat_lt (middle_of h) (name.at + name.len)
 
 -- where the text of a new name goes: to the middle of the cluster, and a quarter of it behind where the present one is in the way
 abbrev pub new_name_offset : Header → ℕ
-new_name_offset h = if option_map_or (is_in_middle h) h.name false then middle_of h + middle_of h / 2 else middle_of h
+new_name_offset h =
+    if option_map_or (is_in_middle h) h.name false then middle_of h + middle_of h / 2
+    else middle_of h
 
 -- The extension that names the backing format.
 
@@ -28,11 +31,13 @@ list_area_end h = option_map_or (λ (name : Place). name.at) h.name (cluster_siz
 
 -- these data can be replaced in place: they take 8 bytes with their padding, and those lie in the list's area
 abbrev pub takes_eight : Header → Place → Bool
-takes_eight h place = nat_lt 0 place.len && not (nat_lt 8 place.len) && not (nat_lt (list_area_end h) (place.at + 8))
+takes_eight h place =
+    nat_lt 0 place.len && not (nat_lt 8 place.len) && not (nat_lt (list_area_end h) (place.at + 8))
 
 -- the data that a new format replaces
 abbrev pub format_room : Header → Option Place
-format_room h = option_and_then (λ (place : Place). if takes_eight h place then Some place else None) h.format
+format_room h =
+    option_and_then (λ (place : Place). if takes_eight h place then Some place else None) h.format
 
 -- what is written over them, and over their length in front of them
 abbrev pub format_bytes : List ℕ → List ℕ
@@ -56,7 +61,10 @@ next_extension h = h.ext_end + (8 - (h.ext_end - h.header_length) % 8) % 8
 -- the new format's data stand where those of the present one do
 abbrev pub replaced_format : Header → Option (List ℕ) → Option Place
 replaced_format h None = h.format
-replaced_format h (Some format) = option_map_or (λ (place : Place). Some (record { at = place.at; len = length format })) (format_room h) h.format
+replaced_format h (Some format) =
+    option_map_or
+    (λ (place : Place). Some (record { at = place.at; len = length format })) (format_room h)
+    h.format
 
 -- where the ending extension stands, or goes
 abbrev pub ending_place : Header → ℕ

@@ -40,11 +40,14 @@ is_misplaced c len offset = not (offset % c == 0) || not (nat_lt offset len)
 
 unfoldable pub bad_refcount_table : Header → ℕ → Option ℕ
 bad_refcount_table h len =
-    refused_where (h.ref_clusters == 0 || is_misplaced (cluster_size h.cluster_bits) len h.ref_offset) h.ref_offset
+    refused_where
+    (h.ref_clusters == 0 || is_misplaced (cluster_size h.cluster_bits) len h.ref_offset)
+    h.ref_offset
 
 unfoldable pub bad_l1_table : Header → ℕ → Option ℕ
 bad_l1_table h len = let c = cluster_size h.cluster_bits in
-    refused_where (nat_lt h.l1_size (l1_entries_for c h.size) || is_misplaced c len h.l1_offset) h.l1_offset
+    refused_where (nat_lt h.l1_size (l1_entries_for c h.size) || is_misplaced c len h.l1_offset)
+    h.l1_offset
 
 -- by the table's index
 unfoldable pub bad_block : ℕ → ℕ → List ℕ → Option ℕ
@@ -66,7 +69,8 @@ guest_clusters c tree = length tree.l1 * entries_in_cluster c
 unfoldable pub bad_host : ℕ → ℕ → Tree → Option ℕ
 bad_host c len tree =
     option_map (λ cluster. own_offset (l2_word_of tree c cluster))
-    (lowest (λ cluster. is_misplaced c len (own_offset (l2_word_of tree c cluster))) (guest_clusters c tree))
+    (lowest (λ cluster. is_misplaced c len (own_offset (l2_word_of tree c cluster)))
+    (guest_clusters c tree))
 
 -- Reserved bits: the index of the first entry that has one, of an L2 table behind the table's offset.
 
@@ -74,16 +78,22 @@ unfoldable pub reserved_in_l1 : Tree → Option ℕ
 reserved_in_l1 tree = lowest (λ i. has_reserved_in_l1 (slice_index tree.l1 i)) (length tree.l1)
 
 unfoldable pub reserved_in_refcount_table : List ℕ → Option ℕ
-reserved_in_refcount_table table = lowest (λ i. has_reserved_in_refcount_table (slice_index table i)) (length table)
+reserved_in_refcount_table table =
+    lowest (λ i. has_reserved_in_refcount_table (slice_index table i)) (length table)
 
 unfoldable pub reserved_in_l2 : ℕ → Tree → Option (ℕ × ℕ)
 reserved_in_l2 c tree =
-    option_map (λ cluster. (host_offset (slice_index tree.l1 (cluster / entries_in_cluster c)), cluster % entries_in_cluster c))
-    (lowest (λ cluster. not (is_compressed (l2_word_of tree c cluster)) && has_reserved_in_l2 (l2_word_of tree c cluster)) (guest_clusters c tree))
+    option_map (λ cluster. (
+      host_offset (slice_index tree.l1 (cluster / entries_in_cluster c)),
+      cluster % entries_in_cluster c,
+    ))
+    (lowest (λ cluster. not (is_compressed (l2_word_of tree c cluster))
+    && has_reserved_in_l2 (l2_word_of tree c cluster)) (guest_clusters c tree))
 
 -- the lowest guest cluster that is compressed
 unfoldable pub compressed_cluster : ℕ → Tree → Option ℕ
-compressed_cluster c tree = lowest (λ cluster. is_compressed (l2_word_of tree c cluster)) (guest_clusters c tree)
+compressed_cluster c tree =
+    lowest (λ cluster. is_compressed (l2_word_of tree c cluster)) (guest_clusters c tree)
 
 -- the lowest cluster that is named twice
 unfoldable pub overlap : List ℕ → Header → ℕ → Option ℕ
@@ -92,7 +102,8 @@ overlap file h len = lowest (λ cluster. nat_lt 1 (uses file h cluster)) (cluste
 -- the lowest cluster that is named and has refcount 0
 unfoldable pub uncounted : List ℕ → Header → ℕ → Option ℕ
 uncounted file h len =
-    lowest (λ cluster. not (uses file h cluster == 0) && (refcount_of file h cluster == 0)) (cluster_bound h len)
+    lowest (λ cluster. not (uses file h cluster == 0) && (refcount_of file h cluster == 0))
+    (cluster_bound h len)
 
 -- The list of extensions ends behind the middle of its cluster, where a new backing name goes; or it ends at
 -- a backing name without an ending extension, and there is no room for one in the file's first sector.

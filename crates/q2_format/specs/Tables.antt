@@ -13,7 +13,8 @@ pub record Tree : Type 0 where
 -- the words of the L2 table that an L1 entry names, and none where it names no table
 unfoldable pub l2_table : List ℕ → ℕ → ℕ → List ℕ
 l2_table file c l1_word =
-    if host_offset l1_word == 0 then [] else words_at file (host_offset l1_word) (entries_in_cluster c)
+    if host_offset l1_word == 0 then []
+    else words_at file (host_offset l1_word) (entries_in_cluster c)
 
 -- the tree of the L1 table that begins at an offset and has `entries` entries
 unfoldable pub tree_at : List ℕ → ℕ → ℕ → ℕ → Tree
@@ -29,11 +30,13 @@ active_tree file h = tree_at file (cluster_size h.cluster_bits) h.l1_offset h.l1
 -- the L2 entry of a guest cluster, 0 where the cluster has no L2 table
 unfoldable pub l2_word_of : Tree → ℕ → ℕ → ℕ
 l2_word_of tree c cluster =
-    slice_index (slice_index_or tree.l2 (cluster / entries_in_cluster c) []) (cluster % entries_in_cluster c)
+    slice_index (slice_index_or tree.l2 (cluster / entries_in_cluster c) [])
+    (cluster % entries_in_cluster c)
 
 -- the words of the refcount table
 unfoldable pub refcount_table : List ℕ → Header → List ℕ
-refcount_table file h = words_at file h.ref_offset (h.ref_clusters * entries_in_cluster (cluster_size h.cluster_bits))
+refcount_table file h =
+    words_at file h.ref_offset (h.ref_clusters * entries_in_cluster (cluster_size h.cluster_bits))
 
 -- The refcount of a cluster: the table's entry names a block, and the block has it. Where the entry names
 -- none, or lies past the table, the refcount is 0.

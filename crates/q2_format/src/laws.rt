@@ -24,7 +24,8 @@ pub fn l2_entries_have_one_word()
 #[tactic(auto, using(crate::proofs::Unmapped::created_entry, crate::proofs::Unmapped::created_byte, crate::proofs::Unmapped::created_disk))]
 pub fn created_images_map_nothing()
     ensures entry { (new : Creation) (file : List ℕ) (cluster : ℕ) → IsCreated new file
-        → l2_entry (l2_word_of (active_tree file (header_of file)) (cluster_size (header_of file).cluster_bits) cluster)
+        → l2_entry (l2_word_of (active_tree file (header_of file))
+        (cluster_size (header_of file).cluster_bits) cluster)
         ≡ Unallocated }
     ensures byte { (new : Creation) (file backing : List ℕ) (place : ℕ) → IsCreated new file
         → guest_byte file backing place ≡ slice_index backing place }
@@ -48,7 +49,8 @@ pub fn created_headers_read_back()
 pub fn created_images_are_sound()
     ensures { (file : List ℕ) (size : ℕ) (name format : Option (List ℕ))
         → CanBeCreated size name format → IsCreated (creation_of size name format) file
-        → clusters_for (created_cluster_size (creation_of size name format)) (length file) ≤ MAX_FILE_CLUSTERS
+        → clusters_for (created_cluster_size (creation_of size name format)) (length file)
+        ≤ MAX_FILE_CLUSTERS
         → IsSound file }
 {}
 

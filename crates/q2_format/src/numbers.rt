@@ -50,7 +50,8 @@ pub(crate) fn u64_at(bytes: &[u8], at: usize) -> u64
 #[tactic(auto, using(crate::proofs::ByPlace::written_by_list))]
 pub(crate) fn put_bytes(out: &mut [u8], at: usize, bytes: &[u8])
     requires { at + length bytes.now ≤ length out.old }
-    ensures after { out.new ≡ (take at out.old ++ bytes.now) ++ drop (at + length bytes.now) out.old }
+    ensures after { out.new ≡ (take at out.old ++ bytes.now)
+        ++ drop (at + length bytes.now) out.old }
     ensures written { IsWritten out.old out.new at bytes.now }
 {
     out[at..at + bytes.len()].copy_from_slice(bytes);

@@ -45,7 +45,8 @@ pub fn new_name_offset(header: &Header) -> u64
 /// Whether a name has a byte among those that a name may take from the middle of the cluster on.
 fn is_in_middle(name: Place, middle: u64) -> bool
     requires { middle < 4294967296 }
-    ensures { result ≡ (nat_lt name.at (middle + MAX_NAME_LENGTH) && nat_lt middle (name.at + name.len)) }
+    ensures { result
+        ≡ (nat_lt name.at (middle + MAX_NAME_LENGTH) && nat_lt middle (name.at + name.len)) }
 {
     name.at < middle + u64::from(MAX_NAME_LENGTH) && middle < name.at + u64::from(name.len)
 }
@@ -65,7 +66,8 @@ pub fn name_fields(offset: u64, len: u32) -> [u8; 12]
 /// 8 bytes that lie, with their padding, in the area of the list of extensions.
 pub fn format_room(header: &Header) -> Option<Place>
     requires bits { header.now.cluster_bits < 32 }
-    requires format { IfSome header.now.format (LiesWithin 0 (cluster_size header.now.cluster_bits)) }
+    requires format { IfSome header.now.format
+        (LiesWithin 0 (cluster_size header.now.cluster_bits)) }
     ensures { result ≡ format_room header.now }
 {
     let area_end = match header.name {
@@ -111,7 +113,8 @@ pub fn ending_place(header: &Header) -> u64
 pub fn renamed(header: &Header, name: Option<&str>, format: Option<&str>) -> Header
     requires bits { header.now.cluster_bits < 32 }
     requires list { header.now.ext_end < 2 ^ 32 }
-    requires format_place { IfSome header.now.format (LiesWithin 0 (cluster_size header.now.cluster_bits)) }
+    requires format_place { IfSome header.now.format
+        (LiesWithin 0 (cluster_size header.now.cluster_bits)) }
     requires name { ForSome name (λ name. length name.now < 2 ^ 32) }
     requires format { ForSome format (λ format. length format.now < 2 ^ 32) }
     ensures { result ≡ renamed header.now (option_copied name.entry) (option_copied format.entry) }
@@ -129,7 +132,10 @@ pub fn renamed(header: &Header, name: Option<&str>, format: Option<&str>) -> Hea
 fn new_name(header: &Header, name: Option<&str>) -> Option<Place>
     requires bits { header.now.cluster_bits < 32 }
     requires name { ForSome name (λ name. length name.now < 2 ^ 32) }
-    ensures { result ≡ option_map (λ (text : List ℕ). record { at = new_name_offset header.now; len = length text }) (option_copied name.entry) }
+    ensures { result
+        ≡ option_map
+        (λ (text : List ℕ). record { at = new_name_offset header.now; len = length text })
+        (option_copied name.entry) }
 {
     match name {
         Some(text) => Some(Place {
@@ -143,7 +149,8 @@ fn new_name(header: &Header, name: Option<&str>) -> Option<Place>
 /// Where the format's data stand then, and how long they are.
 fn new_format(header: &Header, format: Option<&str>) -> Option<Place>
     requires bits { header.now.cluster_bits < 32 }
-    requires format_place { IfSome header.now.format (LiesWithin 0 (cluster_size header.now.cluster_bits)) }
+    requires format_place { IfSome header.now.format
+        (LiesWithin 0 (cluster_size header.now.cluster_bits)) }
     requires format { ForSome format (λ format. length format.now < 2 ^ 32) }
     ensures { result ≡ replaced_format header.now (option_copied format.entry) }
 {

@@ -35,7 +35,8 @@ fn put_fields(out: &mut [u8], size: u64)
     requires whole { length out.old ≡ 65536 }
     requires zeros { AreZeros out.old 0 112 }
     requires size { size ≤ MAX_DISK_SIZE }
-    ensures fields { (format : Option (List ℕ)) → HasCreatedFields (creation_of size None format) out.new }
+    ensures fields { (format : Option (List ℕ))
+        → HasCreatedFields (creation_of size None format) out.new }
     ensures behind { (i : ℕ) → 112 ≤ i → slice_index out.new i ≡ slice_index out.old i }
 {
     put_u32(out, 0, MAGIC);
@@ -61,7 +62,8 @@ fn put_name(out: &mut [u8], name: &[u8])
         → HasCreatedFields (creation_of size (Some name.now) format) out.new }
     ensures name { (size : ℕ) (format : Option (List ℕ))
         → HasCreatedName (creation_of size (Some name.now) format) out.new }
-    ensures between { (i : ℕ) → 112 ≤ i → i < 32768 → slice_index out.new i ≡ slice_index out.old i }
+    ensures between { (i : ℕ) → 112 ≤ i → i < 32768
+        → slice_index out.new i ≡ slice_index out.old i }
 {
     put_u64(out, 8, NAME_OFFSET);
     put_u32(out, 16, name.len() as u32);
@@ -102,7 +104,8 @@ fn put_backing_name(out: &mut [u8], name: Option<&str>)
     ensures name { (size : ℕ) (format : Option (List ℕ))
         → HasCreatedName (creation_of size (option_copied name.entry) format) out.new }
     ensures text { ForSome (option_copied name.entry) IsUtf8 }
-    ensures between { (i : ℕ) → 112 ≤ i → i < 32768 → slice_index out.new i ≡ slice_index out.old i }
+    ensures between { (i : ℕ) → 112 ≤ i → i < 32768
+        → slice_index out.new i ≡ slice_index out.old i }
 {
     if let Some(name) = name {
         put_name(out, text_bytes(name));

@@ -46,7 +46,8 @@ with_block_for kept cluster =
 
 -- where the refcount of a cluster is, whose block is there
 abbrev pub count_place : Kept → ℕ → ℕ
-count_place kept n = block_offset (slice_index kept.table (n / per_block kept)) + n % per_block kept * 2
+count_place kept n =
+    block_offset (slice_index kept.table (n / per_block kept)) + n % per_block kept * 2
 
 -- the offset of the first cluster of block i's range, where that block is put
 abbrev pub offset_of_block : Kept → ℕ → ℕ
@@ -91,7 +92,8 @@ pub record KeepsCounted (old new : List ℕ) (h : Header) : Type 0 where
   pub uses_stay : (k : ℕ) → refcount_of old h k ≢ 0 → uses new h k ≡ uses old h k
   pub refcounts_stay : (k : ℕ) → refcount_of old h k ≢ 0 → refcount_of new h k ≡ refcount_of old h k
   pub structure : (k : ℕ) → refcount_of old h k ≢ 0 → refcount_uses new h k ≡ refcount_uses old h k
-  pub bytes : (i : ℕ) → refcount_of old h (i / cluster_size h.cluster_bits) ≢ 0 → refcount_uses old h (i / cluster_size h.cluster_bits) ≡ 0
+  pub bytes : (i : ℕ) → refcount_of old h (i / cluster_size h.cluster_bits) ≢ 0
+      → refcount_uses old h (i / cluster_size h.cluster_bits) ≡ 0
       → slice_index new i ≡ slice_index old i
 
 -- the highest end of what a call writes that gives cluster n
@@ -112,7 +114,8 @@ writes_of_answer kept (Err HostLimit) = []
 
 -- the writes up to a refcount of which nothing was written
 abbrev pub all_but_count : Kept → ℕ → List Write
-all_but_count kept n = block_writes_for kept n ++ first_bytes 0 (count_write (with_block_for kept n) n) ∷ []
+all_but_count kept n =
+    block_writes_for kept n ++ first_bytes 0 (count_write (with_block_for kept n) n) ∷ []
 
 -- What a stop leaves of an allocation that gives cluster n: its block was not put and isn't kept, or it was and is,
 -- and the refcount was not written.
@@ -123,7 +126,8 @@ StopsAllocating g kept n stop left old new =
 
 -- what is kept after each refusal
 abbrev pub IsLeft : {D : Type 0} → Ghosts D → Kept → Kept → RefStop → D → D → Type 0
-IsLeft g kept left (Dev stop) old new = StopsAllocating g kept (free_cluster kept 0) stop left old new
+IsLeft g kept left (Dev stop) old new =
+    StopsAllocating g kept (free_cluster kept 0) stop left old new
 IsLeft g kept left HostLimit old new = left ≡ kept
 
 -- a file in which all is sound, and of what counted in an older one all stays

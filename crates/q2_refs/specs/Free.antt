@@ -9,7 +9,8 @@ use Rattle.q2_refs.specs.Kept.{Kept, per_block}
 abbrev pub will_be_given : Kept → ℕ → Bool
 will_be_given kept cluster =
     slice_index kept.counts cluster == 0
-    && (not (block_offset (slice_index kept.table (cluster / per_block kept)) == 0) || not (cluster % per_block kept == 0))
+    && (not (block_offset (slice_index kept.table (cluster / per_block kept)) == 0)
+    || not (cluster % per_block kept == 0))
 
 -- all of them, the lowest first
 unfoldable pub free_clusters : Kept → List ℕ

@@ -68,7 +68,8 @@ pub record HasShape (h : Header) : Type 0 where
 
 -- the counts from one cluster to another are those of a file
 abbrev pub AreCounts : List ℕ → Header → List ℕ → ℕ → ℕ → Type 0
-AreCounts file h counts from to = (k : ℕ) → from ≤ k → k < to → k < length counts → slice_index counts k ≡ refcount_of file h k
+AreCounts file h counts from to =
+    (k : ℕ) → from ≤ k → k < to → k < length counts → slice_index counts k ≡ refcount_of file h k
 
 -- the counts from one cluster on are 0
 abbrev pub AreZeroFrom : List ℕ → ℕ → Type 0

@@ -64,7 +64,8 @@ impl Refs {
         requires { cluster < length self.old.counts }
         ensures ok { OnOk result (self.new ≡ with_one self.old cluster) }
         ensures err { OnErr result (self.new ≡ self.old) }
-        ensures writes { Writes D.Device (count_write self.old cluster ∷ []) (stop_of result) dev.old dev.new }
+        ensures writes { Writes D.Device (count_write self.old cluster ∷ []) (stop_of result)
+            dev.old dev.new }
     {
         let at = self.count_place(cluster);
         write(dev, at, &count_bytes(1))?;
@@ -109,7 +110,8 @@ impl Refs {
         requires place { place_of_block self.old i < length self.old.counts }
         ensures ok { OnOk result (self.new ≡ with_block self.old i) }
         ensures err { OnErr result (self.new ≡ self.old) }
-        ensures writes { Writes D.Device (block_writes self.old i) (stop_of result) dev.old dev.new }
+        ensures writes { Writes D.Device (block_writes self.old i) (stop_of result) dev.old
+            dev.new }
     {
         let offset = self.block_place(i);
         let entry = self.entry_place(i);
@@ -150,7 +152,8 @@ impl Refs {
         requires { cluster < length self.old.counts }
         ensures ok { OnOk result (self.new ≡ with_block_for self.old cluster) }
         ensures err { OnErr result (self.new ≡ self.old) }
-        ensures writes { Writes D.Device (block_writes_for self.old cluster) (stop_of result) dev.old dev.new }
+        ensures writes { Writes D.Device (block_writes_for self.old cluster) (stop_of result)
+            dev.old dev.new }
     {
         let i = cluster / self.per_block();
         if block_offset(self.table[i]) != 0 {
@@ -163,8 +166,10 @@ impl Refs {
     fn take<D: Device>(&mut self, dev: &mut D, cluster: usize) -> Result<(), DevStop>
         requires { cluster < length self.old.counts }
         ensures ok { OnOk result (self.new ≡ with_one (with_block_for self.old cluster) cluster) }
-        ensures writes { Writes D.Device (allocation_writes self.old cluster) (stop_of result) dev.old dev.new }
-        ensures left { IfErr result (λ stop. StopsAllocating D.Device self.old cluster stop self.new dev.old dev.new) }
+        ensures writes { Writes D.Device (allocation_writes self.old cluster) (stop_of result)
+            dev.old dev.new }
+        ensures left { IfErr result
+            (λ stop. StopsAllocating D.Device self.old cluster stop self.new dev.old dev.new) }
     {
         self.ensure_block(dev, cluster)?;
         self.count_one(dev, cluster)
@@ -184,27 +189,41 @@ impl Refs {
         requires step { (file : List ℕ) → D.content dev.old ≡ Some file → IsInStep file self.old }
 
         // what is given
-        ensures given { IfOk result (λ cluster. free_clusters self.old ≡ cluster ∷ free_clusters self.new) }
+        ensures given { IfOk result
+            (λ cluster. free_clusters self.old ≡ cluster ∷ free_clusters self.new) }
         ensures below { IfOk result (λ cluster. cluster < length self.old.counts) }
-        ensures unused { IfOk result (λ cluster. (file : List ℕ) → D.content dev.old ≡ Some file → uses file (header_of file) cluster ≡ 0) }
-        ensures unused_still { IfOk result (λ cluster. (file : List ℕ) → D.content dev.new ≡ Some file → uses file (header_of file) cluster ≡ 0) }
-        ensures counted { IfOk result (λ cluster. (file : List ℕ) → D.content dev.new ≡ Some file → refcount_of file (header_of file) cluster ≡ 1) }
-        ensures kept { IfOk result (λ cluster. self.new ≡ with_one (with_block_for self.old cluster) cluster) }
+        ensures unused { IfOk result
+            (λ cluster. (file : List ℕ) → D.content dev.old ≡ Some file
+            → uses file (header_of file) cluster ≡ 0) }
+        ensures unused_still { IfOk result
+            (λ cluster. (file : List ℕ) → D.content dev.new ≡ Some file
+            → uses file (header_of file) cluster ≡ 0) }
+        ensures counted { IfOk result
+            (λ cluster. (file : List ℕ) → D.content dev.new ≡ Some file
+            → refcount_of file (header_of file) cluster ≡ 1) }
+        ensures kept { IfOk result
+            (λ cluster. self.new ≡ with_one (with_block_for self.old cluster) cluster) }
 
         // when none is
         ensures full { (result ≡ Err RefStop.HostLimit) ↔ (free_clusters self.old ≡ []) }
         ensures untouched { result ≡ Err RefStop.HostLimit → Untouched D.Device dev.old dev.new }
         ensures again { OnErr result (free_clusters self.new ≡ free_clusters self.old) }
-        ensures partly { OnErr result ((self.new ≡ self.old) ⊎ (self.new ≡ with_block_for self.old (free_cluster self.old 0))) }
-        ensures left { IfErr result (λ stop. IsLeft D.Device self.old self.new stop dev.old dev.new) }
+        ensures partly { OnErr result
+            ((self.new ≡ self.old)
+            ⊎ (self.new ≡ with_block_for self.old (free_cluster self.old 0))) }
+        ensures left { IfErr result
+            (λ stop. IsLeft D.Device self.old self.new stop dev.old dev.new) }
 
         // the device
-        ensures writes { Writes D.Device (writes_of_answer self.old result) (ref_stop_of result) dev.old dev.new }
-        ensures stops { AtEachStopOf D.Device KeepsSound (writes_of_answer self.old result) dev.old }
+        ensures writes { Writes D.Device (writes_of_answer self.old result) (ref_stop_of result)
+            dev.old dev.new }
+        ensures stops { AtEachStopOf D.Device KeepsSound (writes_of_answer self.old result)
+            dev.old }
 
         // the file
         ensures step { (file : List ℕ) → D.content dev.new ≡ Some file → IsInStep file self.new }
-        ensures keeps { (old new : List ℕ) → D.content dev.old ≡ Some old → D.content dev.new ≡ Some new → KeepsCounted old new (header_of old) }
+        ensures keeps { (old new : List ℕ) → D.content dev.old ≡ Some old
+            → D.content dev.new ≡ Some new → KeepsCounted old new (header_of old) }
         ensures alike { IsAlike self.old self.new }
     {
         self.skip_taken();

@@ -64,7 +64,9 @@ fn zero_counts(alloc: Global, len: usize) -> Result<Vec<u16>, AllocError>
 
 /// Reads bytes of a file; where that fails it names the device's count of faults.
 fn read<D: Device>(dev: &mut D, at: u64, buf: &mut [u8]) -> Result<(), RefsStop>
-    ensures read { OnOk result ((file : List ℕ) → D.content dev.old ≡ Some file → buf.new ≡ bytes_at file at (length buf.old)) }
+    ensures read { OnOk result
+        ((file : List ℕ) → D.content dev.old ≡ Some file
+        → buf.new ≡ bytes_at file at (length buf.old)) }
     ensures stop { IfErr result IsReadStop }
     ensures device { Reads D.Device (fault_of_refs result) dev.old dev.new }
 {
@@ -80,7 +82,8 @@ fn read<D: Device>(dev: &mut D, at: u64, buf: &mut [u8]) -> Result<(), RefsStop>
 #[tactic(auto, unfolding(q2_format::specs::Sound::bad_refcount_table))]
 fn check_place(h: &Header, len: u64) -> Result<(), RefsStop>
     requires { h.now.cluster_bits < 32 }
-    ensures refused { refusal_in result ≡ option_map RefsStop.Offset (bad_refcount_table h.now len) }
+    ensures refused { refusal_in result
+        ≡ option_map RefsStop.Offset (bad_refcount_table h.now len) }
     ensures quiet { IfErr result (λ stop. fault_in_refs stop ≡ None) }
 {
     if h.ref_clusters == 0 || is_misplaced(cluster_len(h) as u64, len, h.ref_offset) {
@@ -92,7 +95,8 @@ fn check_place(h: &Header, len: u64) -> Result<(), RefsStop>
 /// Words of 64 bits, one after the other.
 fn decode_words(bytes: &[u8], words: &mut [u64])
     requires { length bytes.now ≡ 8 * length words.old }
-    ensures { (k : ℕ) → k < length words.old → slice_index words.new k ≡ number_at bytes.now (8 * k) 8 }
+    ensures { (k : ℕ) → k < length words.old
+        → slice_index words.new k ≡ number_at bytes.now (8 * k) 8 }
 {
     BigEndian::read_u64_into(bytes, words);
 }
@@ -105,7 +109,9 @@ fn read_words<D: Device>(
     words: &mut [u64],
 ) -> Result<(), RefsStop>
     requires { length buffer.old ≡ 8 * length words.old }
-    ensures words { OnOk result ((file : List ℕ) → D.content dev.old ≡ Some file → words.new ≡ words_at file at (length words.old)) }
+    ensures words { OnOk result
+        ((file : List ℕ) → D.content dev.old ≡ Some file
+        → words.new ≡ words_at file at (length words.old)) }
     ensures stop { IfErr result IsReadStop }
     ensures device { Reads D.Device (fault_of_refs result) dev.old dev.new }
 {
@@ -118,7 +124,9 @@ fn read_words<D: Device>(
 #[tactic(auto, unfolding(q2_format::specs::Tables::refcount_table))]
 fn read_table<D: Device>(alloc: Global, dev: &mut D, h: &Header) -> Result<Vec<u64>, RefsStop>
     requires { HasShape h.now }
-    ensures table { IfOk result (λ words. (file : List ℕ) → D.content dev.old ≡ Some file → words.items ≡ refcount_table file h.now) }
+    ensures table { IfOk result
+        (λ words. (file : List ℕ) → D.content dev.old ≡ Some file
+        → words.items ≡ refcount_table file h.now) }
     ensures len { IfOk result (λ words. length words.items ≡ table_entries h.now) }
     ensures stop { IfErr result IsReadStop }
     ensures device { Reads D.Device (fault_of_refs result) dev.old dev.new }
@@ -138,7 +146,8 @@ fn read_table<D: Device>(alloc: Global, dev: &mut D, h: &Header) -> Result<Vec<u
 /// The refcounts of 16 bits, one after the other.
 fn decode_counts(block: &[u8], counts: &mut [u16])
     requires { 2 * length counts.old ≤ length block.now }
-    ensures { (k : ℕ) → k < length counts.old → slice_index counts.new k ≡ number_at block.now (k * 2) 2 }
+    ensures { (k : ℕ) → k < length counts.old
+        → slice_index counts.new k ≡ number_at block.now (k * 2) 2 }
 {
     BigEndian::read_u16_into(&block[..2 * counts.len()], counts);
 }
@@ -148,7 +157,8 @@ fn put_counts(block: &[u8], counts: &mut [u16], from: usize, to: usize)
     requires order { from ≤ to }
     requires within { to ≤ length counts.old }
     requires whole { 2 * (to - from) ≤ length block.now }
-    ensures put { (k : ℕ) → from ≤ k → k < to → slice_index counts.new k ≡ number_at block.now ((k - from) * 2) 2 }
+    ensures put { (k : ℕ) → from ≤ k → k < to
+        → slice_index counts.new k ≡ number_at block.now ((k - from) * 2) 2 }
     ensures before { (k : ℕ) → k < from → slice_index counts.new k ≡ slice_index counts.old k }
     ensures behind { (k : ℕ) → to ≤ k → slice_index counts.new k ≡ slice_index counts.old k }
 {
@@ -166,15 +176,21 @@ fn read_block<D: Device>(
 ) -> Result<(), RefsStop>
     requires shape { HasShape h.now }
     requires entry { i < length table.now }
-    requires some { i * block_entries (cluster_size h.now.cluster_bits) h.now.refcount_order < length counts.old }
+    requires some { i * block_entries (cluster_size h.now.cluster_bits) h.now.refcount_order
+        < length counts.old }
     requires small { length counts.old ≤ 2 ^ 24 }
     requires buffer { length buffer.old ≡ cluster_size h.now.cluster_bits }
-    requires zeros { AreZeroFrom counts.old (i * block_entries (cluster_size h.now.cluster_bits) h.now.refcount_order) }
-    ensures counts { OnOk result ((file : List ℕ) → D.content dev.old ≡ Some file → table.now ≡ refcount_table file h.now
+    requires zeros { AreZeroFrom counts.old
+        (i * block_entries (cluster_size h.now.cluster_bits) h.now.refcount_order) }
+    ensures counts { OnOk result
+        ((file : List ℕ) → D.content dev.old ≡ Some file → table.now ≡ refcount_table file h.now
         → let per_block = block_entries (cluster_size h.now.cluster_bits) h.now.refcount_order in
         AreCounts file h.now counts.new (i * per_block) (i * per_block + per_block)) }
-    ensures before { (k : ℕ) → k < i * block_entries (cluster_size h.now.cluster_bits) h.now.refcount_order → slice_index counts.new k ≡ slice_index counts.old k }
-    ensures behind { AreZeroFrom counts.new ((i + 1) * block_entries (cluster_size h.now.cluster_bits) h.now.refcount_order) }
+    ensures before { (k : ℕ)
+        → k < i * block_entries (cluster_size h.now.cluster_bits) h.now.refcount_order
+        → slice_index counts.new k ≡ slice_index counts.old k }
+    ensures behind { AreZeroFrom counts.new
+        ((i + 1) * block_entries (cluster_size h.now.cluster_bits) h.now.refcount_order) }
     ensures stop { IfErr result IsReadStop }
     ensures device { Reads D.Device (fault_of_refs result) dev.old dev.new }
 {
@@ -203,7 +219,8 @@ fn read_counts<D: Device>(
     requires small { length counts.old ≤ 2 ^ 24 }
     requires buffer { length buffer.old ≡ cluster_size h.now.cluster_bits }
     requires zeros { AreZeroFrom counts.old 0 }
-    ensures counts { OnOk result ((file : List ℕ) → D.content dev.old ≡ Some file → table.now ≡ refcount_table file h.now
+    ensures counts { OnOk result
+        ((file : List ℕ) → D.content dev.old ≡ Some file → table.now ≡ refcount_table file h.now
         → AreCounts file h.now counts.new 0 (length counts.old)) }
     ensures stop { IfErr result IsReadStop }
     ensures device { Reads D.Device (fault_of_refs result) dev.old dev.new }
@@ -222,8 +239,11 @@ pub fn load_table<D: Device>(alloc: Global, dev: &mut D, h: &Header) -> Result<V
     requires { CanBeRead h.now (D.size dev.old) }
     ensures refused { (file : List ℕ) → D.content dev.old ≡ Some file →
         RefusedBy result (refcounts_refusal h.now (D.size dev.old) (refcount_table file h.now)) }
-    ensures accepted { IfOk result (λ words. refcounts_refusal h.now (D.size dev.old) words.items ≡ None) }
-    ensures table { IfOk result (λ words. (file : List ℕ) → D.content dev.old ≡ Some file → words.items ≡ refcount_table file h.now) }
+    ensures accepted { IfOk result
+        (λ words. refcounts_refusal h.now (D.size dev.old) words.items ≡ None) }
+    ensures table { IfOk result
+        (λ words. (file : List ℕ) → D.content dev.old ≡ Some file
+        → words.items ≡ refcount_table file h.now) }
     ensures len { IfOk result (λ words. length words.items ≡ table_entries h.now) }
     ensures device { Reads D.Device (fault_of_refs result) dev.old dev.new }
 {
@@ -274,7 +294,9 @@ pub fn load_counts<D: Device>(
     requires entries { length table.items ≡ table_entries h.now }
     requires reach { reach ≤ table_reach h.now }
     requires small { reach ≤ 2 ^ 24 }
-    ensures kept { IfOk result (λ refs. (file : List ℕ) → D.content dev.old ≡ Some file → table.items ≡ refcount_table file h.now
+    ensures kept { IfOk result
+        (λ refs. (file : List ℕ) → D.content dev.old ≡ Some file
+        → table.items ≡ refcount_table file h.now
         → IsCountsOf file h.now refs) }
     ensures stop { IfErr result IsReadStop }
 
@@ -282,7 +304,8 @@ pub fn load_counts<D: Device>(
     ensures shape { IfOk result (IsShapedBy h.now) }
     ensures table { IfOk result (λ refs. refs.table ≡ table.items) }
     ensures reach { IfOk result (λ refs. length refs.counts ≡ reach) }
-    ensures blocks { IfOk result (λ refs. AreWholeClusters (cluster_size h.now.cluster_bits) refs.table) }
+    ensures blocks { IfOk result
+        (λ refs. AreWholeClusters (cluster_size h.now.cluster_bits) refs.table) }
     ensures below { IfOk result (λ refs. BeginBelow (D.size dev.old) refs.table) }
 
     // the device
@@ -317,14 +340,17 @@ pub fn load_refs<D: Device>(
     // what is read
     ensures refused { (file : List ℕ) → D.content dev.old ≡ Some file →
         RefusedBy result (refcounts_refusal h.now (D.size dev.old) (refcount_table file h.now)) }
-    ensures kept { IfOk result (λ refs. (file : List ℕ) → D.content dev.old ≡ Some file → IsCountsOf file h.now refs) }
+    ensures kept { IfOk result
+        (λ refs. (file : List ℕ) → D.content dev.old ≡ Some file → IsCountsOf file h.now refs) }
 
     // what holds even where the device doesn't tell its bytes
-    ensures accepted { IfOk result (λ refs. refcounts_refusal h.now (D.size dev.old) refs.table ≡ None) }
+    ensures accepted { IfOk result
+        (λ refs. refcounts_refusal h.now (D.size dev.old) refs.table ≡ None) }
     ensures shape { IfOk result (IsShapedBy h.now) }
     ensures table { IfOk result (λ refs. length refs.table ≡ table_entries h.now) }
     ensures reach { IfOk result (λ refs. length refs.counts ≡ reach) }
-    ensures blocks { IfOk result (λ refs. AreWholeClusters (cluster_size h.now.cluster_bits) refs.table) }
+    ensures blocks { IfOk result
+        (λ refs. AreWholeClusters (cluster_size h.now.cluster_bits) refs.table) }
     ensures below { IfOk result (λ refs. BeginBelow (D.size dev.old) refs.table) }
 
     // the device

@@ -71,7 +71,8 @@ impl Refs {
     pub fn keep_first(&mut self, reach: u64)
         requires { reach ≤ length self.old.counts }
         ensures kept { self.new ≡ record self.old { counts = take reach self.old.counts } }
-        ensures counts { (file : List ℕ) (h : Header) → IsCountsOf file h self.old → IsCountsOf file h self.new }
+        ensures counts { (file : List ℕ) (h : Header) → IsCountsOf file h self.old
+            → IsCountsOf file h self.new }
     {
         self.counts.truncate(reach as usize);
         self.cursor = self.cursor.min(reach as usize);

@@ -16,7 +16,8 @@ pub record Kept : Type 0 where
 pub record IsTreeOf (c : ℕ) (kept : Kept) (tree : Tree) : Type 0 where
   pub l1 : kept.l1 ≡ tree.l1
   pub entries : length kept.words ≡ length kept.l1 * entries_in_cluster c
-  pub words : (cluster : ℕ) → cluster < length kept.words → slice_index kept.words cluster ≡ l2_word_of tree c cluster
+  pub words : (cluster : ℕ) → cluster < length kept.words
+      → slice_index kept.words cluster ≡ l2_word_of tree c cluster
 
 -- an L2 entry that is neither compressed nor has a reserved bit
 abbrev pub is_plain : ℕ → Bool
@@ -25,7 +26,8 @@ is_plain word = not (is_compressed word) && not (has_reserved_in_l2 word)
 -- what always holds of tables in memory, and of the buffer for a new L2 table
 pub record AreWhole (kept : Kept) (buffer : List ℕ) : Type 0 where
   pub entries : length kept.words ≡ length kept.l1 * entries_in_cluster kept.c
-  pub plain : (cluster : ℕ) → cluster < length kept.words → is_plain (slice_index kept.words cluster) ≡ true
+  pub plain : (cluster : ℕ) → cluster < length kept.words
+      → is_plain (slice_index kept.words cluster) ≡ true
   pub room : length buffer ≡ kept.c
   pub whole : kept.c ≡ 8 * entries_in_cluster kept.c
   pub small : kept.c < 2 ^ 32

@@ -24,11 +24,13 @@ Apart at n other m = (at + n ≤ other) ⊎ (other + m ≤ at)
 -- a cluster at an offset is no part of the L1 table, and no L2 table but that of one L1 entry
 pub record IsFreeBut (kept : Kept) (offset but : ℕ) : Type 0 where
   pub l1_table : Apart offset kept.c kept.l1_offset (8 * length kept.l1)
-  pub l2_tables : (i : ℕ) → i < length kept.l1 → i ≢ but → host_offset (slice_index kept.l1 i) ≢ 0 → Apart offset kept.c (host_offset (slice_index kept.l1 i)) kept.c
+  pub l2_tables : (i : ℕ) → i < length kept.l1 → i ≢ but → host_offset (slice_index kept.l1 i) ≢ 0
+      → Apart offset kept.c (host_offset (slice_index kept.l1 i)) kept.c
 
 -- no L2 table has a byte of the L1 table
 pub record LieBesideL1 (kept : Kept) : Type 0 where
-  pub each : (i : ℕ) → i < length kept.l1 → host_offset (slice_index kept.l1 i) ≢ 0 → Apart (host_offset (slice_index kept.l1 i)) kept.c kept.l1_offset (8 * length kept.l1)
+  pub each : (i : ℕ) → i < length kept.l1 → host_offset (slice_index kept.l1 i) ≢ 0
+      → Apart (host_offset (slice_index kept.l1 i)) kept.c kept.l1_offset (8 * length kept.l1)
 
 -- What a caller of `link` has to know of the place of the entry.
 pub record CanLink (kept : Kept) (cluster table : ℕ) : Type 0 where
@@ -41,7 +43,8 @@ pub record CanLink (kept : Kept) (cluster table : ℕ) : Type 0 where
 
 -- the table that is written lies apart from every other, and each from the L1 table
 pub record LiesApart (kept : Kept) (cluster table : ℕ) : Type 0 where
-  pub free : IsFreeBut kept (if table == 0 then table_of kept cluster else table) (l1_index kept cluster)
+  pub free : IsFreeBut kept (if table == 0 then table_of kept cluster else table)
+      (l1_index kept cluster)
   pub beside : LieBesideL1 kept
 
 -- where the last write goes: to the L1 entry of a new table, else to the L2 entry
@@ -84,24 +87,29 @@ abbrev pub with_entry : Kept → ℕ → ℕ → ℕ → Kept
 with_entry kept cluster word table = record {
   c = kept.c;
   l1_offset = kept.l1_offset;
-  l1 = if table == 0 then kept.l1 else slice_set kept.l1 (l1_index kept cluster) (l1_spelling table);
+  l1 = if table == 0 then kept.l1
+      else slice_set kept.l1 (l1_index kept cluster) (l1_spelling table);
   words = slice_set kept.words cluster word;
 }
 
 -- The file behind a link: of it `len` bytes from an entry's place on were written, and of a cluster of a new
 -- table any; all else reads as before, and the kept words are those of its tree.
-pub record FileAfter (kept : Kept) (old : List ℕ) (told : Option (List ℕ)) (entry len table table_bytes : ℕ) : Type 0 where
+pub record FileAfter (kept : Kept) (old : List ℕ) (told : Option (List ℕ))
+    (entry len table table_bytes : ℕ) : Type 0 where
   pub file : List ℕ
   pub is : told ≡ Some file
   pub tree : IsTreeOf kept.c kept (tree_at file kept.c kept.l1_offset (length kept.l1))
-  pub outside : (i : ℕ) → (i < entry) ⊎ (entry + len ≤ i) → (i < table) ⊎ (table + table_bytes ≤ i) → slice_index file i ≡ slice_index old i
+  pub outside : (i : ℕ) → (i < entry) ⊎ (entry + len ≤ i) → (i < table) ⊎ (table + table_bytes ≤ i)
+      → slice_index file i ≡ slice_index old i
 
 -- What a link leaves of a file, wherever it stops: its entry and the kept words are as before, or both are the new ones.
 pub record IsOldOrLinked (kept : Kept) (cluster word table : ℕ) (before now : List ℕ) : Type 0 where
   pub grows : length before ≤ length now
   pub bound : length now ≤ max (length before) (link_end kept cluster table)
-  pub left : FileAfter kept before (Some now) (entry_at kept cluster table) 0 table (table_len kept table)
-      ⊎ (FileAfter (with_entry kept cluster word table) before (Some now) (entry_at kept cluster table) 8 table (table_len kept table)
+  pub left : FileAfter kept before (Some now) (entry_at kept cluster table) 0 table
+      (table_len kept table)
+      ⊎ (FileAfter (with_entry kept cluster word table) before (Some now)
+      (entry_at kept cluster table) 8 table (table_len kept table)
       × (table + table_len kept table ≤ length now))
 
 -- a table of one entry

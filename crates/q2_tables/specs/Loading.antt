@@ -24,18 +24,19 @@ load_refusal h len tree = let c = cluster_size h.cluster_bits in first (
     ∷ [])
 
 -- the answers that speak of the tables
-abbrev pub IsRefusal : TablesStop → Type 0
-IsRefusal (Offset offset) = Unit {0}
-IsRefusal (ReservedInL1 index) = Unit {0}
-IsRefusal (ReservedInL2 table index) = Unit {0}
-IsRefusal (Compressed cluster) = Unit {0}
-IsRefusal (Io count) = ⊥
-IsRefusal NoMemory = ⊥
+abbrev pub IsTableRefusal : TablesStop → Type 0
+IsTableRefusal (Offset offset) = Unit {0}
+IsTableRefusal (ReservedInL1 index) = Unit {0}
+IsTableRefusal (ReservedInL2 table index) = Unit {0}
+IsTableRefusal (Compressed cluster) = Unit {0}
+IsTableRefusal (Io count) = ⊥
+IsTableRefusal NoMemory = ⊥
 
 -- what the loading of a tree answers
 abbrev pub Loads : Header → ℕ → Tree → Result Kept TablesStop → Type 0
-Loads h len tree (Ok kept) = (load_refusal h len tree ≡ None) × IsTreeOf (cluster_size h.cluster_bits) kept tree
-Loads h len tree (Err stop) = IsRefusal stop → load_refusal h len tree ≡ Some stop
+Loads h len tree (Ok kept) =
+    (load_refusal h len tree ≡ None) × IsTreeOf (cluster_size h.cluster_bits) kept tree
+Loads h len tree (Err stop) = IsTableRefusal stop → load_refusal h len tree ≡ Some stop
 
 -- the fault that a stop tells, and an answer
 abbrev pub fault_in_tables : TablesStop → Option ℕ
@@ -56,7 +57,10 @@ pub record IsLoaded (h : Header) (len : ℕ) (kept : Kept) : Type 0 where
   pub l1_offset : kept.l1_offset ≡ h.l1_offset
   pub l1_size : length kept.l1 ≡ h.l1_size
   pub entries : length kept.words ≡ length kept.l1 * entries_in_cluster kept.c
-  pub tables : (i : ℕ) → i < length kept.l1 → is_misplaced kept.c len (host_offset (slice_index kept.l1 i)) ≡ false
-  pub hosts : (cluster : ℕ) → cluster < length kept.words → is_misplaced kept.c len (own_offset (slice_index kept.words cluster)) ≡ false
+  pub tables : (i : ℕ) → i < length kept.l1
+      → is_misplaced kept.c len (host_offset (slice_index kept.l1 i)) ≡ false
+  pub hosts : (cluster : ℕ) → cluster < length kept.words
+      → is_misplaced kept.c len (own_offset (slice_index kept.words cluster)) ≡ false
   pub unreserved : (i : ℕ) → i < length kept.l1 → has_reserved_in_l1 (slice_index kept.l1 i) ≡ false
-  pub plain : (cluster : ℕ) → cluster < length kept.words → is_plain (slice_index kept.words cluster) ≡ true
+  pub plain : (cluster : ℕ) → cluster < length kept.words
+      → is_plain (slice_index kept.words cluster) ≡ true

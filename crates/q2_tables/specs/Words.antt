@@ -13,7 +13,9 @@ use Rattle.q2_tables.specs.declared.stop.TablesStop.TheVariants.{Offset, Reserve
 -- the words are those of the L2 tables that the entries of an L1 table name, one behind the other
 pub record AreTablesOf (file : List ℕ) (c : ℕ) (l1 words : List ℕ) : Type 0 where
   pub each : (k : ℕ) → k < length l1 * entries_in_cluster c
-      → slice_index words k ≡ slice_index (l2_table file c (slice_index l1 (k / entries_in_cluster c))) (k % entries_in_cluster c)
+      → slice_index words k
+      ≡ slice_index (l2_table file c (slice_index l1 (k / entries_in_cluster c)))
+      (k % entries_in_cluster c)
 
 -- reading stops at a fault, or for want of memory
 abbrev pub IsReadStop : TablesStop → Type 0
@@ -27,10 +29,14 @@ IsReadStop NoMemory = Unit {0}
 -- What is refused of the words, by the first that is.
 
 unfoldable pub misplaced_table : ℕ → ℕ → List ℕ → Option TablesStop
-misplaced_table c len l1 = option_map (λ i. Offset (host_offset (slice_index l1 i))) (position (λ word. is_misplaced c len (host_offset word)) l1)
+misplaced_table c len l1 =
+    option_map (λ i. Offset (host_offset (slice_index l1 i)))
+    (position (λ word. is_misplaced c len (host_offset word)) l1)
 
 unfoldable pub misplaced_host : ℕ → ℕ → List ℕ → Option TablesStop
-misplaced_host c len words = option_map (λ i. Offset (own_offset (slice_index words i))) (position (λ word. is_misplaced c len (own_offset word)) words)
+misplaced_host c len words =
+    option_map (λ i. Offset (own_offset (slice_index words i)))
+    (position (λ word. is_misplaced c len (own_offset word)) words)
 
 unfoldable pub reserved_in_table : List ℕ → Option TablesStop
 reserved_in_table l1 = option_map ReservedInL1 (position has_reserved_in_l1 l1)

@@ -5,7 +5,7 @@ ghost use Rattle.q2_format.specs.Entry.{host_offset, is_compressed, has_reserved
 ghost use Rattle.q2_format.specs.Header.{refusal_in};
 ghost use Rattle.q2_format.specs.References.{own_offset};
 ghost use Rattle.q2_format.specs.Sound.{is_misplaced, bad_l1_table};
-ghost use Rattle.q2_tables.specs.Loading.{IsRefusal};
+ghost use Rattle.q2_tables.specs.Loading.{IsTableRefusal};
 ghost use Rattle.q2_tables.specs.Words.{misplaced_table, misplaced_host, reserved_in_table, reserved_in_words, compressed_in_words, refused_words};
 ghost use Rattle.q2_tables.specs.declared.stop.TablesStop.TheVariants.{Offset};
 
@@ -29,7 +29,7 @@ pub(crate) fn check_l1_table(h: &Header, c: u64, len: u64) -> Result<(), TablesS
     requires size { c ≡ cluster_size h.now.cluster_bits }
     requires entries { 8 ≤ c }
     ensures refused { refusal_in result ≡ option_map Offset (bad_l1_table h.now len) }
-    ensures stop { IfErr result IsRefusal }
+    ensures stop { IfErr result IsTableRefusal }
 {
     let needed = h.size.div_ceil(c).div_ceil(c / 8);
     if u64::from(h.l1_size) < needed || is_misplaced(c, len, h.l1_offset) {
@@ -65,7 +65,8 @@ fn first_reserved_in_l1(l1: &[u64]) -> Option<usize>
 
 /// The first L2 entry with a reserved bit, but for those of compressed clusters.
 fn first_reserved_in_l2(words: &[u64]) -> Option<usize>
-    ensures { result ≡ position (λ word. not (is_compressed word) && has_reserved_in_l2 word) words.now }
+    ensures { result
+        ≡ position (λ word. not (is_compressed word) && has_reserved_in_l2 word) words.now }
 {
     words
         .iter()
@@ -83,7 +84,7 @@ fn first_compressed(words: &[u64]) -> Option<usize>
 pub(crate) fn check_l2_tables(l1: &[u64], c: u64, len: u64) -> Result<(), TablesStop>
     requires { 0 < c }
     ensures refused { refusal_in result ≡ misplaced_table c len l1.now }
-    ensures stop { IfErr result IsRefusal }
+    ensures stop { IfErr result IsTableRefusal }
 {
     match first_misplaced_table(l1, c, len) {
         Some(i) => Err(TablesStop::Offset(offset_in(l1[i]))),
@@ -96,7 +97,7 @@ pub(crate) fn check_l2_tables(l1: &[u64], c: u64, len: u64) -> Result<(), Tables
 fn check_hosts(words: &[u64], c: u64, len: u64) -> Result<(), TablesStop>
     requires { 0 < c }
     ensures refused { refusal_in result ≡ misplaced_host c len words.now }
-    ensures stop { IfErr result IsRefusal }
+    ensures stop { IfErr result IsTableRefusal }
 {
     match first_misplaced_host(words, c, len) {
         Some(i) => Err(TablesStop::Offset(own_offset(words[i]))),
@@ -108,7 +109,7 @@ fn check_hosts(words: &[u64], c: u64, len: u64) -> Result<(), TablesStop>
 #[tactic(auto, unfolding(crate::specs::Words::reserved_in_table))]
 fn check_l1_bits(l1: &[u64]) -> Result<(), TablesStop>
     ensures refused { refusal_in result ≡ reserved_in_table l1.now }
-    ensures stop { IfErr result IsRefusal }
+    ensures stop { IfErr result IsTableRefusal }
 {
     match first_reserved_in_l1(l1) {
         Some(i) => Err(TablesStop::ReservedInL1 { index: i as u64 }),
@@ -122,7 +123,7 @@ fn check_l2_bits(l1: &[u64], words: &[u64], entries: usize) -> Result<(), Tables
     requires some { 0 < entries }
     requires whole { length words.now ≡ length l1.now * entries }
     ensures refused { refusal_in result ≡ reserved_in_words entries l1.now words.now }
-    ensures stop { IfErr result IsRefusal }
+    ensures stop { IfErr result IsTableRefusal }
 {
     match first_reserved_in_l2(words) {
         Some(i) => Err(TablesStop::ReservedInL2 {
@@ -137,7 +138,7 @@ fn check_l2_bits(l1: &[u64], words: &[u64], entries: usize) -> Result<(), Tables
 #[tactic(auto, unfolding(crate::specs::Words::compressed_in_words))]
 fn check_compressed(words: &[u64]) -> Result<(), TablesStop>
     ensures refused { refusal_in result ≡ compressed_in_words words.now }
-    ensures stop { IfErr result IsRefusal }
+    ensures stop { IfErr result IsTableRefusal }
 {
     match first_compressed(words) {
         Some(i) => Err(TablesStop::Compressed(i as u64)),
@@ -151,7 +152,7 @@ pub(crate) fn check_words(l1: &[u64], words: &[u64], c: usize, len: u64) -> Resu
     requires some { 8 ≤ c }
     requires whole { length words.now ≡ length l1.now * entries_in_cluster c }
     ensures refused { refusal_in result ≡ refused_words c len l1.now words.now }
-    ensures stop { IfErr result IsRefusal }
+    ensures stop { IfErr result IsTableRefusal }
 {
     check_hosts(words, c as u64, len)?;
     check_l1_bits(l1)?;

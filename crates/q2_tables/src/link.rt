@@ -22,7 +22,9 @@ fn word_bytes(word: u64) -> [u8; 8]
 /// Writes an entry of a table. It lies within a sector, so all of it is written or nothing.
 pub(crate) fn write_entry<D: Device>(dev: &mut D, at: u64, word: u64) -> Result<(), DevStop>
     requires { at % 8 ≡ 0 }
-    ensures written { OnOk result (D.content dev.new ≡ option_map (λ b. with_bytes b at (big_bytes 8 word)) (D.content dev.old)) }
+    ensures written { OnOk result
+        (D.content dev.new
+        ≡ option_map (λ b. with_bytes b at (big_bytes 8 word)) (D.content dev.old)) }
     ensures kept { OnErr result (D.content dev.new ≡ D.content dev.old) }
     ensures writes { Writes D.Device (entry_write at word ∷ []) (stop_of result) dev.old dev.new }
 {
@@ -66,10 +68,14 @@ pub(crate) fn write_table<D: Device>(
     word: u64,
 ) -> Result<(), DevStop>
     requires { 8 * column + 8 ≤ length buffer.old }
-    ensures told { (file : List ℕ) → D.content dev.old ≡ Some file → TableAfter file (D.content dev.new) at (length buffer.old) }
-    ensures entry { OnOk result ((file : List ℕ) → D.content dev.new ≡ Some file → HasOneEntry file at (length buffer.old / 8) column word) }
+    ensures told { (file : List ℕ) → D.content dev.old ≡ Some file
+        → TableAfter file (D.content dev.new) at (length buffer.old) }
+    ensures entry { OnOk result
+        ((file : List ℕ) → D.content dev.new ≡ Some file
+        → HasOneEntry file at (length buffer.old / 8) column word) }
     ensures reaches { OnOk result (at + length buffer.old ≤ D.size dev.new) }
-    ensures writes { Writes D.Device (write_of at (new_table (length buffer.old) column word) ∷ []) (stop_of result) dev.old dev.new }
+    ensures writes { Writes D.Device (write_of at (new_table (length buffer.old) column word) ∷ [])
+        (stop_of result) dev.old dev.new }
 {
     put_entry(buffer, column, word);
     write(dev, at, buffer)

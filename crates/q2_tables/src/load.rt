@@ -6,7 +6,7 @@ ghost use Rattle.q2_format.specs.Sizes.{cluster_size, entries_in_cluster};
 ghost use Rattle.q2_format.specs.Header.{CanBeRead};
 ghost use Rattle.q2_format.specs.Sound.{bad_l1_table};
 ghost use Rattle.q2_format.specs.Tables.{active_tree};
-ghost use Rattle.q2_tables.specs.Loading.{Loads, fault_of_tables, load_refusal, IsLoaded, IsRefusal};
+ghost use Rattle.q2_tables.specs.Loading.{Loads, fault_of_tables, load_refusal, IsLoaded, IsTableRefusal};
 ghost use Rattle.q2_tables.specs.Words.{AreTablesOf, IsReadStop, misplaced_table};
 ghost use Rattle.q2_tables.specs.declared.stop.TablesStop.TheVariants.{Offset};
 
@@ -27,7 +27,9 @@ fn read_table<D: Device>(
     words: &mut [u64],
 ) -> Result<(), TablesStop>
     requires { length buffer.old ≡ 8 * length words.old }
-    ensures told { OnOk result ((file : List ℕ) → D.content dev.old ≡ Some file → words.new ≡ words_at file at (length words.old)) }
+    ensures told { OnOk result
+        ((file : List ℕ) → D.content dev.old ≡ Some file
+        → words.new ≡ words_at file at (length words.old)) }
     ensures stop { IfErr result IsReadStop }
     ensures device { Reads D.Device (fault_of_tables result) dev.old dev.new }
 {
@@ -53,7 +55,9 @@ fn read_l2_tables<D: Device>(
     requires table { length buffer.old ≡ 8 * (length buffer.old / 8) }
     requires whole { length words.old ≡ length l1.now * entries_in_cluster (length buffer.old) }
     requires zeros { (k : ℕ) → slice_index words.old k ≡ 0 }
-    ensures told { OnOk result ((file : List ℕ) → D.content dev.old ≡ Some file → AreTablesOf file (length buffer.old) l1.now words.new) }
+    ensures told { OnOk result
+        ((file : List ℕ) → D.content dev.old ≡ Some file
+        → AreTablesOf file (length buffer.old) l1.now words.new) }
     ensures stop { IfErr result IsReadStop }
     ensures device { Reads D.Device (fault_of_tables result) dev.old dev.new }
 {
@@ -91,7 +95,9 @@ fn read_l1<D: Device>(
     entries: usize,
 ) -> Result<Vec<u64>, TablesStop>
     requires { entries < 2 ^ 32 }
-    ensures told { IfOk result (λ l1. (file : List ℕ) → D.content dev.old ≡ Some file → l1.items ≡ words_at file at entries) }
+    ensures told { IfOk result
+        (λ l1. (file : List ℕ) → D.content dev.old ≡ Some file
+        → l1.items ≡ words_at file at entries) }
     ensures len { IfOk result (λ l1. length l1.items ≡ entries) }
     ensures stop { IfErr result IsReadStop }
     ensures device { Reads D.Device (fault_of_tables result) dev.old dev.new }
@@ -111,8 +117,11 @@ fn read_l2<D: Device>(
 ) -> Result<Vec<u64>, TablesStop>
     requires table { length buffer.old ≡ 8 * (length buffer.old / 8) }
     requires small { length l1.now * entries_in_cluster (length buffer.old) < 2 ^ 62 }
-    ensures told { IfOk result (λ words. (file : List ℕ) → D.content dev.old ≡ Some file → AreTablesOf file (length buffer.old) l1.now words.items) }
-    ensures len { IfOk result (λ words. length words.items ≡ length l1.now * entries_in_cluster (length buffer.old)) }
+    ensures told { IfOk result
+        (λ words. (file : List ℕ) → D.content dev.old ≡ Some file
+        → AreTablesOf file (length buffer.old) l1.now words.items) }
+    ensures len { IfOk result
+        (λ words. length words.items ≡ length l1.now * entries_in_cluster (length buffer.old)) }
     ensures stop { IfErr result IsReadStop }
     ensures device { Reads D.Device (fault_of_tables result) dev.old dev.new }
 {
@@ -131,9 +140,15 @@ fn load_l1<D: Device>(
 ) -> Result<Vec<u64>, TablesStop>
     requires size { c ≡ cluster_size h.now.cluster_bits }
     requires some { 8 ≤ c }
-    ensures told { IfOk result (λ l1. (file : List ℕ) → D.content dev.old ≡ Some file → l1.items ≡ words_at file h.now.l1_offset h.now.l1_size) }
-    ensures refused { IfErr result (λ stop. (file : List ℕ) → D.content dev.old ≡ Some file → IsRefusal stop → load_refusal h.now len (active_tree file h.now) ≡ Some stop) }
-    ensures placed { IfOk result (λ l1. (option_map Offset (bad_l1_table h.now len) ≡ None) × (misplaced_table c len l1.items ≡ None)) }
+    ensures told { IfOk result
+        (λ l1. (file : List ℕ) → D.content dev.old ≡ Some file
+        → l1.items ≡ words_at file h.now.l1_offset h.now.l1_size) }
+    ensures refused { IfErr result
+        (λ stop. (file : List ℕ) → D.content dev.old ≡ Some file → IsTableRefusal stop
+        → load_refusal h.now len (active_tree file h.now) ≡ Some stop) }
+    ensures placed { IfOk result
+        (λ l1. (option_map Offset (bad_l1_table h.now len) ≡ None)
+        × (misplaced_table c len l1.items ≡ None)) }
     ensures entries { IfOk result (λ l1. length l1.items ≡ h.now.l1_size) }
     ensures device { Reads D.Device (fault_of_tables result) dev.old dev.new }
 {
@@ -165,7 +180,8 @@ fn cluster_len(h: &Header, len: u64) -> u64
 /// the first is named. A failed read or want of memory takes the place of what it would have told.
 pub fn load_tables<D: Device>(alloc: Global, dev: &mut D, h: &Header) -> Result<Tables, TablesStop>
     requires { CanBeRead h.now (D.size dev.old) }
-    ensures told { (file : List ℕ) → D.content dev.old ≡ Some file → Loads h.now (D.size dev.old) (active_tree file h.now) result }
+    ensures told { (file : List ℕ) → D.content dev.old ≡ Some file
+        → Loads h.now (D.size dev.old) (active_tree file h.now) result }
     ensures loaded { IfOk result (IsLoaded h.now (D.size dev.old)) }
     ensures device { Reads D.Device (fault_of_tables result) dev.old dev.new }
 {

@@ -34,9 +34,20 @@ impl Model for Tables {
 
     ghost Value = { Kept };
 
-    ghost view = { λ t. record { c = t.cluster_size; l1_offset = t.l1_offset; l1 = t.l1.items; words = t.words.items } };
+    ghost view = { λ t. record {
+      c = t.cluster_size;
+      l1_offset = t.l1_offset;
+      l1 = t.l1.items;
+      words = t.words.items;
+    } };
 
-    ghost invariant = { λ t. AreWhole (record { c = t.cluster_size; l1_offset = t.l1_offset; l1 = t.l1.items; words = t.words.items }) t.buffer.items };
+    ghost invariant = { λ t. AreWhole
+        (record {
+          c = t.cluster_size;
+          l1_offset = t.l1_offset;
+          l1 = t.l1.items;
+          words = t.words.items;
+        }) t.buffer.items };
 }
 
 /// The bit of an L1 entry that says that the refcount of its L2 table is exactly one.
@@ -112,14 +123,22 @@ impl Tables {
     fn link_entry<D: Device>(&mut self, dev: &mut D, cluster: u64, word: u64) -> Result<(), DevStop>
         requires can { CanLink self.old cluster 0 }
         requires plain { is_plain word ≡ true }
-        ensures told { (file : List ℕ) → D.content dev.old ≡ Some file → IsTreeOf self.old.c self.old (tree_at file self.old.c self.old.l1_offset (length self.old.l1))
+        ensures told { (file : List ℕ) → D.content dev.old ≡ Some file
+            → IsTreeOf self.old.c self.old
+            (tree_at file self.old.c self.old.l1_offset (length self.old.l1))
             → LiesApart self.old cluster 0
-            → FileAfter self.new file (D.content dev.new) (entry_at self.old cluster 0) (if is_ok result then 8 else 0) 0 (table_len self.old 0) }
-        ensures stops { (file : List ℕ) → D.content dev.old ≡ Some file → IsTreeOf self.old.c self.old (tree_at file self.old.c self.old.l1_offset (length self.old.l1))
-            → LiesApart self.old cluster 0 → AtEachStop (IsOldOrLinked self.old cluster word 0 file) (link_writes self.old cluster word 0) file }
+            → FileAfter self.new file (D.content dev.new) (entry_at self.old cluster 0)
+            (if is_ok result then 8 else 0) 0 (table_len self.old 0) }
+        ensures stops { (file : List ℕ) → D.content dev.old ≡ Some file
+            → IsTreeOf self.old.c self.old
+            (tree_at file self.old.c self.old.l1_offset (length self.old.l1))
+            → LiesApart self.old cluster 0
+            → AtEachStop (IsOldOrLinked self.old cluster word 0 file)
+            (link_writes self.old cluster word 0) file }
         ensures linked { OnOk result (self.new ≡ with_entry self.old cluster word 0) }
         ensures kept { OnErr result (self.new ≡ self.old) }
-        ensures writes { Writes D.Device (link_writes self.old cluster word 0) (stop_of result) dev.old dev.new }
+        ensures writes { Writes D.Device (link_writes self.old cluster word 0) (stop_of result)
+            dev.old dev.new }
     {
         let entries = self.cluster_size / 8;
         let table = self.table_of(cluster);
@@ -139,15 +158,23 @@ impl Tables {
         requires can { CanLink self.old cluster table }
         requires some { 0 < table }
         requires plain { is_plain word ≡ true }
-        ensures told { (file : List ℕ) → D.content dev.old ≡ Some file → IsTreeOf self.old.c self.old (tree_at file self.old.c self.old.l1_offset (length self.old.l1))
+        ensures told { (file : List ℕ) → D.content dev.old ≡ Some file
+            → IsTreeOf self.old.c self.old
+            (tree_at file self.old.c self.old.l1_offset (length self.old.l1))
             → LiesApart self.old cluster table
-            → FileAfter self.new file (D.content dev.new) (entry_at self.old cluster table) (if is_ok result then 8 else 0) table (table_len self.old table) }
-        ensures stops { (file : List ℕ) → D.content dev.old ≡ Some file → IsTreeOf self.old.c self.old (tree_at file self.old.c self.old.l1_offset (length self.old.l1))
-            → LiesApart self.old cluster table → AtEachStop (IsOldOrLinked self.old cluster word table file) (link_writes self.old cluster word table) file }
+            → FileAfter self.new file (D.content dev.new) (entry_at self.old cluster table)
+            (if is_ok result then 8 else 0) table (table_len self.old table) }
+        ensures stops { (file : List ℕ) → D.content dev.old ≡ Some file
+            → IsTreeOf self.old.c self.old
+            (tree_at file self.old.c self.old.l1_offset (length self.old.l1))
+            → LiesApart self.old cluster table
+            → AtEachStop (IsOldOrLinked self.old cluster word table file)
+            (link_writes self.old cluster word table) file }
         ensures linked { OnOk result (self.new ≡ with_entry self.old cluster word table) }
         ensures kept { OnErr result (self.new ≡ self.old) }
         ensures reaches { OnOk result (table + table_len self.old table ≤ D.size dev.new) }
-        ensures writes { Writes D.Device (link_writes self.old cluster word table) (stop_of result) dev.old dev.new }
+        ensures writes { Writes D.Device (link_writes self.old cluster word table) (stop_of result)
+            dev.old dev.new }
     {
         let entries = self.cluster_size / 8;
         let index = cluster / entries;
@@ -177,14 +204,24 @@ impl Tables {
         requires can { CanLink self.old cluster table }
         requires entry { IsWritable (entry_of to) }
         requires single { CanBeSingle (entry_of to) single }
-        ensures told { (file : List ℕ) → D.content dev.old ≡ Some file → IsTreeOf self.old.c self.old (tree_at file self.old.c self.old.l1_offset (length self.old.l1))
+        ensures told { (file : List ℕ) → D.content dev.old ≡ Some file
+            → IsTreeOf self.old.c self.old
+            (tree_at file self.old.c self.old.l1_offset (length self.old.l1))
             → LiesApart self.old cluster table
-            → FileAfter self.new file (D.content dev.new) (entry_at self.old cluster table) (if is_ok result then 8 else 0) table (table_len self.old table) }
-        ensures linked { OnOk result (self.new ≡ with_entry self.old cluster (l2_spelling (entry_of to) single) table) }
+            → FileAfter self.new file (D.content dev.new) (entry_at self.old cluster table)
+            (if is_ok result then 8 else 0) table (table_len self.old table) }
+        ensures linked { OnOk result
+            (self.new ≡ with_entry self.old cluster (l2_spelling (entry_of to) single) table) }
         ensures kept { OnErr result (self.new ≡ self.old) }
-        ensures writes { Writes D.Device (link_writes self.old cluster (l2_spelling (entry_of to) single) table) (stop_of result) dev.old dev.new }
-        ensures stops { (file : List ℕ) → D.content dev.old ≡ Some file → IsTreeOf self.old.c self.old (tree_at file self.old.c self.old.l1_offset (length self.old.l1))
-            → LiesApart self.old cluster table → AtEachStop (IsOldOrLinked self.old cluster (l2_spelling (entry_of to) single) table file)
+        ensures writes { Writes D.Device
+            (link_writes self.old cluster (l2_spelling (entry_of to) single) table) (stop_of result)
+            dev.old dev.new }
+        ensures stops { (file : List ℕ) → D.content dev.old ≡ Some file
+            → IsTreeOf self.old.c self.old
+            (tree_at file self.old.c self.old.l1_offset (length self.old.l1))
+            → LiesApart self.old cluster table
+            → AtEachStop
+            (IsOldOrLinked self.old cluster (l2_spelling (entry_of to) single) table file)
             (link_writes self.old cluster (l2_spelling (entry_of to) single) table) file }
         ensures reaches { OnOk result (table + table_len self.old table ≤ D.size dev.new) }
         ensures tells { is_some (D.content dev.new) ≡ is_some (D.content dev.old) }

@@ -13,7 +13,7 @@ use Rattle.qmp_codec.specs.Tables.{Rows, members, name_of}
 use Rattle.qmp_codec.specs.Forms.{settled}
 use Rattle.qmp_codec.specs.Walk.{Name, fits, or_else, part_fault, parts_fault, list_fault, value_fault, member_fault, rows_fault, first_fault}
 use Rattle.qmp_codec.specs.Lines.{first_cause, cause_in, arguments_of}
-use Rattle.qmp_codec.specs.Acceptance.{IsPart, AreParts, IsList, IsValue, IsMember, AreMembers, IsAccepted}
+use Rattle.qmp_codec.specs.Acceptance.{IsObjectOrText, AreParts, IsList, IsValue, IsMember, AreMembers, IsAccepted}
 
 none_first : (a b : Option Name) → or_else a b ≡ None → a ≡ None
 none_first None b h = refl
@@ -28,7 +28,7 @@ fits_where true name h = refl
 fits_where false name h = cc
 
 part_ok : (M T : Data → Option Name) (I : Data → Type 0) (ok : (p : Data) → M p ≡ None → T p ≡ None → I p) (name : Name) (texts : Bool) (d : Data)
-    → part_fault None M texts d ≡ None → part_fault (Some name) T texts d ≡ None → IsPart I texts d
+    → part_fault None M texts d ≡ None → part_fault (Some name) T texts d ≡ None → IsObjectOrText I texts d
 part_ok M T I ok name texts (object ms) m t = ok (object ms) m t
 part_ok M T I ok name true (string s) m t = refl
 part_ok M T I ok name false (string s) m t = cc

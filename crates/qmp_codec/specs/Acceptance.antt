@@ -12,14 +12,14 @@ use Rattle.qmp_codec.specs.Forms.{settled}
 use Rattle.qmp_codec.specs.Walk.{Name, fits}
 
 -- an object that is accepted, or a text where texts are
-abbrev pub IsPart : (Data → Type 0) → Bool → Data → Type 0
-IsPart Inner texts (object ms) = Inner (object ms)
-IsPart Inner texts (string s) = texts ≡ true
-IsPart Inner texts d = ⊥
+abbrev pub IsObjectOrText : (Data → Type 0) → Bool → Data → Type 0
+IsObjectOrText Inner texts (object ms) = Inner (object ms)
+IsObjectOrText Inner texts (string s) = texts ≡ true
+IsObjectOrText Inner texts d = ⊥
 
 abbrev pub AreParts : (Data → Type 0) → Bool → Items → Type 0
 AreParts Inner texts no_items = Unit {0}
-AreParts Inner texts (item d ds) = IsPart Inner texts d × AreParts Inner texts ds
+AreParts Inner texts (item d ds) = IsObjectOrText Inner texts d × AreParts Inner texts ds
 
 abbrev pub IsList : (Data → Type 0) → Bool → Data → Type 0
 IsList Inner texts (array ds) = AreParts Inner texts ds
@@ -27,8 +27,8 @@ IsList Inner texts d = ⊥
 
 -- a value of the kind
 abbrev pub IsValue : (Form → Data → Type 0) → Kind → Data → Type 0
-IsValue Inner (Object table) d = IsPart (Inner table) false d
-IsValue Inner (TextOrObject table) d = IsPart (Inner table) true d
+IsValue Inner (Object table) d = IsObjectOrText (Inner table) false d
+IsValue Inner (TextOrObject table) d = IsObjectOrText (Inner table) true d
 IsValue Inner (Objects table) d = IsList (Inner table) false d
 IsValue Inner (TextsOrObjects table) d = IsList (Inner table) true d
 IsValue Inner kind d = fits kind d ≡ true

@@ -65,7 +65,8 @@ bitmap_merge_in d = record {
   bitmaps = sources_or (get (codes "bitmaps") d);
 }
 
-abbrev pub seen_bitmap_merge : BitmapMerge (String Global) (Vec (Source (String Global)) Global) → BitmapMerge (List ℕ) (List (Source (List ℕ)))
+abbrev pub seen_bitmap_merge : BitmapMerge (String Global) (Vec (Source (String Global)) Global)
+    → BitmapMerge (List ℕ) (List (Source (List ℕ)))
 seen_bitmap_merge c = record {
   node = string_bytes c.node;
   target = string_bytes c.target;

@@ -41,7 +41,8 @@ abbrev pub MadeAction : Type 0
 MadeAction = Action (String Global) MadeSources
 
 abbrev pub MadeCommand : Type 0
-MadeCommand = Command (String Global) (Vec (String Global) Global) MadeSources (Vec MadeAction Global)
+MadeCommand =
+    Command (String Global) (Vec (String Global) Global) MadeSources (Vec MadeAction Global)
 
 abbrev pub seen_action : MadeAction → Act
 seen_action action.Abort = action.Abort
@@ -56,10 +57,14 @@ seen_action (action.BitmapMerge c) = action.BitmapMerge (seen_bitmap_merge c)
 seen_action action.Unknown = action.Unknown
 
 abbrev pub seen_transaction : Transaction (Vec MadeAction Global) → Transaction (List Act)
-seen_transaction c = record { actions = map seen_action c.actions.items; completion_mode = c.completion_mode }
+seen_transaction c = record {
+  actions = map seen_action c.actions.items;
+  completion_mode = c.completion_mode;
+}
 
 abbrev pub seen_command : MadeCommand → Cmd
-seen_command (command.Capabilities texts) = command.Capabilities (option_map (λ v. map string_bytes v.items) texts)
+seen_command (command.Capabilities texts) =
+    command.Capabilities (option_map (λ v. map string_bytes v.items) texts)
 seen_command (command.BlockdevCreate c) = command.BlockdevCreate (seen_blockdev_create c)
 seen_command (command.JobDismiss id) = command.JobDismiss (string_bytes id)
 seen_command (command.BlockdevAdd c) = command.BlockdevAdd (seen_blockdev_add c)
@@ -114,10 +119,14 @@ actions_or _ = []
 
 abbrev pub completion_in : Data → Option CompletionMode
 completion_in d =
-    option_map completion_mode_of (option_and_then (text_if (codes "completion-mode")) (get (codes "properties") d))
+    option_map completion_mode_of
+    (option_and_then (text_if (codes "completion-mode")) (get (codes "properties") d))
 
 abbrev pub transaction_in : Data → Transaction (List Act)
-transaction_in d = record { actions = actions_or (get (codes "actions") d); completion_mode = completion_in d }
+transaction_in d = record {
+  actions = actions_or (get (codes "actions") d);
+  completion_mode = completion_in d;
+}
 
 abbrev pub item_text : Data → List ℕ
 item_text (string s) = s
@@ -145,7 +154,8 @@ command_of verb.Stream d = command.BlockStream (stream_in d)
 command_of verb.Commit d = command.BlockCommit (commit_in d)
 command_of verb.Mirror d = command.BlockdevMirror (mirror_in d)
 command_of verb.Backup d = command.BlockdevBackup (backup_in d)
-command_of verb.JobCancel d = command.BlockJobCancel (text_in (codes "device") d) (flag_if (codes "force") d)
+command_of verb.JobCancel d =
+    command.BlockJobCancel (text_in (codes "device") d) (flag_if (codes "force") d)
 command_of verb.JobComplete d = command.BlockJobComplete (text_in (codes "device") d)
 command_of verb.ListJobs d = command.QueryBlockJobs
 command_of verb.ListNodes d = command.QueryNamedBlockNodes (flag_if (codes "flat") d)

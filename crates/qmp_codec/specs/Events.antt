@@ -35,10 +35,12 @@ progress e =
 -- no clock is at hand: seconds and microseconds are -1
 abbrev pub timestamp : Data
 timestamp =
-    object (member (codes "microseconds") (number (negative (negsuc 0))) (member (codes "seconds") (number (negative (negsuc 0))) no_members))
+    object (member (codes "microseconds") (number (negative (negsuc 0)))
+    (member (codes "seconds") (number (negative (negsuc 0))) no_members))
 
 abbrev pub job_data : Event → Data
-job_data e = object (member (codes "device") (string e.device.bytes) (error_before e.error (progress e)))
+job_data e =
+    object (member (codes "device") (string e.device.bytes) (error_before e.error (progress e)))
 
 abbrev pub event_data : Event → Data
 event_data e =

@@ -70,10 +70,10 @@ created_form driver.CopyOnRead = form.CreateOptions
 created_form driver.Unknown = form.CreateOptions
 
 -- the table that the object around names
-abbrev pub named_by : Data → Form → Form
-named_by around form.Arguments = verb_form (verb_of (text_in (codes "execute") around))
-named_by around form.ActionData = deed_form (deed_of (text_in (codes "type") around))
-named_by around table = table
+abbrev pub form_named_by : Data → Form → Form
+form_named_by around form.Arguments = verb_form (verb_of (text_in (codes "execute") around))
+form_named_by around form.ActionData = deed_form (deed_of (text_in (codes "type") around))
+form_named_by around table = table
 
 -- the table that the object's driver names
 abbrev pub driven_by : Data → Form → Form
@@ -83,4 +83,4 @@ driven_by d table = table
 
 -- the table of an object, which stands in a member of the object around
 unfoldable pub settled : Form → Data → Data → Form
-settled table around d = driven_by d (named_by around table)
+settled table around d = driven_by d (form_named_by around table)

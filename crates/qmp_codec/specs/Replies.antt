@@ -23,10 +23,12 @@ returned_data id d = object (id_before id (member (codes "return") d no_members)
 
 abbrev pub error_data : Class → List ℕ → Data
 error_data class desc =
-    object (member (codes "class") (string (class_text class)) (member (codes "desc") (string desc) no_members))
+    object (member (codes "class") (string (class_text class))
+    (member (codes "desc") (string desc) no_members))
 
 abbrev pub refused_data : Option Data → Class → List ℕ → Data
-refused_data id class desc = object (member (codes "error") (error_data class desc) (id_before id no_members))
+refused_data id class desc =
+    object (member (codes "error") (error_data class desc) (id_before id no_members))
 
 abbrev pub reply_data : Option Data → Reply → Data
 reply_data id (Return value) = returned_data id (view value)

@@ -42,7 +42,8 @@ members form.Arguments = []
 members form.ActionData = []
 members form.NoMembers = []
 members form.Capabilities = Takes (codes "enable") Texts ∷ []
-members form.Create = Needs (codes "job-id") Text ∷ Needs (codes "options") (Object form.CreateOptions) ∷ []
+members form.Create =
+    Needs (codes "job-id") Text ∷ Needs (codes "options") (Object form.CreateOptions) ∷ []
 members form.CreateOptions = Needs (codes "driver") Text ∷ Takes (codes "size") Integer ∷ []
 members form.CreateFile =
     Needs (codes "driver") Text
@@ -68,7 +69,8 @@ members form.AddRaw =
     ∷ Takes (codes "size") Integer
     ∷ []
 members form.AddQcow2 =
-    added_members ++ Needs (codes "file") (TextOrObject form.InlineFile) ∷ Takes (codes "backing") TextOrNull ∷ []
+    added_members ++ Needs (codes "file") (TextOrObject form.InlineFile)
+    ∷ Takes (codes "backing") TextOrNull ∷ []
 members form.AddCopyOnRead = added_members ++ Needs (codes "file") Text ∷ []
 members form.InlineFile =
     Needs (codes "driver") Text

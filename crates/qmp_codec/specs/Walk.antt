@@ -88,9 +88,11 @@ value_fault otherwise inner (Objects table) d = list_fault otherwise (inner tabl
 value_fault otherwise inner (TextsOrObjects table) d = list_fault otherwise (inner table) true d
 value_fault otherwise inner kind d = if fits kind d then None else otherwise
 
-abbrev pub member_fault : Search → (Form → Data → Option Name) → Row Name → Option Data → Option Name
+abbrev pub member_fault : Search → (Form → Data → Option Name) → Row Name → Option Data
+    → Option Name
 member_fault search inner row None = absent search row
-member_fault search inner row (Some d) = value_fault (wrong search (name_of row)) inner (kind_of row) d
+member_fault search inner row (Some d) =
+    value_fault (wrong search (name_of row)) inner (kind_of row) d
 
 abbrev pub rows_fault : Search → (Form → Data → Option Name) → Data → Rows → Option Name
 rows_fault search inner d [] = None
@@ -101,7 +103,8 @@ rows_fault search inner d (row ∷ rows) =
 unfoldable pub first_fault : ℕ → Search → Form → Data → Data → Option Name
 first_fault zero search table around d = None
 first_fault (suc depth) search table around d =
-    rows_fault search (λ inner part. first_fault depth search inner d part) d (members (settled table around d))
+    rows_fault search
+    (λ inner part. first_fault depth search inner d part) d (members (settled table around d))
 
 -- ---- the least name that no table accepts
 
@@ -131,7 +134,8 @@ part_unknown inner d = None
 -- the least of what was found and all items
 abbrev pub least_of_parts : (Data → Option Name) → Option Name → Items → Option Name
 least_of_parts inner found no_items = found
-least_of_parts inner found (item d ds) = least_of_parts inner (least found (part_unknown inner d)) ds
+least_of_parts inner found (item d ds) =
+    least_of_parts inner (least found (part_unknown inner d)) ds
 
 -- the least of the first item that has one
 abbrev pub least_of_first : (Data → Option Name) → Items → Option Name
@@ -169,4 +173,5 @@ unfoldable pub least_unknown : ℕ → Form → Data → Data → Option Name
 least_unknown zero table around d = None
 least_unknown (suc depth) table around d =
     let rows = members (settled table around d) in
-    least (members_unknown rows d) (rows_unknown (λ inner part. least_unknown depth inner d part) d None rows)
+    least (members_unknown rows d)
+    (rows_unknown (λ inner part. least_unknown depth inner d part) d None rows)

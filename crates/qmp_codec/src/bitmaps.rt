@@ -83,7 +83,8 @@ fn read_items(alloc: Global, items: &Vec<Value>) -> Result<Vec<Source>, AllocErr
 }
 
 fn read_sources(alloc: Global, object: &Value) -> Result<Vec<Source>, AllocError>
-    ensures { IfOk result (λ v. map seen_source v.items ≡ sources_or (get (codes "bitmaps") (view object.now))) }
+    ensures { IfOk result
+        (λ v. map seen_source v.items ≡ sources_or (get (codes "bitmaps") (view object.now))) }
 {
     match object.get("bitmaps") {
         Some(Value::Array(items)) => Ok(read_items(alloc, items)?),

@@ -120,7 +120,8 @@ fn read_items(alloc: Global, items: &Vec<Value>) -> Result<Vec<Action>, AllocErr
 }
 
 fn read_actions(alloc: Global, object: &Value) -> Result<Vec<Action>, AllocError>
-    ensures { IfOk result (λ v. map seen_action v.items ≡ actions_or (get (codes "actions") (view object.now))) }
+    ensures { IfOk result
+        (λ v. map seen_action v.items ≡ actions_or (get (codes "actions") (view object.now))) }
 {
     match object.get("actions") {
         Some(Value::Array(items)) => Ok(read_items(alloc, items)?),
@@ -166,7 +167,9 @@ fn to_text(alloc: Global, item: &Value) -> Result<String, AllocError>
 }
 
 fn maybe_texts(alloc: Global, object: &Value, name: &str) -> Result<Option<Vec<String>>, AllocError>
-    ensures { IfOk result (λ o. option_map (λ v. map string_bytes v.items) o ≡ texts_if (get name.now (view object.now))) }
+    ensures { IfOk result
+        (λ o. option_map (λ v. map string_bytes v.items) o
+        ≡ texts_if (get name.now (view object.now))) }
 {
     match object.get(name) {
         Some(Value::Array(items)) => Ok(Some(read_texts(alloc, items)?)),

@@ -74,7 +74,8 @@ pub struct Event {
 
 /// What a job that failed tells of itself.
 fn failed_value(alloc: Global, event: &Event, error: &Text) -> Result<Value, AllocError>
-    ensures { IfOk result (λ v. view v ≡ object (member (codes "device") (string event.now.device.bytes)
+    ensures { IfOk result
+        (λ v. view v ≡ object (member (codes "device") (string event.now.device.bytes)
         (error_before (Some error.now) (progress event.now)))) }
 {
     let device = event.device.as_str();
@@ -86,7 +87,8 @@ fn failed_value(alloc: Global, event: &Event, error: &Text) -> Result<Value, All
 
 /// What a job that didn't fail tells of itself.
 fn sound_value(alloc: Global, event: &Event) -> Result<Value, AllocError>
-    ensures { IfOk result (λ v. view v ≡ object (member (codes "device") (string event.now.device.bytes)
+    ensures { IfOk result
+        (λ v. view v ≡ object (member (codes "device") (string event.now.device.bytes)
         (error_before None (progress event.now)))) }
 {
     let device = event.device.as_str();

@@ -2,7 +2,7 @@
 
 ghost use Rattle.std.specs.Prelude.{◌≡◌};
 ghost use Rattle.serde_json.specs.View.{view};
-ghost use Rattle.qmp_codec.specs.Forms.{text_in, verb_form, deed_form, added_form, created_form, named_by, driven_by, settled};
+ghost use Rattle.qmp_codec.specs.Forms.{text_in, verb_form, deed_form, added_form, created_form, form_named_by, driven_by, settled};
 
 use crate::verb::{Deed, Driver, Verb, named_deed, named_driver, named_verb};
 use serde_json::Value;
@@ -127,7 +127,7 @@ fn created_table(driver: Driver) -> Form
 
 /// The table that the object around names.
 fn by_name(form: Form, around: &Value) -> Form
-    ensures { result ≡ named_by (view around.now) form }
+    ensures { result ≡ form_named_by (view around.now) form }
 {
     match form {
         Form::Arguments => verb_table(named_verb(text_of(around, "execute"))),

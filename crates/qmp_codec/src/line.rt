@@ -50,7 +50,8 @@ fn copied(alloc: Global, name: &str) -> Result<String, AllocError>
 fn check(alloc: Global, line: &Value, arguments: &Value) -> Result<(), CodecStop>
     requires { view arguments.now ≡ arguments_of (view line.now) }
     ensures ok { OnOk result (cause_in (view line.now) ≡ None) }
-    ensures refused { IfErr result (λ stop. (stop ≡ CodecStop.NoMemory) ⊎ (cause_in (view line.now) ≡ Some (seen_stop stop))) }
+    ensures refused { IfErr result
+        (λ stop. (stop ≡ CodecStop.NoMemory) ⊎ (cause_in (view line.now) ≡ Some (seen_stop stop))) }
 {
     if let Some(name) = object_fault(Search::Missing, DEPTH - 1, Form::Arguments, line, arguments) {
         return Err(CodecStop::Missing(copied(alloc, name)?));
@@ -68,9 +69,12 @@ fn check(alloc: Global, line: &Value, arguments: &Value) -> Result<(), CodecStop
 /// The command of a line with these arguments.
 fn read_named(alloc: Global, line: &Value, arguments: &Value) -> Result<Command, CodecStop>
     requires { view arguments.now ≡ arguments_of (view line.now) }
-    ensures ok { IfOk result (λ c. command_for (verb_of (text_in (codes "execute") (view line.now))) (view line.now) ≡ Ok (seen_command c)) }
+    ensures ok { IfOk result
+        (λ c. command_for (verb_of (text_in (codes "execute") (view line.now))) (view line.now)
+        ≡ Ok (seen_command c)) }
     ensures refused { IfErr result (λ stop. (stop ≡ CodecStop.NoMemory)
-        ⊎ (command_for (verb_of (text_in (codes "execute") (view line.now))) (view line.now) ≡ Err (seen_stop stop))) }
+        ⊎ (command_for (verb_of (text_in (codes "execute") (view line.now))) (view line.now)
+        ≡ Err (seen_stop stop))) }
 {
     let name = text_of(line, "execute");
     let Some(verb) = named_verb(name) else {
@@ -82,9 +86,12 @@ fn read_named(alloc: Global, line: &Value, arguments: &Value) -> Result<Command,
 
 /// The command of an object with a text `execute`.
 fn read_object(alloc: Global, line: &Value) -> Result<Command, CodecStop>
-    ensures ok { IfOk result (λ c. command_for (verb_of (text_in (codes "execute") (view line.now))) (view line.now) ≡ Ok (seen_command c)) }
+    ensures ok { IfOk result
+        (λ c. command_for (verb_of (text_in (codes "execute") (view line.now))) (view line.now)
+        ≡ Ok (seen_command c)) }
     ensures refused { IfErr result (λ stop. (stop ≡ CodecStop.NoMemory)
-        ⊎ (command_for (verb_of (text_in (codes "execute") (view line.now))) (view line.now) ≡ Err (seen_stop stop))) }
+        ⊎ (command_for (verb_of (text_in (codes "execute") (view line.now))) (view line.now)
+        ≡ Err (seen_stop stop))) }
 {
     let nothing = Value::Null;
     match line.get("arguments") {
@@ -97,7 +104,8 @@ fn read_object(alloc: Global, line: &Value) -> Result<Command, CodecStop>
 #[tactic(auto, unfolding(crate::specs::Lines::command_at))]
 pub fn read_command(alloc: Global, line: &str) -> Result<Command, CodecStop>
     ensures ok { IfOk result (λ c. command_at line.now ≡ Ok (seen_command c)) }
-    ensures refused { IfErr result (λ stop. (stop ≡ CodecStop.NoMemory) ⊎ (command_at line.now ≡ Err (seen_stop stop))) }
+    ensures refused { IfErr result
+        (λ stop. (stop ≡ CodecStop.NoMemory) ⊎ (command_at line.now ≡ Err (seen_stop stop))) }
 {
     let Some(object) = read_line(alloc, line)? else {
         return Err(CodecStop::BadJson);
@@ -106,7 +114,9 @@ pub fn read_command(alloc: Global, line: &str) -> Result<Command, CodecStop>
 }
 
 fn id_of(object: &Value) -> Result<Option<Value>, AllocError>
-    ensures { IfOk result (λ o. option_map view o ≡ option_and_then unless_fraction (get (codes "id") (view object.now))) }
+    ensures { IfOk result
+        (λ o. option_map view o
+        ≡ option_and_then unless_fraction (get (codes "id") (view object.now))) }
 {
     match object.get("id") {
         Some(id) if !has_fraction(id) => Ok(Some(id.clone()?)),

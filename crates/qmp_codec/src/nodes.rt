@@ -213,7 +213,8 @@ fn read_file_ref(alloc: Global, object: &Value) -> Result<FileRef, AllocError>
 }
 
 fn maybe_backing(alloc: Global, object: &Value) -> Result<Option<Backing>, AllocError>
-    ensures { IfOk result (λ c. option_map seen_backing c ≡ backing_if (get (codes "backing") (view object.now))) }
+    ensures { IfOk result
+        (λ c. option_map seen_backing c ≡ backing_if (get (codes "backing") (view object.now))) }
 {
     match object.get("backing") {
         Some(Value::Null) => Ok(Some(Backing::Null)),

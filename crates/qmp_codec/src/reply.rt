@@ -44,7 +44,8 @@ pub enum Reply {
 }
 
 fn returned(alloc: Global, id: Option<&Value>, value: &Value) -> Result<Value, AllocError>
-    ensures { IfOk result (λ v. view v ≡ returned_data (option_map (λ w. view w.now) id.entry) (view value.now)) }
+    ensures { IfOk result
+        (λ v. view v ≡ returned_data (option_map (λ w. view w.now) id.entry) (view value.now)) }
 {
     match id {
         Some(id) => json!(in alloc; {"id": id, "return": value}),
@@ -59,7 +60,8 @@ fn error_value(alloc: Global, class: Class, desc: &str) -> Result<Value, AllocEr
 }
 
 fn refused(alloc: Global, id: Option<&Value>, class: Class, desc: &str) -> Result<Value, AllocError>
-    ensures { IfOk result (λ v. view v ≡ refused_data (option_map (λ w. view w.now) id.entry) class desc.now) }
+    ensures { IfOk result
+        (λ v. view v ≡ refused_data (option_map (λ w. view w.now) id.entry) class desc.now) }
 {
     let error = error_value(alloc, class, desc)?;
     match id {
@@ -69,7 +71,8 @@ fn refused(alloc: Global, id: Option<&Value>, class: Class, desc: &str) -> Resul
 }
 
 fn built(alloc: Global, id: Option<&Value>, reply: &Reply) -> Result<Value, AllocError>
-    ensures { IfOk result (λ v. view v ≡ reply_data (option_map (λ w. view w.now) id.entry) reply.now) }
+    ensures { IfOk result
+        (λ v. view v ≡ reply_data (option_map (λ w. view w.now) id.entry) reply.now) }
 {
     match reply {
         Reply::Return(value) => Ok(returned(alloc, id, value)?),
@@ -79,8 +82,10 @@ fn built(alloc: Global, id: Option<&Value>, reply: &Reply) -> Result<Value, Allo
 
 /// The compact text of a value.
 pub(crate) fn printed(alloc: Global, value: &Value) -> Result<Text, NoMemory>
-    ensures text { IfOk result (λ t. has_float (view value.now) ≡ false → t.bytes ≡ compact_text (view value.now)) }
-    ensures reads_back { IfOk result (λ t. depth (view value.now) ≤ max_depth → read t.bytes ≡ Some (view value.now)) }
+    ensures text { IfOk result
+        (λ t. has_float (view value.now) ≡ false → t.bytes ≡ compact_text (view value.now)) }
+    ensures reads_back { IfOk result
+        (λ t. depth (view value.now) ≤ max_depth → read t.bytes ≡ Some (view value.now)) }
 {
     let text = value.to_string(alloc)?;
     Ok(Text::from_string(text))
@@ -89,9 +94,11 @@ pub(crate) fn printed(alloc: Global, value: &Value) -> Result<Text, NoMemory>
 /// The line of a reply, without an end of line: compact, members ascending. Where no number in it has a fraction or an
 /// exponent, the text is given exactly. It reads back as the same value, up to 127 levels deep.
 pub fn print_reply(alloc: Global, id: Option<&Value>, reply: &Reply) -> Result<Text, NoMemory>
-    ensures text { IfOk result (λ t. has_float (reply_data (option_map (λ w. view w.now) id.entry) reply.now) ≡ false
+    ensures text { IfOk result
+        (λ t. has_float (reply_data (option_map (λ w. view w.now) id.entry) reply.now) ≡ false
         → t.bytes ≡ compact_text (reply_data (option_map (λ w. view w.now) id.entry) reply.now)) }
-    ensures reads_back { IfOk result (λ t. depth (reply_data (option_map (λ w. view w.now) id.entry) reply.now) ≤ max_depth
+    ensures reads_back { IfOk result
+        (λ t. depth (reply_data (option_map (λ w. view w.now) id.entry) reply.now) ≤ max_depth
         → read t.bytes ≡ Some (reply_data (option_map (λ w. view w.now) id.entry) reply.now)) }
 {
     let value = built(alloc, id, reply)?;

@@ -13,7 +13,8 @@ use std::cmp::Ordering;
 
 /// The least of two names, where there is one.
 fn lesser<'a>(one: Option<&'a str>, other: Option<&'a str>) -> Option<&'a str>
-    ensures { option_map (λ s. s.now) result ≡ least (option_map (λ s. s.now) one.entry) (option_map (λ s. s.now) other.entry) }
+    ensures { option_map (λ s. s.now) result
+        ≡ least (option_map (λ s. s.now) one.entry) (option_map (λ s. s.now) other.entry) }
 {
     match (one, other) {
         (Some(a), Some(b)) => match a.cmp(b) {
@@ -44,7 +45,8 @@ fn unknown_member<'a>(
     rows: &[Row<&'static str>],
     members: &'a Map<String, Value>,
 ) -> Option<&'a str>
-    ensures { option_map (λ s. s.now) result ≡ unknown_in (map named rows.now) None (members_view members.now.entries) }
+    ensures { option_map (λ s. s.now) result
+        ≡ unknown_in (map named rows.now) None (members_view members.now.entries) }
 {
     let mut found = None;
     for (name, _) in members.iter() {
@@ -56,7 +58,8 @@ fn unknown_member<'a>(
 }
 
 fn own_unknown<'a>(rows: &[Row<&'static str>], object: &'a Value) -> Option<&'a str>
-    ensures { option_map (λ s. s.now) result ≡ members_unknown (map named rows.now) (view object.now) }
+    ensures { option_map (λ s. s.now) result
+        ≡ members_unknown (map named rows.now) (view object.now) }
 {
     match object {
         Value::Object(members) => unknown_member(rows, members),
@@ -74,7 +77,8 @@ pub(crate) fn object_unknown<'a>(
     around: &Value,
     object: &'a Value,
 ) -> Option<&'a str>
-    ensures { option_map (λ s. s.now) result ≡ least_unknown depth form (view around.now) (view object.now) }
+    ensures { option_map (λ s. s.now) result
+        ≡ least_unknown depth form (view around.now) (view object.now) }
 {
     if depth == 0 {
         return None;
@@ -90,7 +94,8 @@ pub(crate) fn object_unknown<'a>(
 #[tactic(auto, using(crate::proofs::Items::rows_step, crate::proofs::Items::rows_end))]
 fn inner_unknown<'a>(depth: u8, rows: &[Row<&'static str>], object: &'a Value) -> Option<&'a str>
     ensures { option_map (λ s. s.now) result ≡ rows_unknown
-        (λ inner part. least_unknown depth inner (view object.now) part) (view object.now) None (map named rows.now) }
+        (λ inner part. least_unknown depth inner (view object.now) part) (view object.now) None
+        (map named rows.now) }
 {
     let mut found = None;
     for row in rows {

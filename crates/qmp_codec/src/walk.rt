@@ -146,7 +146,8 @@ pub(crate) fn object_fault(
     around: &Value,
     object: &Value,
 ) -> Option<&'static str>
-    ensures { option_map (λ s. s.now) result ≡ first_fault depth search form (view around.now) (view object.now) }
+    ensures { option_map (λ s. s.now) result
+        ≡ first_fault depth search form (view around.now) (view object.now) }
 {
     if depth == 0 {
         return None;
@@ -187,7 +188,8 @@ fn value_fault(
     value: &Value,
 ) -> Option<&'static str>
     ensures { option_map (λ s. s.now) result ≡ value_fault (wrong search name.now)
-        (λ inner part. first_fault depth search inner (view around.now) part) kind (view value.now) }
+        (λ inner part. first_fault depth search inner (view around.now) part) kind
+        (view value.now) }
 {
     match kind {
         Kind::Object(form) => part_fault(
@@ -256,7 +258,8 @@ fn parts_fault(
     items: &Vec<Value>,
 ) -> Option<&'static str>
     ensures { option_map (λ s. s.now) result ≡ parts_fault (wrong search name.now)
-        (λ p. first_fault depth search part.form (view around.now) p) part.texts (items_view items.now.items) }
+        (λ p. first_fault depth search part.form (view around.now) p) part.texts
+        (items_view items.now.items) }
 {
     for item in items {
         if let Some(found) = part_fault(search, depth, part, around, name, item) {

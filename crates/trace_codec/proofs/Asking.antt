@@ -14,7 +14,7 @@ use Rattle.trace_codec.specs.declared.line.Line.TheVariants.{Passed, Asks, Bad}
 use Rattle.trace_codec.specs.declared.stop.TraceStop.{TraceStop}
 use Rattle.trace_codec.specs.declared.stop.TraceStop.TheVariants.{TooMany}
 use Rattle.trace_codec.specs.Number.{◌>>=◌, number_of, below}
-use Rattle.trace_codec.specs.Hex.{byte_of, bytes_of, payload_of}
+use Rattle.trace_codec.specs.Hex.{byte_of, bytes_of_digits, payload_of}
 use Rattle.trace_codec.specs.Line.{offset_of, length_of, span_in, read_in, fill_in, zero_in, write_in, raw_in, flush_in, discard_in, request_in, words_of, asked, line_of}
 use Rattle.trace_codec.specs.Amounts.{Amounts}
 use Rattle.trace_codec.specs.Reading.{Reading}
@@ -71,12 +71,12 @@ byte_is high low byte h = ⊎_elim
     (λ f. let no : None ≡ Some byte = rw f at h in cc)
     (cases_Bool (is_digit high 16 && is_digit low 16))
 
-bytes_are : (digits bytes : List ℕ) → bytes_of digits ≡ Some bytes → AllByRecursion (λ byte. byte < 256) bytes
+bytes_are : (digits bytes : List ℕ) → bytes_of_digits digits ≡ Some bytes → AllByRecursion (λ byte. byte < 256) bytes
 bytes_are [] bytes h = let same : [] ≡ bytes = cc in subst (AllByRecursion (λ byte. byte < 256)) same tt
 bytes_are (digit ∷ []) bytes h = cc
 bytes_are (high ∷ low ∷ digits) bytes h =
-    let d = led (byte_of high low) (λ byte. bytes_of digits >>= (λ rest. Some (byte ∷ rest))) bytes h in
-    let e = led (bytes_of digits) (λ rest. Some (d.0 ∷ rest)) bytes d.2 in
+    let d = led (byte_of high low) (λ byte. bytes_of_digits digits >>= (λ rest. Some (byte ∷ rest))) bytes h in
+    let e = led (bytes_of_digits digits) (λ rest. Some (d.0 ∷ rest)) bytes d.2 in
     let same : d.0 ∷ e.0 ≡ bytes = cc e.2 in
     subst (AllByRecursion (λ byte. byte < 256)) same (byte_is high low d.0 d.1, bytes_are digits e.0 e.1)
 
@@ -88,7 +88,7 @@ record IsBytes (bytes : List ℕ) : Type 0 where
 
 payload_is : (word bytes : List ℕ) → payload_of word ≡ Some bytes → IsBytes bytes
 payload_is word bytes h =
-    let d = led (bytes_of word) (λ found. cond (eqb (length found) 0 || ltb 2097152 (length found)) None (Some found)) bytes h in
+    let d = led (bytes_of_digits word) (λ found. cond (eqb (length found) 0 || ltb 2097152 (length found)) None (Some found)) bytes h in
     ⊎_elim
     (λ t. let no : None ≡ Some bytes = rw t at d.2 in cc)
     (λ f.

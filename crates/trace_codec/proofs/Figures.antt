@@ -8,7 +8,7 @@ use Rattle.std.proofs.lemmas.Fmt.{decimal_by_steps}
 use Rattle.std.proofs.lemmas.List.Elements.{All-from_recursion}
 use Rattle.std.proofs.lemmas.Str.{digit_value-digit_char}
 use Rattle.trace_codec.specs.Number.{digits_after, unit_of, number_of, below}
-use Rattle.trace_codec.specs.Hex.{byte_of, bytes_of, payload_of, hex}
+use Rattle.trace_codec.specs.Hex.{byte_of, bytes_of_digits, payload_of, hex}
 use Rattle.trace_codec.proofs.Numerals.{numeral_is, below_small}
 
 -- a word of a line: no space and no line feed is in it
@@ -107,7 +107,7 @@ byte_read byte small =
     let whole : byte / 16 * 16 + byte % 16 ≡ byte = omega arith in
     rw (high, low, h, l, whole) refl
 
-pub hex_read : (bytes : List ℕ) → AllByRecursion (λ byte. byte < 256) bytes → bytes_of (hex bytes) ≡ Some bytes
+pub hex_read : (bytes : List ℕ) → AllByRecursion (λ byte. byte < 256) bytes → bytes_of_digits (hex bytes) ≡ Some bytes
 hex_read [] all = refl
 hex_read (byte ∷ bytes) all = rw (byte_read byte all.0) (rw (hex_read bytes all.1) refl)
 

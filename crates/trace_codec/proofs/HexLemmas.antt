@@ -3,7 +3,7 @@ use Rattle.std.proofs.Common.{◌≡◌, ℕ, ◌+◌, ◌*◌, ◌/◌, ◌%◌
 use Rattle.std.specs.Option.{option_map}
 use Rattle.std.proofs.lemmas.List.{drop_more}
 use Rattle.trace_codec.specs.Number.{◌>>=◌}
-use Rattle.trace_codec.specs.Hex.{byte_of, bytes_of, payload_of}
+use Rattle.trace_codec.specs.Hex.{byte_of, bytes_of_digits, payload_of}
 
 -- bytes behind others that were read
 abbrev pub behind : List ℕ → Option (List ℕ) → Option (List ℕ)
@@ -23,28 +23,28 @@ byte_more front byte (Some bytes) = ap (λ (l : List ℕ). Some l) (append_assoc
 
 -- one pair more
 pub pair_read : (digits front : List ℕ) (k byte : ℕ) → 2 * k + 1 < length digits → byte_of (get_or digits (2 * k) 0) (get_or digits (2 * k + 1) 0) ≡ Some byte →
-    behind (front ++ byte ∷ []) (bytes_of (drop (2 * (k + 1)) digits)) ≡ behind front (bytes_of (drop (2 * k) digits))
-pair_read digits front k byte h e = rw (pair_at digits k h) (rw e (byte_more front byte (bytes_of (drop (2 * (k + 1)) digits))))
+    behind (front ++ byte ∷ []) (bytes_of_digits (drop (2 * (k + 1)) digits)) ≡ behind front (bytes_of_digits (drop (2 * k) digits))
+pair_read digits front k byte h e = rw (pair_at digits k h) (rw e (byte_more front byte (bytes_of_digits (drop (2 * (k + 1)) digits))))
 
 -- a pair that is no byte
 pub pair_refused : (digits front : List ℕ) (k : ℕ) → 2 * k + 1 < length digits → byte_of (get_or digits (2 * k) 0) (get_or digits (2 * k + 1) 0) ≡ None →
-    behind front (bytes_of (drop (2 * k) digits)) ≡ bytes_of digits → bytes_of digits ≡ None
-pair_refused digits front k h e all = let none : bytes_of (drop (2 * k) digits) ≡ None = rw (pair_at digits k h) (rw e refl) in rw none at (sym all)
+    behind front (bytes_of_digits (drop (2 * k) digits)) ≡ bytes_of_digits digits → bytes_of_digits digits ≡ None
+pair_refused digits front k h e all = let none : bytes_of_digits (drop (2 * k) digits) ≡ None = rw (pair_at digits k h) (rw e refl) in rw none at (sym all)
 
 -- all pairs were read
-rest_even : (front rest : List ℕ) → length rest ≡ 0 → behind front (bytes_of rest) ≡ Some front
+rest_even : (front rest : List ℕ) → length rest ≡ 0 → behind front (bytes_of_digits rest) ≡ Some front
 rest_even front [] h = ap (λ (l : List ℕ). Some l) (append-nil front)
 rest_even front (d ∷ rest) h = absurd (omega arith)
 
-rest_odd : (front rest : List ℕ) → length rest ≡ 1 → behind front (bytes_of rest) ≡ None
+rest_odd : (front rest : List ℕ) → length rest ≡ 1 → behind front (bytes_of_digits rest) ≡ None
 rest_odd front [] h = absurd (omega arith)
 rest_odd front (d ∷ []) h = refl
 rest_odd front (d ∷ e ∷ rest) h = absurd (omega arith)
 
-pub pairs_end : (digits front : List ℕ) → length digits % 2 ≡ 0 → behind front (bytes_of (drop (2 * (length digits / 2)) digits)) ≡ bytes_of digits → Some front ≡ bytes_of digits
+pub pairs_end : (digits front : List ℕ) → length digits % 2 ≡ 0 → behind front (bytes_of_digits (drop (2 * (length digits / 2)) digits)) ≡ bytes_of_digits digits → Some front ≡ bytes_of_digits digits
 pairs_end digits front even all = sym (rest_even front (drop (2 * (length digits / 2)) digits) (omega (arith, length-drop (2 * (length digits / 2)) digits))) ∙ all
 
-pub digit_left : (digits front : List ℕ) → (length digits % 2 ≡ 0 → ⊥) → behind front (bytes_of (drop (2 * (length digits / 2)) digits)) ≡ bytes_of digits → bytes_of digits ≡ None
+pub digit_left : (digits front : List ℕ) → (length digits % 2 ≡ 0 → ⊥) → behind front (bytes_of_digits (drop (2 * (length digits / 2)) digits)) ≡ bytes_of_digits digits → bytes_of_digits digits ≡ None
 digit_left digits front odd all = sym all ∙ rest_odd front (drop (2 * (length digits / 2)) digits) (omega (arith, length-drop (2 * (length digits / 2)) digits))
 
 -- each byte takes two digits
@@ -54,13 +54,13 @@ two_more digits bytes None rest ih h = cc
 two_more digits bytes (Some b) None ih h = cc
 two_more digits bytes (Some b) (Some found) ih h = let same : b ∷ found ≡ bytes = cc in omega (arith, ih found refl, ap length same)
 
-pub two_each : (digits bytes : List ℕ) → bytes_of digits ≡ Some bytes → length digits ≡ 2 * length bytes
+pub two_each : (digits bytes : List ℕ) → bytes_of_digits digits ≡ Some bytes → length digits ≡ 2 * length bytes
 two_each [] bytes h = let same : [] ≡ bytes = cc in omega (arith, ap length same)
 two_each (d ∷ []) bytes h = cc
-two_each (a ∷ b ∷ digits) bytes h = omega (arith, two_more digits bytes (byte_of a b) (bytes_of digits) (two_each digits) h)
+two_each (a ∷ b ∷ digits) bytes h = omega (arith, two_more digits bytes (byte_of a b) (bytes_of_digits digits) (two_each digits) h)
 
 -- no payload has so few or so many digits
-no_payload : (word : List ℕ) (found : Option (List ℕ)) → bytes_of word ≡ found → (length word / 2 ≡ 0) ⊎ (2097152 < length word / 2) → payload_of word ≡ None
+no_payload : (word : List ℕ) (found : Option (List ℕ)) → bytes_of_digits word ≡ found → (length word / 2 ≡ 0) ⊎ (2097152 < length word / 2) → payload_of word ≡ None
 no_payload word None e h = rw e refl
 no_payload word (Some bytes) e (inl few) =
     let none : eqb (length bytes) 0 ≡ true = eq-eqb _ _ (omega (arith, two_each word bytes e)) in
@@ -71,15 +71,15 @@ no_payload word (Some bytes) e (inr many) =
     rw e (rw (some, large) refl)
 
 pub not_payload : (word : List ℕ) → (length word / 2 ≡ 0) ⊎ (2097152 < length word / 2) → None ≡ payload_of word
-not_payload word h = sym (no_payload word (bytes_of word) refl h)
+not_payload word h = sym (no_payload word (bytes_of_digits word) refl h)
 
 -- where the digits are neither, the payload is their bytes
-is_payload : (word : List ℕ) (found : Option (List ℕ)) → bytes_of word ≡ found → 0 < length word / 2 → length word / 2 ≤ 2097152 → payload_of word ≡ found
+is_payload : (word : List ℕ) (found : Option (List ℕ)) → bytes_of_digits word ≡ found → 0 < length word / 2 → length word / 2 ≤ 2097152 → payload_of word ≡ found
 is_payload word None e some most = rw e refl
 is_payload word (Some bytes) e some most =
     let none : eqb (length bytes) 0 ≡ false = ne_eqb _ _ (omega (arith, two_each word bytes e)) in
     let small : ltb 2097152 (length bytes) ≡ false = le-ltb _ _ (omega (arith, two_each word bytes e)) in
     rw e (rw (none, small) refl)
 
-pub payload_is : (word : List ℕ) (found : Option (List ℕ)) → found ≡ bytes_of word → 0 < length word / 2 → length word / 2 ≤ 2097152 → found ≡ payload_of word
+pub payload_is : (word : List ℕ) (found : Option (List ℕ)) → found ≡ bytes_of_digits word → 0 < length word / 2 → length word / 2 ≤ 2097152 → found ≡ payload_of word
 payload_is word found e some most = sym (is_payload word found (sym e) some most)

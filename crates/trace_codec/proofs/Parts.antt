@@ -6,17 +6,17 @@ use Rattle.std.proofs.lemmas.List.Splits.{slice_split_at, slice_split_none, leng
 use Rattle.std.specs.Prelude.{codes}
 use Rattle.std.specs.Str.{bytes_eq}
 use Rattle.trace_codec.specs.declared.op.Op.{Op}
-use Rattle.trace_codec.specs.Cut.{IsFirst, parts_of}
+use Rattle.trace_codec.specs.Cut.{IsFirstAt, parts_of}
 use Rattle.trace_codec.specs.Line.{words_of, span_in, raw_in, flush_in, request_in}
 
-none_before : (s at : ℕ) (bytes : List ℕ) → IsFirst s at bytes → All (λ b. eqb b s ≡ false) (take at bytes)
+none_before : (s at : ℕ) (bytes : List ℕ) → IsFirstAt s at bytes → All (λ b. eqb b s ≡ false) (take at bytes)
 none_before s at bytes h k d below =
     let near : k < at = omega (arith, length-take at bytes) in
     let inside : k < length bytes = omega (arith, h.within) in
     ne_eqb _ _ (rw get_or-take (rw (get_or_default bytes k d 0 inside) (h.before k near)))
 
 -- the bytes before the first separator are the first part
-pub cut_at : (s at : ℕ) (bytes : List ℕ) → IsFirst s at bytes → slice_split (λ b. eqb b s) bytes ≡ take at bytes ∷ slice_split (λ b. eqb b s) (take (length bytes - (at + 1)) (drop (at + 1) bytes))
+pub cut_at : (s at : ℕ) (bytes : List ℕ) → IsFirstAt s at bytes → slice_split (λ b. eqb b s) bytes ≡ take at bytes ∷ slice_split (λ b. eqb b s) (take (length bytes - (at + 1)) (drop (at + 1) bytes))
 cut_at s at bytes h =
     let back = sym (take-append-drop at bytes) ∙ ap (λ rest. take at bytes ++ rest) (drop_more bytes at 0 h.within) in
     let p : ℕ → Bool = λ b. eqb b s in

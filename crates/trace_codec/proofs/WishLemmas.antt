@@ -14,14 +14,14 @@ use Rattle.trace_codec.specs.Awaits.{trace_wait}
 use Rattle.trace_codec.specs.Line.{line_of}
 use Rattle.trace_codec.specs.Request.{with_op, passes_total}
 use Rattle.trace_codec.specs.Trace.{◌>>=◌, lines_of}
-use Rattle.trace_codec.specs.Wishes.{Wishing, nothing_read, next_line, after_line, after_lines, wish_by, wish_of, wishes_of}
+use Rattle.trace_codec.specs.Wishes.{Wishing, nothing_read, next_wish_line, after_wish_line, after_wish_lines, wish_by, wish_of, wishes_of}
 
 abbrev wishes_from : List (List ℕ) → List Wish
 wishes_from lines = filter_map wish_of lines
 
 -- what is read behind r holds the wishes of these lines behind those of r
 abbrev Takes : Wishing → List (List ℕ) → Wishing → Type 0
-Takes r lines s = after_lines r lines ≡ Ok s → s.wishes ≡ r.wishes ++ wishes_from lines
+Takes r lines s = after_wish_lines r lines ≡ Ok s → s.wishes ≡ r.wishes ++ wishes_from lines
 
 -- a line with this wish, or with none
 one_more : (r : List Wish) (w : Option Wish) (rest found : List Wish) → found ≡ (r ++ cons_option w []) ++ rest → found ≡ r ++ cons_option w rest
@@ -36,16 +36,16 @@ abbrev passes_with : Wishing → Op → Bool
 passes_with r op = ltb 65536 (r.asks + 1) || passes_total (with_op r.asked op)
 
 by_line : (r s : Wishing) (lines : List (List ℕ)) → ((q : Wishing) → Takes q lines s) → (l : Line) (waits : Option ℕ)
-    → (after_line r l waits >>= (λ next. after_lines next lines)) ≡ Ok s
+    → (after_wish_line r l waits >>= (λ next. after_wish_lines next lines)) ≡ Ok s
     → s.wishes ≡ r.wishes ++ cons_option (wish_by l waits) (wishes_from lines)
-by_line r s lines ih Passed waits h = ih (next_line r) h
+by_line r s lines ih Passed waits h = ih (next_wish_line r) h
 by_line r s lines ih Bad None h = cc
 by_line r s lines ih Bad (Some line) h =
     one_more r.wishes (Some (Wait line)) (wishes_from lines) s.wishes
-    (ih (next_line (record r { wishes = r.wishes ++ Wait line ∷ [] })) h)
+    (ih (next_wish_line (record r { wishes = r.wishes ++ Wait line ∷ [] })) h)
 by_line r s lines ih (Asks op) waits h = ⊎_elim
     (λ t. let no : Err (TooMany r.line) ≡ Ok s = rw t at h in cc)
-    (λ f. one_more r.wishes (Some (Ask op)) (wishes_from lines) s.wishes (ih (next_line (with_one r op)) (rw f at h)))
+    (λ f. one_more r.wishes (Some (Ask op)) (wishes_from lines) s.wishes (ih (next_wish_line (with_one r op)) (rw f at h)))
     (cases_Bool (passes_with r op))
 
 takes : (lines : List (List ℕ)) (r s : Wishing) → Takes r lines s
@@ -53,6 +53,6 @@ takes [] r s h = let same : r ≡ s = cc in ap (λ q. q.wishes) (sym same) ∙ s
 takes (line ∷ lines) r s h = by_line r s lines (λ q. takes lines q s) (line_of line) (trace_wait line) h
 
 -- a trace that is read gives its wishes
-pub read_wishes : (before : Amounts) (text : List ℕ) (r : Wishing) → after_lines (nothing_read before) (lines_of text) ≡ Ok r → r.wishes ≡ wishes_of text
+pub read_wishes : (before : Amounts) (text : List ℕ) (r : Wishing) → after_wish_lines (nothing_read before) (lines_of text) ≡ Ok r → r.wishes ≡ wishes_of text
 unfolding wishes_of
 read_wishes before text r h = takes (lines_of text) (nothing_read before) r h

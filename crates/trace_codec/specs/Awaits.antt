@@ -23,7 +23,9 @@ is_name_byte c = is_ascii_alphanumeric c || (c == 45 || (c == 46 || c == 95))
 
 -- a name of a job: 1 to 31 bytes, of which the first is a letter
 abbrev pub is_name : List ℕ → Bool
-is_name text = is_ascii_alphabetic (slice_index text 0) && (nat_le (length text) 31 && list_all is_name_byte text)
+is_name text =
+    is_ascii_alphabetic (slice_index text 0)
+    && (nat_le (length text) 31 && list_all is_name_byte text)
 
 -- decimal without leading zeros, below 2^32
 abbrev pub has_leading_zero : List ℕ → Bool
@@ -36,7 +38,8 @@ amount_of word = if has_leading_zero word then None else below (2 ^ 32) (numeral
 -- the first place of a name
 abbrev pub place_from : ℕ → List ℕ → List (List ℕ) → Option ℕ
 place_from k name [] = None
-place_from k name (other ∷ names) = if bytes_eq other name then Some k else place_from (k + 1) name names
+place_from k name (other ∷ names) =
+    if bytes_eq other name then Some k else place_from (k + 1) name names
 
 abbrev pub guest_wait : List (List ℕ) → List (List ℕ) → Option (Await (List ℕ))
 guest_wait guests (name ∷ amount ∷ []) = do
@@ -71,7 +74,8 @@ wait_in guests (kind ∷ words) =
 
 abbrev pub await_in : List (List ℕ) → List (List ℕ) → Option (Await (List ℕ))
 await_in guests [] = None
-await_in guests (verb ∷ words) = if bytes_eq verb (codes "await") then wait_in guests words else None
+await_in guests (verb ∷ words) =
+    if bytes_eq verb (codes "await") then wait_in guests words else None
 
 -- the wait of a script's line, where it is one; NAME is one of these guests
 unfoldable pub await_of : List (List ℕ) → List ℕ → Option (Await (List ℕ))
@@ -96,7 +100,8 @@ trace_wait line = trace_wait_in (words_of line)
 abbrev pub first_wait_from : ℕ → List (List ℕ) → Option ℕ
 first_wait_from number [] = None
 first_wait_from number (line ∷ lines) =
-    if is_some (trace_wait line) then Some number else first_wait_from (min (number + 1) 4294967295) lines
+    if is_some (trace_wait line) then Some number
+    else first_wait_from (min (number + 1) 4294967295) lines
 
 unfoldable pub first_wait_in : List ℕ → Option ℕ
 first_wait_in text = first_wait_from 1 (lines_of text)

@@ -38,7 +38,8 @@ pub record AreTaken (before : Amounts) (lines : List (List ℕ)) : Type 0 where
   pub few : are_too_many before (requests_of lines) ≡ false
 
 -- all lines are taken: these are their requests, and this is what all traces ask with them
-pub record IsTaken (before : Amounts) (lines : List (List ℕ)) (ops : List Op) (asked : Amounts) : Type 0 where
+pub record IsTaken (before : Amounts) (lines : List (List ℕ)) (ops : List Op)
+    (asked : Amounts) : Type 0 where
   pub all : AreTaken before lines
   pub requests : ops ≡ requests_of lines
   pub total : asked ≡ with_ops before ops
@@ -51,7 +52,8 @@ number_behind lines = min (length lines + 1) 4294967295
 abbrev pub IsCause : Amounts → List (List ℕ) → List ℕ → TraceStop → Type 0
 IsCause before front line (BadLine n) = (n ≡ number_behind front) × (line_of line ≡ Bad)
 IsCause before front line (TooMany n) =
-    (n ≡ number_behind front) × (op : Op) × (line_of line ≡ Asks op) × (are_too_many before (requests_of front ++ op ∷ []) ≡ true)
+    (n ≡ number_behind front) × (op : Op) × (line_of line ≡ Asks op)
+    × (are_too_many before (requests_of front ++ op ∷ []) ≡ true)
 IsCause before front line NoMemory = ⊥
 
 -- the first line with a cause

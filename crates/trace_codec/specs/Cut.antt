@@ -3,7 +3,7 @@ use Rattle.std.specs.Prelude.{◌≡◌, ◌≢◌, ℕ, ◌<◌, List, [], leng
 use Rattle.std.specs.List.{slice_split}
 
 -- the separator stands there, and nowhere before
-pub record IsFirst (separator at : ℕ) (bytes : List ℕ) : Type 0 where
+pub record IsFirstAt (separator at : ℕ) (bytes : List ℕ) : Type 0 where
   pub within : at < length bytes
   pub here : slice_index bytes at ≡ separator
   pub before : (k : ℕ) → k < at → slice_index bytes k ≢ separator

@@ -13,7 +13,8 @@ None >>= f = None
 -- the number of some digits that follow the digits of n
 abbrev pub digits_after : ℕ → ℕ → List ℕ → Option ℕ
 digits_after base n [] = Some n
-digits_after base n (c ∷ digits) = if is_digit c base then digits_after base (n * base + digit_value c) digits else None
+digits_after base n (c ∷ digits) =
+    if is_digit c base then digits_after base (n * base + digit_value c) digits else None
 
 -- one digit of the base or more, of either case, and nothing else
 abbrev pub numeral : ℕ → List ℕ → Option ℕ
@@ -22,7 +23,9 @@ numeral base (c ∷ digits) = digits_after base 0 (c ∷ digits)
 
 -- what a letter behind decimal digits multiplies by: k, M and G
 abbrev pub unit_of : ℕ → Option ℕ
-unit_of c = if c == 107 then Some 1024 else if c == 77 then Some 1048576 else if c == 71 then Some 1073741824 else None
+unit_of c =
+    if c == 107 then Some 1024 else if c == 77 then Some 1048576 else if c == 71
+    then Some 1073741824 else None
 
 -- decimal digits, the last byte being no digit but a unit where it is one
 abbrev pub decimal_in : Option ℕ → List ℕ → Option ℕ

@@ -23,7 +23,10 @@ read_bytes_of (Discard span) = 0
 
 -- what is asked with one request more
 abbrev pub with_op : Amounts → Op → Amounts
-with_op asked op = record { pieces = asked.pieces + pieces_of op; read_bytes = asked.read_bytes + read_bytes_of op }
+with_op asked op = record {
+  pieces = asked.pieces + pieces_of op;
+  read_bytes = asked.read_bytes + read_bytes_of op;
+}
 
 -- all traces of a run together have at most 1,000,000 pieces, and read at most 268,435,456 bytes
 abbrev pub passes_total : Amounts → Bool

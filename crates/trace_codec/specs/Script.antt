@@ -27,7 +27,8 @@ order_by number line None = Give number line
 order_by number line (Some what) = Watch number what
 
 abbrev pub order_in : List (List ℕ) → ℕ → List ℕ → Option Order
-order_in guests number line = if is_passed line then None else Some (order_by number line (await_of guests line))
+order_in guests number line =
+    if is_passed line then None else Some (order_by number line (await_of guests line))
 
 abbrev pub with_order : Option Order → List Order → List Order
 with_order None orders = orders

@@ -13,7 +13,8 @@ use Rattle.trace_codec.specs.Request.{with_op, passes_total}
 
 -- what a result that is good leads to
 infixl 10 ◌>>=◌
-abbrev pub ◌>>=◌ : {A B : Type 0} → Result A TraceStop → (A → Result B TraceStop) → Result B TraceStop
+abbrev pub ◌>>=◌ : {A B : Type 0} → Result A TraceStop → (A → Result B TraceStop)
+    → Result B TraceStop
 (Ok x) >>= f = f x
 (Err stop) >>= f = Err stop
 
@@ -24,7 +25,8 @@ next_line r = record r { line = min (r.line + 1) 4294967295 }
 -- one request more, of which a trace has at most 65,536
 abbrev pub with_request : Reading → Op → Result Reading TraceStop
 with_request r op =
-    if nat_lt 65536 (length r.ops + 1) || passes_total (with_op r.asked op) then Err (TooMany r.line)
+    if nat_lt 65536 (length r.ops + 1) || passes_total (with_op r.asked op)
+    then Err (TooMany r.line)
     else Ok (record r { ops = r.ops ++ op ∷ []; asked = with_op r.asked op })
 
 -- what a line leads to, or the refusal at it

@@ -43,14 +43,18 @@ abbrev pub nothing_read : Amounts → Wishing
 nothing_read before = record { line = 1; asks = 0; wishes = []; asked = before }
 
 -- lines are numbered from 1; at the last number of 32 bits the count stands still
-abbrev pub next_line : Wishing → Wishing
-next_line r = record r { line = min (r.line + 1) 4294967295 }
+abbrev pub next_wish_line : Wishing → Wishing
+next_wish_line r = record r { line = min (r.line + 1) 4294967295 }
 
 -- one request more, of which a trace has at most 65,536
 abbrev pub with_ask : Wishing → Op → Result Wishing TraceStop
 with_ask r op =
     if nat_lt 65536 (r.asks + 1) || passes_total (with_op r.asked op) then Err (TooMany r.line)
-    else Ok (record r { asks = r.asks + 1; wishes = r.wishes ++ Ask op ∷ []; asked = with_op r.asked op })
+    else Ok (record r {
+      asks = r.asks + 1;
+      wishes = r.wishes ++ Ask op ∷ [];
+      asked = with_op r.asked op;
+    })
 
 -- a line that asks for nothing is a wait, or none that a trace may have
 abbrev pub with_wait : Wishing → Option ℕ → Result Wishing TraceStop
@@ -58,24 +62,24 @@ with_wait r None = Err (BadLine r.line)
 with_wait r (Some line) = Ok (record r { wishes = r.wishes ++ Wait line ∷ [] })
 
 -- what a line leads to, or the refusal at it
-abbrev pub after_line : Wishing → Line → Option ℕ → Result Wishing TraceStop
-after_line r Passed waits = Ok (next_line r)
-after_line r (Asks op) waits = do
+abbrev pub after_wish_line : Wishing → Line → Option ℕ → Result Wishing TraceStop
+after_wish_line r Passed waits = Ok (next_wish_line r)
+after_wish_line r (Asks op) waits = do
   more ← with_ask r op
-  Ok (next_line more)
-after_line r Bad waits = do
+  Ok (next_wish_line more)
+after_wish_line r Bad waits = do
   more ← with_wait r waits
-  Ok (next_line more)
+  Ok (next_wish_line more)
 
 -- line by line, up to the first refusal
-abbrev pub after_lines : Wishing → List (List ℕ) → Result Wishing TraceStop
-after_lines r [] = Ok r
-after_lines r (line ∷ lines) = do
-  next ← after_line r (line_of line) (trace_wait line)
-  after_lines next lines
+abbrev pub after_wish_lines : Wishing → List (List ℕ) → Result Wishing TraceStop
+after_wish_lines r [] = Ok r
+after_wish_lines r (line ∷ lines) = do
+  next ← after_wish_line r (line_of line) (trace_wait line)
+  after_wish_lines next lines
 
 -- The wishes of a trace and what all traces ask with it, where the traces before it ask for so much; or the first refusal.
 unfoldable pub wishes_in : Amounts → List ℕ → Result (List Wish × Amounts) TraceStop
 wishes_in before text = do
-  r ← after_lines (nothing_read before) (lines_of text)
+  r ← after_wish_lines (nothing_read before) (lines_of text)
   Ok (r.wishes, r.asked)

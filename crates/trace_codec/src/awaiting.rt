@@ -72,7 +72,8 @@ pub fn read_await(alloc: Global, line: &str, guests: &Names1) -> Result<Option<A
 /// So it is with the bytes of a line.
 fn read_bytes(alloc: Global, line: &[u8], guests: &Names1) -> Result<Option<Await>, NoMemory>
     requires { length guests.now < 2 ^ 32 }
-    ensures { IfOk result (λ found. option_map seen_await found ≡ await_in guests.now (words_of line.now)) }
+    ensures { IfOk result
+        (λ found. option_map seen_await found ≡ await_in guests.now (words_of line.now)) }
 {
     let (verb, words) = cut(line, b' ');
     let Some(words) = words else {
@@ -88,7 +89,8 @@ fn read_bytes(alloc: Global, line: &[u8], guests: &Names1) -> Result<Option<Awai
 /// What is waited for, behind the first word.
 fn read_wait(alloc: Global, words: &[u8], guests: &Names1) -> Result<Option<Await>, NoMemory>
     requires { length guests.now < 2 ^ 32 }
-    ensures { IfOk result (λ found. option_map seen_await found ≡ wait_in guests.now (words_of words.now)) }
+    ensures { IfOk result
+        (λ found. option_map seen_await found ≡ wait_in guests.now (words_of words.now)) }
 {
     let (kind, words) = cut(words, b' ');
     let Some(words) = words else {
@@ -148,7 +150,8 @@ fn read_amount(word: &[u8]) -> Option<u32>
 /// The id of a job, where it is the only word and a name.
 #[tactic(auto, using(crate::proofs::Waiting::more_ids, crate::proofs::Waiting::name_is_text))]
 fn read_id(alloc: Global, words: &[u8]) -> Result<Option<Text>, NoMemory>
-    ensures { IfOk result (λ found. option_map (λ (t : Written). t.bytes) found ≡ id_in (words_of words.now)) }
+    ensures { IfOk result
+        (λ found. option_map (λ (t : Written). t.bytes) found ≡ id_in (words_of words.now)) }
 {
     let (id, more) = cut(words, b' ');
     if more.is_some() || !is_name(id) {

@@ -1,7 +1,7 @@
 //! Bytes as a trace writes them.
 
 ghost use Rattle.std.specs.Prelude.{◌≡◌, ◌≤◌, ◌/◌, length, IfSome, IfOk};
-ghost use Rattle.trace_codec.specs.Hex.{byte_of, bytes_of, payload_of};
+ghost use Rattle.trace_codec.specs.Hex.{byte_of, bytes_of_digits, payload_of};
 
 use crate::line::MAX_LENGTH;
 use blk_base::Bytes;
@@ -21,8 +21,9 @@ pub(crate) fn read_payload(alloc: Global, word: &[u8]) -> Result<Option<Bytes>, 
 
 /// The bytes of pairs of hexadecimal digits, where no digit is left over.
 fn read_bytes(alloc: Global, digits: &[u8]) -> Result<Option<Bytes>, AllocError>
-    ensures value { IfOk result (λ found. found ≡ bytes_of digits.now) }
-    ensures half { IfOk result (λ found. IfSome found (λ bytes. length bytes ≡ length digits.now / 2)) }
+    ensures value { IfOk result (λ found. found ≡ bytes_of_digits digits.now) }
+    ensures half { IfOk result
+        (λ found. IfSome found (λ bytes. length bytes ≡ length digits.now / 2)) }
 {
     let count = digits.len() / 2;
     let mut bytes = Vec::with_capacity(alloc, count)?;

@@ -48,7 +48,9 @@ impl Reading {
     /// Reads the line that comes.
     pub(crate) fn take(&mut self, line: &[u8]) -> Result<(), TraceStop>
         ensures ok { OnOk result (after_line self.old (line_of line.now) ≡ Ok self.new) }
-        ensures refused { IfErr result (λ stop. (stop ≡ TraceStop.NoMemory) ⊎ (after_line self.old (line_of line.now) ≡ Err stop)) }
+        ensures refused { IfErr result
+            (λ stop. (stop ≡ TraceStop.NoMemory)
+            ⊎ (after_line self.old (line_of line.now) ≡ Err stop)) }
     {
         match read_line(*self.ops.allocator(), line)? {
             Line::Passed => {}
@@ -62,7 +64,8 @@ impl Reading {
     /// Adds a request.
     fn add(&mut self, op: Op) -> Result<(), TraceStop>
         ensures ok { OnOk result (with_request self.old op ≡ Ok self.new) }
-        ensures refused { IfErr result (λ stop. (stop ≡ TraceStop.NoMemory) ⊎ (with_request self.old op ≡ Err stop)) }
+        ensures refused { IfErr result
+            (λ stop. (stop ≡ TraceStop.NoMemory) ⊎ (with_request self.old op ≡ Err stop)) }
     {
         if self.ops.len() >= MAX_REQUESTS {
             return Err(TraceStop::TooMany(self.line));

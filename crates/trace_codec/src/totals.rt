@@ -46,7 +46,8 @@ impl Totals {
 
     /// With one request more, where a run takes so much.
     pub(crate) fn with_op(self, op: &Op) -> Option<Totals>
-        ensures { result ≡ (if passes_total (with_op self op.now) then None else Some (with_op self op.now)) }
+        ensures { result
+            ≡ (if passes_total (with_op self op.now) then None else Some (with_op self op.now)) }
     {
         let pieces = self
             .pieces

@@ -22,13 +22,15 @@ use std::alloc::Global;
 /// its words parted by single spaces.
 pub fn read_trace(alloc: Global, text: &str) -> Result<Ops, TraceStop>
     ensures ok { IfOk result (λ ops. ops_of text.now ≡ Ok ops) }
-    ensures refused { IfErr result (λ stop. (stop ≡ TraceStop.NoMemory) ⊎ (ops_of text.now ≡ Err stop)) }
+    ensures refused { IfErr result
+        (λ stop. (stop ≡ TraceStop.NoMemory) ⊎ (ops_of text.now ≡ Err stop)) }
 
     // In other words: all lines are taken and these are their requests, or the first line with a cause is named.
     ensures taken { OnOk result (AreTaken nothing (lines_of text.now)) }
     ensures requests { IfOk result (λ ops. ops ≡ requests_of (lines_of text.now)) }
     ensures askable { IfOk result IsTrace }
-    ensures cause { IfErr result (λ stop. (stop ≡ TraceStop.NoMemory) ⊎ StopsAt nothing (lines_of text.now) stop) }
+    ensures cause { IfErr result
+        (λ stop. (stop ≡ TraceStop.NoMemory) ⊎ StopsAt nothing (lines_of text.now) stop) }
 {
     let mut asked = Totals::new();
     read_trace_after(alloc, &mut asked, text)
@@ -40,7 +42,8 @@ pub fn read_trace(alloc: Global, text: &str) -> Result<Ops, TraceStop>
 pub fn read_trace_after(alloc: Global, asked: &mut Totals, text: &str) -> Result<Ops, TraceStop>
     ensures ok { IfOk result (λ ops. trace_of asked.old text.now ≡ Ok (ops, asked.new)) }
     ensures each { IfOk result (AllByRecursion IsRequest) }
-    ensures refused { IfErr result (λ stop. (stop ≡ TraceStop.NoMemory) ⊎ (trace_of asked.old text.now ≡ Err stop)) }
+    ensures refused { IfErr result
+        (λ stop. (stop ≡ TraceStop.NoMemory) ⊎ (trace_of asked.old text.now ≡ Err stop)) }
     ensures err { OnErr result (asked.new ≡ asked.old) }
 {
     let (ops, total) = read_lines(alloc, *asked, text.as_bytes())?.finish();
@@ -50,8 +53,13 @@ pub fn read_trace_after(alloc: Global, asked: &mut Totals, text: &str) -> Result
 
 /// Reads line by line, up to the first refusal.
 fn read_lines(alloc: Global, asked: Totals, text: &[u8]) -> Result<Reading, TraceStop>
-    ensures ok { IfOk result (λ reading. after_lines (record { line = 1; ops = []; asked = asked }) (lines_of text.now) ≡ Ok reading) }
-    ensures refused { IfErr result (λ stop. (stop ≡ TraceStop.NoMemory) ⊎ (after_lines (record { line = 1; ops = []; asked = asked }) (lines_of text.now) ≡ Err stop)) }
+    ensures ok { IfOk result
+        (λ reading. after_lines (record { line = 1; ops = []; asked = asked }) (lines_of text.now)
+        ≡ Ok reading) }
+    ensures refused { IfErr result
+        (λ stop. (stop ≡ TraceStop.NoMemory)
+        ⊎ (after_lines (record { line = 1; ops = []; asked = asked }) (lines_of text.now)
+        ≡ Err stop)) }
 {
     let mut reading = Reading::new(alloc, asked);
     let mut rest = Some(text);
@@ -85,10 +93,10 @@ pub fn read_wishes_after(
 
 /// Reads line by line, up to the first refusal.
 fn read_wish_lines(alloc: Global, asked: Totals, text: &[u8]) -> Result<Wishing, TraceStop>
-    ensures ok { IfOk result (λ reading. wish.after_lines (wish.nothing_read asked)
+    ensures ok { IfOk result (λ reading. wish.after_wish_lines (wish.nothing_read asked)
         (lines_of text.now) ≡ Ok reading) }
     ensures refused { IfErr result (λ stop. (stop ≡ TraceStop.NoMemory)
-        ⊎ (wish.after_lines (wish.nothing_read asked) (lines_of text.now) ≡ Err stop)) }
+        ⊎ (wish.after_wish_lines (wish.nothing_read asked) (lines_of text.now) ≡ Err stop)) }
 {
     let mut reading = Wishing::new(alloc, asked);
     let mut rest = Some(text);

@@ -39,7 +39,7 @@ impl Model for Wishing {
 impl Wishing {
     ghost use Rattle.trace_codec.specs.Line.{line_of};
     ghost use Rattle.trace_codec.specs.Awaits.{trace_wait};
-    ghost use Rattle.trace_codec.specs.Wishes.{nothing_read, after_line, with_ask, with_wait};
+    ghost use Rattle.trace_codec.specs.Wishes.{nothing_read, after_wish_line, with_ask, with_wait};
 
     /// Before the first line, where all traces so far ask for so much.
     pub(crate) fn new(alloc: Global, asked: Totals) -> Self
@@ -56,9 +56,9 @@ impl Wishing {
     /// Reads the line that comes.
     pub(crate) fn take(&mut self, line: &[u8]) -> Result<(), TraceStop>
         ensures ok { OnOk result
-            (after_line self.old (line_of line.now) (trace_wait line.now) ≡ Ok self.new) }
+            (after_wish_line self.old (line_of line.now) (trace_wait line.now) ≡ Ok self.new) }
         ensures refused { IfErr result (λ stop. (stop ≡ TraceStop.NoMemory)
-            ⊎ (after_line self.old (line_of line.now) (trace_wait line.now) ≡ Err stop)) }
+            ⊎ (after_wish_line self.old (line_of line.now) (trace_wait line.now) ≡ Err stop)) }
     {
         match read_line(*self.wishes.allocator(), line)? {
             Line::Passed => {}

@@ -38,7 +38,8 @@ fn write_lines(alloc: Global, ops: &[Op]) -> Result<String, AllocError>
 
 /// Puts the line of a request at the end.
 fn push_line(text: &mut String, op: &Op) -> Result<(), AllocError>
-    ensures { OnOk result (string_bytes text.new ≡ string_bytes text.old ++ line_for op.now ++ 10 ∷ []) }
+    ensures { OnOk result
+        (string_bytes text.new ≡ string_bytes text.old ++ line_for op.now ++ 10 ∷ []) }
 {
     match op {
         Op::Read(span) => writeln!(text, "read {} {}", span.start, span.len),
@@ -55,7 +56,9 @@ fn push_line(text: &mut String, op: &Op) -> Result<(), AllocError>
 /// Puts the line of a write of these bytes at the end.
 #[tactic(auto, using(std::proofs::lemmas::List::append_assoc))]
 fn push_raw(text: &mut String, start: u64, bytes: &[u8]) -> Result<(), AllocError>
-    ensures { OnOk result (string_bytes text.new ≡ string_bytes text.old ++ codes "bytes " ++ decimal start ++ 32 ∷ hex bytes.now ++ 10 ∷ []) }
+    ensures { OnOk result
+        (string_bytes text.new ≡ string_bytes text.old ++ codes "bytes " ++ decimal start ++ 32
+        ∷ hex bytes.now ++ 10 ∷ []) }
 {
     write!(text, "bytes {start} ")?;
     push_hex(text, bytes)?;

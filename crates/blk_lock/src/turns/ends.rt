@@ -1,7 +1,7 @@
 //! How a lock begins and ends.
 ghost use Rattle.std.specs.Prelude.{◌≡◌, [], IfOk, IfErr, IfSome};
 ghost use Rattle.std.specs.List.{enumerate_from};
-ghost use Rattle.blk_lock.specs.Rooms.{IsWithin};
+ghost use Rattle.blk_lock.specs.Rooms.{IsWithinRoom};
 ghost use Rattle.blk_lock.specs.Stamps.{entries_of};
 ghost use Rattle.blk_lock.specs.Order.{first_view};
 ghost use Rattle.blk_lock.specs.Views.{view, lock_of, lock_id, mine};
@@ -23,7 +23,8 @@ impl<W: Logged> Turns<W> {
         ghost opening: { W.Opening }
         requires empty { W.history world ≡ [] }
         requires opened { W.comes world opening }
-        ensures ok { IfOk result (λ t. (lock_of t.1 ≡ lock_id t.0) × (view t.1 ≡ first_view opening (W.spare world))) }
+        ensures ok { IfOk result
+            (λ t. (lock_of t.1 ≡ lock_id t.0) × (view t.1 ≡ first_view opening (W.spare world))) }
         ensures err { IfErr result (λ e. e.1 ≡ world) }
     {
         let about = (Snapshot::of(&world), Named::of());
@@ -52,7 +53,7 @@ impl<W: Logged> Turns<W> {
         ensures history { W.history result ≡ entries_of (view pass).seen }
         ensures opened { IfSome (view pass).opening (W.comes result) }
         ensures mine { mine (view pass) ≡ enumerate_from 0 (W.history result) }
-        ensures room { IsWithin (view pass).room (W.spare result) }
+        ensures room { IsWithinRoom (view pass).room (W.spare result) }
     {
         let Turns { table } = self;
         let Pass { seat } = pass;

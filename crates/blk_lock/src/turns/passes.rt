@@ -1,7 +1,7 @@
 //! How passes are split and joined.
 ghost use Rattle.std.specs.Prelude.{◌≡◌, ◌≤◌, ◌⊎◌, ◌↔◌, true, [], IfSome, Contains};
 ghost use Rattle.blk_lock.specs.declared.known.Stage.TheVariants.{Rest};
-ghost use Rattle.blk_lock.specs.Rooms.{IsWithin};
+ghost use Rattle.blk_lock.specs.Rooms.{IsWithinRoom};
 ghost use Rattle.blk_lock.specs.Stamps.{has_actor, made_by};
 ghost use Rattle.blk_lock.specs.Order.{HaveNoneInCommon};
 ghost use Rattle.blk_lock.specs.Plays.{after_split, split_off, after_join, split_known, fresh_known};
@@ -23,7 +23,7 @@ impl<W: Logged> Turns<W> {
         requires lock { lock_of pass.old ≡ lock_id self.now }
         requires free { (view pass.old).turn ≡ None }
         requires shares { 2 ≤ (view pass.old).shares }
-        requires room { IsWithin room (view pass.old).room }
+        requires room { IsWithinRoom room (view pass.old).room }
         requires actor { IfSome actor (λ a. has_actor (view pass.old).actors a ≡ true) }
         ensures lock { (lock_of pass.new ≡ lock_of pass.old) × (lock_of result ≡ lock_of pass.old) }
         ensures kept { view pass.new ≡ after_split room actor (view pass.old) }
@@ -45,9 +45,10 @@ impl<W: Logged> Turns<W> {
         requires picked { (P.room ≡ room) × (P.given ≡ actor) }
         requires rest { (seat.old.me.0.stage ≡ Rest) × (seat.old.me.1 ≡ []) }
         requires shares { 2 ≤ seat.old.me.0.view.shares }
-        requires room { IsWithin room seat.old.me.0.view.room }
+        requires room { IsWithinRoom room seat.old.me.0.view.room }
         requires actor { IfSome actor (λ a. has_actor seat.old.me.0.view.actors a ≡ true) }
-        ensures lock { (seat.new.table_id ≡ seat.old.table_id) × (result.table_id ≡ seat.old.table_id) }
+        ensures lock { (seat.new.table_id ≡ seat.old.table_id)
+            × (result.table_id ≡ seat.old.table_id) }
         ensures kept { seat.new.me ≡ (split_known room actor seat.old.me.0, []) }
         ensures given { result.me ≡ (fresh_known room actor seat.old.me.0, []) }
     {
@@ -63,12 +64,15 @@ impl<W: Logged> Turns<W> {
         requires free { ((view pass.old).turn ≡ None) × ((view other).turn ≡ None) }
         ensures lock { lock_of pass.new ≡ lock_of pass.old }
         ensures pass { view pass.new ≡ after_join (view pass.old) (view other) }
-        ensures apart { HaveNoneInCommon (view pass.old).names (view pass.old).actors (view other).names (view other).actors }
+        ensures apart { HaveNoneInCommon (view pass.old).names (view pass.old).actors
+            (view other).names (view other).actors }
         ensures goes_on { SeesMore W.actor (view pass.old) (view pass.new) }
         ensures other_goes_on { SeesMore W.actor (view other) (view pass.new) }
         ensures own { made_by (view pass.old).names (view pass.new).seen ≡ mine (view pass.old) }
         ensures others_own { made_by (view other).names (view pass.new).seen ≡ mine (view other) }
-        ensures mine { (made : _) → Contains (mine (view pass.new)) made ↔ (Contains (mine (view pass.old)) made ⊎ Contains (mine (view other)) made) }
+        ensures mine { (made : _)
+            → Contains (mine (view pass.new)) made ↔
+            (Contains (mine (view pass.old)) made ⊎ Contains (mine (view other)) made) }
     {
         let Pass { seat } = other;
         self.table.shared.join_seat::<Both>(&mut pass.seat, seat);

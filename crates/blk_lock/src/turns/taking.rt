@@ -2,7 +2,7 @@
 ghost use Rattle.std.specs.Prelude.{◌≡◌, ℕ, ◌+◌, ◌<◌, ◌≤◌, ◌^◌, true, false, List, [], ◌∷◌, ◌++◌, length, IfSome, unwrap_or};
 ghost use Rattle.std.specs.List.{enumerate_from};
 ghost use Rattle.blk_lock.specs.declared.known.Stage.TheVariants.{Rest, Waiting, Out};
-ghost use Rattle.blk_lock.specs.Rooms.{IsWithin, no_room, less};
+ghost use Rattle.blk_lock.specs.Rooms.{IsWithinRoom, no_room, less};
 ghost use Rattle.blk_lock.specs.Stamps.{is_among, entries_of};
 ghost use Rattle.blk_lock.specs.Plays.{HasTaken, Takes, after_put, resting};
 ghost use Rattle.blk_lock.specs.Views.{view, lock_of, lock_id, mine, SeesMore, made_behind, BeginsWithSeen, HoldsActors, KeepsRoom, KeepsSpare};
@@ -28,12 +28,16 @@ impl<W: Logged> Turns<W> {
         requires lock { lock_of pass.old ≡ lock_id self.now }
         requires free { (view pass.old).turn ≡ None }
         ensures lock { lock_of pass.new ≡ lock_of pass.old }
-        ensures pass { view pass.new ≡ record (view pass.old) { seen = (view pass.new).seen; turn = Some (W.spare result.world) } }
+        ensures pass { view pass.new
+            ≡ record (view pass.old) {
+              seen = (view pass.new).seen;
+              turn = Some (W.spare result.world);
+            } }
         ensures seen { SeesMore W.actor (view pass.old) (view pass.new) }
         ensures mine { mine (view pass.new) ≡ mine (view pass.old) }
         ensures history { W.history result.world ≡ entries_of (view pass.new).seen }
         ensures opened { IfSome (view pass.old).opening (W.comes result.world) }
-        ensures room { IsWithin (view pass.old).room (W.spare result.world) }
+        ensures room { IsWithinRoom (view pass.old).room (W.spare result.world) }
     {
         Turn {
             world: self.take_world(rt, &mut pass.seat),
@@ -45,7 +49,8 @@ impl<W: Logged> Turns<W> {
         requires lock { seat.old.table_id ≡ self.now.table.shared.table_id }
         requires rest { (seat.old.me.0.stage ≡ Rest) × (seat.old.me.1 ≡ []) }
         ensures lock { seat.new.table_id ≡ seat.old.table_id }
-        ensures taken { (ticket : ℕ) × HasTaken W.history W.actor W.spare W.comes ticket seat.old.me.0 seat.new.me.0 result }
+        ensures taken { (ticket : ℕ)
+            × HasTaken W.history W.actor W.spare W.comes ticket seat.old.me.0 seat.new.me.0 result }
         ensures in_hand { seat.new.me.1 ≡ (0, None) ∷ [] }
     {
         let ticket = self.draw(rt, seat);
@@ -61,7 +66,8 @@ impl<W: Logged> Turns<W> {
         requires lock { seat.old.table_id ≡ self.now.table.shared.table_id }
         requires rest { seat.old.me.0.stage ≡ Rest }
         ensures lock { seat.new.table_id ≡ seat.old.table_id }
-        ensures waits { seat.new.me ≡ (record seat.old.me.0 { stage = Waiting result }, seat.old.me.1) }
+        ensures waits { seat.new.me
+            ≡ (record seat.old.me.0 { stage = Waiting result }, seat.old.me.1) }
     {
         for _ in rt.forever() {
             let drawn = self.table.shared.peek(0);
@@ -99,7 +105,8 @@ impl<W: Logged> Turns<W> {
         requires lock { seat.old.table_id ≡ self.now.table.shared.table_id }
         requires waits { seat.old.me.0.stage ≡ Waiting ticket }
         ensures lock { seat.new.table_id ≡ seat.old.table_id }
-        ensures taken { result ≡ true → Takes W.history W.actor W.spare W.comes ticket seat.old.me seat.new.me }
+        ensures taken { result ≡ true
+            → Takes W.history W.actor W.spare W.comes ticket seat.old.me seat.new.me }
         ensures missed { result ≡ false → seat.new.me ≡ seat.old.me }
     {
         for _ in 0..LOOKS {
@@ -117,12 +124,19 @@ impl<W: Logged> Turns<W> {
         requires history { BeginsWithSeen (view pass.old) (W.history turn.world) }
         requires opened { IfSome (view pass.old).opening (W.comes turn.world) }
         requires room { KeepsRoom (view pass.old) (W.spare turn.world) }
-        requires unspent { W.history turn.world ≡ entries_of (view pass.old).seen → KeepsSpare (view pass.old) (W.spare turn.world) }
-        requires actors { HoldsActors W.actor (view pass.old) (made_behind (view pass.old) (W.history turn.world)) }
+        requires unspent { W.history turn.world ≡ entries_of (view pass.old).seen
+            → KeepsSpare (view pass.old) (W.spare turn.world) }
+        requires actors { HoldsActors W.actor (view pass.old)
+            (made_behind (view pass.old) (W.history turn.world)) }
         ensures lock { lock_of pass.new ≡ lock_of pass.old }
-        ensures pass { view pass.new ≡ after_put (made_behind (view pass.old) (W.history turn.world)) (W.spare turn.world) (view pass.old) }
-        ensures unspent { W.history turn.world ≡ entries_of (view pass.old).seen → (view pass.new).room ≡ (view pass.old).room }
-        ensures mine { mine (view pass.new) ≡ mine (view pass.old) ++ enumerate_from (length (view pass.old).seen) (made_behind (view pass.old) (W.history turn.world)) }
+        ensures pass { view pass.new
+            ≡ after_put (made_behind (view pass.old) (W.history turn.world)) (W.spare turn.world)
+            (view pass.old) }
+        ensures unspent { W.history turn.world ≡ entries_of (view pass.old).seen
+            → (view pass.new).room ≡ (view pass.old).room }
+        ensures mine { mine (view pass.new) ≡ mine (view pass.old)
+            ++ enumerate_from (length (view pass.old).seen)
+            (made_behind (view pass.old) (W.history turn.world)) }
     {
         let Turn { world, owed } = turn;
         let Owed = owed;
@@ -135,10 +149,20 @@ impl<W: Logged> Turns<W> {
         requires in_hand { seat.old.me.1 ≡ (0, None) ∷ [] }
         requires history { BeginsWithSeen seat.old.me.0.view (W.history world) }
         requires opened { IfSome seat.old.me.0.view.opening (W.comes world) }
-        requires room { IsWithin (less (unwrap_or seat.old.me.0.view.turn no_room) (W.spare world)) seat.old.me.0.view.room }
-        requires actors { HoldsActors W.actor seat.old.me.0.view (made_behind seat.old.me.0.view (W.history world)) }
+        requires room { IsWithinRoom
+            (less (unwrap_or seat.old.me.0.view.turn no_room) (W.spare world))
+            seat.old.me.0.view.room }
+        requires actors { HoldsActors W.actor seat.old.me.0.view
+            (made_behind seat.old.me.0.view (W.history world)) }
         ensures lock { seat.new.table_id ≡ seat.old.table_id }
-        ensures put { seat.new.me ≡ (resting (record seat.old.me.0 { view = after_put (made_behind seat.old.me.0.view (W.history world)) (W.spare world) seat.old.me.0.view }), []) }
+        ensures put { seat.new.me
+            ≡ (
+              resting (record seat.old.me.0 {
+                view = after_put
+                    (made_behind seat.old.me.0.view (W.history world)) (W.spare world) seat.old.me.0.view;
+              }),
+              [],
+            ) }
         ensures named { is_among seat.old.me.0.view.names seat.old.me.0.view.name ≡ true }
     {
         let entries = world.entries();

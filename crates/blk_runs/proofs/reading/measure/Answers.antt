@@ -1,7 +1,7 @@
 use Rattle.std.proofs.Common.{◌≡◌, [], ◌∷◌, ◌++◌, subst, sym, ◌∙◌, ap, rules}
 use Rattle.std.specs.Option.{option_copied}
 use Rattle.blk_runs.specs.Runs.{Run}
-use Rattle.blk_runs.specs.Reading.{IsRead, seen_run, words_behind}
+use Rattle.blk_runs.specs.Reading.{AreBlockRuns, seen_run, words_behind}
 use Rattle.blk_runs.proofs.ReadBack.{Reads, same-run, goes-on, reads-with, read-all}
 use Rattle.blk_runs.proofs.reading.measure.Goals as goal
 
@@ -22,7 +22,7 @@ returns-in_default-with c = λ rs are is.
     let run = same-run on.run (seen_run c.in-Some-read_run.run') on.is c.in-Some-read_run.ensures.0 (on.text ∙ sym c.in-Some-read_run.ensures.1) in
     let whole : rs ≡ c.loop-rest.invariant.front ++ seen_run c.in-Some-read_run.run' ∷ on.back
     = on.whole ∙ ap (λ (r : Run). c.loop-rest.invariant.front ++ r ∷ on.back) run in
-    c.in_default-with.ensures c.loop-rest.invariant.front on.back c.loop-rest.invariant.has (subst IsRead whole are)
+    c.in_default-with.ensures c.loop-rest.invariant.front on.back c.loop-rest.invariant.has (subst AreBlockRuns whole are)
 
 pub loop-rest-preserved : goal.loop-rest-preserved
 loop-rest-preserved c =

@@ -1,7 +1,7 @@
 use Rattle.std.proofs.Common.{◌≡◌, [], ◌∷◌, ◌++◌, length, replicate, subst, sym, ◌∙◌, ap, arith, rules}
 use Rattle.std.specs.Option.{option_copied}
 use Rattle.std.proofs.lemmas.List.{nil_from_length}
-use Rattle.blk_runs.specs.Runs.{Run, bytes_of}
+use Rattle.blk_runs.specs.Runs.{Run, bytes_of_runs}
 use Rattle.blk_runs.specs.Reading.{seen_run, words_behind}
 use Rattle.blk_runs.proofs.ReadBack.{Reads, same-run, goes-on, reads-with, only-read, no-runs, bytes-with, bytes-pushed}
 use Rattle.blk_runs.proofs.reading.read_bytes.Goals as goal
@@ -11,7 +11,7 @@ returns-then-is_empty c = λ rs are is.
     let empty : c.args.text.now ≡ [] = nil_from_length c.args.text.now (grind (arith, c.is_empty.ensures, c.if-is_empty.true)) in
     let none : rs ≡ [] = no-runs rs (is ∙ empty) in
     let new : c.from_vec.result ≡ [] = search (rules, c.from_vec.ensures, c.in_ok-bytes.ensures.items) in
-    new ∙ sym (ap bytes_of none)
+    new ∙ sym (ap bytes_of_runs none)
 
 pub unreachable-requires : goal.unreachable-requires
 unreachable-requires c =
@@ -31,7 +31,7 @@ push_times-requires c =
     let on = goes-on c.args.text.now c.loop-rest.invariant.front rs c.cut.result.0.now _ reads c.requires.1.each c.requires.2 in
     let run = same-run on.run (seen_run c.in-Some-read_run.run') on.is c.in-Some-read_run.ensures.0 (on.text ∙ sym c.in-Some-read_run.ensures.1) in
     let count : on.run.count ≡ c.in-Some-read_run.run'.count = ap (λ (r : Run). r.count) run in
-    let whole = ap (λ xs. length (bytes_of xs)) on.whole ∙ bytes-with c.loop-rest.invariant.front on.back on.run in
+    let whole = ap (λ xs. length (bytes_of_runs xs)) on.whole ∙ bytes-with c.loop-rest.invariant.front on.back on.run in
     let held = ap length c.loop-rest.invariant.items in
     omega (arith, count, whole, held, c.requires.3, c.loop-rest.invariant.room, c.loop-rest.bytes.ok)
 
@@ -55,4 +55,4 @@ returns c = λ rs are is.
     let left : words_behind (option_copied c.loop-rest.rest) ≡ [] = search (rules, c.in_default.not-Some) in
     let reads = subst (Reads c.args.text.now c.loop-rest.invariant.front) left c.loop-rest.invariant.reads in
     let same = only-read c.args.text.now c.loop-rest.invariant.front rs reads are.each is in
-    c.from_vec-2.ensures ∙ c.loop-rest.invariant.items ∙ sym (ap bytes_of same)
+    c.from_vec-2.ensures ∙ c.loop-rest.invariant.items ∙ sym (ap bytes_of_runs same)

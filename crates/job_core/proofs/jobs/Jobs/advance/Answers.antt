@@ -1,13 +1,13 @@
 use Rattle.std.proofs.Common.{◌≡◌, None, refl, ◌∙◌, get_or}
 use Rattle.std.specs.Prelude.{IsSomeAnd}
-use Rattle.job_core.specs.Jobs.{row_at, IsStep, moved}
+use Rattle.job_core.specs.Jobs.{job_row_at, IsStep, moved}
 use Rattle.job_core.proofs.JobLemmas.{different_moved, read_slot}
 use Rattle.job_core.proofs.jobs.Jobs.advance.Goals as goal
 use Rattle.job_core.proofs.jobs.Jobs.advance.Goals.{in-Some, in_default}
 
 pub invariant_of-self : goal.invariant_of-self
 invariant_of-self c =
-    let held : IsSomeAnd (row_at c.args.self.now c.args.slot) (λ row. IsStep row.state c.args.to) = c.requires in
+    let held : IsSomeAnd (job_row_at c.args.self.now c.args.slot) (λ row. IsStep row.state c.args.to) = c.requires in
     let step : IsSomeAnd (get_or c.self.inside.slots.items c.args.slot None) (λ row. IsStep row.state c.args.to) = rw (← c.self.view_is) at held in
     let read : get_or c.self.inside.slots.items c.args.slot None ≡ c.index_mut.result.now
     = read_slot c.self.inside.slots.items c.args.slot c.index_mut.result.now (λ row. IsStep row.state c.args.to) step c.index_mut.ensures.value in
@@ -21,7 +21,7 @@ invariant_of-self c =
 
 pub returns : goal.returns
 returns c =
-    let held : IsSomeAnd (row_at c.args.self.now c.args.slot) (λ row. IsStep row.state c.args.to) = c.requires in
+    let held : IsSomeAnd (job_row_at c.args.self.now c.args.slot) (λ row. IsStep row.state c.args.to) = c.requires in
     let step : IsSomeAnd (get_or c.self.inside.slots.items c.args.slot None) (λ row. IsStep row.state c.args.to) = rw (← c.self.view_is) at held in
     let read : get_or c.self.inside.slots.items c.args.slot None ≡ c.index_mut.result.now
     = read_slot c.self.inside.slots.items c.args.slot c.index_mut.result.now (λ row. IsStep row.state c.args.to) step c.index_mut.ensures.value in

@@ -1,7 +1,7 @@
 use Rattle.std.proofs.Common.{◌≡◌, ◌+◌, ℕ, List, length, Some, sym, ◌∙◌, ap}
 use Rattle.blk_base.specs.Content.{bytes_at}
 use Rattle.blk_base.specs.Pieces.{Extent}
-use Rattle.raw_image.specs.Part.{disk_of}
+use Rattle.raw_image.specs.Part.{part_disk}
 use Rattle.raw_image.proofs.PartLemmas.{bytes_at-part, OnOk-then}
 use Rattle.raw_image.proofs.image.RawImage.read_raw.Goals as goal
 
@@ -11,7 +11,7 @@ returns-clause-disk g c =
     ((b : List ℕ) → g.D.Device.content c.args.dev.now ≡ Some b
     → c.read_at.new.buf ≡ bytes_at b (c.args.self.now.offset + c.span.inside.start) (length c.args.buf.now))
     ((b : List ℕ) → g.D.Device.content c.args.dev.now ≡ Some b
-    → c.read_at.new.buf ≡ bytes_at (disk_of c.args.self.now b) c.args.span.start c.args.span.len)
+    → c.read_at.new.buf ≡ bytes_at (part_disk c.args.self.now b) c.args.span.start c.args.span.len)
     c.read_at.result
     (λ read b told.
     read b told

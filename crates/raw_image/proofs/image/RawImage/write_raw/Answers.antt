@@ -3,7 +3,7 @@ use Rattle.std.specs.Option.{option_map}
 use Rattle.blk_base.specs.Content.{with_bytes}
 use Rattle.blk_base.specs.Counts.{taken}
 use Rattle.blk_base.specs.Pieces.{Extent}
-use Rattle.raw_image.specs.Part.{disk_of}
+use Rattle.raw_image.specs.Part.{part_disk}
 use Rattle.raw_image.proofs.PartLemmas.{with_bytes-part, length-taken}
 use Rattle.raw_image.proofs.image.RawImage.write_raw.Goals as goal
 
@@ -17,5 +17,5 @@ returns-clause-disk g c = λ b d before after.
     let is : d ≡ with_bytes b (c.args.self.now.offset + c.span.inside.start) xs = cc in
     let within : c.args.span.start + length xs ≤ c.args.self.now.size
     = omega (arith, length-taken c.write_at.result c.args.bytes.now, c.requires.whole, c.requires.within.inside) in
-    ap (disk_of c.args.self.now) (is ∙ ap (λ (s : ℕ). with_bytes b (c.args.self.now.offset + s) xs) start)
+    ap (part_disk c.args.self.now) (is ∙ ap (λ (s : ℕ). with_bytes b (c.args.self.now.offset + s) xs) start)
     ∙ with_bytes-part b c.args.self.now.offset c.args.self.now.size c.args.span.start xs within
