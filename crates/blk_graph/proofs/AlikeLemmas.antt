@@ -1,6 +1,6 @@
 -- Lists that differ only in what nodes' edges ask and share: edits leave such lists, and without cycles the same is derived from
 -- both. So a filter that was put over a node and is taken out gives back the list.
-use Rattle.std.proofs.Common.{◌≡◌, ◌≢◌, ℕ, zero, suc, List, [], ◌∷◌, map, refl, sym, ◌∙◌, ap, subst, Bool, true, false, cond, Option, Some, None}
+use Rattle.std.proofs.Common.{◌≡◌, ◌≢◌, ℕ, zero, suc, List, [], ◌∷◌, ◌++◌, map, refl, sym, ◌∙◌, ap, subst, Bool, true, false, cond, Option, Some, None}
 use Rattle.std.specs.Prelude.{◌==◌, ◌&&◌, ◌||◌, not}
 use Rattle.std.specs.List.{Contains, filter, find, list_any}
 use Rattle.blk_graph.specs.declared.edge.Edge.{Edge}
@@ -14,7 +14,7 @@ use Rattle.blk_graph.specs.declared.kind.Kind.{Kind}
 use Rattle.blk_graph.specs.declared.kind.Kind.TheVariants.{Protocol, Raw, Qcow2, CopyOnRead, BeforeWrite, Mirror, Commit}
 use Rattle.blk_graph.specs.declared.kind.NodeKind.{NodeKind}
 use Rattle.blk_graph.specs.Edges.{same_parent, same_role, IsListed}
-use Rattle.blk_graph.specs.Edits.{IsLone, with_filter, with_child, moved, is_between, is_double, but_doubles, with_moved, is_edge, is_filters, but_filters, without_filter}
+use Rattle.blk_graph.specs.Edits.{IsLone, filter_edge, with_filter, with_child, moved, is_between, is_double, but_doubles, with_moved, is_edge, is_filters, but_filters, without_filter}
 use Rattle.blk_graph.specs.Paths.{IsAcyclic}
 use Rattle.blk_graph.specs.Permissions.{has_role, uses_by, derived_uses}
 use Rattle.blk_graph.specs.Refreshed.{kind_at, IsOf, IsByTable, joined, uses_into, with_uses, ruled, ruled_from, turned_by, refreshed, IsRefreshed}
@@ -314,3 +314,20 @@ filter_back kinds edges node over perm shared differ lone table listed acyclic s
     = without_filter-alike over (refreshed kinds put) put (refreshed-alike kinds put) in
     refreshed-both kinds (without_filter over (refreshed kinds put)) edges (rw back at alike) table listed acyclic
     ∙ refreshed-fixed kinds edges stays
+
+push_alike : (x y : Edge) → IsAlike x y → (a b : List Edge) → AreAlike a b → AreAlike (a ++ x ∷ []) (b ++ y ∷ [])
+push_alike x y h [] [] k = (h, tt)
+push_alike x y h (a ∷ as') (b ∷ bs) k = (k.0, push_alike x y h as' bs k.1)
+push_alike x y h [] (b ∷ bs) k = absurd k
+push_alike x y h (a ∷ as') [] k = absurd k
+
+-- what is derived from a list with a new filter doesn't depend on what its edge was set to
+pub derived_filter : (kinds : List NodeKind) (edges : List Edge) (node over : ℕ) (perm shared asks shares : Perms)
+    → EachIs (IsByTable kinds) (with_filter node over asks shares edges) → IsListed (with_filter node over asks shares edges)
+    → IsAcyclic (with_filter node over asks shares edges)
+    → refreshed kinds (with_filter node over perm shared edges) ≡ refreshed kinds (with_filter node over asks shares edges)
+derived_filter kinds edges node over perm shared asks shares =
+    refreshed-both kinds (with_filter node over perm shared edges) (with_filter node over asks shares edges)
+    (push_alike (filter_edge over node perm shared) (filter_edge over node asks shares)
+    (record { same = record { parent = refl; role = refl; child = refl }; set = λ none. absurd (none over refl) })
+    (with_moved node over edges) (with_moved node over edges) (all_alike (with_moved node over edges)))

@@ -13,7 +13,7 @@ use Rattle.blk_graph.specs.Edits.{is_edge, child_of, takes_place, with_edge, IsL
 use Rattle.blk_graph.specs.Paths.{IsPath, IsAcyclic, HasCycle, LeadsBack}
 use Rattle.blk_graph.specs.Judged.{first_parent}
 use Rattle.blk_graph.specs.declared.edge.Parent.TheVariants.{Node}
-use Rattle.blk_graph.specs.Graph.{Graph, HasNode, HasParent, IsSound}
+use Rattle.blk_graph.specs.Graph.{Graph, HasNode, HasParent, IsSoundGraph}
 use Rattle.blk_graph.proofs.CycleLemmas.{same_parent-true, and-left, takes_place-parent}
 use Rattle.blk_graph.proofs.InverseLemmas.{same_parent-false, same_parent-refl, find-push}
 use Rattle.blk_graph.proofs.Members.{find-Some, filter-all, Contains-here, Contains-there}
@@ -42,14 +42,14 @@ child-edge parent role edges child is = by_found (find (is_edge parent role) edg
         }
 
 -- which is a node
-pub child-node : (graph : Graph) (parent : Parent) (role : Role) (found : Option ℕ) → IsSound graph → found ≡ child_of parent role graph.edges → IfSome found (λ node. HasNode graph node)
+pub child-node : (graph : Graph) (parent : Parent) (role : Role) (found : Option ℕ) → IsSoundGraph graph → found ≡ child_of parent role graph.edges → IfSome found (λ node. HasNode graph node)
 child-node graph parent role None sound is = tt
 child-node graph parent role (Some child) sound is =
     let e = child-edge parent role graph.edges child (sym is) in
     rw (← e.to) (sound.fit.each e.edge e.there).child
 
 -- what isn't a node has no edges
-pub lone-absent : (graph : Graph) (id : ℕ) → IsSound graph → (HasNode graph id → ⊥) → IsLone graph.edges id
+pub lone-absent : (graph : Graph) (id : ℕ) → IsSoundGraph graph → (HasNode graph id → ⊥) → IsLone graph.edges id
 lone-absent graph id sound absent = record {
   enters = λ e there at. absent (subst (HasNode graph) at (sound.fit.each e there).child);
   leaves = λ e there from. absent (subst (HasParent graph) from (sound.fit.each e there).parent);

@@ -1,21 +1,23 @@
 -- What the edits of a draft keep of it.
-use Rattle.std.proofs.Common.{◌≡◌, ◌≢◌, ℕ, Bool, true, false, ◌&&◌, ◌==◌, not, cond, List, [], ◌∷◌, Option, Some, refl, sym, ap, ◌∙◌}
-use Rattle.std.specs.List.{find, filter}
+use Rattle.std.proofs.Common.{◌≡◌, ◌≢◌, ℕ, Bool, true, false, ◌&&◌, ◌==◌, not, cond, List, [], ◌∷◌, ◌++◌, map, Option, Some, None, refl, sym, ap, ◌∙◌, inl, inr}
+use Rattle.std.specs.List.{Contains, find, filter, list_any}
 use Rattle.std.specs.Option.{option_map}
 use Rattle.blk_graph.specs.declared.edge.Edge.{Edge}
 use Rattle.blk_graph.specs.declared.edge.Parent.{Parent}
+use Rattle.blk_graph.specs.declared.edge.Parent.TheVariants.{Node}
+use Rattle.blk_graph.specs.declared.edge.Perms.{Perms}
 use Rattle.blk_graph.specs.declared.edge.Role.{Role}
-use Rattle.blk_graph.specs.declared.edge.Role.TheVariants.{Between}
+use Rattle.blk_graph.specs.declared.edge.Role.TheVariants.{Filtered, Between}
 use Rattle.blk_graph.specs.Drafts.{KeepsAcyclic, KeepsChildren}
 use Rattle.blk_graph.specs.Edges.{same_parent, same_role}
-use Rattle.blk_graph.specs.Edits.{is_edge, child_of, child_after, takes_place, with_child, with_edge, stays, replaced, with_replaced}
-use Rattle.blk_graph.specs.Paths.{LeadsBack}
+use Rattle.blk_graph.specs.Edits.{is_edge, is_between, IsLone, child_of, child_after, child_moved, takes_place, with_child, with_edge, stays, replaced, with_replaced, moved, is_double, but_doubles, with_moved, filter_edge, with_filter, is_filters, but_filters, without_filter, without_parent}
+use Rattle.blk_graph.specs.Paths.{Reaches, LeadsBack}
 use Rattle.blk_graph.proofs.CycleLemmas.{and-left, and-right, same_parent-true, takes_place-parent, IsAcyclic-with_edge, LeadsBack-from_cycle}
 use Rattle.blk_graph.proofs.Members.{Contains-filter}
-use Rattle.blk_graph.proofs.PathLemmas.{IsAcyclic-fewer}
-use Rattle.blk_graph.proofs.EditLemmas.{replaced-parent}
-use Rattle.blk_graph.proofs.InverseLemmas.{same_parent-refl}
-use Rattle.blk_graph.proofs.RoleLemmas.{same_role-true, same_role-refl, apart, replaced-role, takes_place-role}
+use Rattle.blk_graph.proofs.PathLemmas.{Reaches-edge, Reaches-joined, IsAcyclic-covered, IsAcyclic-fewer}
+use Rattle.blk_graph.proofs.EditLemmas.{moved-parent, moved-cases, replaced-parent, Contains-with_moved}
+use Rattle.blk_graph.proofs.InverseLemmas.{same_parent-false, same_parent-refl, find-push}
+use Rattle.blk_graph.proofs.RoleLemmas.{same_role-true, same_role-refl, apart, moved-role, replaced-role, takes_place-role}
 
 pub acyclic_put : (new : Edge) (edges : List Edge) → (LeadsBack edges new.child new.parent → ⊥) → KeepsAcyclic edges (with_edge new edges)
 acyclic_put new edges none acyclic =
@@ -127,3 +129,161 @@ children_replaced from to but (e ∷ edges) parent role =
         let own : e.parent ≡ parent = same_parent-true e.parent parent (and-left (same_parent e.parent parent) (same_role e.role role) is) in
         ap Some (child (e.child == from && not (stays but e.parent)) ∙ ap (λ p. child_after from to but p e.child) own)
     by_test false is ih = ih
+
+-- where all edges into a node lead to another, so do their parents' children
+children_moved-each : (from to : ℕ) (parent : Parent) (role : Role) (edges : List Edge)
+    → child_of parent role (map (moved from to) edges) ≡ option_map (child_moved from to) (child_of parent role edges)
+children_moved-each from to parent role [] = refl
+children_moved-each from to parent role (e ∷ edges) =
+    let f : Edge → Edge = moved from to in
+    let test : is_edge parent role (f e) ≡ is_edge parent role e
+    = ap (λ p. same_parent p parent && same_role (f e).role role) (moved-parent from to e)
+    ∙ ap (λ r. same_parent e.parent parent && same_role r role) (moved-role from to e) in
+    rw test (by_test (is_edge parent role e) (children_moved-each from to parent role edges))
+  where
+    child : (b : Bool) → (cond b (with_child to e) e).child ≡ cond b to e.child
+    child true = refl
+    child false = refl
+
+    by_test : (b : Bool)
+        → child_of parent role (map (moved from to) edges) ≡ option_map (child_moved from to) (child_of parent role edges)
+        → option_map (λ (x : Edge). x.child) (cond b (Some (moved from to e)) (find (is_edge parent role) (map (moved from to) edges)))
+        ≡ option_map (child_moved from to) (option_map (λ (x : Edge). x.child) (cond b (Some e) (find (is_edge parent role) edges)))
+    by_test true ih = ap Some (child (e.child == from))
+    by_test false ih = ih
+
+same_role-other : (a b : Role) → a ≢ b → same_role a b ≡ false
+same_role-other a b differ = by_test (same_role a b) refl
+  where
+    by_test : (t : Bool) → same_role a b ≡ t → same_role a b ≡ false
+    by_test true is = absurd (differ (same_role-true a b is))
+    by_test false is = is
+
+-- an edge of another role than Between is no double
+single_stays : (edges : List Edge) (from to : ℕ) (parent : Parent) (role : Role) → role ≢ Between → (e : Edge)
+    → is_edge parent role e ≡ true → not (is_double edges from to e) ≡ true
+single_stays edges from to parent role single e is =
+    let roles : e.role ≡ role = same_role-true e.role role (and-right (same_parent e.parent parent) (same_role e.role role) is) in
+    let other : same_role e.role Between ≡ false = same_role-other e.role Between (λ q. single (sym roles ∙ q)) in
+    rw other (none (not (from == to)) (e.child == from))
+  where
+    none : (a b : Bool) → not (a && b && false && list_any (is_between e.parent to) edges) ≡ true
+    none true true = refl
+    none true false = refl
+    none false b = refl
+
+pub children_moved : (from to : ℕ) (edges : List Edge) (parent : Parent) (role : Role) → role ≢ Between
+    → child_of parent role (with_moved from to edges) ≡ option_map (child_moved from to) (child_of parent role edges)
+children_moved from to edges parent role single =
+    children_moved-each from to parent role (but_doubles from to edges)
+    ∙ ap (option_map (child_moved from to))
+    (children_fewer (λ e. not (is_double edges from to e)) parent role (single_stays edges from to parent role single) edges)
+
+find_end : (p : Edge → Bool) (new : Edge) → p new ≡ false → (edges : List Edge) → find p (edges ++ new ∷ []) ≡ find p edges
+find_end p new fails [] = rw fails refl
+find_end p new fails (e ∷ edges) = by_test (p e) (find_end p new fails edges)
+  where
+    by_test : (b : Bool) → find p (edges ++ new ∷ []) ≡ find p edges → cond b (Some e) (find p (edges ++ new ∷ [])) ≡ cond b (Some e) (find p edges)
+    by_test true rest = refl
+    by_test false rest = rest
+
+pub children_filter : (node over : ℕ) (perm shared : Perms) (edges : List Edge) (parent : Parent) (role : Role) → role ≢ Between
+    → parent ≢ Node over
+    → child_of parent role (with_filter node over perm shared edges) ≡ option_map (child_moved node over) (child_of parent role edges)
+children_filter node over perm shared edges parent role single other =
+    let new : Edge = filter_edge over node perm shared in
+    let fails : is_edge parent role new ≡ false = rw (same_parent-false (Node over) parent (λ is. other (sym is))) refl in
+    ap (option_map (λ (e : Edge). e.child)) (find_end (is_edge parent role) new fails (with_moved node over edges))
+    ∙ children_moved node over edges parent role single
+
+-- a filter that had no edge leads to the node
+pub child_filter : (node over : ℕ) (perm shared : Perms) (edges : List Edge) → IsLone edges over
+    → child_of (Node over) Filtered (with_filter node over perm shared edges) ≡ Some node
+child_filter node over perm shared edges lone =
+    let new : Edge = filter_edge over node perm shared in
+    ap (option_map (λ (e : Edge). e.child)) (find-push (is_edge (Node over) Filtered) new
+    (rw (same_parent-refl (Node over)) refl) (with_moved node over edges)
+    (λ e there.
+    let r = Contains-with_moved node over edges e there in
+    let from : e.parent ≢ Node over
+    = λ is. lone.leaves r.0 r.1 (sym (moved-parent node over r.0) ∙ ap (λ (x : Edge). x.parent) (sym r.2) ∙ is) in
+    rw (same_parent-false e.parent (Node over) from) refl))
+
+none_left : (p : Edge → Bool) (edges : List Edge) → find p (filter (λ e. not (p e)) edges) ≡ None
+none_left p [] = refl
+none_left p (e ∷ edges) = by_test (p e) refl (none_left p edges)
+  where
+    by_test : (b : Bool) → p e ≡ b → find p (filter (λ x. not (p x)) edges) ≡ None
+        → find p (cond (not b) (e ∷ filter (λ x. not (p x)) edges) (filter (λ x. not (p x)) edges)) ≡ None
+    by_test true is rest = rest
+    by_test false is rest = rw is rest
+
+-- a filter that is taken out leads to no node
+pub child_without : (over : ℕ) (edges : List Edge) → child_of (Node over) Filtered (without_filter over edges) ≡ None
+child_without over edges = by_found (find (is_filters over) edges) refl
+  where
+    by_found : (found : Option Edge) → find (is_filters over) edges ≡ found
+        → child_of (Node over) Filtered (elim found as (λ _. List Edge) [
+          | None ↦ edges
+          | Some edge ↦ with_moved over edge.child (but_filters over edges)
+        ]) ≡ None
+    by_found None is = ap (option_map (λ (e : Edge). e.child)) is
+    by_found (Some edge) is =
+        children_moved over edge.child (but_filters over edges) (Node over) Filtered (λ q. absurd cc)
+        ∙ ap (λ (found : Option Edge). option_map (child_moved over edge.child) (option_map (λ (e : Edge). e.child) found)) (none_left (is_filters over) edges)
+
+-- its parents have its child
+pub children_without : (over : ℕ) (edges : List Edge) (node : ℕ) → child_of (Node over) Filtered edges ≡ Some node
+    → (parent : Parent) (role : Role) → role ≢ Between → role ≢ Filtered
+    → child_of parent role (without_filter over edges) ≡ option_map (child_moved over node) (child_of parent role edges)
+children_without over edges node is parent role single other = by_found (find (is_filters over) edges) refl is
+  where
+    and_false : (b : Bool) → not (b && false) ≡ true
+    and_false true = refl
+    and_false false = refl
+
+    by_found : (found : Option Edge) → find (is_filters over) edges ≡ found → option_map (λ (e : Edge). e.child) found ≡ Some node
+        → child_of parent role (elim found as (λ _. List Edge) [
+          | None ↦ edges
+          | Some edge ↦ with_moved over edge.child (but_filters over edges)
+        ]) ≡ option_map (child_moved over node) (child_of parent role edges)
+    by_found None at k = absurd cc
+    by_found (Some edge) at k =
+        let same : edge.child ≡ node = cc in
+        ap (λ n. child_of parent role (with_moved over n (but_filters over edges))) same
+        ∙ children_moved over node (but_filters over edges) parent role single
+        ∙ ap (option_map (child_moved over node)) (children_fewer (λ e. not (is_filters over e)) parent role
+        (λ e own.
+        let roles : e.role ≡ role = same_role-true e.role role (and-right (same_parent e.parent parent) (same_role e.role role) own) in
+        rw (same_role-other e.role Filtered (λ q. other (sym roles ∙ q))) (and_false (same_parent e.parent (Node over))))
+        edges)
+
+-- what has no child is no filter
+pub without_none : (over : ℕ) (edges : List Edge) → child_of (Node over) Filtered edges ≡ None → without_filter over edges ≡ edges
+without_none over edges is = by_found (find (is_filters over) edges) is
+  where
+    by_found : (found : Option Edge) → option_map (λ (e : Edge). e.child) found ≡ None → elim found as (λ _. List Edge) [
+      | None ↦ edges
+      | Some edge ↦ with_moved over edge.child (but_filters over edges)
+    ] ≡ edges
+    by_found None k = refl
+    by_found (Some edge) k = absurd cc
+
+-- where a filter's parents are moved to a node that it leads to already, each edge stands for a path that was there
+pub acyclic_handed : (over to : ℕ) (job : Parent) (edges : List Edge) → Reaches edges over to
+    → KeepsAcyclic edges (with_moved over to (without_parent job (without_parent (Node over) edges)))
+acyclic_handed over to job edges leads =
+    IsAcyclic-covered (with_moved over to (without_parent job (without_parent (Node over) edges))) edges (λ a x h k.
+    let r = Contains-with_moved over to (without_parent job (without_parent (Node over) edges)) x h in
+    let q = Contains-filter (λ e. not (same_parent e.parent job)) (without_parent (Node over) edges) r.0 r.1 in
+    let was : Contains edges r.0 = (Contains-filter (λ e. not (same_parent e.parent (Node over))) edges r.0 q.0).0 in
+    let from : r.0.parent ≡ Node a = sym (moved-parent over to r.0) ∙ ap (λ (y : Edge). y.parent) (sym r.2) ∙ k in
+    elim (moved-cases over to r.0) [
+      | inl at_filter ↦
+          let child : x.child ≡ to = ap (λ (y : Edge). y.child) (r.2 ∙ at_filter.1) in
+          let first : Reaches edges a over = rw (← at_filter.0) (Reaches-edge edges a r.0 was from) in
+          rw child (Reaches-joined edges a over to first leads)
+      | inr other ↦
+          let child : x.child ≡ r.0.child = ap (λ (y : Edge). y.child) (r.2 ∙ other.1) in
+          rw child (Reaches-edge edges a r.0 was from)
+    ])

@@ -1,5 +1,6 @@
--- Edges that are removed leave no edge that asks more or shares less, so the permission rule is kept.
-use Rattle.std.proofs.Common.{◌≡◌, ◌≢◌, ◌⊎◌, ◌<◌, ℕ, List, [], ◌∷◌, map, get_or, refl, sym, ◌∙◌, subst, inl, inr, arith, Bool, true, false, cond, Option, Some, None}
+-- Edges that are removed, and nodes that are no longer written, leave no edge that asks more or shares less, so the permission
+-- rule is kept.
+use Rattle.std.proofs.Common.{◌≡◌, ◌≢◌, ◌⊎◌, ◌<◌, ℕ, zero, suc, List, [], ◌∷◌, map, get_or, refl, sym, ◌∙◌, subst, inl, inr, arith, Bool, true, false, cond, Option, Some, None}
 use Rattle.std.specs.Prelude.{◌==◌, ◌&&◌, ◌||◌, not}
 use Rattle.std.specs.List.{Contains, AllPairs, filter, slice_get}
 use Rattle.std.proofs.lemmas.Option.{slice_get_within, slice_get-get_or, get_or_from_slice_get}
@@ -15,9 +16,10 @@ use Rattle.blk_graph.specs.declared.edge.Uses.{Uses}
 use Rattle.blk_graph.specs.declared.kind.Kind.{Kind}
 use Rattle.blk_graph.specs.declared.kind.Kind.TheVariants.{Raw, Qcow2, CopyOnRead, BeforeWrite, Mirror, Commit}
 use Rattle.blk_graph.specs.declared.kind.NodeKind.{NodeKind}
-use Rattle.blk_graph.specs.Edges.{holds, IsWithin}
+use Rattle.blk_graph.specs.Drafts.{WriteLess, KeepsRule}
+use Rattle.blk_graph.specs.Edges.{has_perm, IsWithin}
 use Rattle.blk_graph.specs.Permissions.{perms, idle_uses, derived_uses, uses_by}
-use Rattle.blk_graph.specs.Refreshed.{kind_at, joined, uses_into, with_uses, ruled, ruled_from, refreshed, IsRefreshed}
+use Rattle.blk_graph.specs.Refreshed.{kind_at, joined, uses_into, with_uses, ruled, ruled_from, turned_by, refreshed, IsRefreshed}
 use Rattle.blk_graph.specs.Rule.{KeepsPermissions}
 use Rattle.blk_graph.proofs.Members.{Contains-here, Contains-there, Contains-cases}
 use Rattle.blk_graph.proofs.RefreshLemmas.{refreshed-by}
@@ -64,12 +66,12 @@ joined-lighter e uses = record {
   shares = λ perm. shares perm;
 }
   where
-    asks : (perm : Perm) → holds uses.perm perm ≡ true → holds (joined e uses).perm perm ≡ true
+    asks : (perm : Perm) → has_perm uses.perm perm ≡ true → has_perm (joined e uses).perm perm ≡ true
     asks Read h = left_either e.perm.read uses.perm.read h
     asks Write h = left_either e.perm.write uses.perm.write h
     asks Unchanged h = left_either e.perm.unchanged uses.perm.unchanged h
 
-    shares : (perm : Perm) → holds (joined e uses).shared perm ≡ true → holds uses.shared perm ≡ true
+    shares : (perm : Perm) → has_perm (joined e uses).shared perm ≡ true → has_perm uses.shared perm ≡ true
     shares Read h = both_right e.shared.read uses.shared.read h
     shares Write h = both_right e.shared.write uses.shared.write h
     shares Unchanged h = both_right e.shared.unchanged uses.shared.unchanged h
@@ -80,13 +82,13 @@ joined-easier a b u v easier lighter = record {
   shares = λ perm. shares perm;
 }
   where
-    asks : (perm : Perm) → holds (joined a u).perm perm ≡ true → holds (joined b v).perm perm ≡ true
+    asks : (perm : Perm) → has_perm (joined a u).perm perm ≡ true → has_perm (joined b v).perm perm ≡ true
     asks Read = either_within a.perm.read u.perm.read b.perm.read v.perm.read (easier.asks Read) (lighter.asks Read)
     asks Write = either_within a.perm.write u.perm.write b.perm.write v.perm.write (easier.asks Write) (lighter.asks Write)
     asks Unchanged =
         either_within a.perm.unchanged u.perm.unchanged b.perm.unchanged v.perm.unchanged (easier.asks Unchanged) (lighter.asks Unchanged)
 
-    shares : (perm : Perm) → holds (joined b v).shared perm ≡ true → holds (joined a u).shared perm ≡ true
+    shares : (perm : Perm) → has_perm (joined b v).shared perm ≡ true → has_perm (joined a u).shared perm ≡ true
     shares Read = both_within b.shared.read v.shared.read a.shared.read u.shared.read (easier.shares Read) (lighter.shares Read)
     shares Write = both_within b.shared.write v.shared.write a.shared.write u.shared.write (easier.shares Write) (lighter.shares Write)
     shares Unchanged =
@@ -110,32 +112,38 @@ perms_within a b c x y z r w u Read = r
 perms_within a b c x y z r w u Write = w
 perms_within a b c x y z r w u Unchanged = u
 
-derived-lighter : (kind : Kind) (role : Role) (writes : Bool) (a b : Uses) → IsLighter a b
-    → AreLighter (derived_uses kind role writes a) (derived_uses kind role writes b)
-derived-lighter Raw File writes a b h = record { asks = λ perm is. is; shares = λ perm is. is }
-derived-lighter Qcow2 File writes a b h = record { asks = λ perm is. is; shares = λ perm is. is }
-derived-lighter Qcow2 Backing writes a b h = record {
+derived-lighter : (kind : Kind) (role : Role) (w v : Bool) (a b : Uses) → (w ≡ true → v ≡ true) → IsLighter a b
+    → AreLighter (derived_uses kind role w a) (derived_uses kind role v b)
+derived-lighter Raw File w v a b less h = record {
+  asks = perms_within true w false true v false (λ is. is) less (λ is. is);
+  shares = λ perm is. is;
+}
+derived-lighter Qcow2 File w v a b less h = record {
+  asks = perms_within true w false true v false (λ is. is) less (λ is. is);
+  shares = λ perm is. is;
+}
+derived-lighter Qcow2 Backing w v a b less h = record {
   asks = perms_within a.perm.read false false b.perm.read false false (h.asks Read) (λ is. is) (λ is. is);
   shares = perms_within true (not b.perm.read) true true (not a.perm.read) true (λ is. is)
       (not_within a.perm.read b.perm.read (h.asks Read)) (λ is. is);
 }
-derived-lighter CopyOnRead File writes a b h = record {
+derived-lighter CopyOnRead File w v a b less h = record {
   asks = perms_within a.perm.read a.perm.write true b.perm.read b.perm.write true (h.asks Read) (h.asks Write) (λ is. is);
   shares = h.shares;
 }
-derived-lighter BeforeWrite Filtered writes a b h = record {
+derived-lighter BeforeWrite Filtered w v a b less h = record {
   asks = perms_within true a.perm.write a.perm.unchanged true b.perm.write b.perm.unchanged (λ is. is) (h.asks Write) (h.asks Unchanged);
   shares = λ perm is. is;
 }
-derived-lighter Mirror Filtered writes a b h = record {
+derived-lighter Mirror Filtered w v a b less h = record {
   asks = perms_within true a.perm.write a.perm.unchanged true b.perm.write b.perm.unchanged (λ is. is) (h.asks Write) (h.asks Unchanged);
   shares = λ perm is. is;
 }
-derived-lighter Commit Filtered writes a b h = record {
+derived-lighter Commit Filtered w v a b less h = record {
   asks = perms_within false a.perm.write a.perm.unchanged false b.perm.write b.perm.unchanged (λ is. is) (h.asks Write) (h.asks Unchanged);
   shares = h.shares;
 }
-derived-lighter _ _ writes a b h = tt
+derived-lighter _ _ w v a b less h = tt
 
 with_uses-easier : (a b : Edge) (p q : Option Uses) → IsEasier a b → AreLighter p q → IsEasier (with_uses a p) (with_uses b q)
 with_uses-easier a b None None easier h = easier
@@ -149,19 +157,24 @@ with_uses-easier a b (Some p) (Some q) easier h = record {
 with_uses-easier a b None (Some q) easier h = absurd h
 with_uses-easier a b (Some p) None easier h = absurd h
 
-ruled-easier : (kinds : List NodeKind) (f g : ℕ → Uses) (a b : Edge) → ((n : ℕ) → IsLighter (f n) (g n)) → IsEasier a b
-    → IsEasier (ruled kinds f a) (ruled kinds g b)
-ruled-easier kinds f g a b lighter easier =
-    subst (λ (p : Parent). IsEasier (ruled_from kinds f a p) (ruled_from kinds g b b.parent)) (sym easier.parent) (by_parent b.parent)
+ruled-easier : (before after : List NodeKind) → WriteLess before after → (f g : ℕ → Uses) (a b : Edge)
+    → ((n : ℕ) → IsLighter (f n) (g n)) → IsEasier a b → IsEasier (ruled after f a) (ruled before g b)
+ruled-easier before after less f g a b lighter easier =
+    subst (λ (p : Parent). IsEasier (ruled_from after f a p) (ruled_from before g b b.parent)) (sym easier.parent) (by_parent b.parent)
   where
-    by_parent : (p : Parent) → IsEasier (ruled_from kinds f a p) (ruled_from kinds g b p)
+    by_parent : (p : Parent) → IsEasier (ruled_from after f a p) (ruled_from before g b p)
     by_parent (Node n) =
-        let k : NodeKind = kind_at kinds n in
-        with_uses-easier a b (uses_by k a.role (f n)) (uses_by k b.role (g n)) easier
-        (subst (λ (r : Role). AreLighter (uses_by k r (f n)) (uses_by k b.role (g n))) (sym easier.role)
-        (derived-lighter k.kind b.role k.writes (f n) (g n) (lighter n)))
+        let k : NodeKind = kind_at after n in
+        let l : NodeKind = kind_at before n in
+        with_uses-easier a b (uses_by k a.role (f n)) (uses_by l b.role (g n)) easier
+        (subst (λ (r : Role). AreLighter (uses_by k r (f n)) (uses_by l b.role (g n))) (sym easier.role)
+        (subst (λ (kind : Kind). AreLighter (derived_uses kind b.role k.writes (f n)) (uses_by l b.role (g n))) (sym (less.kind n))
+        (derived-lighter l.kind b.role k.writes l.writes (f n) (g n) (less.writes n) (lighter n))))
     by_parent (Guest n) = easier
     by_parent (Job n) = easier
+
+pub less-refl : (kinds : List NodeKind) → WriteLess kinds kinds
+less-refl kinds = record { kind = λ n. refl; writes = λ n is. is }
 
 -- a list has edges of another in their order, each of them easier
 abbrev pub IsEased : List Edge → List Edge → Type 0
@@ -172,12 +185,12 @@ IsEased (a ∷ new) (b ∷ old) = (IsEasier a b × IsEased new old) ⊎ IsEased 
 pub idle-lighter : (uses : Uses) → IsLighter idle_uses uses
 idle-lighter uses = record { asks = λ perm. asks perm; shares = λ perm. shares perm }
   where
-    asks : (perm : Perm) → holds idle_uses.perm perm ≡ true → holds uses.perm perm ≡ true
+    asks : (perm : Perm) → has_perm idle_uses.perm perm ≡ true → has_perm uses.perm perm ≡ true
     asks Read h = absurd cc
     asks Write h = absurd cc
     asks Unchanged h = absurd cc
 
-    shares : (perm : Perm) → holds uses.shared perm ≡ true → holds idle_uses.shared perm ≡ true
+    shares : (perm : Perm) → has_perm uses.shared perm ≡ true → has_perm idle_uses.shared perm ≡ true
     shares Read h = refl
     shares Write h = refl
     shares Unchanged h = refl
@@ -205,7 +218,7 @@ pub eased_ruled : (kinds : List NodeKind) (f g : ℕ → Uses) → ((n : ℕ) �
 eased_ruled kinds f g lighter [] old stays h = tt
 eased_ruled kinds f g lighter (a ∷ new) [] stays h = absurd h
 eased_ruled kinds f g lighter (a ∷ new) (b ∷ old) stays (inl h) =
-    let here : IsEasier (ruled kinds f a) (ruled kinds g b) = ruled-easier kinds f g a b lighter h.0 in
+    let here : IsEasier (ruled kinds f a) (ruled kinds g b) = ruled-easier kinds kinds (less-refl kinds) f g a b lighter h.0 in
     inl (rw (stays b (Contains-here b old)) at here, eased_ruled kinds f g lighter new old (λ e m. stays e (Contains-there b old e m)) h.1)
 eased_ruled kinds f g lighter (a ∷ new) (b ∷ old) stays (inr h) =
     inr (eased_ruled kinds f g lighter (a ∷ new) old (λ e m. stays e (Contains-there b old e m)) h)
@@ -290,6 +303,40 @@ pairs-agree edges pairs i j asking other at_i at_j differ same =
           let r = pairs j i asking less (slice_get_within edges i asking at_i) in
           let both : Agree other asking = rw is_i at (rw is_j at r) in (both (sym same)).1
     ]
+
+-- what is derived from an eased list is easier than what is derived from the other, also where fewer nodes are written
+module _ (before after : List NodeKind) (less : WriteLess before after) where
+  eased_mapped : (f g : ℕ → Uses) → ((n : ℕ) → IsLighter (f n) (g n)) → (new old : List Edge) → IsEased new old
+      → IsEased (map (ruled after f) new) (map (ruled before g) old)
+  eased_mapped f g lighter [] old h = tt
+  eased_mapped f g lighter (a ∷ new) [] h = absurd h
+  eased_mapped f g lighter (a ∷ new) (b ∷ old) (inl h) =
+      inl (ruled-easier before after less f g a b lighter h.0, eased_mapped f g lighter new old h.1)
+  eased_mapped f g lighter (a ∷ new) (b ∷ old) (inr h) = inr (eased_mapped f g lighter (a ∷ new) old h)
+
+  eased_by : (new old : List Edge) → IsEased new old → (k : ℕ) → IsEased (turned_by k after new) (turned_by k before old)
+  eased_by new old h zero = h
+  eased_by new old h (suc k) =
+      let rest : IsEased (turned_by k after new) (turned_by k before old) = eased_by new old h k in
+      eased_mapped (uses_into (turned_by k after new)) (uses_into (turned_by k before old))
+      (λ n. uses_into-eased n (turned_by k after new) (turned_by k before old) rest) (turned_by k after new) (turned_by k before old) rest
+
+  eased_derived : (new old : List Edge) → IsEased new old → IsEased (refreshed after new) (refreshed before old)
+  unfolding refreshed
+  eased_derived new old h = eased_by new old h 64
+
+  pub KeepsPermissions-eased : (new old : List Edge) → IsEased new old → KeepsPermissions (refreshed before old)
+      → KeepsPermissions (refreshed after new)
+  KeepsPermissions-eased new old h rule =
+      pairs-agree (refreshed after new)
+      (eased_pairs (refreshed after new) (refreshed before old) (eased_derived new old h) (agree-pairs (refreshed before old) rule))
+
+pub KeepsPermissions-less : (before after : List NodeKind) (edges : List Edge) → WriteLess before after
+    → KeepsPermissions (refreshed before edges) → KeepsPermissions (refreshed after edges)
+KeepsPermissions-less before after edges less = KeepsPermissions-eased before after less edges edges (eased-refl edges)
+
+pub KeepsRule-filter : (p : Edge → Bool) (edges : List Edge) → KeepsRule edges (filter p edges)
+KeepsRule-filter p edges kinds = KeepsPermissions-eased kinds kinds (less-refl kinds) (filter p edges) edges (eased_filter p edges)
 
 -- fewer edges keep the rule, also after what nodes' edges ask and share was derived again
 pub KeepsPermissions-fewer : (kinds : List NodeKind) (p : Edge → Bool) (edges : List Edge) → IsRefreshed kinds edges

@@ -7,7 +7,7 @@ use Rattle.slab.specs.Slab.{Slab}
 use Rattle.blk_graph.specs.declared.edge.Edge.{Edge}
 use Rattle.blk_graph.specs.declared.stop.GraphStop.{GraphStop}
 use Rattle.blk_graph.specs.declared.kind.NodeKind.{NodeKind}
-use Rattle.blk_graph.specs.Graph.{NodeRow, Graph, ids, HasParent, IsFit, IsSound, PathsAreShort}
+use Rattle.blk_graph.specs.Graph.{NodeRow, Graph, ids, HasParent, IsFit, IsSoundGraph, PathsAreShort}
 use Rattle.blk_graph.specs.Refreshed.{refreshed}
 use Rattle.blk_graph.specs.Rule.{KeepsPermissions, first_conflict}
 use Rattle.blk_graph.specs.Layout.{graph_of, IsKept}
@@ -115,7 +115,7 @@ module _ (names : Slab Written) (keys order : List ℕ) (kinds : List NodeKind) 
       rw (ids-graph_of names keys order kinds old) h
 
 -- no path of a graph is longer than its nodes
-pub PathsAreShort-from_IsSound : (g : Graph) → IsSound g → PathsAreShort g
+pub PathsAreShort-from_IsSound : (g : Graph) → IsSoundGraph g → PathsAreShort g
 PathsAreShort-from_IsSound g sound from to path h =
     let short : length path ≤ length (ids g) - 1
     = length-IsPath g.edges (ids g) from to path sound.just.acyclic (λ e m. (sound.fit.each e m).child)

@@ -26,3 +26,5 @@ pub mod ClearLemmas
 pub mod AlikeLemmas
 pub mod TakeOutLemmas
 pub mod OverLemmas
+pub mod KindLemmas
+pub mod PivotLemmas

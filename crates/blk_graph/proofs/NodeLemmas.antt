@@ -21,7 +21,7 @@ use Rattle.blk_graph.specs.Permissions.{uses_by, has_role}
 use Rattle.blk_graph.specs.Refreshed.{no_kind, kind_at, IsOf, IsByTable, uses_into, with_uses, ruled, ruled_from, refreshed}
 use Rattle.blk_graph.specs.declared.edge.Uses.{Uses}
 use Rattle.blk_graph.specs.declared.kind.NodeKind.{NodeKind}
-use Rattle.blk_graph.specs.Graph.{NodeRow, Graph, HasNode, HasParent, HasName, DifferentNames, IsJust, IsSound, no_graph}
+use Rattle.blk_graph.specs.Graph.{NodeRow, Graph, HasNode, HasParent, HasName, DifferentNames, IsJust, IsSoundGraph, no_graph}
 use Rattle.blk_graph.specs.Judged.{first_parent, other_nodes}
 use Rattle.blk_graph.specs.Layout.{name_of, key_of, row_of, graph_of, HasNames, IsKept}
 use Rattle.blk_graph.proofs.Members.{Contains-here, Contains-there, Contains-cases, Contains-nil, Contains-map, map-Contains, Contains-filter}
@@ -37,7 +37,7 @@ unfolding IsDistinct
 distinct-nil = tt
 
 -- the empty graph
-pub IsSound-none : IsSound no_graph
+pub IsSound-none : IsSoundGraph no_graph
 IsSound-none = record {
   different_nodes = distinct-nil;
   different_names = λ a b h. absurd (Contains-nil a h);
@@ -68,13 +68,13 @@ IsKept-empty names room empty names_room fits = record {
   sound = IsSound-none;
 }
 
-set-default : {X : Type 0} (xs : List X) (i : ℕ) (d : X) → get_or (set xs i d) i d ≡ d
+pub set-default : {X : Type 0} (xs : List X) (i : ℕ) (d : X) → get_or (set xs i d) i d ≡ d
 set-default [] i d = refl
 set-default (x ∷ xs) zero d = refl
 set-default (x ∷ xs) (suc i) d = set-default xs i d
 
 -- another kind of a node without edges changes nothing
-kind_at-other : (kinds : List NodeKind) (node other : ℕ) (kind : NodeKind) → other ≢ node
+pub kind_at-other : (kinds : List NodeKind) (node other : ℕ) (kind : NodeKind) → other ≢ node
     → kind_at (set kinds node kind) other ≡ kind_at kinds other
 kind_at-other kinds node other kind differ = get_or-set_other kinds node other kind no_kind differ
 

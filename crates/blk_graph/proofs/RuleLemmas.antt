@@ -10,8 +10,8 @@ use Rattle.blk_graph.specs.declared.edge.Conflict.{Conflict}
 use Rattle.blk_graph.specs.declared.edge.Perms.{Perms}
 use Rattle.blk_graph.specs.declared.edge.Perm.{Perm}
 use Rattle.blk_graph.specs.declared.edge.Perm.TheVariants.{Read, Write, Unchanged}
-use Rattle.blk_graph.specs.Edges.{holds, IsWithin}
-use Rattle.blk_graph.specs.Rule.{KeepsPermissions, GuestsWriteAlone, IsBroken, AllShare, IsCalm, first_denied, first_answer, first_answer_from, conflict_on, conflict_between, conflict_of, conflict_at, first_conflict}
+use Rattle.blk_graph.specs.Edges.{has_perm, IsWithin}
+use Rattle.blk_graph.specs.Rule.{KeepsPermissions, GuestsWriteAlone, IsBroken, AllShare, AsksOnly, first_denied, first_answer, first_answer_from, conflict_on, conflict_between, conflict_of, conflict_at, first_conflict}
 use Rattle.blk_graph.proofs.Members.{Contains-here, Contains-there, Contains-cases, Contains-nil, find-Some}
 use Rattle.blk_graph.proofs.CycleLemmas.{and-left, and-right}
 
@@ -110,7 +110,7 @@ find-none p (y ∷ xs) h =
 
 -- whether a permission is asked and not shared
 abbrev pub is_denied : Perms → Perms → Perm → Bool
-is_denied asked shared perm = holds asked perm && not (holds shared perm)
+is_denied asked shared perm = has_perm asked perm && not (has_perm shared perm)
 
 all_perms : (perm : Perm) → Contains (Read ∷ Write ∷ Unchanged ∷ []) perm
 all_perms Read = (0, omega arith, refl)
@@ -133,20 +133,20 @@ is_shared false h = refl
 
 pub IsWithin-from_None : (asked shared : Perms) → first_denied asked shared ≡ None → IsWithin asked shared
 IsWithin-from_None asked shared h perm a =
-    not_denied (holds asked perm) (holds shared perm)
+    not_denied (has_perm asked perm) (has_perm shared perm)
     (find-None (is_denied asked shared) (Read ∷ Write ∷ Unchanged ∷ []) h perm (all_perms perm)) a
 
 pub None-from_IsWithin : (asked shared : Perms) → IsWithin asked shared → first_denied asked shared ≡ None
 None-from_IsWithin asked shared h =
     find-none (is_denied asked shared) (Read ∷ Write ∷ Unchanged ∷ [])
-    (λ perm _. shared_not_denied (holds asked perm) (holds shared perm) (h perm))
+    (λ perm _. shared_not_denied (has_perm asked perm) (has_perm shared perm) (h perm))
 
 pub denied_from_Some : (asked shared : Perms) (perm : Perm) → first_denied asked shared ≡ Some perm
-    → (holds asked perm ≡ true) × (holds shared perm ≡ false)
+    → (has_perm asked perm ≡ true) × (has_perm shared perm ≡ false)
 denied_from_Some asked shared perm h =
     let is = (find-Some (is_denied asked shared) (Read ∷ Write ∷ Unchanged ∷ []) perm h).1 in (
-      and-left (holds asked perm) (not (holds shared perm)) is,
-      is_shared (holds shared perm) (and-right (holds asked perm) (not (holds shared perm)) is),
+      and-left (has_perm asked perm) (not (has_perm shared perm)) is,
+      is_shared (has_perm shared perm) (and-right (has_perm asked perm) (not (has_perm shared perm)) is),
     )
 
 option_map-None : {X Y : Type 0} (f : X → Y) (o : Option X) → option_map f o ≡ None → o ≡ None
@@ -322,7 +322,7 @@ is_some_from_is_none o false h e = absurd cc
 
 -- a calm node has no conflict
 pub None-from_IsCalm : (edges : List Edge) (node : ℕ) (common : Perms) → AllShare edges node common
-    → IsCalm edges node common → conflict_at edges node ≡ None
+    → AsksOnly edges node common → conflict_at edges node ≡ None
 None-from_IsCalm edges node common all calm =
     first_answer_from-none (conflict_of edges node) 0 edges (λ i asking at_i.
     let at : 0 + i ≡ i = omega arith in

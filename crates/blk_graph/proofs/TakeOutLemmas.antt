@@ -1,7 +1,8 @@
--- A filter that asks all that its parents ask, and shares only what all of them share, can be taken out.
+-- What used a filter can use another node, where an edge that goes asks all of that node that the filter's parents ask, and
+-- shares only what all of them share.
 use Rattle.std.proofs.Common.{◌≡◌, ◌≢◌, ◌⊎◌, ℕ, List, [], ◌∷◌, refl, sym, ◌∙◌, ap, inl, inr, Bool, true, false, cond, Option, Some, None}
 use Rattle.std.specs.Prelude.{◌==◌, ◌&&◌, ◌||◌, not}
-use Rattle.std.specs.List.{Contains, AllPairs, find}
+use Rattle.std.specs.List.{Contains, AllPairs}
 use Rattle.std.proofs.lemmas.Bool.{false≢true, eqb-true, eq-eqb}
 use Rattle.std.proofs.lemmas.List.Kept.{AllPairs-filter}
 use Rattle.blk_graph.specs.declared.edge.Edge.{Edge}
@@ -11,14 +12,15 @@ use Rattle.blk_graph.specs.declared.edge.Perm.{Perm}
 use Rattle.blk_graph.specs.declared.edge.Perm.TheVariants.{Read, Write, Unchanged}
 use Rattle.blk_graph.specs.declared.edge.Uses.{Uses}
 use Rattle.blk_graph.specs.declared.kind.NodeKind.{NodeKind}
-use Rattle.blk_graph.specs.Edges.{holds, IsWithin}
-use Rattle.blk_graph.specs.Edits.{with_child, moved, but_doubles, is_double, with_moved, is_filters, but_filters, without_filter}
-use Rattle.blk_graph.specs.Filters.{IsTransparent}
+use Rattle.blk_graph.specs.Edges.{same_parent, has_perm, IsWithin}
+use Rattle.blk_graph.specs.Edits.{with_child, moved, but_doubles, is_double, with_moved, is_filters, but_filters, without_filter, without_parent}
+use Rattle.blk_graph.specs.Filters.{IsTransparent, LeavesRoom}
 use Rattle.blk_graph.specs.Permissions.{uses_by}
 use Rattle.blk_graph.specs.Refreshed.{kind_at, joined, uses_into, with_uses, ruled, ruled_from, refreshed, IsRefreshed}
 use Rattle.blk_graph.specs.Rule.{KeepsPermissions}
 use Rattle.blk_graph.proofs.EaseLemmas.{IsLighter, IsEased, Agree, joined-lighter, idle-lighter, lighter-trans, uses_into-eased, eased_ruled, eased-refl, eased_pairs, agree-pairs, pairs-agree}
 use Rattle.blk_graph.proofs.EditLemmas.{moved-cases, Contains-with_moved}
+use Rattle.blk_graph.proofs.InverseLemmas.{same_parent-refl}
 use Rattle.blk_graph.proofs.Members.{Contains-here, Contains-there, Contains-cases, Contains-nil, Contains-filter, find-Some}
 use Rattle.blk_graph.proofs.RefreshLemmas.{refreshed-by}
 use Rattle.blk_graph.proofs.RoleLemmas.{head_pairs, tail_pairs, map_pairs}
@@ -47,12 +49,12 @@ both false b h k = absurd cc
 joined-under : (e : Edge) (rest uses : Uses) → IsUnder e uses → IsLighter rest uses → IsLighter (joined e rest) uses
 joined-under e rest uses h k = record { asks = λ perm. asks perm; shares = λ perm. shares perm }
   where
-    asks : (perm : Perm) → holds (joined e rest).perm perm ≡ true → holds uses.perm perm ≡ true
+    asks : (perm : Perm) → has_perm (joined e rest).perm perm ≡ true → has_perm uses.perm perm ≡ true
     asks Read = either e.perm.read rest.perm.read (uses.perm.read ≡ true) (h.asks Read) (k.asks Read)
     asks Write = either e.perm.write rest.perm.write (uses.perm.write ≡ true) (h.asks Write) (k.asks Write)
     asks Unchanged = either e.perm.unchanged rest.perm.unchanged (uses.perm.unchanged ≡ true) (h.asks Unchanged) (k.asks Unchanged)
 
-    shares : (perm : Perm) → holds uses.shared perm ≡ true → holds (joined e rest).shared perm ≡ true
+    shares : (perm : Perm) → has_perm uses.shared perm ≡ true → has_perm (joined e rest).shared perm ≡ true
     shares Read is = both e.shared.read rest.shared.read (h.shares Read is) (k.shares Read is)
     shares Write is = both e.shared.write rest.shared.write (h.shares Write is) (k.shares Write is)
     shares Unchanged is = both e.shared.unchanged rest.shared.unchanged (h.shares Unchanged is) (k.shares Unchanged is)
@@ -80,12 +82,12 @@ under-joined e rest = record { asks = λ perm. asks perm; shares = λ perm. shar
     left_of true b h = refl
     left_of false b h = absurd cc
 
-    asks : (perm : Perm) → holds e.perm perm ≡ true → holds (joined e rest).perm perm ≡ true
+    asks : (perm : Perm) → has_perm e.perm perm ≡ true → has_perm (joined e rest).perm perm ≡ true
     asks Read h = left e.perm.read rest.perm.read h
     asks Write h = left e.perm.write rest.perm.write h
     asks Unchanged h = left e.perm.unchanged rest.perm.unchanged h
 
-    shares : (perm : Perm) → holds (joined e rest).shared perm ≡ true → holds e.shared perm ≡ true
+    shares : (perm : Perm) → has_perm (joined e rest).shared perm ≡ true → has_perm e.shared perm ≡ true
     shares Read h = left_of e.shared.read rest.shared.read h
     shares Write h = left_of e.shared.write rest.shared.write h
     shares Unchanged h = left_of e.shared.unchanged rest.shared.unchanged h
@@ -130,30 +132,19 @@ agree_apart p (x ∷ xs) pairs a b at_a at_b is none = by_cases (Contains-cases 
         let back = r (sym same) in (back.1, back.0)
     by_cases (inr later_a) (inr later_b) ih = ih later_a later_b is none
 
-module _ (kinds : List NodeKind) (edges : List Edge) (over : ℕ) (own : Edge) (found : find (is_filters over) edges ≡ Some own)
-    (asks : IsWithin (uses_into edges over).perm own.perm) (shares : IsWithin own.shared (uses_into edges over).shared)
+module _ (kinds : List NodeKind) (edges others : List Edge) (over to : ℕ) (gone : Edge → Bool) (cover : Edge)
+    (there : Contains edges cover) (goes : gone cover ≡ true) (into : cover.child ≡ to)
+    (was_there : (e : Edge) → Contains others e → Contains edges e × (gone e ≡ false)) (fewer : AllPairs Agree others)
+    (asks : IsWithin (uses_into edges over).perm cover.perm) (shares : IsWithin cover.shared (uses_into edges over).shared)
     (stays : IsRefreshed kinds edges) (rule : KeepsPermissions edges) where
-  abbrev others : List Edge
-  others = but_filters over edges
-
   abbrev left_over : List Edge
-  left_over = with_moved over own.child others
+  left_over = with_moved over to others
 
-  there : Contains edges own
-  there = (find-Some (is_filters over) edges own found).0
-
-  was_there : (e : Edge) → Contains others e → Contains edges e × (is_filters over e ≡ false)
-  was_there e h = let r = Contains-filter (λ x. not (is_filters over x)) edges e h in (r.0, single (is_filters over e) r.1)
-    where
-      single : (b : Bool) → not b ≡ true → b ≡ false
-      single true k = absurd cc
-      single false k = refl
-
-  -- an edge into the filter asks and shares within what the filter does of its child
-  under_own : (e : Edge) → Contains edges e → e.child ≡ over → IsUnder e (uses_into edges own.child)
+  -- an edge into the filter asks and shares within what is asked and shared of the other node
+  under_own : (e : Edge) → Contains edges e → e.child ≡ over → IsUnder e (uses_into edges to)
   under_own e h at =
       let up = under_uses over edges e h at in
-      let down = under_uses own.child edges own there refl in
+      let down = under_uses to edges cover there into in
       record {
         asks = λ perm is. down.asks perm (asks perm (up.asks perm is));
         shares = λ perm is. up.shares perm (shares perm (down.shares perm is));
@@ -161,11 +152,11 @@ module _ (kinds : List NodeKind) (edges : List Edge) (over : ℕ) (own : Edge) (
 
   lighter : (n : ℕ) → IsLighter (uses_into left_over n) (uses_into edges n)
   lighter n = uses_into-under n (uses_into edges n) left_over (λ e h at.
-      let r = Contains-with_moved over own.child others e h in
+      let r = Contains-with_moved over to others e h in
       let was = (was_there r.0 r.1).0 in
-      elim (moved-cases over own.child r.0) [
+      elim (moved-cases over to r.0) [
         | inl x ↦
-            let same : own.child ≡ n = sym (ap (λ (y : Edge). y.child) (r.2 ∙ x.1)) ∙ at in
+            let same : to ≡ n = sym (ap (λ (y : Edge). y.child) (r.2 ∙ x.1)) ∙ at in
             let u = under_own r.0 was x.0 in
             rw (← same) (rw (r.2 ∙ x.1) (record { asks = u.asks; shares = u.shares }))
         | inr x ↦
@@ -175,37 +166,37 @@ module _ (kinds : List NodeKind) (edges : List Edge) (over : ℕ) (own : Edge) (
 
   still : (e : Edge) → Contains left_over e → ruled kinds (uses_into edges) e ≡ e
   still e h =
-      let r = Contains-with_moved over own.child others e h in
+      let r = Contains-with_moved over to others e h in
       let was = (was_there r.0 r.1).0 in
-      elim (moved-cases over own.child r.0) [
-        | inl x ↦ ap (ruled kinds (uses_into edges)) (r.2 ∙ x.1) ∙ ruled-child kinds (uses_into edges) own.child r.0
-            ∙ ap (with_child own.child) (stays r.0 was) ∙ sym (r.2 ∙ x.1)
+      elim (moved-cases over to r.0) [
+        | inl x ↦ ap (ruled kinds (uses_into edges)) (r.2 ∙ x.1) ∙ ruled-child kinds (uses_into edges) to r.0
+            ∙ ap (with_child to) (stays r.0 was) ∙ sym (r.2 ∙ x.1)
         | inr x ↦ ap (ruled kinds (uses_into edges)) (r.2 ∙ x.1) ∙ stays r.0 was ∙ sym (r.2 ∙ x.1)
       ]
 
   agree_moved : (a b : Edge) → Contains others a → Contains others b → Agree a b
-      → Agree (moved over own.child a) (moved over own.child b)
-  agree_moved a b at_a at_b agree = by_cases (moved-cases over own.child a) (moved-cases over own.child b)
+      → Agree (moved over to a) (moved over to b)
+  agree_moved a b at_a at_b agree = by_cases (moved-cases over to a) (moved-cases over to b)
     where
-      was_a : Contains edges a × (is_filters over a ≡ false)
+      was_a : Contains edges a × (gone a ≡ false)
       was_a = was_there a at_a
 
-      was_b : Contains edges b × (is_filters over b ≡ false)
+      was_b : Contains edges b × (gone b ≡ false)
       was_b = was_there b at_b
 
-      -- one edge leads to the filter, the other to its child
-      beside : (x y : Edge) → Contains edges x → x.child ≡ over → Contains edges y → is_filters over y ≡ false → y.child ≡ own.child
+      -- one edge leads to the filter, the other to the other node
+      beside : (x y : Edge) → Contains edges x → x.child ≡ over → Contains edges y → gone y ≡ false → y.child ≡ to
           → IsWithin x.perm y.shared × IsWithin y.perm x.shared
       beside x y at_x to_x at_y none to_y =
-          let pair = agree_apart (is_filters over) edges (agree-pairs edges rule) own y there at_y (find-Some (is_filters over) edges own found).1 none (sym to_y) in
+          let pair = agree_apart gone edges (agree-pairs edges rule) cover y there at_y goes none (into ∙ sym to_y) in
           let up = under_uses over edges x at_x to_x in (
             λ perm is. pair.0 perm (asks perm (up.asks perm is)),
             λ perm is. up.shares perm (shares perm (pair.1 perm is)),
           )
 
-      by_cases : ((a.child ≡ over) × (moved over own.child a ≡ with_child own.child a)) ⊎ ((a.child ≢ over) × (moved over own.child a ≡ a))
-          → ((b.child ≡ over) × (moved over own.child b ≡ with_child own.child b)) ⊎ ((b.child ≢ over) × (moved over own.child b ≡ b))
-          → Agree (moved over own.child a) (moved over own.child b)
+      by_cases : ((a.child ≡ over) × (moved over to a ≡ with_child to a)) ⊎ ((a.child ≢ over) × (moved over to a ≡ a))
+          → ((b.child ≡ over) × (moved over to b ≡ with_child to b)) ⊎ ((b.child ≢ over) × (moved over to b ≡ b))
+          → Agree (moved over to a) (moved over to b)
       by_cases (inl x) (inl y) = rw (x.1, y.1) (λ same. agree (x.0 ∙ sym y.0))
       by_cases (inl x) (inr y) = rw (x.1, y.1) (λ same. beside a b was_a.0 x.0 was_b.0 was_b.1 (sym same))
       by_cases (inr x) (inl y) =
@@ -214,12 +205,11 @@ module _ (kinds : List NodeKind) (edges : List Edge) (over : ℕ) (own : Edge) (
 
   left_agree : AllPairs Agree left_over
   left_agree =
-      map_pairs Agree (moved over own.child) (but_doubles over own.child others)
+      map_pairs Agree (moved over to) (but_doubles over to others)
       (λ a b at_a at_b. agree_moved a b
-      (Contains-filter (λ e. not (is_double others over own.child e)) others a at_a).0
-      (Contains-filter (λ e. not (is_double others over own.child e)) others b at_b).0)
-      (AllPairs-filter Agree (λ e. not (is_double others over own.child e)) others
-      (AllPairs-filter Agree (λ e. not (is_filters over e)) edges (agree-pairs edges rule)))
+      (Contains-filter (λ e. not (is_double others over to e)) others a at_a).0
+      (Contains-filter (λ e. not (is_double others over to e)) others b at_b).0)
+      (AllPairs-filter Agree (λ e. not (is_double others over to e)) others fewer)
 
   pub KeepsPermissions-left : KeepsPermissions (refreshed kinds left_over)
   KeepsPermissions-left =
@@ -230,8 +220,39 @@ module _ (kinds : List NodeKind) (edges : List Edge) (over : ℕ) (own : Edge) (
       now left_over still h) left_over (eased-refl left_over) in
       pairs-agree (refreshed kinds left_over) (eased_pairs (refreshed kinds left_over) left_over eased left_agree)
 
+not_true : (b : Bool) → not b ≡ true → b ≡ false
+not_true true k = absurd cc
+not_true false k = refl
+
+-- the filter's own edge goes
 pub KeepsPermissions-without_filter : (kinds : List NodeKind) (edges : List Edge) (over : ℕ) → IsTransparent edges over
     → IsRefreshed kinds edges → KeepsPermissions edges → KeepsPermissions (refreshed kinds (without_filter over edges))
 KeepsPermissions-without_filter kinds edges over clear stays rule =
-    let left = KeepsPermissions-left kinds edges over clear.edge clear.own clear.asks clear.shares stays rule in
+    let found = find-Some (is_filters over) edges clear.edge clear.own in
+    let left = KeepsPermissions-left kinds edges (but_filters over edges) over clear.edge.child (is_filters over) clear.edge found.0
+    found.1 refl
+    (λ e h.
+    let r = Contains-filter (λ x. not (is_filters over x)) edges e h in (r.0, not_true (is_filters over e) r.1))
+    (AllPairs-filter Agree (λ e. not (is_filters over e)) edges (agree-pairs edges rule))
+    clear.asks clear.shares stays rule in
     rw (clear.own, without_filter) left
+
+-- the edges of the filter and of a job go
+pub KeepsPermissions-handed : (kinds : List NodeKind) (edges : List Edge) (over to job : ℕ) → LeavesRoom edges over to job
+    → IsRefreshed kinds edges → KeepsPermissions edges
+    → KeepsPermissions (refreshed kinds (with_moved over to (without_parent (Job job) (without_parent (Node over) edges))))
+KeepsPermissions-handed kinds edges over to job room stays rule =
+    KeepsPermissions-left kinds edges (without_parent (Job job) (without_parent (Node over) edges)) over to gone room.edge room.there
+    (rw (room.own, same_parent-refl (Job job)) refl) room.child was
+    (AllPairs-filter Agree (λ e. not (same_parent e.parent (Job job))) (without_parent (Node over) edges)
+    (AllPairs-filter Agree (λ e. not (same_parent e.parent (Node over))) edges (agree-pairs edges rule)))
+    room.asks room.shares stays rule
+  where
+    gone : Edge → Bool
+    gone e = same_parent e.parent (Job job) || same_parent e.parent (Node over)
+
+    was : (e : Edge) → Contains (without_parent (Job job) (without_parent (Node over) edges)) e → Contains edges e × (gone e ≡ false)
+    was e h =
+        let r = Contains-filter (λ x. not (same_parent x.parent (Job job))) (without_parent (Node over) edges) e h in
+        let q = Contains-filter (λ x. not (same_parent x.parent (Node over))) edges e r.0 in
+        (q.0, rw (not_true (same_parent e.parent (Job job)) r.1) (not_true (same_parent e.parent (Node over)) q.1))

@@ -17,13 +17,16 @@ has_mark marks (Job job) = slice_index_or marks job false
 -- the jobs with a mark are those with an edge of the role Between to the node
 abbrev pub AreJobsAt : List Edge → ℕ → List Bool → Type 0
 AreJobsAt edges node marks =
-    (job : ℕ) → job < 16 → slice_index_or marks job false ≡ list_any (is_between (Job job) node) edges
+    (job : ℕ) → job < 16
+    → slice_index_or marks job false ≡ list_any (is_between (Job job) node) edges
 
 -- where one edge more is looked at
 abbrev pub MarksJob : Edge → ℕ → List Bool → List Bool → Type 0
 MarksJob edge node old new = (job : ℕ) → job < 16
-    → slice_index_or new job false ≡ (is_between (Job job) node edge || slice_index_or old job false)
+    → slice_index_or new job false
+    ≡ (is_between (Job job) node edge || slice_index_or old job false)
 
 -- an edge of the role Between into a node whose job has a mark
 abbrev pub is_double_by : List Bool → ℕ → Edge → Bool
-is_double_by marks from edge = edge.child == from && same_role edge.role Between && has_mark marks edge.parent
+is_double_by marks from edge =
+    edge.child == from && same_role edge.role Between && has_mark marks edge.parent

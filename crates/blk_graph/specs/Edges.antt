@@ -37,14 +37,14 @@ abbrev pub DifferInPlace : Edge → Edge → Type 0
 DifferInPlace a b = a.parent ≡ b.parent → a.role ≡ b.role → (a.role ≡ Between) × (a.child ≢ b.child)
 
 -- whether a permission is one of these
-abbrev pub holds : Perms → Perm → Bool
-holds perms Read = perms.read
-holds perms Write = perms.write
-holds perms Unchanged = perms.unchanged
+abbrev pub has_perm : Perms → Perm → Bool
+has_perm perms Read = perms.read
+has_perm perms Write = perms.write
+has_perm perms Unchanged = perms.unchanged
 
 -- each permission that is asked is shared
 abbrev pub IsWithin : Perms → Perms → Type 0
-IsWithin asked shared = (perm : Perm) → IsTrue (holds asked perm) → IsTrue (holds shared perm)
+IsWithin asked shared = (perm : Perm) → IsTrue (has_perm asked perm) → IsTrue (has_perm shared perm)
 
 -- a node has its file, its backing node and what it filters, a guest its drive, and a job all the others
 abbrev pub may_have : Parent → Role → Bool

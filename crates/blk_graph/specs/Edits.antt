@@ -4,7 +4,7 @@ use Rattle.std.specs.List.{list_any}
 use Rattle.blk_graph.specs.declared.edge.Edge.{Edge}
 use Rattle.blk_graph.specs.declared.edge.Perms.{Perms}
 use Rattle.blk_graph.specs.declared.edge.Parent.{Parent}
-use Rattle.blk_graph.specs.declared.edge.Parent.TheVariants.{Node}
+use Rattle.blk_graph.specs.declared.edge.Parent.TheVariants.{Node, Job}
 use Rattle.std.specs.Option.{option_map}
 use Rattle.blk_graph.specs.declared.edge.Role.{Role}
 use Rattle.blk_graph.specs.declared.edge.Role.TheVariants.{Backing, Between, Filtered}
@@ -55,7 +55,8 @@ with_replaced from to but edges = map (replaced from to but) edges
 -- all parents of a node but jobs have the overlay as child, and the overlay has the node
 abbrev pub with_over : ℕ → ℕ → List Edge → List Edge
 with_over node overlay edges =
-    with_replaced node overlay (Some (Node overlay)) (with_edge (node_edge overlay Backing node) edges)
+    with_replaced node overlay (Some (Node overlay))
+    (with_edge (node_edge overlay Backing node) edges)
 
 -- no edge enters or leaves the node
 pub record IsLone (edges : List Edge) (node : ℕ) : Type 0 where
@@ -69,6 +70,10 @@ touches node edge = edge.child == node || same_parent edge.parent (Node node)
 -- an edge into one node leads to another
 abbrev pub moved : ℕ → ℕ → Edge → Edge
 moved from to edge = if edge.child == from then with_child to edge else edge
+
+-- the child that a parent then has in place of one
+abbrev pub child_moved : ℕ → ℕ → ℕ → ℕ
+child_moved from to child = if child == from then to else child
 
 -- an edge of a parent, of the role Between, to a child
 abbrev pub is_between : Parent → ℕ → Edge → Bool
@@ -124,3 +129,10 @@ without_edge parent role edges = filter (λ edge. not (is_edge parent role edge)
 -- a parent's edges are gone
 abbrev pub without_parent : Parent → List Edge → List Edge
 without_parent parent edges = filter (λ edge. not (same_parent edge.parent parent)) edges
+
+-- the edges of a job and its filter are gone, and all parents of the filter's child but jobs have another node
+abbrev pub with_pivot : ℕ → ℕ → ℕ → List Edge → List Edge
+with_pivot filter to job edges = elim (child_of (Node filter) Filtered edges) as (λ _. List Edge) [
+  | None ↦ without_parent (Job job) edges
+  | Some node ↦ with_replaced node to None (without_filter filter (without_parent (Job job) edges))
+]

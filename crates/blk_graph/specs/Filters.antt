@@ -1,9 +1,11 @@
--- When a filter can be taken out without a conflict.
-use Rattle.std.specs.Prelude.{◌≡◌, ◌≢◌, ℕ, List, find, Some}
+-- When what used a filter can use another node without a conflict.
+use Rattle.std.specs.Prelude.{◌≡◌, ◌≢◌, ◌⊎◌, ℕ, List, find, Some, Contains, true, false}
 use Rattle.blk_graph.specs.declared.edge.Edge.{Edge}
+use Rattle.blk_graph.specs.declared.edge.Parent.TheVariants.{Node, Job}
 use Rattle.blk_graph.specs.declared.edge.Perms.{Perms}
-use Rattle.blk_graph.specs.Edges.{IsWithin}
-use Rattle.blk_graph.specs.Edits.{IsLone, is_filters, with_filter}
+use Rattle.blk_graph.specs.declared.edge.Role.TheVariants.{Filtered}
+use Rattle.blk_graph.specs.Edges.{is_job, IsWithin}
+use Rattle.blk_graph.specs.Edits.{IsLone, child_of, is_filters, with_filter}
 use Rattle.blk_graph.specs.Graph.{Graph, IsFit, IsJust}
 use Rattle.blk_graph.specs.Refreshed.{uses_into, refreshed}
 
@@ -13,6 +15,21 @@ pub record IsTransparent (edges : List Edge) (filter : ℕ) : Type 0 where
   pub own : find (is_filters filter) edges ≡ Some edge
   pub asks : IsWithin (uses_into edges filter).perm edge.perm
   pub shares : IsWithin edge.shared (uses_into edges filter).shared
+
+-- An edge of a job into a node asks all that the filter's parents ask, and shares only what all of them share. No job leads to
+-- the filter, and to its child only the filter and jobs do.
+pub record LeavesRoom (edges : List Edge) (filter to job : ℕ) : Type 0 where
+  pub edge : Edge
+  pub there : Contains edges edge
+  pub own : edge.parent ≡ Job job
+  pub child : edge.child ≡ to
+  pub asks : IsWithin (uses_into edges filter).perm edge.perm
+  pub shares : IsWithin edge.shared (uses_into edges filter).shared
+  pub apart : (other : Edge) → Contains edges other → other.child ≡ filter
+      → is_job other.parent ≡ false
+  pub alone : (other : Edge) → Contains edges other
+      → child_of (Node filter) Filtered edges ≡ Some other.child
+      → (other.parent ≡ Node filter) ⊎ (is_job other.parent ≡ true)
 
 -- the graph's edges are others to which the filter was added, over one node
 pub record IsPutOver (graph : Graph) (filter : ℕ) (edges : List Edge) : Type 0 where

@@ -1,5 +1,5 @@
 -- What a contract sees of a graph.
-use Rattle.std.specs.Prelude.{◌≡◌, ℕ, ◌-◌, ◌<◌, ◌≤◌, List, [], ◌∷◌, ◌++◌, length, map, replicate, slice_set, AllPairs, Contains, nat_eq}
+use Rattle.std.specs.Prelude.{◌≡◌, ℕ, Bool, ◌-◌, ◌<◌, ◌≤◌, List, [], ◌∷◌, ◌++◌, length, map, replicate, slice_set, AllPairs, Contains, nat_eq}
 use Rattle.std.specs.List.{IsDistinct}
 use Rattle.blk_graph.specs.declared.edge.Edge.{Edge}
 use Rattle.blk_graph.specs.declared.edge.Parent.{Parent}
@@ -35,6 +35,12 @@ with_node graph id name kind = record graph {
   kinds = slice_set graph.kinds id kind;
 }
 
+-- what the nodes are, where one may be written or not
+abbrev pub with_writes : ℕ → Bool → List NodeKind → List NodeKind
+with_writes node writes kinds =
+    let kind : NodeKind = kind_at kinds node in
+    slice_set kinds node (record kind { writes = writes })
+
 -- it is a node of the graph
 abbrev pub HasNode : Graph → ℕ → Type 0
 HasNode graph node = Contains (ids graph) node
@@ -51,7 +57,8 @@ HasName graph name = Contains (map (λ row. row.name) graph.nodes) name
 
 -- no two nodes have the same name
 abbrev pub DifferentNames : List NodeRow → Type 0
-DifferentNames nodes = (a b : NodeRow) → Contains nodes a → Contains nodes b → a.name ≡ b.name → a.id ≡ b.id
+DifferentNames nodes =
+    (a b : NodeRow) → Contains nodes a → Contains nodes b → a.name ≡ b.name → a.id ≡ b.id
 
 -- an edge that may stand in a graph
 pub record FitsIn (graph : Graph) (edge : Edge) : Type 0 where
@@ -71,7 +78,7 @@ pub record IsJust (kinds : List NodeKind) (edges : List Edge) : Type 0 where
   pub rule : KeepsPermissions edges
 
 -- what is true of every graph
-pub record IsSound (graph : Graph) : Type 0 where
+pub record IsSoundGraph (graph : Graph) : Type 0 where
   pub different_nodes : IsDistinct nat_eq (ids graph)
   pub different_names : DifferentNames graph.nodes
   pub few_nodes : length graph.nodes ≤ 64

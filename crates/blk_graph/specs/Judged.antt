@@ -33,6 +33,15 @@ pub record IsJudged (nodes : List ℕ) (kinds : List NodeKind) (edited : List Ed
   pub ok : IsOk result ↔ (IsAcyclic edited × KeepsPermissions (refreshed kinds edited))
   pub only : IfErr result IsEditStop
 
+-- The same whichever nodes the edges lead to: a list is taken where no pair into one of these nodes breaks the rule.
+pub record IsSettled (nodes : List ℕ) (kinds : List NodeKind) (edited : List Edge)
+    (result : Result (Unit {0}) GraphStop) : Type 0 where
+  pub cycle : (result ≡ Err Cycle) ↔ HasCycle edited
+  pub conflict : (pair : Pair) → (result ≡ Err (Conflict pair))
+      ↔ (IsAcyclic edited × (first_conflict nodes (refreshed kinds edited) ≡ Some pair))
+  pub ok : IsOk result ↔ (IsAcyclic edited × (first_conflict nodes (refreshed kinds edited) ≡ None))
+  pub only : IfErr result IsEditStop
+
 -- nothing leads to the overlay, which is another node than this one and doesn't lead to it
 pub record IsApart (edges : List Edge) (node overlay : ℕ) : Type 0 where
   pub differ : overlay ≢ node
@@ -48,6 +57,10 @@ IsRuled nodes edges (Err _) = ⊥
 -- the graph with an edited list, from which what nodes' edges ask and share is derived
 abbrev pub with_edges : Graph → List Edge → Graph
 with_edges graph edited = record graph { edges = refreshed graph.kinds edited }
+
+-- the graph where the nodes are these, by which its edges are derived
+abbrev pub with_kinds : Graph → List NodeKind → Graph
+with_kinds graph kinds = record graph { kinds = kinds; edges = refreshed kinds graph.edges }
 
 -- an addition is refused for these alone
 abbrev pub IsAdditionStop : GraphStop → Type 0

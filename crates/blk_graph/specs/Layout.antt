@@ -5,7 +5,7 @@ use Rattle.blk_base.specs.Written.{Written}
 use Rattle.slab.specs.Slab.{Slab, get, ContainsKey, slab_len}
 use Rattle.blk_graph.specs.declared.edge.Edge.{Edge}
 use Rattle.blk_graph.specs.declared.kind.NodeKind.{NodeKind}
-use Rattle.blk_graph.specs.Graph.{NodeRow, Graph, IsSound}
+use Rattle.blk_graph.specs.Graph.{NodeRow, Graph, IsSoundGraph}
 
 -- the name under a key
 abbrev pub name_of : Slab Written → ℕ → List ℕ
@@ -20,7 +20,11 @@ row_of names keys id = record { id = id; name = name_of names (key_of keys id) }
 
 -- what a contract sees
 abbrev pub graph_of : Slab Written → List ℕ → List ℕ → List NodeKind → List Edge → Graph
-graph_of names keys order kinds edges = record { nodes = map (row_of names keys) order; kinds = kinds; edges = edges }
+graph_of names keys order kinds edges = record {
+  nodes = map (row_of names keys) order;
+  kinds = kinds;
+  edges = edges;
+}
 
 -- each node has a name
 abbrev pub HasNames : Slab Written → List ℕ → List ℕ → Type 0
@@ -28,10 +32,12 @@ HasNames names keys order = (id : ℕ) → Contains order id → ContainsKey nam
 
 -- no two nodes have one key
 abbrev pub HaveKeys : List ℕ → List ℕ → Type 0
-HaveKeys keys order = (a b : ℕ) → Contains order a → Contains order b → key_of keys a ≡ key_of keys b → a ≡ b
+HaveKeys keys order =
+    (a b : ℕ) → Contains order a → Contains order b → key_of keys a ≡ key_of keys b → a ≡ b
 
 -- the keys are those of the slab, and there is room for all that a graph may have
-pub record IsKept (names : Slab Written) (keys order : List ℕ) (kinds : List NodeKind) (edges : List Edge) (order_room : ℕ)
+pub record IsKept (names : Slab Written) (keys order : List ℕ) (kinds : List NodeKind)
+    (edges : List Edge) (order_room : ℕ)
     : Type 0 where
   pub named : HasNames names keys order
   pub apart : HaveKeys keys order
@@ -39,4 +45,4 @@ pub record IsKept (names : Slab Written) (keys order : List ℕ) (kinds : List N
   pub count : slab_len names ≡ length order
   pub names_room : names.capacity ≡ 64
   pub nodes_fit : 64 ≤ order_room
-  pub sound : IsSound (graph_of names keys order kinds edges)
+  pub sound : IsSoundGraph (graph_of names keys order kinds edges)

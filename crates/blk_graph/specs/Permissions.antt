@@ -32,11 +32,14 @@ drive_uses writes share_rw = asks_shares (perms true writes false) (perms true s
 -- A node's own edge, by whether the node may be written and by what the edges into it ask together and all share. An edge
 -- of another role asks and shares what was set.
 abbrev pub derived_uses : Kind → Role → Bool → Uses → Option Uses
-derived_uses Raw File writes above = Some (asks_shares (perms true writes false) (perms true false false))
-derived_uses Qcow2 File writes above = Some (asks_shares (perms true writes false) (perms true false false))
+derived_uses Raw File writes above =
+    Some (asks_shares (perms true writes false) (perms true false false))
+derived_uses Qcow2 File writes above =
+    Some (asks_shares (perms true writes false) (perms true false false))
 derived_uses Qcow2 Backing writes above =
     Some (asks_shares (perms above.perm.read false false) (perms true (not above.perm.read) true))
-derived_uses CopyOnRead File writes above = Some (asks_shares (perms above.perm.read above.perm.write true) above.shared)
+derived_uses CopyOnRead File writes above =
+    Some (asks_shares (perms above.perm.read above.perm.write true) above.shared)
 derived_uses BeforeWrite Filtered writes above =
     Some (asks_shares (perms true above.perm.write above.perm.unchanged) (perms true false true))
 derived_uses Mirror Filtered writes above =

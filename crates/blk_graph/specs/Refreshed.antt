@@ -46,7 +46,8 @@ with_uses edge (Some uses) = record edge { perm = uses.perm; shared = uses.share
 
 -- an edge as its parent's kind and the uses of its parent say; those of guests and jobs are as they were set
 abbrev pub ruled_from : List NodeKind → (ℕ → Uses) → Edge → Parent → Edge
-ruled_from kinds above edge (Node node) = with_uses edge (uses_by (kind_at kinds node) edge.role (above node))
+ruled_from kinds above edge (Node node) =
+    with_uses edge (uses_by (kind_at kinds node) edge.role (above node))
 ruled_from kinds above edge (Guest _) = edge
 ruled_from kinds above edge (Job _) = edge
 
@@ -55,7 +56,8 @@ ruled kinds above edge = ruled_from kinds above edge edge.parent
 
 -- each edge is as the edges into its parent say
 abbrev pub IsRefreshed : List NodeKind → List Edge → Type 0
-IsRefreshed kinds edges = (edge : Edge) → Contains edges edge → ruled kinds (uses_into edges) edge ≡ edge
+IsRefreshed kinds edges =
+    (edge : Edge) → Contains edges edge → ruled kinds (uses_into edges) edge ≡ edge
 
 -- each edge is made so once, by the edges before that
 abbrev pub turned : List NodeKind → List Edge → List Edge

@@ -7,7 +7,7 @@ use Rattle.blk_graph.specs.declared.edge.Perms.{Perms}
 use Rattle.blk_graph.specs.declared.edge.Perm.{Perm}
 use Rattle.blk_graph.specs.declared.edge.Perm.TheVariants.{Read, Write, Unchanged}
 use Rattle.blk_graph.specs.declared.edge.Parent.TheVariants.{Guest}
-use Rattle.blk_graph.specs.Edges.{holds, IsWithin}
+use Rattle.blk_graph.specs.Edges.{has_perm, IsWithin}
 
 -- for any two edges into one node, what the one asks lies within what the other shares
 abbrev pub KeepsPermissions : List Edge → Type 0
@@ -26,8 +26,8 @@ pub record IsBroken (edges : List Edge) (conflict : Conflict) : Type 0 where
   pub differ : i ≢ j
   pub same_child : (asking.child ≡ conflict.node) × (other.child ≡ conflict.node)
   pub parents : (asking.parent ≡ conflict.asks) × (other.parent ≡ conflict.denies)
-  pub asked : IsTrue (holds asking.perm conflict.perm)
-  pub denied : holds other.shared conflict.perm ≡ false
+  pub asked : IsTrue (has_perm asking.perm conflict.perm)
+  pub denied : has_perm other.shared conflict.perm ≡ false
 
 -- where a guest may write a node, every other edge into that node shares write
 abbrev pub GuestsWriteAlone : List Edge → Type 0
@@ -38,32 +38,35 @@ GuestsWriteAlone edges = (i j guest : ℕ) (drive other : Edge)
 
 -- every edge into the node shares these
 abbrev pub AllShare : List Edge → ℕ → Perms → Type 0
-AllShare edges node common = (edge : Edge) → Contains edges edge → edge.child ≡ node → IsWithin common edge.shared
+AllShare edges node common =
+    (edge : Edge) → Contains edges edge → edge.child ≡ node → IsWithin common edge.shared
 
 -- the first that is asked and isn't shared, in the order read, write, unchanged
 abbrev pub first_denied : Perms → Perms → Option Perm
 first_denied asked shared =
-    find (λ perm. holds asked perm && not (holds shared perm)) (Read ∷ Write ∷ Unchanged ∷ [])
+    find (λ perm. has_perm asked perm && not (has_perm shared perm)) (Read ∷ Write ∷ Unchanged ∷ [])
 
 -- no edge into the node asks what isn't among these
-abbrev pub IsCalm : List Edge → ℕ → Perms → Type 0
-IsCalm edges node common =
+abbrev pub AsksOnly : List Edge → ℕ → Perms → Type 0
+AsksOnly edges node common =
     (edge : Edge) → Contains edges edge → edge.child ≡ node → first_denied edge.perm common ≡ None
 
 -- what stands at each node's number is shared by every edge into the node
 abbrev pub EachShares : List Edge → List Perms → Type 0
-EachShares edges shares = (node : ℕ) (common : Perms) → slice_get shares node ≡ Some common → AllShare edges node common
+EachShares edges shares =
+    (node : ℕ) (common : Perms) → slice_get shares node ≡ Some common → AllShare edges node common
 
 -- a node without a mark is calm
 abbrev pub RestIsCalm : List Edge → List Perms → List Bool → Type 0
 RestIsCalm edges shares marks = (node : ℕ) (common : Perms) → slice_get shares node ≡ Some common
-    → slice_get marks node ≡ Some false → IsCalm edges node common
+    → slice_get marks node ≡ Some false → AsksOnly edges node common
 
 module _ {X Y : Type 0} where
   -- the first answer that the elements of a list give
   abbrev pub first_answer : (X → Option Y) → List X → Option Y
   first_answer f [] = None
-  first_answer f (x ∷ xs) = elim (f x) as (λ _. Option Y) [ None ↦ first_answer f xs | Some y ↦ Some y ]
+  first_answer f (x ∷ xs) =
+      elim (f x) as (λ _. Option Y) [ None ↦ first_answer f xs | Some y ↦ Some y ]
 
   -- the first answer that the elements give, each with its place, where the first stands at k
   abbrev pub first_answer_from : (ℕ → X → Option Y) → ℕ → List X → Option Y

@@ -1,5 +1,5 @@
 ghost use Rattle.std.specs.Prelude.{◌≡◌, ℕ, ◌<◌, ◌↔◌, IsTrue, true};
-ghost use Rattle.blk_graph.specs.Edges.{same_parent, same_role, is_job, holds};
+ghost use Rattle.blk_graph.specs.Edges.{same_parent, same_role, is_job, has_perm};
 
 use std::marker::Model;
 
@@ -136,7 +136,7 @@ impl Role {
 
 impl Perms {
     pub fn holds(self, perm: Perm) -> bool
-        ensures { result ≡ holds self perm }
+        ensures { result ≡ has_perm self perm }
     {
         match perm {
             Perm::Read => self.read,

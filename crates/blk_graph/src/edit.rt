@@ -3,7 +3,7 @@ ghost use Rattle.std.specs.Prelude.{◌≡◌, ◌≢◌, ◌↔◌, ◌+◌, �
 ghost use Rattle.std.specs.Option.{option_map};
 ghost use Rattle.blk_graph.specs.Doubles.{AreJobsAt, MarksJob, has_mark, is_double_by};
 ghost use Rattle.blk_graph.specs.Edges.{same_parent, same_role, is_job, IsListed};
-ghost use Rattle.blk_graph.specs.Edits.{takes_place, with_edge, with_child, stays, replaced, with_replaced, moved, is_edge, child_of, is_filters, but_filters, but_doubles, with_moved, with_filter, without_filter, without_edge, without_parent, IsLone, touches};
+ghost use Rattle.blk_graph.specs.Edits.{takes_place, with_edge, with_child, stays, replaced, with_replaced, moved, is_edge, child_of, is_filters, but_filters, but_doubles, with_moved, with_filter, without_filter, without_edge, without_parent, with_pivot, IsLone, touches};
 ghost use Rattle.blk_graph.specs.Judged.{first_parent};
 
 use crate::edge::{Edge, MOST_JOBS, NodeId, Parent, Perms, Role};
@@ -61,7 +61,8 @@ fn is_filters(edge: &Edge, filter: NodeId) -> bool
 /// The place that a new edge takes.
 fn place_of(edges: &[Edge], new: &Edge) -> Option<usize>
     ensures there { IfSome result (λ i. i < length edges.now) }
-    ensures place { IfSome result (λ i. slice_set edges.now i new.now ≡ with_edge new.now edges.now) }
+    ensures place { IfSome result
+        (λ i. slice_set edges.now i new.now ≡ with_edge new.now edges.now) }
     ensures none { IfNone result (edges.now ++ new.now ∷ [] ≡ with_edge new.now edges.now) }
 {
     for (i, old) in edges.iter().enumerate() {
@@ -251,6 +252,23 @@ pub(crate) fn drop_parent(edges: &mut Vec<Edge>, parent: &Parent)
     ensures capacity { vec_capacity edges.new ≡ vec_capacity edges.old }
 {
     edges.retain(|edge| !edge.parent.is(parent));
+}
+
+/// The edges of a job and its filter are gone, and all parents of the filter's child but jobs have another node.
+pub(crate) fn pivot(edges: &mut Vec<Edge>, filter: NodeId, to: NodeId, job: u32)
+    requires { IsListed edges.old.items }
+    ensures items { edges.new.items ≡ with_pivot filter to job edges.old.items }
+    ensures capacity { vec_capacity edges.new ≡ vec_capacity edges.old }
+{
+    let node = child(edges.as_slice(), &Parent::Node(filter), &Role::Filtered);
+    drop_parent(edges, &Parent::Job(job));
+    match node {
+        None => {}
+        Some(node) => {
+            drop_filter(edges, filter);
+            replace(edges, node, to, &None);
+        }
+    }
 }
 
 fn is_edge(edge: &Edge, parent: &Parent, role: &Role) -> bool

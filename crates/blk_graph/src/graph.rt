@@ -1,20 +1,22 @@
 //! The graph: nodes, and edges between them.
-ghost use Rattle.std.specs.Prelude.{◌≡◌, ◌≢◌, ◌↔◌, ℕ, ◌+◌, ◌≤◌, length, Contains, true, IsTrue, IsNone, IsOk, IfOk, IfErr, OnOk, OnErr, List, IfSome, IfNone, Ok, Err, MatchOption};
-ghost use Rattle.blk_graph.specs.Edits.{with_edge, with_replaced, with_over, with_filter, IsLone, child_of, without_filter, without_edge, without_parent};
-ghost use Rattle.blk_graph.specs.Graph.{ids, no_graph, HasNode, HasParent, HasName, FitsIn, IsSound, PathsAreShort, with_node};
-ghost use Rattle.blk_graph.specs.Filters.{IsTransparent, IsPutOver};
+ghost use Rattle.std.specs.Prelude.{◌≡◌, ◌≢◌, ◌↔◌, ℕ, ◌+◌, ◌≤◌, length, Contains, true, IsTrue, IsNone, IsOk, IfOk, IfErr, OnOk, OnErr, List, IfSome, IfNone, Ok, Err, MatchOption, false};
+ghost use Rattle.blk_graph.specs.Edits.{with_edge, with_replaced, with_over, with_filter, IsLone, child_of, without_filter, without_edge, without_parent, with_pivot};
+ghost use Rattle.blk_graph.specs.Graph.{ids, no_graph, HasNode, HasParent, HasName, FitsIn, IsSoundGraph, PathsAreShort, with_node, with_writes};
+ghost use Rattle.blk_graph.specs.Filters.{IsTransparent, LeavesRoom, IsPutOver};
 ghost use Rattle.blk_graph.specs.Ids.{IsLowestFree};
-ghost use Rattle.blk_graph.specs.Judged.{IsAdditionStop, IsApart, IsJudged, first_parent, with_edges, without_node};
+ghost use Rattle.blk_graph.specs.Judged.{IsAdditionStop, IsApart, IsJudged, first_parent, with_edges, with_kinds, without_node};
 ghost use Rattle.blk_graph.specs.Paths.{Reaches, LeadsBack};
 ghost use Rattle.blk_graph.specs.Permissions.{has_role};
-ghost use Rattle.blk_graph.specs.Refreshed.{kind_at, IsByTable};
+ghost use Rattle.blk_graph.specs.Refreshed.{kind_at, refreshed, IsByTable};
 ghost use Rattle.blk_graph.specs.Rule.{KeepsPermissions, GuestsWriteAlone, IsBroken, first_conflict};
+ghost use Rattle.blk_graph.specs.declared.edge.Conflict.{Conflict as Pair};
 ghost use Rattle.blk_graph.specs.declared.edge.Edge.{Edge as Use};
+ghost use Rattle.blk_graph.specs.declared.edge.Perms.{Perms as Set};
 
 use crate::edge::{Conflict, Edge, MOST_NODES, NodeId, Parent, Perms, Role};
 use crate::ids::next_id;
 use crate::judge::{leads_back, settle, settle_any};
-use crate::kind::{NO_KIND, NodeKind};
+use crate::kind::{NO_KIND, NodeKind, set_writes};
 use crate::list::EdgeList;
 use crate::stop::GraphStop;
 use crate::{edit, names, rule, walk};
@@ -50,7 +52,8 @@ impl Model for Graph {
 
     ghost view = { λ g. graph_of g.names g.keys g.order.items g.kinds g.edges };
 
-    ghost invariant = { λ g. IsKept g.names g.keys g.order.items g.kinds g.edges (vec_capacity g.order) };
+    ghost invariant = { λ g. IsKept g.names g.keys g.order.items g.kinds g.edges
+        (vec_capacity g.order) };
 }
 
 impl Graph {
@@ -76,7 +79,7 @@ impl Graph {
     /// The nodes in order of addition.
     pub fn nodes(&self) -> &[NodeId]
         ensures nodes { result.now ≡ ids self.now }
-        ensures sound { IsSound self.now }
+        ensures sound { IsSoundGraph self.now }
     {
         self.order.as_slice()
     }
@@ -84,7 +87,7 @@ impl Graph {
     /// What each node is, by its number.
     pub fn kinds(&self) -> &[NodeKind; MOST_NODES]
         ensures kinds { result.now ≡ self.now.kinds }
-        ensures sound { IsSound self.now }
+        ensures sound { IsSoundGraph self.now }
     {
         &self.kinds
     }
@@ -100,7 +103,7 @@ impl Graph {
     pub fn edges(&self) -> &[Edge]
         ensures edges { result.now ≡ self.now.edges }
         ensures few { length result.now ≤ 1344 }
-        ensures sound { IsSound self.now }
+        ensures sound { IsSoundGraph self.now }
         ensures paths { PathsAreShort self.now }
 
         // a guest that may write a node is alone among the edges into it that don't share write
@@ -112,14 +115,17 @@ impl Graph {
     /// The edges, to copy and to edit apart.
     pub fn list(&self) -> &EdgeList
         ensures edges { result.now ≡ self.now.edges }
-        ensures sound { IsSound self.now }
+        ensures sound { IsSoundGraph self.now }
+
+        // they are what is derived from them
+        ensures still { refreshed self.now.kinds self.now.edges ≡ self.now.edges }
     {
         &self.edges
     }
 
     /// Takes kinds and edges in place of the graph's, which `edges` has then. Needs no memory, and can't be refused.
     pub fn take(&mut self, kinds: &[NodeKind; MOST_NODES], edges: &mut EdgeList)
-        requires { IsSound (record self.old { kinds = kinds.now; edges = edges.old }) }
+        requires { IsSoundGraph (record self.old { kinds = kinds.now; edges = edges.old }) }
         ensures taken { self.new ≡ record self.old { kinds = kinds.now; edges = edges.old } }
         ensures back { edges.new ≡ self.old.edges }
     {
@@ -161,11 +167,13 @@ impl Graph {
         requires child { HasNode self.old edge.child }
         requires parent { HasParent self.old edge.parent }
         requires table { IsByTable self.old.kinds edge }
-        ensures judged { IsJudged (ids self.old) self.old.kinds (with_edge edge self.old.edges) result }
-        ensures cycle { (result ≡ Err GraphStop.Cycle) ↔ LeadsBack self.old.edges edge.child edge.parent }
+        ensures judged { IsJudged (ids self.old) self.old.kinds (with_edge edge self.old.edges)
+            result }
+        ensures cycle { (result ≡ Err GraphStop.Cycle) ↔ LeadsBack self.old.edges edge.child
+            edge.parent }
         ensures ok { OnOk result (self.new ≡ with_edges self.old (with_edge edge self.old.edges)) }
         ensures err { OnErr result (self.new ≡ self.old) }
-        ensures sound { IsSound self.new }
+        ensures sound { IsSoundGraph self.new }
     {
         if leads_back(self.edges.as_slice(), edge.child, &edge.parent) {
             return Err(GraphStop::Cycle);
@@ -192,7 +200,7 @@ impl Graph {
         ensures ok { OnOk result
             (self.new ≡ with_edges self.old (with_edge second (with_edge first self.old.edges))) }
         ensures err { OnErr result (self.new ≡ self.old) }
-        ensures sound { IsSound self.new }
+        ensures sound { IsSoundGraph self.new }
     {
         self.staged.copy_from(&self.edges);
         self.staged.put(first);
@@ -217,7 +225,7 @@ impl Graph {
         ensures ok { OnOk result
             (self.new ≡ with_edges self.old (with_over node overlay self.old.edges)) }
         ensures err { OnErr result (self.new ≡ self.old) }
-        ensures sound { IsSound self.new }
+        ensures sound { IsSoundGraph self.new }
     {
         self.staged.copy_from(&self.edges);
         self.staged.put(Edge::of_node(overlay, Role::Backing, node));
@@ -244,7 +252,7 @@ impl Graph {
         ensures ok { OnOk result
             (self.new ≡ with_edges self.old (with_replaced from to but self.old.edges)) }
         ensures err { OnErr result (self.new ≡ self.old) }
-        ensures sound { IsSound self.new }
+        ensures sound { IsSoundGraph self.new }
     {
         self.staged.copy_from(&self.edges);
         self.staged.replace(from, to, but);
@@ -266,7 +274,8 @@ impl Graph {
         edit::is_lone(self.edges.as_slice(), node)
     }
 
-    /// Puts a filter between a node and its parents.
+    /// Puts a filter between a node and its parents. What its edge then asks and shares is derived, whatever `perm` and `shared`
+    /// are.
     pub fn insert_filter(
         &mut self,
         node: NodeId,
@@ -284,8 +293,10 @@ impl Graph {
         ensures no_cycle { result ≢ Err GraphStop.Cycle }
         ensures ok { OnOk result
             (self.new ≡ with_edges self.old (with_filter node filter perm shared self.old.edges)) }
+        ensures derived { (asks shares : Set) → OnOk result
+            (self.new ≡ with_edges self.old (with_filter node filter asks shares self.old.edges)) }
         ensures err { OnErr result (self.new ≡ self.old) }
-        ensures sound { IsSound self.new }
+        ensures sound { IsSoundGraph self.new }
     {
         self.staged.copy_from(&self.edges);
         self.staged.put_filter(node, filter, perm, shared);
@@ -300,7 +311,8 @@ impl Graph {
     /// Takes a filter from between its child and its parents. They then stand beside the child's other parents, so a conflict
     /// may be answered; but not where the filter hid nothing, or where nothing else has changed since it was put there.
     pub fn remove_filter(&mut self, filter: NodeId) -> Result<(), GraphStop>
-        ensures judged { IsJudged (ids self.old) self.old.kinds (without_filter filter self.old.edges) result }
+        ensures judged { IsJudged (ids self.old) self.old.kinds
+            (without_filter filter self.old.edges) result }
         ensures transparent { IsTransparent self.old.edges filter → IsOk result }
         ensures back { (edges : List Use) → IsPutOver self.old filter edges → IsOk result
             × (self.new.edges ≡ edges) }
@@ -308,7 +320,7 @@ impl Graph {
         ensures ok { OnOk result
             (self.new ≡ with_edges self.old (without_filter filter self.old.edges)) }
         ensures err { OnErr result (self.new ≡ self.old) }
-        ensures sound { IsSound self.new }
+        ensures sound { IsSoundGraph self.new }
     {
         self.staged.copy_from(&self.edges);
         self.staged.drop_filter(filter);
@@ -320,10 +332,73 @@ impl Graph {
         )
     }
 
+    /// Ends a mirror or a commit with a move: the job's edges and its filter are gone, and all parents of the filter's child but
+    /// jobs have another node, as where its target or base takes its place. All is judged as one list. There is no conflict where
+    /// the job asked all of that node that the filter's parents ask, and nothing else used the filter's child.
+    pub fn pivot(&mut self, filter: NodeId, to: NodeId, job: u32) -> Result<(), GraphStop>
+        requires { HasNode self.old to }
+        ensures judged { IsJudged (ids self.old) self.old.kinds
+            (with_pivot filter to job self.old.edges) result }
+        ensures no_conflict { LeavesRoom self.old.edges filter to job
+            → (pair : Pair) → result ≢ Err (GraphStop.Conflict pair) }
+        ensures below { LeavesRoom self.old.edges filter to job → Reaches self.old.edges filter to
+            → IsOk result }
+        ensures ok { OnOk result
+            (self.new ≡ with_edges self.old (with_pivot filter to job self.old.edges)) }
+        ensures err { OnErr result (self.new ≡ self.old) }
+        ensures sound { IsSoundGraph self.new }
+    {
+        self.staged.copy_from(&self.edges);
+        self.staged.pivot(filter, to, job);
+        settle_any(
+            self.order.as_slice(),
+            &self.kinds,
+            &mut self.edges,
+            &mut self.staged,
+        )
+    }
+
+    /// Lets a node be written no more, as the base of a commit at its end. Less is asked then, so this can't be refused.
+    pub fn make_read_only(&mut self, node: NodeId)
+        ensures graph { self.new ≡ with_kinds self.old (with_writes node false self.old.kinds) }
+        ensures sound { IsSoundGraph self.new }
+    {
+        set_writes(&mut self.kinds, node, false);
+        self.edges.refresh(&self.kinds);
+    }
+
+    /// Lets a node be written, as the base of a commit. It then asks to write its file.
+    pub fn make_writable(&mut self, node: NodeId) -> Result<(), GraphStop>
+        requires { HasNode self.old node }
+        ensures judged { IsJudged (ids self.old) (with_writes node true self.old.kinds)
+            self.old.edges result }
+        ensures no_cycle { result ≢ Err GraphStop.Cycle }
+        ensures ok { OnOk result
+            (self.new ≡ with_kinds self.old (with_writes node true self.old.kinds)) }
+        ensures err { OnErr result (self.new ≡ self.old) }
+        ensures sound { IsSoundGraph self.new }
+    {
+        let mut kinds = self.kinds;
+        set_writes(&mut kinds, node, true);
+        self.staged.copy_from(&self.edges);
+        match settle(
+            self.order.as_slice(),
+            &kinds,
+            &mut self.edges,
+            &mut self.staged,
+        ) {
+            Ok(()) => {
+                self.kinds = kinds;
+                Ok(())
+            }
+            Err(stop) => Err(stop),
+        }
+    }
+
     /// Removes all edges of a parent.
     pub fn clear_edges(&mut self, parent: Parent)
         ensures edges { self.new ≡ with_edges self.old (without_parent parent self.old.edges) }
-        ensures sound { IsSound self.new }
+        ensures sound { IsSoundGraph self.new }
     {
         self.staged.copy_from(&self.edges);
         self.staged.drop_parent(parent);
@@ -334,7 +409,7 @@ impl Graph {
     /// Removes a parent's edges of a role.
     pub fn clear_edge(&mut self, parent: Parent, role: Role)
         ensures edges { self.new ≡ with_edges self.old (without_edge parent role self.old.edges) }
-        ensures sound { IsSound self.new }
+        ensures sound { IsSoundGraph self.new }
     {
         self.staged.copy_from(&self.edges);
         self.staged.remove(parent, role);
@@ -352,7 +427,8 @@ impl Graph {
 
     /// The node of that name.
     pub fn node_named(&self, name: &str) -> Option<NodeId>
-        ensures found { IfSome result (λ id. Contains self.now.nodes (record { id = id; name = name.now })) }
+        ensures found { IfSome result
+            (λ id. Contains self.now.nodes (record { id = id; name = name.now })) }
         ensures none { IfNone result (¬ HasName self.now name.now) }
     {
         names::node_named(&self.names, &self.keys, self.order.as_slice(), name)
@@ -370,7 +446,7 @@ impl Graph {
         ensures kind { IfOk result (λ id. kind_at self.new.kinds id ≡ kind) }
         ensures lone { IfOk result (λ id. IsLone self.new.edges id) }
         ensures err { OnErr result (self.new ≡ self.old) }
-        ensures sound { IsSound self.new }
+        ensures sound { IsSoundGraph self.new }
     {
         let named = names::node_named(
             &self.names,
@@ -399,7 +475,7 @@ impl Graph {
             (λ parent. result ≡ Err (GraphStop.InUse parent)) }
         ensures ok { OnOk result (self.new ≡ without_node node self.old) }
         ensures err { OnErr result (self.new ≡ self.old) }
-        ensures sound { IsSound self.new }
+        ensures sound { IsSoundGraph self.new }
     {
         if let Some(parent) = edit::first_parent(self.edges.as_slice(), node) {
             return Err(GraphStop::InUse(parent));

@@ -1,4 +1,8 @@
 //! What nodes and jobs are, as far as the permissions of their edges go.
+ghost use Rattle.std.specs.Prelude.{◌≡◌};
+ghost use Rattle.blk_graph.specs.Graph.{with_writes};
+
+use crate::edge::{MOST_NODES, NodeId};
 
 /// What a node is.
 #[derive(Clone, Copy, Debug, PartialEq, Eq)]
@@ -41,4 +45,12 @@ pub enum JobUse {
     StreamTop,
     /// A node below the top of a stream, down to its base, the base among them.
     StreamBelow,
+}
+
+/// Lets a node be written or not, by the kinds at the nodes' numbers.
+pub(crate) fn set_writes(kinds: &mut [NodeKind; MOST_NODES], node: NodeId, writes: bool)
+    ensures { kinds.new ≡ with_writes node writes kinds.old }
+{
+    let kind = kinds[node.index()].kind;
+    kinds[node.index()] = NodeKind { kind, writes };
 }

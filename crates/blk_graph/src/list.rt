@@ -1,15 +1,17 @@
 //! The edges as a value that is edited and judged apart from a graph.
-ghost use Rattle.std.specs.Prelude.{◌≡◌, ◌≢◌, ◌↔◌, ◌≤◌, ◌&&◌, false, [], length, IsTrue, IsOk, IfOk, IfErr, MatchResult, Some, None};
-ghost use Rattle.blk_graph.specs.Drafts.{KeepsFit, KeepsAcyclic, KeepsChildren};
+ghost use Rattle.std.specs.Prelude.{◌≡◌, ◌≢◌, ◌↔◌, ◌≤◌, ◌&&◌, ℕ, List, false, [], length, IsTrue, IsOk, IfOk, IfErr, OnOk, MatchResult, Some, None};
+ghost use Rattle.blk_graph.specs.Drafts.{KeepsFit, KeepsAcyclic, KeepsChildren, KeepsRule, WriteLess};
 ghost use Rattle.blk_graph.specs.Edges.{same_parent, same_role, may_have, HasNumber, IsListed};
-ghost use Rattle.blk_graph.specs.Edits.{with_edge, with_replaced, with_moved, filter_edge, with_filter, without_filter, without_edge, without_parent, is_edge, child_of, child_after, IsLone};
-ghost use Rattle.blk_graph.specs.Graph.{Graph, HasNode, FitsIn, IsFit};
-ghost use Rattle.blk_graph.specs.Judged.{IsJudged, LeadTo};
+ghost use Rattle.blk_graph.specs.Edits.{with_edge, with_replaced, with_moved, filter_edge, with_filter, without_filter, without_edge, without_parent, with_pivot, is_edge, child_of, child_after, child_moved, IsLone};
+ghost use Rattle.blk_graph.specs.Filters.{IsTransparent, LeavesRoom};
+ghost use Rattle.blk_graph.specs.Graph.{Graph, HasNode, FitsIn, IsFit, IsJust};
+ghost use Rattle.blk_graph.specs.Judged.{IsJudged, IsSettled, LeadTo};
 ghost use Rattle.blk_graph.specs.Paths.{Reaches, LeadsBack, IsAcyclic};
 ghost use Rattle.blk_graph.specs.Refreshed.{refreshed, IsRefreshed};
 ghost use Rattle.std.specs.Option.{option_map};
 ghost use Rattle.blk_graph.specs.declared.edge.Parent.{Parent as Who};
 ghost use Rattle.blk_graph.specs.declared.edge.Role.{Role as What};
+ghost use Rattle.blk_graph.specs.declared.kind.NodeKind.{NodeKind as Known};
 ghost use Rattle.blk_graph.specs.Rule.{KeepsPermissions, IsBroken, first_conflict};
 
 use crate::cycle::has_cycle;
@@ -76,9 +78,12 @@ impl EdgeList {
         ensures edges { self.new ≡ with_edge edge self.old }
         ensures fit { (graph : Graph) → FitsIn graph edge → IsFit graph self.old
             → IsFit graph self.new }
-        ensures acyclic { ¬ LeadsBack self.old edge.child edge.parent → KeepsAcyclic self.old self.new }
-        ensures children { KeepsChildren (λ parent role. is_edge parent role edge) self.old self.new }
-        ensures child { edge.role ≢ Role.Between → child_of edge.parent edge.role self.new ≡ Some edge.child }
+        ensures acyclic { ¬ LeadsBack self.old edge.child edge.parent
+            → KeepsAcyclic self.old self.new }
+        ensures children { KeepsChildren
+            (λ parent role. is_edge parent role edge) self.old self.new }
+        ensures child { edge.role ≢ Role.Between
+            → child_of edge.parent edge.role self.new ≡ Some edge.child }
     {
         prove!(edge.child.index() < MOST_NODES);
         edit::put_edge(&mut self.edges, edge);
@@ -91,6 +96,7 @@ impl EdgeList {
         ensures acyclic { KeepsAcyclic self.old self.new }
         ensures children { KeepsChildren
             (λ other kept. same_parent other parent && same_role kept role) self.old self.new }
+        ensures rule { KeepsRule self.old self.new }
     {
         edit::drop_edge(&mut self.edges, &parent, &role);
     }
@@ -114,6 +120,9 @@ impl EdgeList {
         ensures fit { (graph : Graph) → HasNode graph to → IsFit graph self.old
             → IsFit graph self.new }
         ensures acyclic { ¬ Reaches self.new to to → KeepsAcyclic self.old self.new }
+        ensures children { (parent : Who) (role : What) → role ≢ Role.Between
+            → child_of parent role self.new
+            ≡ option_map (child_moved from to) (child_of parent role self.old) }
     {
         prove!(to.index() < MOST_NODES);
         edit::move_all(&mut self.edges, from, to);
@@ -127,6 +136,10 @@ impl EdgeList {
             → FitsIn graph (filter_edge filter node perm shared)
             → IsFit graph self.old → IsFit graph self.new }
         ensures acyclic { filter ≢ node → KeepsAcyclic self.old self.new }
+        ensures child { child_of (Parent.Node filter) Role.Filtered self.new ≡ Some node }
+        ensures children { (parent : Who) (role : What) → role ≢ Role.Between
+            → parent ≢ Parent.Node filter → child_of parent role self.new
+            ≡ option_map (child_moved node filter) (child_of parent role self.old) }
     {
         prove!(node.index() < MOST_NODES);
         prove!(filter.index() < MOST_NODES);
@@ -138,8 +151,32 @@ impl EdgeList {
         ensures edges { self.new ≡ without_filter filter self.old }
         ensures fit { KeepsFit self.old self.new }
         ensures acyclic { KeepsAcyclic self.old self.new }
+        ensures child { child_of (Parent.Node filter) Role.Filtered self.new ≡ None }
+        ensures children { (node : ℕ)
+            → child_of (Parent.Node filter) Role.Filtered self.old ≡ Some node
+            → (parent : Who) (role : What) → role ≢ Role.Between → role ≢ Role.Filtered
+            → child_of parent role self.new
+            ≡ option_map (child_moved filter node) (child_of parent role self.old) }
+        ensures none { child_of (Parent.Node filter) Role.Filtered self.old ≡ None
+            → self.new ≡ self.old }
+        ensures rule { (kinds : List Known) → IsJust kinds self.old
+            → IsTransparent self.old filter → KeepsPermissions (refreshed kinds self.new) }
     {
         edit::drop_filter(&mut self.edges, filter);
+    }
+
+    /// Ends a job with a move: its edges and its filter are gone, and all parents of the filter's child but jobs have another node.
+    pub fn pivot(&mut self, filter: NodeId, to: NodeId, job: u32)
+        ensures edges { self.new ≡ with_pivot filter to job self.old }
+        ensures fit { (graph : Graph) → HasNode graph to → IsFit graph self.old
+            → IsFit graph self.new }
+        ensures acyclic { ¬ Reaches self.new to to → KeepsAcyclic self.old self.new }
+        ensures rule { (graph : Graph) → IsFit graph self.old → IsJust graph.kinds self.old
+            → LeavesRoom self.old filter to job
+            → KeepsPermissions (refreshed graph.kinds self.new) }
+    {
+        prove!(to.index() < MOST_NODES);
+        edit::pivot(&mut self.edges, filter, to, job);
     }
 
     /// Removes all edges of a parent.
@@ -147,7 +184,9 @@ impl EdgeList {
         ensures edges { self.new ≡ without_parent parent self.old }
         ensures fit { KeepsFit self.old self.new }
         ensures acyclic { KeepsAcyclic self.old self.new }
-        ensures children { KeepsChildren (λ other role. same_parent other parent) self.old self.new }
+        ensures children { KeepsChildren
+            (λ other role. same_parent other parent) self.old self.new }
+        ensures rule { KeepsRule self.old self.new }
     {
         edit::drop_parent(&mut self.edges, &parent);
     }
@@ -160,6 +199,10 @@ impl EdgeList {
         ensures fit { KeepsFit self.old self.new }
         ensures acyclic { KeepsAcyclic self.old self.new }
         ensures children { KeepsChildren (λ parent role. false) self.old self.new }
+
+        // nor is the rule broken where nodes are no longer written
+        ensures rule { (old : List Known) → WriteLess old kinds.now
+            → KeepsPermissions (refreshed old self.old) → KeepsPermissions self.new }
     {
         refresh::refresh(kinds, &mut self.edges);
     }
@@ -179,11 +222,16 @@ impl EdgeList {
     }
 
     /// Derives what nodes' edges ask and share, and refuses the list where some node reaches itself, and else for its first pair
-    /// against the permission rule.
+    /// against the permission rule. What is then left can be taken for a graph's edges.
     pub fn settle(&mut self, nodes: &[NodeId], kinds: &[NodeKind]) -> Result<(), GraphStop>
         requires { length kinds.now ≡ 64 }
         ensures edges { self.new ≡ refreshed kinds.now self.old }
         ensures judged { LeadTo nodes.now self.old → IsJudged nodes.now kinds.now self.old result }
+        ensures settled { IsSettled nodes.now kinds.now self.old result }
+        ensures just { LeadTo nodes.now self.old → OnOk result (IsJust kinds.now self.new) }
+        ensures fit { KeepsFit self.old self.new }
+        ensures acyclic { KeepsAcyclic self.old self.new }
+        ensures children { KeepsChildren (λ parent role. false) self.old self.new }
     {
         let is_cyclic = has_cycle(self.edges.as_slice());
         refresh::refresh(kinds, &mut self.edges);

@@ -30,7 +30,8 @@ fn joined(edge: &Edge, uses: &Uses) -> Uses
 fn join(edge: &Edge, above: &mut [Uses])
     requires { length above.old ≡ 64 }
     ensures { (uses : ℕ → Seen) → IsTable uses above.old
-        → IsTable (λ n. if edge.now.child == n then joined edge.now (uses n) else uses n) above.new }
+        → IsTable (λ n. if edge.now.child == n then joined edge.now (uses n) else uses n)
+        above.new }
 {
     let child = edge.child.index();
     above[child] = joined(edge, &above[child]);
@@ -65,7 +66,8 @@ fn with_uses(edge: &Edge, uses: Option<Uses>) -> Edge
 fn ruled(kinds: &[NodeKind], above: &[Uses], edge: &Edge) -> Edge
     requires kinds { length kinds.now ≡ 64 }
     requires above { length above.now ≡ 64 }
-    ensures ruled { (uses : ℕ → Seen) → IsTable uses above.now → result ≡ ruled kinds.now uses edge.now }
+    ensures ruled { (uses : ℕ → Seen) → IsTable uses above.now
+        → result ≡ ruled kinds.now uses edge.now }
     ensures kept { result ≡ record edge.now { perm = result.perm; shared = result.shared } }
 {
     match edge.parent {

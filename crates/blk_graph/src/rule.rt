@@ -1,7 +1,7 @@
 //! The look for the first pair of edges that breaks the permission rule.
 ghost use Rattle.std.specs.Prelude.{◌≡◌, length, IsTrue};
 ghost use Rattle.blk_graph.specs.Edges.{IsWithin};
-ghost use Rattle.blk_graph.specs.Rule.{AllShare, IsCalm, EachShares, RestIsCalm, first_denied, conflict_between, conflict_of, conflict_at, first_conflict};
+ghost use Rattle.blk_graph.specs.Rule.{AllShare, AsksOnly, EachShares, RestIsCalm, first_denied, conflict_between, conflict_of, conflict_at, first_conflict};
 
 use crate::edge::{Conflict, Edge, MOST_NODES, NodeId, Perm, Perms};
 
@@ -151,7 +151,7 @@ fn conflict_among(
 /// The first conflict at a node, which is known to have none where it is calm.
 fn conflict_unless(edges: &[Edge], node: NodeId, common: Perms, calm: bool) -> Option<Conflict>
     requires shares { AllShare edges.now node common }
-    requires calm { IsTrue calm → IsCalm edges.now node common }
+    requires calm { IsTrue calm → AsksOnly edges.now node common }
     ensures { result ≡ conflict_at edges.now node }
 {
     if calm {

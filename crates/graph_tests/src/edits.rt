@@ -24,6 +24,13 @@ enum Edit {
     Detach(u32),
     /// The backing edge of a node is removed.
     Cut(usize),
+    /// A job has no edge more.
+    End(u32),
+    /// What used a filter uses another node, and the filter's edges and a job's are gone.
+    Pivot(usize, usize, u32),
+    /// A node may be written, or no longer.
+    Writable(usize),
+    ReadOnly(usize),
 }
 
 /// What is true of a graph.
@@ -52,6 +59,12 @@ const NONE: Perms = Perms {
 const READS: Perms = Perms {
     read: true,
     write: false,
+    unchanged: false,
+};
+
+const READS_WRITES: Perms = Perms {
+    read: true,
+    write: true,
     unchanged: false,
 };
 
@@ -136,6 +149,35 @@ fn cut(graph: &mut Graph, node: usize) -> Answer {
     }
 }
 
+fn end(graph: &mut Graph, job: u32) -> Answer {
+    graph.clear_edges(Parent::Job(job));
+    Answer::Done
+}
+
+fn pivot(graph: &mut Graph, filter: usize, to: usize, job: u32) -> Answer {
+    match (nth(graph, filter), nth(graph, to)) {
+        (Some(filter), Some(to)) => answered(graph.pivot(filter, to, job)),
+        _ => Answer::Other,
+    }
+}
+
+fn make_writable(graph: &mut Graph, node: usize) -> Answer {
+    match nth(graph, node) {
+        Some(node) => answered(graph.make_writable(node)),
+        None => Answer::Other,
+    }
+}
+
+fn make_read_only(graph: &mut Graph, node: usize) -> Answer {
+    match nth(graph, node) {
+        Some(node) => {
+            graph.make_read_only(node);
+            Answer::Done
+        }
+        None => Answer::Other,
+    }
+}
+
 fn made(graph: &mut Graph, edit: Edit) -> Answer {
     match edit {
         Edit::Link(from, to, role) => link(graph, from, to, role),
@@ -149,6 +191,10 @@ fn made(graph: &mut Graph, edit: Edit) -> Answer {
         Edit::Remove(node) => remove(graph, node),
         Edit::Detach(guest) => detach(graph, guest),
         Edit::Cut(node) => cut(graph, node),
+        Edit::End(job) => end(graph, job),
+        Edit::Pivot(filter, to, job) => pivot(graph, filter, to, job),
+        Edit::Writable(node) => make_writable(graph, node),
+        Edit::ReadOnly(node) => make_read_only(graph, node),
     }
 }
 
@@ -191,7 +237,7 @@ fn first_wrong(graph: &mut Graph, steps: &[Step]) -> Option<usize> {
 /// Nodes of some kinds, in order of addition, and what is done with them.
 type Row<'a> = (&'a str, &'a [Kind], &'a [Step<'a>]);
 
-const ROWS: [Row; 9] = [
+const ROWS: [Row; 12] = [
     (
         "a filter and back",
         &[Kind::Protocol, Kind::Qcow2, Kind::Qcow2, Kind::BeforeWrite],
@@ -252,6 +298,73 @@ const ROWS: [Row; 9] = [
                 Answer::Denied(1, Who::Guest(1), Who::Node(2), Perm::Write),
             ),
             Step::Do(Edit::Pull(2), Answer::Done),
+        ],
+    ),
+    (
+        "a commit filter that hid reading from a job that doesn't share it",
+        &[Kind::Protocol, Kind::Qcow2, Kind::Commit],
+        &[
+            Step::Do(Edit::Link(1, 0, Role::File), Answer::Done),
+            Step::Do(Edit::Attach(0, 1, true), Answer::Done),
+            Step::Do(Edit::Filter(1, 2), Answer::Done),
+            Step::Do(Edit::Hold(5, JobUse::CommitBetween, 1), Answer::Done),
+            Step::Do(
+                Edit::Pull(2),
+                Answer::Denied(1, Who::Guest(0), Who::Job(5), Perm::Read),
+            ),
+            Step::Do(Edit::End(5), Answer::Done),
+            Step::Do(Edit::Pull(2), Answer::Done),
+        ],
+    ),
+    (
+        "a commit under an overlay, whose base is written meanwhile",
+        &[
+            Kind::Protocol,
+            Kind::Raw,
+            Kind::Protocol,
+            Kind::Qcow2,
+            Kind::Protocol,
+            Kind::Qcow2,
+            Kind::Commit,
+        ],
+        &[
+            Step::Do(Edit::ReadOnly(1), Answer::Done),
+            Step::Do(Edit::Link(1, 0, Role::File), Answer::Done),
+            Step::Do(Edit::Both(3, 2, 1), Answer::Done),
+            Step::Do(Edit::Both(5, 4, 3), Answer::Done),
+            Step::Do(Edit::Attach(0, 5, false), Answer::Done),
+            Step::Is(Fact::Uses(0, READS, READS)),
+            Step::Do(Edit::Filter(3, 6), Answer::Done),
+            Step::Do(Edit::Writable(1), Answer::Done),
+            Step::Is(Fact::Uses(0, READS_WRITES, READS)),
+            Step::Do(Edit::Hold(9, JobUse::CommitTop, 3), Answer::Done),
+            Step::Do(Edit::Hold(9, JobUse::CommitBase, 1), Answer::Done),
+            Step::Do(Edit::Pivot(6, 1, 9), Answer::Done),
+            Step::Do(Edit::ReadOnly(1), Answer::Done),
+            Step::Is(Fact::Edges(&[
+                (Who::Node(1), 0),
+                (Who::Node(3), 2),
+                (Who::Node(3), 1),
+                (Who::Node(5), 4),
+                (Who::Node(5), 1),
+                (Who::Guest(0), 5),
+            ])),
+            Step::Is(Fact::Uses(0, READS, READS)),
+        ],
+    ),
+    (
+        "two nodes over a file, of which one is to be written",
+        &[Kind::Protocol, Kind::Raw, Kind::Raw],
+        &[
+            Step::Do(Edit::ReadOnly(1), Answer::Done),
+            Step::Do(Edit::ReadOnly(2), Answer::Done),
+            Step::Do(Edit::Link(1, 0, Role::File), Answer::Done),
+            Step::Do(Edit::Link(2, 0, Role::File), Answer::Done),
+            Step::Do(
+                Edit::Writable(1),
+                Answer::Denied(0, Who::Node(1), Who::Node(2), Perm::Write),
+            ),
+            Step::Is(Fact::Uses(0, READS, READS)),
         ],
     ),
     (

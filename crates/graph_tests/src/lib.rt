@@ -1,5 +1,5 @@
-//! Tests of the graph of nodes and of their bitmaps, through public calls alone. They stand here and not in the crates that they
-//! test, each of which would be proved once more with them.
+//! Tests of the graph of nodes, of the nodes over it and of their bitmaps, through public calls alone. They stand here and not in the
+//! crates that they test, each of which would be proved once more with them.
 #![tactic(auto)]
 
 #[cfg(test)]
@@ -11,4 +11,8 @@ mod graphs;
 #[cfg(test)]
 mod limits;
 #[cfg(test)]
+mod nodes;
+#[cfg(test)]
 mod permissions;
+#[cfg(test)]
+mod table;

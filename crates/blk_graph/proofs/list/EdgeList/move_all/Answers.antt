@@ -1,5 +1,6 @@
 use Rattle.std.proofs.Common.{arith, sym}
 use Rattle.blk_graph.proofs.CycleLemmas.{IsAcyclic-with_moved}
+use Rattle.blk_graph.proofs.DraftLemmas.{children_moved}
 use Rattle.blk_graph.proofs.FitLemmas.{IsFit-moved}
 use Rattle.blk_graph.proofs.ListedLemmas.{IsListed-moved}
 use Rattle.blk_graph.proofs.list.EdgeList.move_all.Goals as goal
@@ -20,3 +21,7 @@ pub returns-clause-acyclic : goal.returns-clause-acyclic
 returns-clause-acyclic c =
     rw (c.move_all.ensures.items, sym c.self.view_is)
     (λ none acyclic. IsAcyclic-with_moved c.args.from c.args.to c.self.inside.edges.items acyclic none)
+
+pub returns-clause-children : goal.returns-clause-children
+returns-clause-children c =
+    rw (c.move_all.ensures.items, sym c.self.view_is) (children_moved c.args.from c.args.to c.self.inside.edges.items)

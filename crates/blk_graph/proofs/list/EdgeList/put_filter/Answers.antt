@@ -1,5 +1,6 @@
 use Rattle.std.proofs.Common.{arith, sym}
 use Rattle.blk_graph.specs.Edits.{IsLone}
+use Rattle.blk_graph.proofs.DraftLemmas.{child_filter, children_filter}
 use Rattle.blk_graph.proofs.FilterLemmas.{IsAcyclic-with_filter}
 use Rattle.blk_graph.proofs.FitLemmas.{IsFit-with_filter}
 use Rattle.blk_graph.proofs.ListedLemmas.{length-listed, IsListed-with_filter}
@@ -27,3 +28,12 @@ pub returns-clause-acyclic : goal.returns-clause-acyclic
 returns-clause-acyclic c =
     rw (c.put_filter.ensures.items, sym c.self.view_is)
     (λ differ. IsAcyclic-with_filter c.self.inside.edges.items c.args.node c.args.filter c.args.perm c.args.shared differ (lone c))
+
+pub returns-clause-child : goal.returns-clause-child
+returns-clause-child c =
+    rw c.put_filter.ensures.items (child_filter c.args.node c.args.filter c.args.perm c.args.shared c.self.inside.edges.items (lone c))
+
+pub returns-clause-children : goal.returns-clause-children
+returns-clause-children c =
+    rw (c.put_filter.ensures.items, sym c.self.view_is)
+    (children_filter c.args.node c.args.filter c.args.perm c.args.shared c.self.inside.edges.items)

@@ -1,4 +1,5 @@
 use Rattle.std.proofs.Common.{arith, sym}
+use Rattle.blk_graph.proofs.EaseLemmas.{KeepsPermissions-less}
 use Rattle.blk_graph.proofs.FitLemmas.{IsFit-refreshed}
 use Rattle.blk_graph.proofs.ListedLemmas.{IsListed-refreshed}
 use Rattle.blk_graph.proofs.RefreshLemmas.{IsAcyclic-refreshed, IsRefreshed-refreshed, child_of-refreshed}
@@ -27,3 +28,8 @@ pub returns-clause-children : goal.returns-clause-children
 returns-clause-children c =
     rw (c.refresh.ensures.edges, sym c.self.view_is)
     (λ parent role same. child_of-refreshed c.args.kinds.now parent role c.self.inside.edges.items)
+
+pub returns-clause-rule : goal.returns-clause-rule
+returns-clause-rule c =
+    rw (c.refresh.ensures.edges, sym c.self.view_is)
+    (λ old less. KeepsPermissions-less old c.args.kinds.now c.self.inside.edges.items less)

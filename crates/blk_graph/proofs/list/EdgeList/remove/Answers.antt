@@ -2,6 +2,7 @@ use Rattle.std.proofs.Common.{arith, sym}
 use Rattle.std.specs.Prelude.{not}
 use Rattle.blk_graph.specs.Edits.{is_edge}
 use Rattle.blk_graph.proofs.DraftLemmas.{acyclic_fewer, children_removed}
+use Rattle.blk_graph.proofs.EaseLemmas.{KeepsRule-filter}
 use Rattle.blk_graph.proofs.FitLemmas.{IsFit-filter}
 use Rattle.blk_graph.proofs.ListedLemmas.{IsListed-filter}
 use Rattle.blk_graph.proofs.list.EdgeList.remove.Goals as goal
@@ -23,3 +24,7 @@ returns-clause-acyclic c =
 
 pub returns-clause-children : goal.returns-clause-children
 returns-clause-children c = rw (c.drop_edge.ensures.items, sym c.self.view_is) (children_removed c.args.parent c.args.role c.self.inside.edges.items)
+
+pub returns-clause-rule : goal.returns-clause-rule
+returns-clause-rule c =
+    rw (c.drop_edge.ensures.items, sym c.self.view_is) (KeepsRule-filter (λ edge. not (is_edge c.args.parent c.args.role edge)) c.self.inside.edges.items)
