@@ -11,6 +11,8 @@ mod fakes;
 #[cfg(test)]
 mod formats;
 #[cfg(test)]
+mod naming;
+#[cfg(test)]
 mod opening;
 #[cfg(test)]
 mod tables;

@@ -1,7 +1,7 @@
 //! Images that are written on devices in memory: the writes in their order, what they leave, and writes that fail.
 
 ghost use Rattle.std.specs.Prelude.{◌≡◌, ◌↔◌, ◌<◌, IsTrue, IfSome};
-ghost use Rattle.blk_fakes.specs.Disk.{bytes_of};
+ghost use Rattle.blk_fakes.specs.Disk.{device_bytes};
 ghost use Rattle.q2_image.specs.Image.{IsImageOf, clusters_in, entry_in};
 ghost use Rattle.q2_tables.specs.Entries.{entry_of};
 
@@ -62,7 +62,7 @@ const CLEARED_AND_PUT_ONE: [(u64, usize); 6] = [
 struct Opened {
     dev: MemDevice,
     image: Image,
-    ghost told: { IsImageOf (bytes_of dev.disk) image },
+    ghost told: { IsImageOf (device_bytes dev.disk) image },
 }
 
 /// Opens the image of these bytes, on a device whose calls of these numbers fail.

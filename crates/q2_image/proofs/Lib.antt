@@ -6,6 +6,13 @@ pub mod Guests
 pub mod Autocleared
 pub mod Merged
 pub mod Order
+pub mod NameRoom
+pub mod HeaderWrites
+pub mod NameSteps
+pub mod LastWrite
+pub mod NameStops
+pub mod NameCalls
+pub mod NameAnswers
 pub mod Opened
 pub mod Whole
 pub mod Mapped

@@ -92,6 +92,11 @@ module _ (image : Known) (cluster table word host : ℕ) (ready : IsOpen image) 
         reach = ready.reach;
         refcounts = ready.refcounts;
         first = ready.first;
+        name = ready.name;
+        format = ready.format;
+        list = ready.list;
+        ended = ready.ended;
+        room = ready.room;
       }
 
   -- How often a cluster is named then.

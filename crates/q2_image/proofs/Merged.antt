@@ -7,7 +7,7 @@ use Rattle.q2_format.specs.Tables.{Tree, refcount_table}
 use Rattle.q2_format.specs.Sound.{Refusal, bad_l1_table, bad_block, bad_l2_table, bad_host, reserved_in_l1, reserved_in_l2, reserved_in_refcount_table, compressed_cluster}
 use Rattle.q2_format.specs.Sound as sound
 use Rattle.q2_format.specs.declared.header.Header.{Header}
-use Rattle.q2_tables.specs.Loading.{load_refusal, IsRefusal}
+use Rattle.q2_tables.specs.Loading.{load_refusal, IsTableRefusal}
 use Rattle.q2_tables.specs.declared.stop.TablesStop.{TablesStop}
 use Rattle.q2_tables.specs.declared.stop.TablesStop.TheVariants as tables
 use Rattle.q2_image.specs.declared.stop.ImageStop.{ImageStop}
@@ -88,7 +88,7 @@ pub judged_reserved : (file : List ℕ) (h : Header) (len index : ℕ) (tree : T
 judged_reserved file h len index tree placed tells none = stops_merged file h len (Some index) tree placed tells ∙ ap (merged h (Some index)) none
 
 pub judged_stop : (file : List ℕ) (h : Header) (len : ℕ) (in_refs : Option ℕ) (tree : Tree) (stop : TablesStop) → place_stops h len ≡ None
-    → TableTells file h len None in_refs → (IsRefusal stop → load_refusal h len tree ≡ Some stop)
+    → TableTells file h len None in_refs → (IsTableRefusal stop → load_refusal h len tree ≡ Some stop)
     → Names (table_stops h len (refcount_table file h) tree) (merged_stop h in_refs stop)
 judged_stop file h len in_refs tree (tables.Offset o) placed tells is =
     judges_by (table_stops h len (refcount_table file h) tree) (merged_stop h in_refs (tables.Offset o)) (stops_merged file h len in_refs tree placed tells ∙ ap (merged h in_refs) (is tt))

@@ -6,12 +6,13 @@ use Rattle.std.proofs.lemmas.Grind.{div_ceil_times}
 use Rattle.std.proofs.lemmas.List.{get_or-take, length-take}
 use Rattle.q2_format.specs.Sizes.{cluster_size, l1_entries_for, block_entries}
 use Rattle.q2_format.specs.Entry.{host_offset, block_offset}
-use Rattle.q2_format.specs.Header.{first, refused_where, header_of, IsWithinLimits}
+use Rattle.q2_format.specs.Header.{LiesWithin, CanBeRead, first, refused_where, header_of, IsWithinLimits}
 use Rattle.q2_format.specs.Tables.{active_tree, refcount_table, refcount_of}
 use Rattle.q2_format.specs.References.{uses, structure_uses, cluster_bound, reach_of, own_offset}
 use Rattle.q2_format.specs.Sound.{Refusal, IsSound, image_refusal, table_refusals, overlap, uncounted, lowest, is_header_full, is_misplaced, bad_refcount_table, bad_l1_table, bad_block, bad_l2_table, bad_host, reserved_in_l1, reserved_in_l2, reserved_in_refcount_table, compressed_cluster}
 use Rattle.q2_format.specs.Sound as sound
 use Rattle.q2_format.specs.declared.header.Header.{Header}
+use Rattle.q2_format.specs.declared.header.Place.{Place}
 use Rattle.q2_format.proofs.Firsts.{lowest_alike, lowest-none, first-none, option_map-none, refused_where-none}
 use Rattle.q2_refs.specs.Kept.{IsCountsOf}
 use Rattle.q2_refs.specs.Kept as refs
@@ -26,6 +27,7 @@ use Rattle.q2_image.specs.Opening.{Names, refusal_of, header_stops, place_stops,
 use Rattle.q2_image.specs.Loading.{table_stops, HasCounts, counts_loaded}
 use Rattle.q2_image.specs.Image.{IsOpen}
 use Rattle.q2_image.proofs.Counted.{both_placed, some_cluster}
+use Rattle.q2_image.proofs.NameRoom.{list_ends}
 use Rattle.q2_image.proofs.Order.{names_head}
 
 -- one refusal, or the next
@@ -234,6 +236,25 @@ first_counts h len r t limits none =
     let some : 0 < n = rw bits (omega arith) in
     first_named (u 0) (get_or r.counts 0 0) (header_use h r.table t.l1 t.words) (lowest-none (λ k. not (eqb (u k) 0) && eqb (get_or r.counts k 0) 0) n nowhere 0 some)
 
+-- the header has room for another name
+not_full : (h : Header) (len : ℕ) (r : refs.Kept) (t : tables.Kept) → names_stops h (uses_in h r.table t.l1 t.words) r.counts (cluster_bound h len) ≡ None → is_header_full h ≡ false
+not_full h len r t none =
+    let u : ℕ → ℕ = uses_in h r.table t.l1 t.words in
+    let n : ℕ = cluster_bound h len in
+    let each = first-none (overlap_stop u n ∷ uncounted_stop u r.counts n ∷ refused_where (is_header_full h) sound.HeaderFull ∷ []) none in
+    refused_where-none (is_header_full h) sound.HeaderFull each.1.1.0
+
+-- the name and the format begin behind the fields
+behind_fields : (h : Header) (len : ℕ) → IsWithinLimits h len → (name : Option Place) → IfSome name (λ name. LiesWithin h.header_length (cluster_size h.cluster_bits) name × (name.len ≤ 1023))
+    → IfSome name (LiesWithin 104 (cluster_size h.cluster_bits))
+behind_fields h len limits None lies = tt
+behind_fields h len limits (Some name) lies = let low = lies.0.begins in let long = limits.header_whole in record { begins = omega (arith, low, long); ends = lies.0.ends }
+
+format_behind : (h : Header) (len : ℕ) → IsWithinLimits h len → (format : Option Place) → IfSome format (LiesWithin h.header_length (cluster_size h.cluster_bits))
+    → IfSome format (LiesWithin 104 (cluster_size h.cluster_bits))
+format_behind h len limits None lies = tt
+format_behind h len limits (Some format) lies = let low = lies.begins in let long = limits.header_whole in record { begins = omega (arith, low, long); ends = lies.ends }
+
 -- the file's clusters lie below the reach
 file_below : (h : Header) (len : ℕ) → IsWithinLimits h len → 1 ≤ h.ref_clusters → len ≤ reach_of h len * 65536
 file_below h len limits some =
@@ -261,10 +282,10 @@ reach_covered h len limits =
 covered_by : (n m clusters table bits order : ℕ) → m ≡ n → table ≡ clusters * 8192 → bits ≡ 16 → order ≡ 4 → n ≤ clusters * 8192 * 32768 → m ≤ table * block_entries (cluster_size bits) order
 covered_by n m clusters table bits order same is b o h = rw (same, is, b, o) h
 
-pub is_open : (h : Header) (len : ℕ) (r : refs.Kept) (t : tables.Kept) → IsWithinLimits h len → place_stops h len ≡ None → IsLoaded h len t
+pub is_open : (h : Header) (len : ℕ) (r : refs.Kept) (t : tables.Kept) → CanBeRead h len → IsWithinLimits h len → place_stops h len ≡ None → IsLoaded h len t
     → HasCounts h len (counts_loaded h len) r → names_stops h (uses_in h r.table t.l1 t.words) r.counts (cluster_bound h len) ≡ None
     → IsOpen (record { header = h; tables = t; refs = record r { counts = take (reach_of h len) r.counts } })
-is_open h len r t limits places loaded counts names =
+is_open h len r t readable limits places loaded counts names =
     let l1 = enough h.l1_size (l1_entries_for (cluster_size h.cluster_bits) h.size) (l1_placed h len (both_placed h len places).1).0 in
     let size = loaded.l1_size in
     let entries = loaded.entries in
@@ -278,6 +299,8 @@ is_open h len r t limits places loaded counts names =
     let small : n ≤ 8388608 = omega arith in
     let some : 0 < n = let one = some_cluster h len (both_placed h len places).0 in rw (bits, order) (omega (arith, one)) in
     let file = file_below h len limits (some_cluster h len (both_placed h len places).0) in
+    let room = not_full h len r t names in
+    let list = list_ends h len readable room in
     record {
       cluster_bits = limits.cluster_bits;
       tables_size = c;
@@ -296,4 +319,9 @@ is_open h len r t limits places loaded counts names =
             (counts.shape.cluster_bits ∙ bits) (counts.shape.refcount_order ∙ order) (reach_covered h len limits);
       };
       first = λ none. first_counts h len r t limits names (sym (get_or-take n r.counts 0 0 some) ∙ none);
+      name = behind_fields h len limits h.name limits.name;
+      format = format_behind h len limits h.format limits.format;
+      list = list.0;
+      ended = list.1;
+      room = room;
     }

@@ -27,6 +27,11 @@ open_cleared image ready = record {
   reach = ready.reach;
   refcounts = ready.refcounts;
   first = ready.first;
+  name = ready.name;
+  format = ready.format;
+  list = ready.list;
+  ended = ready.ended;
+  room = ready.room;
 }
 
 pub part_within : {A : Type 0} (result : Result A WriteStop) (bytes : List ℕ) (start : ℕ) → start % 65536 + length bytes ≤ 65536 → start % 65536 + length (taken result bytes) ≤ 65536

@@ -20,7 +20,7 @@ use Rattle.q2_refs.proofs.Placing.{told_before, written_with, short_file}
 use Rattle.q2_refs.proofs.Steps.{byte_stays}
 use Rattle.q2_refs.proofs.Writes.{IsWithin}
 use Rattle.q2_image.specs.Image.{Known, IsImageOf, IsOpen, cluster_size_in, entry_in}
-use Rattle.q2_image.specs.Writing.{IsSameDisk, IsSpare, IsIdle}
+use Rattle.q2_image.specs.Writing.{IsSameDisk, IsSpare, HoldsNoGuestByte}
 use Rattle.q2_image.proofs.DataWrites.{HoldsNoTable, KeepsTables, tables_kept, image_kept, spare_kept}
 use Rattle.q2_image.proofs.HostUses.{host_entry, zero_entry, spare_holds, spare_unnamed, owners_differ, held_by, size_in}
 use Rattle.q2_image.proofs.DiskKept.{same_disk}
@@ -60,12 +60,12 @@ module _ (old : List ℕ) (image : Known) (at place : ℕ) (bytes : List ℕ) (i
 
 -- What lies idle.
 
-idle_free : (old : List ℕ) (image : Known) (at : ℕ) → IsImageOf old image → IsOpen image → IsIdle 65536 old image at → HoldsNoTable old (at / 65536)
+idle_free : (old : List ℕ) (image : Known) (at : ℕ) → IsImageOf old image → IsOpen image → HoldsNoGuestByte 65536 old image at → HoldsNoTable old (at / 65536)
 idle_free old image at is ready (inl spare) = spare_holds old image is (at / 65536) spare.unnamed
 idle_free old image at is ready (inr (q, below, entry, some)) =
     (held_by old image is ready q at below (zero_entry (get_or image.tables.words q 0) at entry) (λ none. omega arith)).holds.free
 
-idle_other : (old : List ℕ) (image : Known) (at : ℕ) → IsImageOf old image → IsOpen image → IsIdle 65536 old image at
+idle_other : (old : List ℕ) (image : Known) (at : ℕ) → IsImageOf old image → IsOpen image → HoldsNoGuestByte 65536 old image at
     → (q host : ℕ) → q < length image.tables.words → entry_in image q ≡ Host host → host / 65536 ≢ at / 65536
 idle_other old image at is ready (inl spare) q host below entry =
     let own = host_entry (get_or image.tables.words q 0) host entry in
@@ -84,7 +84,7 @@ idle_other old image at is ready (inr (p, below_p, entry_p, some)) q host below 
 
 -- So a write there changes no byte of the disk.
 module _ (old : List ℕ) (image : Known) (at : ℕ) (bytes : List ℕ) (is : IsImageOf old image) (ready : IsOpen image)
-    (idle : IsIdle 65536 old image at) (whole : at % 65536 ≡ 0) (short : length bytes ≤ 65536) (small : at < 549755813888) where
+    (idle : HoldsNoGuestByte 65536 old image at) (whole : at % 65536 ≡ 0) (short : length bytes ≤ 65536) (small : at < 549755813888) where
   free : HoldsNoTable old (at / 65536)
   free = idle_free old image at is ready idle
 
@@ -116,7 +116,7 @@ pub told_now : (f : List ℕ → List ℕ) (o n : Option (List ℕ)) (old new : 
 told_now f o n old new is was told = let e : option_map f (Some old) ≡ Some new = ap (option_map f) (sym was) ∙ sym is ∙ told in cc
 
 module _ (o n : Option (List ℕ)) (image : Known) (at : ℕ) (bytes : List ℕ) (is : n ≡ option_map (λ b. with_bytes b at bytes) o)
-    (of_image : (file : List ℕ) → o ≡ Some file → IsImageOf file image) (ready : IsOpen image) (idle : (file : List ℕ) → o ≡ Some file → IsIdle 65536 file image at)
+    (of_image : (file : List ℕ) → o ≡ Some file → IsImageOf file image) (ready : IsOpen image) (idle : (file : List ℕ) → o ≡ Some file → HoldsNoGuestByte 65536 file image at)
     (whole : (file : List ℕ) → o ≡ Some file → at % 65536 ≡ 0) (short : length bytes ≤ 65536) (small : at < 549755813888) where
   pub told_image : (file : List ℕ) → n ≡ Some file → IsImageOf file image
   told_image file told =
@@ -160,7 +160,7 @@ one_made (Some stop) w (m ∷ made) (inr (cut, none)) =
 -- The same of one write, made or in part.
 module _ {D : Type 0} (g : Ghosts D) (image : Known) (at : ℕ) (bytes : List ℕ) (stop : Option DevStop) (a b : D) (writes : Writes g (write_of at bytes ∷ []) stop a b)
     (of_image : (file : List ℕ) → g.content a ≡ Some file → IsImageOf file image) (ready : IsOpen image)
-    (idle : (file : List ℕ) → g.content a ≡ Some file → IsIdle 65536 file image at)
+    (idle : (file : List ℕ) → g.content a ≡ Some file → HoldsNoGuestByte 65536 file image at)
     (whole : (file : List ℕ) → g.content a ≡ Some file → at % 65536 ≡ 0) (short : length bytes ≤ 65536) (small : at < 549755813888) where
   first : (k : ℕ) × (writes.made ≡ first_bytes k (write_of at bytes) ∷ [])
   first = one_made stop (write_of at bytes) writes.made writes.part

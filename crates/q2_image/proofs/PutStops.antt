@@ -21,7 +21,7 @@ use Rattle.q2_tables.specs.Kept as tables
 use Rattle.q2_tables.specs.Linking.{link_writes}
 use Rattle.q2_image.specs.Image.{Known, IsImageOf, IsOpen, cluster_size_in, entry_in}
 use Rattle.q2_image.specs.Made.{WriteStep, IsOldOrWith, writes_of_steps, clear_writes, clear_steps, take_steps, table_steps, host_steps, data_steps, entry_steps, fill_steps, clean_steps, put_steps, zero_steps, word_for}
-use Rattle.q2_image.specs.Writing.{AreClusterZeros, IsSameDisk, IsSpare, IsIdle, MayName, CanTake, PutFits, ZeroFits, after_take, autocleared, idle_host, needs_host, needs_table, next_host, table_for, taken_at, with_host, with_table, with_taken}
+use Rattle.q2_image.specs.Writing.{AreClusterZeros, IsSameDisk, IsSpare, HoldsNoGuestByte, MayName, CanTake, PutFits, ZeroFits, after_take, autocleared, idle_host, needs_host, needs_table, next_host, table_for, taken_at, with_host, with_table, with_taken}
 use Rattle.q2_image.proofs.Autocleared.{cleared_image, cleared_disk}
 use Rattle.q2_image.proofs.Changes.{fill_are}
 use Rattle.q2_image.proofs.HostUses.{held_by, size_in, zero_entry}
@@ -211,7 +211,7 @@ module _ (file m0 : List ℕ) (image : Known) (cluster : ℕ) (bytes : List ℕ)
       let number = ap (λ (n : ℕ). n / 65536) taken.1 ∙ by_size (free_cluster image.refs 0) (cluster_size_in image) size in
       subst (IsSpare m1) (sym number) (first.behind.spare taken.0)
 
-  idle : IsIdle 65536 m2 two host
+  idle : HoldsNoGuestByte 65536 m2 two host
   idle = elim (bool_cases (needs_host one cluster)) [
     | inl taken ↦ inl (host_spare taken)
     | inr behind ↦

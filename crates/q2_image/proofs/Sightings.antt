@@ -8,7 +8,7 @@ use Rattle.q2_format.specs.Sound.{lowest, Refusal}
 use Rattle.q2_format.specs.Sound as sound
 use Rattle.q2_format.proofs.Firsts.{lowest_at, none_lowest, lowest_alike}
 use Rattle.q2_image.specs.Opening.{overlap_stop, uncounted_stop}
-use Rattle.q2_image.specs.Seen.{Sightings, IsSeen, named_at, named_once, named_in_run, named_by, offset_in, twice_in, is_uncounted}
+use Rattle.q2_image.specs.Seen.{Sightings, IsSeen, named_at, named_once, named_in_run, times_named, offset_in, twice_in, is_uncounted}
 use Rattle.q2_image.specs.declared.seen.Naming.{Naming}
 
 -- what is seen depends on how often alone
@@ -41,7 +41,7 @@ count_more p words i true h e = let m = count_by_more_yes p words i 0 h e in ome
 count_more p words i false h e = let m = count_by_more_no p words i 0 h e in omega arith
 
 pub words-more : (c : ℕ) (kind : Naming) (words : List ℕ) (i k : ℕ) → i < length words
-    → named_by c kind (take (i + 1) words) k ≡ named_by c kind (take i words) k + named_once c (offset_in kind (get_or words i 0)) k
+    → times_named c kind (take (i + 1) words) k ≡ times_named c kind (take i words) k + named_once c (offset_in kind (get_or words i 0)) k
 words-more c kind words i k h = count_more (λ word. names_cluster c k (offset_in kind word)) words i _ h refl
 
 below_same : (n m k : ℕ) → eqb n m ≡ true → k < m → k < n

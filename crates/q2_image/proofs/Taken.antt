@@ -105,6 +105,11 @@ open_with_refs image r ready stays =
         covered = rw (same, table, bits, order) ready.refcounts.covered;
       };
       first = stays.first ready.first;
+      name = ready.name;
+      format = ready.format;
+      list = ready.list;
+      ended = ready.ended;
+      room = ready.room;
     }
 
 -- whatever the allocation answers

@@ -21,7 +21,8 @@ use Rattle.q2_image.specs.declared.create.CreateStop.TheVariants.{Io, NoSpace, N
 -- only where the device's count rose, and the stop names the count.
 abbrev pub CreateAnswers : {A : Type 0} → ℕ → ℕ → ℕ → ℕ → Result A CreateStop → Type 0
 CreateAnswers end capacity before now (Ok done) = end ≤ capacity
-CreateAnswers end capacity before now (Err (Io count)) = (end ≤ capacity) × Rose before count × (count ≡ now)
+CreateAnswers end capacity before now (Err (Io count)) =
+    (end ≤ capacity) × Rose before count × (count ≡ now)
 CreateAnswers end capacity before now (Err NoSpace) = capacity < end
 CreateAnswers end capacity before now (Err NoMemory) = end ≤ capacity
 
@@ -41,9 +42,11 @@ IsFailedCall before now NoMemory = ⊥
 -- What a device tells has changed only from one place to another, and none was cut off.
 pub record ChangesWithin (old new : Option (List ℕ)) (from to : ℕ) : Type 0 where
   pub told : is_some new ≡ is_some old
-  pub outside : (before after : List ℕ) → old ≡ Some before → new ≡ Some after → (i : ℕ) → (i < from) ⊎ (to ≤ i)
+  pub outside : (before after : List ℕ) → old ≡ Some before → new ≡ Some after → (i : ℕ)
+      → (i < from) ⊎ (to ≤ i)
       → slice_index after i ≡ slice_index before i
-  pub grows : (before after : List ℕ) → old ≡ Some before → new ≡ Some after → length before ≤ length after
+  pub grows : (before after : List ℕ) → old ≡ Some before → new ≡ Some after
+      → length before ≤ length after
 
 -- a file's first sector is zeros, so the file is no image
 pub record LacksHeader (file : List ℕ) : Type 0 where
@@ -80,10 +83,14 @@ pub record IsOfHeader (new : Creation) (part : List ℕ → Write) (w : Write) :
 abbrev pub IsStage : Creation → ℕ → Write → Type 0
 IsStage new zero w = w ≡ write_of 0 (replicate 512 0)
 IsStage new (suc zero) w = w ≡ write_of CREATED_L1_TABLE (replicate 65536 0)
-IsStage new (suc (suc zero)) w = IsClusterAt CREATED_REFCOUNT_BLOCK w × HasCreatedCounts new w.bytes 0
-IsStage new (suc (suc (suc zero))) w = IsClusterAt CREATED_REFCOUNT_TABLE w × HasCreatedTable new w.bytes 0
-IsStage new (suc (suc (suc (suc zero)))) w = IsOfHeader new (λ cluster. write_of 512 (drop 512 cluster)) w
-IsStage new (suc (suc (suc (suc (suc zero))))) w = IsOfHeader new (λ cluster. write_of 0 (take 512 cluster)) w
+IsStage new (suc (suc zero)) w =
+    IsClusterAt CREATED_REFCOUNT_BLOCK w × HasCreatedCounts new w.bytes 0
+IsStage new (suc (suc (suc zero))) w =
+    IsClusterAt CREATED_REFCOUNT_TABLE w × HasCreatedTable new w.bytes 0
+IsStage new (suc (suc (suc (suc zero)))) w =
+    IsOfHeader new (λ cluster. write_of 512 (drop 512 cluster)) w
+IsStage new (suc (suc (suc (suc (suc zero))))) w =
+    IsOfHeader new (λ cluster. write_of 0 (take 512 cluster)) w
 IsStage new (suc (suc (suc (suc (suc (suc k)))))) w = ⊥
 
 -- those from one number on
@@ -92,7 +99,8 @@ AreStages new k [] = Unit {0}
 AreStages new k (w ∷ ws) = IsStage new k w × AreStages new (suc k) ws
 
 -- So many of them are made from one number on; where the call stopped, those before one of them, and a part of that one.
-pub record MakesStages {D : Type 0} (g : Ghosts D) (new : Creation) (from count : ℕ) (stop : Option DevStop) (before now : D) : Type 0 where
+pub record MakesStages {D : Type 0} (g : Ghosts D) (new : Creation) (from count : ℕ)
+    (stop : Option DevStop) (before now : D) : Type 0 where
   pub ws : List Write
   pub stages : AreStages new from ws
   pub all : stop ≡ None → length ws ≡ count
@@ -106,7 +114,8 @@ IsBeforeOrNone ws before now =
 -- what the creation of an image leaves of a device
 abbrev pub MakesImage : {A D : Type 0} → Ghosts D → Creation → Result A CreateStop → D → D → Type 0
 MakesImage g new (Ok done) before now = MakesStages g new 0 6 None before now
-MakesImage g new (Err (Io count)) before now = MakesStages g new 0 6 (Some (device.Io count)) before now
+MakesImage g new (Err (Io count)) before now =
+    MakesStages g new 0 6 (Some (device.Io count)) before now
 MakesImage g new (Err NoSpace) before now = Untouched g before now
 MakesImage g new (Err NoMemory) before now = Untouched g before now
 

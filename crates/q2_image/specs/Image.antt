@@ -1,13 +1,13 @@
 -- An image that is open, and the file that it is the image of.
-use Rattle.std.specs.Prelude.{◌≡◌, ◌≢◌, ℕ, ◌*◌, ◌<◌, ◌≤◌, true, List, length, slice_index}
+use Rattle.std.specs.Prelude.{◌≡◌, ◌≢◌, ℕ, ◌*◌, ◌<◌, ◌≤◌, true, false, List, length, slice_index, IfSome, is_some}
 use Rattle.q2_format.specs.Sizes.{cluster_size, clusters_for, entries_in_cluster, l1_entries_for}
 use Rattle.q2_format.specs.Entry.{l2_entry}
 use Rattle.q2_format.specs.References.{own_offset}
-use Rattle.q2_format.specs.Header.{header_of}
+use Rattle.q2_format.specs.Header.{LiesWithin, header_of}
 use Rattle.q2_format.specs.Tables.{active_tree}
-use Rattle.q2_format.specs.Sound.{IsSound}
+use Rattle.q2_format.specs.Sound.{IsSound, is_header_full}
 use Rattle.q2_format.specs.declared.header.Header.{Header}
-use Rattle.q2_format.specs.declared.header.TheConstants.{MAX_DISK_SIZE, MAX_FILE_CLUSTERS}
+use Rattle.q2_format.specs.declared.header.TheConstants.{MAX_DISK_SIZE, MAX_FILE_CLUSTERS, MIN_HEADER_LENGTH}
 use Rattle.q2_format.specs.declared.entries.L2Entry.{L2Entry}
 use Rattle.q2_tables.specs.Kept.{IsTreeOf, is_plain}
 use Rattle.q2_tables.specs.Kept as tables
@@ -55,14 +55,23 @@ pub record IsOpen (image : Known) : Type 0 where
   pub tables_size : image.tables.c ≡ cluster_size_in image
   pub disk : image.header.size ≤ MAX_DISK_SIZE
   pub l1 : l1_entries_for (cluster_size_in image) image.header.size ≤ length image.tables.l1
-  pub words : length image.tables.words ≡ length image.tables.l1 * entries_in_cluster (cluster_size_in image)
-  pub plain : (cluster : ℕ) → cluster < length image.tables.words → is_plain (slice_index image.tables.words cluster) ≡ true
+  pub words : length image.tables.words
+      ≡ length image.tables.l1 * entries_in_cluster (cluster_size_in image)
+  pub plain : (cluster : ℕ) → cluster < length image.tables.words
+      → is_plain (slice_index image.tables.words cluster) ≡ true
   pub l1_place : image.tables.l1_offset ≡ image.header.l1_offset
   pub l1_size : length image.tables.l1 ≡ image.header.l1_size
   -- each entry names a cluster below the reach
   pub hosts : (cluster : ℕ) → cluster < length image.tables.words
-      → own_offset (slice_index image.tables.words cluster) < length image.refs.counts * cluster_size_in image
+      → own_offset (slice_index image.tables.words cluster)
+      < length image.refs.counts * cluster_size_in image
   pub reach : length image.refs.counts ≤ MAX_FILE_CLUSTERS
   pub refcounts : HasRoom image.refs
   -- the header's cluster counts
   pub first : slice_index image.refs.counts 0 ≢ 0
+  -- the backing name and the format lie in it, and it has room for another name
+  pub name : IfSome image.header.name (LiesWithin MIN_HEADER_LENGTH (cluster_size_in image))
+  pub format : IfSome image.header.format (LiesWithin MIN_HEADER_LENGTH (cluster_size_in image))
+  pub list : MIN_HEADER_LENGTH ≤ image.header.ext_end
+  pub ended : image.header.ended ≡ false → is_some image.header.name ≡ true
+  pub room : is_header_full image.header ≡ false

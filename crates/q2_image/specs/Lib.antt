@@ -10,3 +10,4 @@ pub mod Writing
 pub mod Room
 pub mod Made
 pub mod Creating
+pub mod BackingName

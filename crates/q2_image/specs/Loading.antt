@@ -47,9 +47,9 @@ pub record IsTableRead (h : Header) (len : ℕ) (words : List ℕ) : Type 0 wher
   pub accepted : refcounts_refusal h len words ≡ None
   pub entries : length words ≡ table_entries h
 
-abbrev pub IsRead : Header → ℕ → RefTable → Type 0
-IsRead h len (Read words) = IsTableRead h len words.items
-IsRead h len (Reserved index) = Unit {0}
+abbrev pub IsTableAnswer : Header → ℕ → RefTable → Type 0
+IsTableAnswer h len (Read words) = IsTableRead h len words.items
+IsTableAnswer h len (Reserved index) = Unit {0}
 
 -- A file whose header and tables were read: none of their refusals holds, and the words are the file's.
 pub record IsReadFrom (file : List ℕ) (h : Header) (table : List ℕ) (t : tables.Kept) : Type 0 where
@@ -68,10 +68,13 @@ pub record HasCounts (h : Header) (len count : ℕ) (refs : Kept) : Type 0 where
   pub below : BeginBelow len refs.table
 
 -- what a file's refcount table says of its blocks and its reserved bits
-pub record TableTells (file : List ℕ) (h : Header) (len : ℕ) (misplaced index : Option ℕ) : Type 0 where
-  pub block : bad_block (cluster_size h.cluster_bits) len (refcount_table file h) ≡ misplaced
-  pub reserved : reserved_in_refcount_table (refcount_table file h) ≡ index
+pub record TableTells (file : List ℕ) (h : Header) (len : ℕ) (misplaced index : Option ℕ) : Type 0
+  where
+    pub block : bad_block (cluster_size h.cluster_bits) len (refcount_table file h) ≡ misplaced
+    pub reserved : reserved_in_refcount_table (refcount_table file h) ≡ index
 
 -- a refusal of the refcount table's blocks
 abbrev pub IsBlockStop : List ℕ → Header → ℕ → Refusal → Type 0
-IsBlockStop file h len named = (offset : ℕ) × (named ≡ sound.Offset offset) × (bad_block (cluster_size h.cluster_bits) len (refcount_table file h) ≡ Some offset)
+IsBlockStop file h len named =
+    (offset : ℕ) × (named ≡ sound.Offset offset)
+    × (bad_block (cluster_size h.cluster_bits) len (refcount_table file h) ≡ Some offset)

@@ -32,7 +32,8 @@ own_writes image span bytes = clear_writes image ++ write_of (own_place image sp
 abbrev pub WroteOwn : {D : Type 0} → Ghosts D → Known → Known → Extent → List ℕ → D → D → Type 0
 WroteOwn g old new span bytes before now =
     ((new ≡ autocleared old) × Wrote g (own_writes old span bytes) before now)
-    ⊎ ((old.header.autoclear ≢ 0) × (new ≡ old) × (bytes ≡ []) × Wrote g (write_of 88 [] ∷ []) before now)
+    ⊎ ((old.header.autoclear ≢ 0) × (new ≡ old) × (bytes ≡ [])
+    × Wrote g (write_of 88 [] ∷ []) before now)
 
 -- so it is, unless there was no room
 abbrev pub UnlessFull : {A : Type 0} → Result A WriteStop → Type 0 → Type 0
@@ -45,7 +46,8 @@ IsOwnPart at bytes before now = (n : ℕ) × IsSound now × IsDiskWith before no
 
 -- wherever a call stops that puts bytes at a place of the disk, the file is sound, and its disk is the old one or the one with them
 abbrev pub IsOldOrWith : ℕ → List ℕ → List ℕ → List ℕ → Type 0
-IsOldOrWith at bytes before now = IsSound now × (IsSameDisk before now ⊎ IsDiskWith before now at bytes)
+IsOldOrWith at bytes before now =
+    IsSound now × (IsSameDisk before now ⊎ IsDiskWith before now at bytes)
 
 -- Steps of a call.
 
@@ -66,7 +68,8 @@ known_after image (step ∷ steps) = known_after step.known steps
 
 -- What a stop leaves of some steps: those before one of them are made, and of that one's writes a part; what is known is
 -- what was known before it.
-pub record IsStoppedIn (IsCut : Write → Write → Type 0) (image : Known) (steps : List WriteStep) (made : List Write) (left : Known) : Type 0 where
+pub record IsStoppedIn (IsCut : Write → Write → Type 0) (image : Known) (steps : List WriteStep)
+    (made : List Write) (left : Known) : Type 0 where
   pub before : List WriteStep
   pub step : WriteStep
   pub behind : List WriteStep
@@ -82,14 +85,17 @@ IsKnownBy None image steps made left = left ≡ known_after image steps
 IsKnownBy (Some stop) image steps made left = IsStoppedIn (IsCutBy stop) image steps made left
 
 -- what a call leaves of an image and of its device that makes these steps, by the stop that it tells
-pub record MakesSteps {D : Type 0} (g : Ghosts D) (image : Known) (steps : List WriteStep) (stop : Option DevStop) (left : Known) (before now : D) : Type 0 where
+pub record MakesSteps {D : Type 0} (g : Ghosts D) (image : Known) (steps : List WriteStep)
+    (stop : Option DevStop) (left : Known) (before now : D) : Type 0 where
   pub writes : Writes g (writes_of_steps steps) stop before now
   pub known : IsKnownBy stop image steps writes.made left
 
 -- the same of one that looks for room before it begins
-abbrev pub ChangesImage : {A D : Type 0} → Ghosts D → Known → List WriteStep → Result A DevStop → Known → D → D → Type 0
+abbrev pub ChangesImage : {A D : Type 0} → Ghosts D → Known → List WriteStep → Result A DevStop
+    → Known → D → D → Type 0
 ChangesImage g image steps (Ok done) left before now = MakesSteps g image steps None left before now
-ChangesImage g image steps (Err (Io count)) left before now = MakesSteps g image steps (Some (Io count)) left before now
+ChangesImage g image steps (Err (Io count)) left before now =
+    MakesSteps g image steps (Some (Io count)) left before now
 ChangesImage g image steps (Err NoSpace) left before now = (left ≡ image) × Untouched g before now
 
 -- Which steps a put and a zero write make.
@@ -127,7 +133,9 @@ abbrev pub entry_steps : Known → ℕ → L2Entry → ℕ → List WriteStep
 entry_steps image cluster entry table =
     record {
       writes = link_writes image.tables cluster (word_for image entry) table;
-      known = record image { tables = with_entry image.tables cluster (word_for image entry) table };
+      known = record image {
+        tables = with_entry image.tables cluster (word_for image entry) table;
+      };
     }
     ∷ []
 
@@ -144,7 +152,8 @@ fill_steps image cluster bytes =
 abbrev pub clean_steps : Known → ℕ → List WriteStep
 clean_steps image cluster =
     table_steps image cluster
-    ++ entry_steps (with_table image cluster) cluster (Zero (host_of (entry_in image cluster))) (table_for image cluster)
+    ++ entry_steps (with_table image cluster) cluster (Zero (host_of (entry_in image cluster)))
+    (table_for image cluster)
 
 -- all of them
 abbrev pub put_steps : Known → ℕ → List ℕ → List WriteStep

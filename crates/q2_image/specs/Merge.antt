@@ -18,7 +18,8 @@ behind_reserved h reserved stop = unwrap_or (option_map (Reserved h.ref_offset) 
 abbrev pub merged_stop : Header → Option ℕ → TablesStop → ImageStop
 merged_stop h reserved (tables.Offset offset) = Offset offset
 merged_stop h reserved (tables.ReservedInL1 index) = Reserved h.l1_offset index
-merged_stop h reserved (tables.ReservedInL2 table index) = behind_reserved h reserved (Reserved table index)
+merged_stop h reserved (tables.ReservedInL2 table index) =
+    behind_reserved h reserved (Reserved table index)
 merged_stop h reserved (tables.Compressed cluster) = behind_reserved h reserved (Compressed cluster)
 merged_stop h reserved (tables.Io count) = Io count
 merged_stop h reserved tables.NoMemory = NoMemory

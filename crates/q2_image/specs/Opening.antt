@@ -9,7 +9,7 @@ use Rattle.q2_format.specs.References.{structure_uses, own_offset}
 use Rattle.q2_format.specs.Sound.{Refusal, InHeader, bad_refcount_table, bad_l1_table, is_misplaced, lowest, is_header_full}
 use Rattle.q2_format.specs.Sound as sound
 use Rattle.q2_format.specs.declared.header.Header.{Header}
-use Rattle.q2_image.specs.Seen.{named_by}
+use Rattle.q2_image.specs.Seen.{times_named}
 use Rattle.q2_image.specs.declared.seen.Naming.TheVariants.{Table, Own}
 use Rattle.q2_image.specs.declared.stop.ImageStop.{ImageStop}
 use Rattle.q2_image.specs.declared.stop.ImageStop.TheVariants.{Header as HeaderStops, Offset, Reserved, Compressed, Overlap, Refcount, HeaderFull, Io, NoMemory}
@@ -74,15 +74,18 @@ place_stops h len = first (
 -- how often a header and the words of its tables name a cluster: those of the refcount table, of the L1 table, and of all L2 tables
 abbrev pub uses_in : Header → List ℕ → List ℕ → List ℕ → ℕ → ℕ
 uses_in h table l1 words k = let c = cluster_size h.cluster_bits in
-    structure_uses h table k + (named_by c Table l1 k + named_by c Own words k)
+    structure_uses h table k + (times_named c Table l1 k + times_named c Own words k)
 
 -- in a file of `len` bytes, all that a header and the words of its tables name lies in its place
 pub record ArePlaced (h : Header) (len : ℕ) (table l1 words : List ℕ) : Type 0 where
   pub refcount_table : is_misplaced (cluster_size h.cluster_bits) len h.ref_offset ≡ false
   pub l1_table : is_misplaced (cluster_size h.cluster_bits) len h.l1_offset ≡ false
-  pub blocks : (i : ℕ) → i < length table → is_misplaced (cluster_size h.cluster_bits) len (block_offset (slice_index table i)) ≡ false
-  pub tables : (i : ℕ) → i < length l1 → is_misplaced (cluster_size h.cluster_bits) len (host_offset (slice_index l1 i)) ≡ false
-  pub hosts : (i : ℕ) → i < length words → is_misplaced (cluster_size h.cluster_bits) len (own_offset (slice_index words i)) ≡ false
+  pub blocks : (i : ℕ) → i < length table
+      → is_misplaced (cluster_size h.cluster_bits) len (block_offset (slice_index table i)) ≡ false
+  pub tables : (i : ℕ) → i < length l1
+      → is_misplaced (cluster_size h.cluster_bits) len (host_offset (slice_index l1 i)) ≡ false
+  pub hosts : (i : ℕ) → i < length words
+      → is_misplaced (cluster_size h.cluster_bits) len (own_offset (slice_index words i)) ≡ false
 
 -- the refusal of the lowest cluster that is named twice, of so many
 abbrev pub overlap_stop : (ℕ → ℕ) → ℕ → Option Refusal
@@ -90,7 +93,8 @@ overlap_stop uses n = option_map sound.Overlap (lowest (λ k. nat_lt 1 (uses k))
 
 -- the refusal of the lowest cluster that is named and has refcount 0
 abbrev pub uncounted_stop : (ℕ → ℕ) → List ℕ → ℕ → Option Refusal
-uncounted_stop uses counts n = option_map sound.Refcount (lowest (λ k. not (uses k == 0) && (slice_index counts k == 0)) n)
+uncounted_stop uses counts n =
+    option_map sound.Refcount (lowest (λ k. not (uses k == 0) && (slice_index counts k == 0)) n)
 
 -- the refusals behind the tables' words, where the clusters are named so often and have these refcounts
 abbrev pub names_stops : Header → (ℕ → ℕ) → List ℕ → ℕ → Option Refusal

@@ -24,7 +24,9 @@ WriteFits image part capacity = WriteFitsBy (entry_for image part) image part ca
 
 -- a part that is a whole cluster, up to the disk's end
 abbrev pub is_whole : Known → Extent → Bool
-is_whole image part = part.start % cluster_size_in image == 0 && (part.len == cluster_size_in image || end_of part == image.header.size)
+is_whole image part =
+    part.start % cluster_size_in image == 0
+    && (part.len == cluster_size_in image || end_of part == image.header.size)
 
 -- of a cluster that reads as zeros no part is written
 abbrev pub PartZerosFit : L2Entry → Known → Extent → ℕ → Type 0

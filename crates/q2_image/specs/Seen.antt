@@ -12,7 +12,8 @@ pub record Sightings : Type 0 where
 
 -- so it is where each cluster was named so often
 pub record IsSeen (uses : ℕ → ℕ) (seen : Sightings) : Type 0 where
-  pub named : (k : ℕ) → k < length seen.named → slice_index_or seen.named k false ≡ nat_lt 0 (uses k)
+  pub named : (k : ℕ) → k < length seen.named
+      → slice_index_or seen.named k false ≡ nat_lt 0 (uses k)
   pub bound : seen.twice ≤ length seen.named
   pub before : (k : ℕ) → k < seen.twice → uses k ≤ 1
   pub again : seen.twice < length seen.named → 1 < uses seen.twice
@@ -36,12 +37,13 @@ offset_in Table word = host_offset word
 offset_in Own word = own_offset word
 
 -- how often the words of a table name a cluster
-abbrev pub named_by : ℕ → Naming → List ℕ → ℕ → ℕ
-named_by c kind words k = count_by (λ word. names_cluster c k (offset_in kind word)) words
+abbrev pub times_named : ℕ → Naming → List ℕ → ℕ → ℕ
+times_named c kind words k = count_by (λ word. names_cluster c k (offset_in kind word)) words
 
 -- every word names a cluster below a number, or none
 abbrev pub AreNamedBelow : ℕ → Naming → List ℕ → ℕ → Type 0
-AreNamedBelow c kind words n = (i : ℕ) → i < length words → offset_in kind (slice_index_or words i 0) / c < n
+AreNamedBelow c kind words n =
+    (i : ℕ) → i < length words → offset_in kind (slice_index_or words i 0) / c < n
 
 -- the lowest cluster named twice
 abbrev pub twice_in : Sightings → Option ℕ

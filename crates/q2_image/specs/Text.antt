@@ -7,7 +7,8 @@ use Rattle.q2_image.specs.declared.stop.ImageStop.TheVariants.{Header, Offset, R
 abbrev pub stop_text : ImageStop → List ℕ
 stop_text (Header stop) = header.stop_text stop
 stop_text (Offset offset) = codes "Offset(" ++ decimal offset ++ codes ")"
-stop_text (Reserved table index) = codes "Reserved(" ++ decimal table ++ codes ", " ++ decimal index ++ codes ")"
+stop_text (Reserved table index) =
+    codes "Reserved(" ++ decimal table ++ codes ", " ++ decimal index ++ codes ")"
 stop_text (Compressed cluster) = codes "Compressed(" ++ decimal cluster ++ codes ")"
 stop_text (Overlap cluster) = codes "Overlap(" ++ decimal cluster ++ codes ")"
 stop_text (Refcount cluster) = codes "Refcount(" ++ decimal cluster ++ codes ")"

@@ -28,7 +28,8 @@ pub record IsDiskWith (old new : List ℕ) (at : ℕ) (bytes : List ℕ) : Type 
   pub size : (header_of new).size ≡ (header_of old).size
   pub inside : (backing : List ℕ) (i : ℕ) → i < length bytes → at + i < (header_of old).size
       → guest_byte new backing (at + i) ≡ slice_index bytes i
-  pub outside : (backing : List ℕ) (place : ℕ) → place < (header_of old).size → (place < at) ⊎ (at + length bytes ≤ place)
+  pub outside : (backing : List ℕ) (place : ℕ) → place < (header_of old).size → (place < at)
+      ⊎ (at + length bytes ≤ place)
       → guest_byte new backing place ≡ guest_byte old backing place
 
 -- no byte changed
@@ -45,11 +46,13 @@ ClearsFirst old new image = (image.header.autoclear ≡ 0) ⊎ (new ≡ old)
 
 -- all guest clusters but one have the entries that they had, bit for bit
 abbrev pub HasEntriesBut : Known → Known → ℕ → Type 0
-HasEntriesBut old new but = (cluster : ℕ) → cluster ≢ but → word_in new cluster ≡ word_in old cluster
+HasEntriesBut old new but =
+    (cluster : ℕ) → cluster ≢ but → word_in new cluster ≡ word_in old cluster
 
 -- there is a host cluster at an offset, and its refcount is exactly one
 abbrev pub counts_once : Known → ℕ → Bool
-counts_once image host = not (host == 0) && slice_index image.refs.counts (host / cluster_size_in image) == 1
+counts_once image host =
+    not (host == 0) && slice_index image.refs.counts (host / cluster_size_in image) == 1
 
 -- what counts stays counted
 abbrev pub StaysTaken : Known → Known → Type 0
@@ -68,10 +71,11 @@ pub record IsSpare (file : List ℕ) (cluster : ℕ) : Type 0 where
   pub counted : refcount_of file (header_of file) cluster ≢ 0
 
 -- No guest byte lies in the host cluster of c bytes at an offset: it is spare, or an entry that reads as zeros names it.
-abbrev pub IsIdle : ℕ → List ℕ → Known → ℕ → Type 0
-IsIdle c file image offset =
+abbrev pub HoldsNoGuestByte : ℕ → List ℕ → Known → ℕ → Type 0
+HoldsNoGuestByte c file image offset =
     IsSpare file (offset / c)
-    ⊎ ((cluster : ℕ) × (cluster < length image.tables.words) × (entry_in image cluster ≡ Zero offset) × (0 < offset))
+    ⊎ ((cluster : ℕ) × (cluster < length image.tables.words)
+    × (entry_in image cluster ≡ Zero offset) × (0 < offset))
 
 -- What a link may name for its guest cluster, in clusters of c bytes: no host cluster, the one that is named already, or a spare one
 -- other than the new table's.
@@ -79,7 +83,8 @@ abbrev pub MayName : ℕ → List ℕ → Known → ℕ → ℕ → ℕ → Type
 MayName c file image cluster table host =
     (host ≡ 0)
     ⊎ ((host ≡ own_offset (slice_index image.tables.words cluster))
-    ⊎ (IsSpare file (host / c) × (host % c ≡ 0) × (host < length file) × (table ≢ 0 → host / c ≢ table / c)))
+    ⊎ (IsSpare file (host / c) × (host % c ≡ 0) × (host < length file)
+    × (table ≢ 0 → host / c ≢ table / c)))
 
 -- the bytes of a guest cluster of c bytes that reads as zeros
 pub record AreClusterZeros (c : ℕ) (bytes : List ℕ) : Type 0 where
@@ -144,7 +149,8 @@ with_host image cluster = if needs_host image cluster then with_taken image else
 
 -- where the data go that are put next
 abbrev pub next_host : Known → ℕ → ℕ
-next_host image cluster = if needs_host image cluster then taken_at image 0 else idle_host (entry_in image cluster)
+next_host image cluster =
+    if needs_host image cluster then taken_at image 0 else idle_host (entry_in image cluster)
 
 -- only what is kept of the refcounts differs
 pub record HasSameEntries (old new : Known) : Type 0 where
@@ -169,7 +175,8 @@ pub record ZeroFits (image : Known) (cluster capacity : ℕ) : Type 0 where
 -- a put of a cluster has room
 pub record PutFits (image : Known) (cluster capacity : ℕ) : Type 0 where
   pub entry : ZeroFits image cluster capacity
-  pub host : needs_host image cluster ≡ true → CanTake image (if needs_table image cluster then 1 else 0) capacity
+  pub host : needs_host image cluster ≡ true
+      → CanTake image (if needs_table image cluster then 1 else 0) capacity
   pub payload : host_for image cluster + cluster_size_in image ≤ capacity
 
 -- a call of the device failed, whose count rose and is named

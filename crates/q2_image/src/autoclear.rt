@@ -21,7 +21,8 @@ impl Image {
         ensures kept { OnErr result (self.new ≡ self.old) }
         ensures untouched { OnErr result (D.content dev.new ≡ D.content dev.old) }
         ensures image { (file : List ℕ) → D.content dev.new ≡ Some file → IsImageOf file self.new }
-        ensures disk { (old new : List ℕ) → D.content dev.old ≡ Some old → D.content dev.new ≡ Some new → IsSameDisk old new }
+        ensures disk { (old new : List ℕ) → D.content dev.old ≡ Some old
+            → D.content dev.new ≡ Some new → IsSameDisk old new }
         ensures writes { Writes D.Device (clear_writes self.old) (stop_of result) dev.old dev.new }
         ensures cause { IfErr result (IsFault (D.faults dev.old) (D.faults dev.new)) }
         ensures faults { D.faults dev.old ≤ D.faults dev.new }

@@ -36,26 +36,35 @@ impl Image {
         requires image { (file : List ℕ) → D.content dev.old ≡ Some file → IsImageOf file self.old }
 
         // the image
-        ensures changes { ChangesImage D.Device self.old (put_steps self.old cluster bytes.now) result self.new dev.old dev.new }
-        ensures stops { PutFits self.old cluster (D.capacity dev.old) → AtEachStopOf D.Device (IsOldOrWith (cluster * cluster_size_in self.old) bytes.now)
+        ensures changes { ChangesImage D.Device self.old (put_steps self.old cluster bytes.now)
+            result self.new dev.old dev.new }
+        ensures stops { PutFits self.old cluster (D.capacity dev.old)
+            → AtEachStopOf D.Device (IsOldOrWith (cluster * cluster_size_in self.old) bytes.now)
             (put_writes self.old cluster bytes.now) dev.old }
         ensures mapped { OnOk result (IsHost (entry_in self.new cluster)) }
         ensures spelled { OnOk result (IsSpelled self.new cluster) }
-        ensures single { OnOk result (needs_host self.old cluster ≡ true → is_single (word_in self.new cluster) ≡ true) }
+        ensures single { OnOk result
+            (needs_host self.old cluster ≡ true → is_single (word_in self.new cluster) ≡ true) }
         ensures unmapped { OnErr result (word_in self.new cluster ≡ word_in self.old cluster) }
         ensures others { HasEntriesBut self.old self.new cluster }
         ensures taken { StaysTaken self.old self.new }
         ensures header { HasHeaderOf self.old self.new }
         ensures cleared { ClearsFirst (D.content dev.old) (D.content dev.new) self.new }
         ensures image { (file : List ℕ) → D.content dev.new ≡ Some file → IsImageOf file self.new }
-        ensures disk { OnOk result ((old new : List ℕ) → D.content dev.old ≡ Some old → D.content dev.new ≡ Some new
+        ensures disk { OnOk result
+            ((old new : List ℕ) → D.content dev.old ≡ Some old → D.content dev.new ≡ Some new
             → IsDiskWith old new (cluster * cluster_size_in self.old) bytes.now) }
-        ensures kept { OnErr result ((old new : List ℕ) → D.content dev.old ≡ Some old → D.content dev.new ≡ Some new → IsSameDisk old new) }
+        ensures kept { OnErr result
+            ((old new : List ℕ) → D.content dev.old ≡ Some old → D.content dev.new ≡ Some new
+            → IsSameDisk old new) }
 
         // why each answer comes
-        ensures no_space { (result ≡ Err NoSpace) ↔ (PutFits self.old cluster (D.capacity dev.old) → ⊥) }
-        ensures untouched { result ≡ Err NoSpace → (self.new ≡ self.old) × (D.content dev.new ≡ D.content dev.old) × (D.log dev.new ≡ D.log dev.old)
-            × (D.is_flushed dev.new ≡ D.is_flushed dev.old) × (D.size dev.new ≡ D.size dev.old) × (D.faults dev.new ≡ D.faults dev.old) }
+        ensures no_space { (result ≡ Err NoSpace) ↔
+            (PutFits self.old cluster (D.capacity dev.old) → ⊥) }
+        ensures untouched { result ≡ Err NoSpace → (self.new ≡ self.old)
+            × (D.content dev.new ≡ D.content dev.old) × (D.log dev.new ≡ D.log dev.old)
+            × (D.is_flushed dev.new ≡ D.is_flushed dev.old) × (D.size dev.new ≡ D.size dev.old)
+            × (D.faults dev.new ≡ D.faults dev.old) }
         ensures cause { IfErr result (HasWriteCause (D.faults dev.old) (D.faults dev.new)) }
 
         // the device
@@ -76,10 +85,14 @@ impl Image {
         requires image { (file : List ℕ) → D.content dev.old ≡ Some file → IsImageOf file self.old }
 
         // the image
-        ensures changes { ChangesImage D.Device self.old (zero_steps self.old cluster) result self.new dev.old dev.new }
-        ensures stops { ZeroFits self.old cluster (D.capacity dev.old) → (zeros : List ℕ) → AreClusterZeros (cluster_size_in self.old) zeros
-            → AtEachStopOf D.Device (IsOldOrWith (cluster * cluster_size_in self.old) zeros) (zero_writes self.old cluster) dev.old }
-        ensures mapped { OnOk result (entry_in self.new cluster ≡ Zero (host_of (entry_in self.old cluster))) }
+        ensures changes { ChangesImage D.Device self.old (zero_steps self.old cluster) result
+            self.new dev.old dev.new }
+        ensures stops { ZeroFits self.old cluster (D.capacity dev.old) → (zeros : List ℕ)
+            → AreClusterZeros (cluster_size_in self.old) zeros
+            → AtEachStopOf D.Device (IsOldOrWith (cluster * cluster_size_in self.old) zeros)
+            (zero_writes self.old cluster) dev.old }
+        ensures mapped { OnOk result
+            (entry_in self.new cluster ≡ Zero (host_of (entry_in self.old cluster))) }
         ensures spelled { OnOk result (IsSpelled self.new cluster) }
         ensures unmapped { OnErr result (word_in self.new cluster ≡ word_in self.old cluster) }
         ensures others { HasEntriesBut self.old self.new cluster }
@@ -87,14 +100,21 @@ impl Image {
         ensures header { HasHeaderOf self.old self.new }
         ensures cleared { ClearsFirst (D.content dev.old) (D.content dev.new) self.new }
         ensures image { (file : List ℕ) → D.content dev.new ≡ Some file → IsImageOf file self.new }
-        ensures disk { OnOk result ((old new zeros : List ℕ) → D.content dev.old ≡ Some old → D.content dev.new ≡ Some new
-            → AreClusterZeros (cluster_size_in self.old) zeros → IsDiskWith old new (cluster * cluster_size_in self.old) zeros) }
-        ensures kept { OnErr result ((old new : List ℕ) → D.content dev.old ≡ Some old → D.content dev.new ≡ Some new → IsSameDisk old new) }
+        ensures disk { OnOk result
+            ((old new zeros : List ℕ) → D.content dev.old ≡ Some old → D.content dev.new ≡ Some new
+            → AreClusterZeros (cluster_size_in self.old) zeros
+            → IsDiskWith old new (cluster * cluster_size_in self.old) zeros) }
+        ensures kept { OnErr result
+            ((old new : List ℕ) → D.content dev.old ≡ Some old → D.content dev.new ≡ Some new
+            → IsSameDisk old new) }
 
         // why each answer comes
-        ensures no_space { (result ≡ Err NoSpace) ↔ (ZeroFits self.old cluster (D.capacity dev.old) → ⊥) }
-        ensures untouched { result ≡ Err NoSpace → (self.new ≡ self.old) × (D.content dev.new ≡ D.content dev.old) × (D.log dev.new ≡ D.log dev.old)
-            × (D.is_flushed dev.new ≡ D.is_flushed dev.old) × (D.size dev.new ≡ D.size dev.old) × (D.faults dev.new ≡ D.faults dev.old) }
+        ensures no_space { (result ≡ Err NoSpace) ↔
+            (ZeroFits self.old cluster (D.capacity dev.old) → ⊥) }
+        ensures untouched { result ≡ Err NoSpace → (self.new ≡ self.old)
+            × (D.content dev.new ≡ D.content dev.old) × (D.log dev.new ≡ D.log dev.old)
+            × (D.is_flushed dev.new ≡ D.is_flushed dev.old) × (D.size dev.new ≡ D.size dev.old)
+            × (D.faults dev.new ≡ D.faults dev.old) }
         ensures cause { IfErr result (HasWriteCause (D.faults dev.old) (D.faults dev.new)) }
 
         // the device
@@ -126,19 +146,28 @@ impl Image {
         ensures taken { StaysTaken self.old self.new }
         ensures cleared { ClearsFirst (D.content dev.old) (D.content dev.new) self.new }
         ensures image { (file : List ℕ) → D.content dev.new ≡ Some file → IsImageOf file self.new }
-        ensures disk { (old new : List ℕ) → D.content dev.old ≡ Some old → D.content dev.new ≡ Some new → IsDiskWith old new span.start (taken result bytes.now) }
-        ensures stops { AtEachStopOf D.Device (IsOwnPart span.start bytes.now) (own_writes self.old span bytes.now) dev.old }
+        ensures disk { (old new : List ℕ) → D.content dev.old ≡ Some old
+            → D.content dev.new ≡ Some new
+            → IsDiskWith old new span.start (taken result bytes.now) }
+        ensures stops { AtEachStopOf D.Device (IsOwnPart span.start bytes.now)
+            (own_writes self.old span bytes.now) dev.old }
 
         // why each answer comes
         ensures fits { OnOk result (own_end self.old span ≤ D.capacity dev.old) }
-        ensures stop { IfErr result (IsOwnStop (own_place self.old span) (own_end self.old span) (D.capacity dev.old) (length bytes.now) (D.faults dev.old) (D.faults dev.new)) }
+        ensures stop { IfErr result
+            (IsOwnStop (own_place self.old span) (own_end self.old span) (D.capacity dev.old)
+            (length bytes.now) (D.faults dev.old) (D.faults dev.new)) }
         ensures quiet { OnOk result (D.faults dev.new ≡ D.faults dev.old) }
-        ensures untouched { IfErr result (λ stop. stop.why ≡ why.NoSpace → (self.new ≡ self.old) × (D.content dev.new ≡ D.content dev.old)
-            × (D.log dev.new ≡ D.log dev.old) × (D.is_flushed dev.new ≡ D.is_flushed dev.old) × (D.size dev.new ≡ D.size dev.old)
+        ensures untouched { IfErr result
+            (λ stop. stop.why ≡ why.NoSpace → (self.new ≡ self.old)
+            × (D.content dev.new ≡ D.content dev.old)
+            × (D.log dev.new ≡ D.log dev.old) × (D.is_flushed dev.new ≡ D.is_flushed dev.old)
+            × (D.size dev.new ≡ D.size dev.old)
             × (D.faults dev.new ≡ D.faults dev.old)) }
 
         // the device
-        ensures wrote { UnlessFull result (WroteOwn D.Device self.old self.new span (taken result bytes.now) dev.old dev.new) }
+        ensures wrote { UnlessFull result
+            (WroteOwn D.Device self.old self.new span (taken result bytes.now) dev.old dev.new) }
         ensures told { is_some (D.content dev.new) ≡ is_some (D.content dev.old) }
         ensures faults { D.faults dev.old ≤ D.faults dev.new }
         ensures capacity { D.capacity dev.new ≡ D.capacity dev.old }
@@ -156,7 +185,8 @@ impl Image {
     /// Returns once all that was written is kept.
     pub fn flush<D: Device>(&mut self, dev: &mut D) -> Result<(), DevStop>
         ensures known { self.new ≡ self.old }
-        ensures flushed { D.is_flushed dev.new ≡ option_map (λ f. is_ok result || f) (D.is_flushed dev.old) }
+        ensures flushed { D.is_flushed dev.new
+            ≡ option_map (λ f. is_ok result || f) (D.is_flushed dev.old) }
         ensures cause { IfErr result (IsFault (D.faults dev.old) (D.faults dev.new)) }
         ensures quiet { OnOk result (D.faults dev.new ≡ D.faults dev.old) }
         ensures content { D.content dev.new ≡ D.content dev.old }
@@ -185,19 +215,24 @@ impl Image {
         requires whole { length bytes.now ≡ 65536 }
         requires fits { PutFits self.old cluster (D.capacity dev.old) }
         requires image { (file : List ℕ) → D.content dev.old ≡ Some file → IsImageOf file self.old }
-        ensures steps { MakesSteps D.Device self.old (put_steps self.old cluster bytes.now) (stop_of result) self.new dev.old dev.new }
+        ensures steps { MakesSteps D.Device self.old (put_steps self.old cluster bytes.now)
+            (stop_of result) self.new dev.old dev.new }
         ensures mapped { OnOk result (IsHost (entry_in self.new cluster)) }
         ensures spelled { OnOk result (IsSpelled self.new cluster) }
-        ensures single { OnOk result (needs_host self.old cluster ≡ true → is_single (word_in self.new cluster) ≡ true) }
+        ensures single { OnOk result
+            (needs_host self.old cluster ≡ true → is_single (word_in self.new cluster) ≡ true) }
         ensures unmapped { OnErr result (word_in self.new cluster ≡ word_in self.old cluster) }
         ensures others { HasEntriesBut self.old self.new cluster }
         ensures taken { StaysTaken self.old self.new }
         ensures header { HasHeaderOf self.old self.new }
         ensures cleared { ClearsFirst (D.content dev.old) (D.content dev.new) self.new }
         ensures image { (file : List ℕ) → D.content dev.new ≡ Some file → IsImageOf file self.new }
-        ensures disk { OnOk result ((old new : List ℕ) → D.content dev.old ≡ Some old → D.content dev.new ≡ Some new
+        ensures disk { OnOk result
+            ((old new : List ℕ) → D.content dev.old ≡ Some old → D.content dev.new ≡ Some new
             → IsDiskWith old new (cluster * 65536) bytes.now) }
-        ensures kept { OnErr result ((old new : List ℕ) → D.content dev.old ≡ Some old → D.content dev.new ≡ Some new → IsSameDisk old new) }
+        ensures kept { OnErr result
+            ((old new : List ℕ) → D.content dev.old ≡ Some old → D.content dev.new ≡ Some new
+            → IsSameDisk old new) }
         ensures cause { IfErr result (IsFault (D.faults dev.old) (D.faults dev.new)) }
         ensures told { is_some (D.content dev.new) ≡ is_some (D.content dev.old) }
         ensures faults { D.faults dev.old ≤ D.faults dev.new }
@@ -213,8 +248,10 @@ impl Image {
         requires below { cluster < length self.old.tables.words }
         requires fits { ZeroFits self.old cluster (D.capacity dev.old) }
         requires image { (file : List ℕ) → D.content dev.old ≡ Some file → IsImageOf file self.old }
-        ensures steps { MakesSteps D.Device self.old (zero_steps self.old cluster) (stop_of result) self.new dev.old dev.new }
-        ensures mapped { OnOk result (entry_in self.new cluster ≡ Zero (host_of (entry_in self.old cluster))) }
+        ensures steps { MakesSteps D.Device self.old (zero_steps self.old cluster) (stop_of result)
+            self.new dev.old dev.new }
+        ensures mapped { OnOk result
+            (entry_in self.new cluster ≡ Zero (host_of (entry_in self.old cluster))) }
         ensures spelled { OnOk result (IsSpelled self.new cluster) }
         ensures unmapped { OnErr result (word_in self.new cluster ≡ word_in self.old cluster) }
         ensures others { HasEntriesBut self.old self.new cluster }
@@ -222,9 +259,12 @@ impl Image {
         ensures header { HasHeaderOf self.old self.new }
         ensures cleared { ClearsFirst (D.content dev.old) (D.content dev.new) self.new }
         ensures image { (file : List ℕ) → D.content dev.new ≡ Some file → IsImageOf file self.new }
-        ensures disk { OnOk result ((old new zeros : List ℕ) → D.content dev.old ≡ Some old → D.content dev.new ≡ Some new
+        ensures disk { OnOk result
+            ((old new zeros : List ℕ) → D.content dev.old ≡ Some old → D.content dev.new ≡ Some new
             → AreClusterZeros 65536 zeros → IsDiskWith old new (cluster * 65536) zeros) }
-        ensures kept { OnErr result ((old new : List ℕ) → D.content dev.old ≡ Some old → D.content dev.new ≡ Some new → IsSameDisk old new) }
+        ensures kept { OnErr result
+            ((old new : List ℕ) → D.content dev.old ≡ Some old → D.content dev.new ≡ Some new
+            → IsSameDisk old new) }
         ensures cause { IfErr result (IsFault (D.faults dev.old) (D.faults dev.new)) }
         ensures told { is_some (D.content dev.new) ≡ is_some (D.content dev.old) }
         ensures faults { D.faults dev.old ≤ D.faults dev.new }
@@ -244,7 +284,8 @@ impl Image {
     ) -> Result<(), WriteStop>
         requires open { IsOpen self.old }
         requires below { span.start / 65536 < length self.old.tables.words }
-        requires mapped { (host : ℕ) × (entry_in self.old (span.start / 65536) ≡ Host host) × (place ≡ host + span.start % 65536) }
+        requires mapped { (host : ℕ) × (entry_in self.old (span.start / 65536) ≡ Host host)
+            × (place ≡ host + span.start % 65536) }
         requires cluster { span.start % 65536 + length bytes.now ≤ 65536 }
         requires header_fits { autoclear_end self.old ≤ D.capacity dev.old }
         requires fits { place + length bytes.now ≤ D.capacity dev.old }
@@ -253,9 +294,13 @@ impl Image {
         ensures known { (self.new ≡ self.old) ⊎ (self.new ≡ autocleared self.old) }
         ensures cleared { ClearsFirst (D.content dev.old) (D.content dev.new) self.new }
         ensures image { (file : List ℕ) → D.content dev.new ≡ Some file → IsImageOf file self.new }
-        ensures disk { (old new : List ℕ) → D.content dev.old ≡ Some old → D.content dev.new ≡ Some new → IsDiskWith old new span.start (taken result bytes.now) }
-        ensures wrote { WroteOwn D.Device self.old self.new span (taken result bytes.now) dev.old dev.new }
-        ensures stop { IfErr result (IsFailedOwn place (length bytes.now) (D.faults dev.old) (D.faults dev.new)) }
+        ensures disk { (old new : List ℕ) → D.content dev.old ≡ Some old
+            → D.content dev.new ≡ Some new
+            → IsDiskWith old new span.start (taken result bytes.now) }
+        ensures wrote { WroteOwn D.Device self.old self.new span (taken result bytes.now) dev.old
+            dev.new }
+        ensures stop { IfErr result
+            (IsFailedOwn place (length bytes.now) (D.faults dev.old) (D.faults dev.new)) }
         ensures quiet { OnOk result (D.faults dev.new ≡ D.faults dev.old) }
         ensures told { is_some (D.content dev.new) ≡ is_some (D.content dev.old) }
         ensures faults { D.faults dev.old ≤ D.faults dev.new }

@@ -8,7 +8,7 @@ ghost use Rattle.q2_format.specs.Tables.{refcount_table};
 ghost use Rattle.q2_refs.specs.Kept.{IsCountsOf};
 ghost use Rattle.q2_image.specs.Seen.{IsSeen, is_uncounted};
 ghost use Rattle.q2_image.specs.Opening.{Judges, HasCause, IsNoFault, place_stops, refusal_of, uncounted_stop};
-ghost use Rattle.q2_image.specs.Loading.{counts_loaded, reserved_entry, IsTableOf, IsTableRead, IsRead, HasCounts, TableTells, IsBlockStop};
+ghost use Rattle.q2_image.specs.Loading.{counts_loaded, reserved_entry, IsTableOf, IsTableRead, IsTableAnswer, HasCounts, TableTells, IsBlockStop};
 
 use crate::header::cluster_size;
 use crate::seen::Seen;
@@ -61,10 +61,11 @@ pub(crate) fn load_ref_table<D: Device>(
     requires readable { CanBeRead header.now (D.size dev.old) }
     requires placed { place_stops header.now (D.size dev.old) ≡ None }
     ensures told { IfOk result (λ table. (file : List ℕ) → D.content dev.old ≡ Some file
-        → TableTells file header.now (D.size dev.old) None (reserved_entry table) × IsTableOf file header.now table) }
+        → TableTells file header.now (D.size dev.old) None (reserved_entry table)
+        × IsTableOf file header.now table) }
     ensures stop { IfErr result (λ stop. (file : List ℕ) → D.content dev.old ≡ Some file
         → IfSome (refusal_of stop) (IsBlockStop file header.now (D.size dev.old))) }
-    ensures read { IfOk result (IsRead header.now (D.size dev.old)) }
+    ensures read { IfOk result (IsTableAnswer header.now (D.size dev.old)) }
     ensures cause { IfErr result (HasCause (D.faults dev.old) (D.faults dev.new)) }
     ensures quiet { OnOk result (D.faults dev.new ≡ D.faults dev.old) }
     ensures content { D.content dev.new ≡ D.content dev.old }
@@ -95,9 +96,12 @@ pub(crate) fn load_refcounts<D: Device>(
     requires limits { IsWithinLimits header.now (D.size dev.old) }
     requires placed { place_stops header.now (D.size dev.old) ≡ None }
     requires read { IsTableRead header.now (D.size dev.old) table.items }
-    ensures kept { IfOk result (λ refs. (file : List ℕ) → D.content dev.old ≡ Some file → table.items ≡ refcount_table file header.now
+    ensures kept { IfOk result
+        (λ refs. (file : List ℕ) → D.content dev.old ≡ Some file
+        → table.items ≡ refcount_table file header.now
         → IsCountsOf file header.now refs) }
-    ensures loaded { IfOk result (HasCounts header.now (D.size dev.old) (counts_loaded header.now (D.size dev.old))) }
+    ensures loaded { IfOk result
+        (HasCounts header.now (D.size dev.old) (counts_loaded header.now (D.size dev.old))) }
     ensures table { IfOk result (λ refs. refs.table ≡ table.items) }
     ensures stop { IfErr result (λ stop. refusal_of stop ≡ None) }
     ensures cause { IfErr result (HasCause (D.faults dev.old) (D.faults dev.new)) }
@@ -123,7 +127,8 @@ pub(crate) fn load_refcounts<D: Device>(
 #[tactic(auto, using(q2_format::proofs::Firsts::none_lowest, q2_format::proofs::Firsts::lowest_at))]
 fn first_uncounted(seen: &Seen, refs: &Refs) -> Option<u64>
     requires { length seen.now.named ≤ length refs.now.counts }
-    ensures { result ≡ lowest (is_uncounted seen.now.named refs.now.counts) (length seen.now.named) }
+    ensures { result
+        ≡ lowest (is_uncounted seen.now.named refs.now.counts) (length seen.now.named) }
 {
     for cluster in 0..seen.len() {
         if seen.is_named(cluster) && refs.count_of(cluster) == 0 {
@@ -138,7 +143,8 @@ fn first_uncounted(seen: &Seen, refs: &Refs) -> Option<u64>
 pub(crate) fn check_counted(seen: &Seen, refs: &Refs) -> Result<(), ImageStop>
     requires { length seen.now.named ≤ length refs.now.counts }
     ensures no_fault { IfErr result IsNoFault }
-    ensures judged { (uses : ℕ → ℕ) → IsSeen uses seen.now → Judges (uncounted_stop uses refs.now.counts (length seen.now.named)) result }
+    ensures judged { (uses : ℕ → ℕ) → IsSeen uses seen.now
+        → Judges (uncounted_stop uses refs.now.counts (length seen.now.named)) result }
 {
     match first_uncounted(seen, refs) {
         None => Ok(()),

@@ -73,10 +73,14 @@ const SECTOR: usize = 512;
 fn write<D: Device>(dev: &mut D, at: u64, bytes: &[u8]) -> Result<(), CreateStop>
     requires some { 0 < length bytes.now }
     requires room { at + length bytes.now ≤ D.capacity dev.old }
-    ensures writes { Writes D.Device (write_of at bytes.now ∷ []) (call_stop result) dev.old dev.new }
-    ensures holds { OnOk result ((file : List ℕ) → D.content dev.new ≡ Some file → Holds file at bytes.now) }
-    ensures kept { at % 512 + length bytes.now ≤ 512 → OnErr result (D.content dev.new ≡ D.content dev.old) }
-    ensures within { ChangesWithin (D.content dev.old) (D.content dev.new) at (at + length bytes.now) }
+    ensures writes { Writes D.Device (write_of at bytes.now ∷ []) (call_stop result) dev.old
+        dev.new }
+    ensures holds { OnOk result
+        ((file : List ℕ) → D.content dev.new ≡ Some file → Holds file at bytes.now) }
+    ensures kept { at % 512 + length bytes.now ≤ 512
+        → OnErr result (D.content dev.new ≡ D.content dev.old) }
+    ensures within { ChangesWithin (D.content dev.old) (D.content dev.new) at
+        (at + length bytes.now) }
     ensures cause { IfErr result (IsFailedCall (D.faults dev.old) (D.faults dev.new)) }
     ensures flushed { D.is_flushed dev.new ≡ option_map (λ _. false) (D.is_flushed dev.old) }
     ensures faults { D.faults dev.old ≤ D.faults dev.new }
@@ -127,8 +131,10 @@ fn behind_first_sector(cluster: &[u8]) -> &[u8]
 fn clear_header<D: Device>(dev: &mut D, buffer: &mut [u8]) -> Result<(), CreateStop>
     requires whole { length buffer.old ≡ 65536 }
     requires room { 512 ≤ D.capacity dev.old }
-    ensures writes { Writes D.Device (write_of 0 (replicate 512 0) ∷ []) (call_stop result) dev.old dev.new }
-    ensures cleared { OnOk result ((file : List ℕ) → D.content dev.new ≡ Some file → LacksHeader file) }
+    ensures writes { Writes D.Device (write_of 0 (replicate 512 0) ∷ []) (call_stop result) dev.old
+        dev.new }
+    ensures cleared { OnOk result
+        ((file : List ℕ) → D.content dev.new ≡ Some file → LacksHeader file) }
     ensures kept { OnErr result (D.content dev.new ≡ D.content dev.old) }
     ensures within { ChangesWithin (D.content dev.old) (D.content dev.new) 0 512 }
     ensures cause { IfErr result (IsFailedCall (D.faults dev.old) (D.faults dev.new)) }
@@ -147,8 +153,10 @@ fn write_tables<D: Device>(dev: &mut D, buffer: &mut [u8]) -> Result<(), CreateS
     requires whole { length buffer.old ≡ 65536 }
     requires room { 262144 ≤ D.capacity dev.old }
     ensures writes { (size : ℕ) (name format : Option (List ℕ)) → size ≤ MAX_DISK_SIZE
-        → MakesStages D.Device (creation_of size name format) 1 3 (call_stop result) dev.old dev.new }
-    ensures tables { OnOk result ((size : ℕ) (name format : Option (List ℕ)) (file : List ℕ) → size ≤ MAX_DISK_SIZE
+        → MakesStages D.Device (creation_of size name format) 1 3 (call_stop result) dev.old
+        dev.new }
+    ensures tables { OnOk result
+        ((size : ℕ) (name format : Option (List ℕ)) (file : List ℕ) → size ≤ MAX_DISK_SIZE
         → D.content dev.new ≡ Some file → HasCreatedTables (creation_of size name format) file) }
     ensures within { ChangesWithin (D.content dev.old) (D.content dev.new) 65536 262144 }
     ensures cause { IfErr result (IsFailedCall (D.faults dev.old) (D.faults dev.new)) }
@@ -181,12 +189,17 @@ fn put_header<D: Device>(
     requires size { size ≤ MAX_DISK_SIZE }
     requires name { ForSome name (λ name. IsNewName name.now) }
     requires format { ForSome format (λ format. IsNewFormat format.now) }
-    ensures writes { MakesStages D.Device (creation_of size (option_copied name.entry) (option_copied format.entry)) 4 2 (call_stop result) dev.old dev.new }
+    ensures writes { MakesStages D.Device
+        (creation_of size (option_copied name.entry) (option_copied format.entry)) 4 2
+        (call_stop result) dev.old dev.new }
     ensures header { OnOk result ((file : List ℕ) → D.content dev.new ≡ Some file
-        → HasCreatedHeader (creation_of size (option_copied name.entry) (option_copied format.entry)) file) }
-    ensures readable { OnOk result (CanBeCreated size (option_copied name.entry) (option_copied format.entry)) }
+        → HasCreatedHeader
+        (creation_of size (option_copied name.entry) (option_copied format.entry)) file) }
+    ensures readable { OnOk result
+        (CanBeCreated size (option_copied name.entry) (option_copied format.entry)) }
     ensures within { ChangesWithin (D.content dev.old) (D.content dev.new) 0 65536 }
-    ensures sector { OnErr result (ChangesWithin (D.content dev.old) (D.content dev.new) 512 65536) }
+    ensures sector { OnErr result
+        (ChangesWithin (D.content dev.old) (D.content dev.new) 512 65536) }
     ensures cause { IfErr result (IsFailedCall (D.faults dev.old) (D.faults dev.new)) }
     ensures flushed { D.is_flushed dev.new ≡ option_map (λ _. false) (D.is_flushed dev.old) }
     ensures faults { D.faults dev.old ≤ D.faults dev.new }
@@ -214,10 +227,14 @@ fn write_image<D: Device>(
     requires size { size ≤ MAX_DISK_SIZE }
     requires name { ForSome name (λ name. IsNewName name.now) }
     requires format { ForSome format (λ format. IsNewFormat format.now) }
-    ensures writes { MakesStages D.Device (creation_of size (option_copied name.entry) (option_copied format.entry)) 0 6 (call_stop result) dev.old dev.new }
+    ensures writes { MakesStages D.Device
+        (creation_of size (option_copied name.entry) (option_copied format.entry)) 0 6
+        (call_stop result) dev.old dev.new }
     ensures created { OnOk result ((file : List ℕ) → D.content dev.new ≡ Some file
-        → IsCreated (creation_of size (option_copied name.entry) (option_copied format.entry)) file) }
-    ensures readable { OnOk result (CanBeCreated size (option_copied name.entry) (option_copied format.entry)) }
+        → IsCreated (creation_of size (option_copied name.entry) (option_copied format.entry))
+        file) }
+    ensures readable { OnOk result
+        (CanBeCreated size (option_copied name.entry) (option_copied format.entry)) }
     ensures headless { OnErr result ((D.content dev.new ≡ D.content dev.old)
         ⊎ ((file : List ℕ) → D.content dev.new ≡ Some file → LacksHeader file)) }
     ensures within { ChangesWithin (D.content dev.old) (D.content dev.new) 0 262144 }
@@ -254,9 +271,12 @@ pub fn create_image<D: Device>(
 
     // the image
     ensures created { OnOk result ((file : List ℕ) → D.content dev.new ≡ Some file
-        → IsCreated (creation_of size (option_copied name.entry) (option_copied format.entry)) file) }
+        → IsCreated (creation_of size (option_copied name.entry) (option_copied format.entry))
+        file) }
     ensures header { OnOk result ((file : List ℕ) → D.content dev.new ≡ Some file
-        → header_of file ≡ created_header (creation_of size (option_copied name.entry) (option_copied format.entry))) }
+        → header_of file
+        ≡ created_header
+        (creation_of size (option_copied name.entry) (option_copied format.entry))) }
     ensures names { OnOk result ((file : List ℕ) → D.content dev.new ≡ Some file
         → (text_at file (header_of file).name ≡ option_copied name.entry)
         × (text_at file (header_of file).format ≡ option_copied format.entry)) }
@@ -265,30 +285,42 @@ pub fn create_image<D: Device>(
     ensures disk { OnOk result ((file backing : List ℕ) → D.content dev.new ≡ Some file
         → image_disk file backing ≡ bytes_at backing 0 size) }
     ensures sound { OnOk result ((file : List ℕ) → D.content dev.new ≡ Some file
-        → clusters_for (cluster_size (header_of file).cluster_bits) (length file) ≤ MAX_FILE_CLUSTERS → IsSound file) }
+        → clusters_for (cluster_size (header_of file).cluster_bits) (length file)
+        ≤ MAX_FILE_CLUSTERS → IsSound file) }
 
-    ensures readable { OnOk result (CanBeCreated size (option_copied name.entry) (option_copied format.entry)) }
+    ensures readable { OnOk result
+        (CanBeCreated size (option_copied name.entry) (option_copied format.entry)) }
 
     // why it is created or not
-    ensures cause { let end = created_length (creation_of size (option_copied name.entry) (option_copied format.entry))
+    ensures cause { let end = created_length
+        (creation_of size (option_copied name.entry) (option_copied format.entry))
         in CreateAnswers end (D.capacity dev.old) (D.faults dev.old) (D.faults dev.new) result }
 
     // the device
-    ensures writes { MakesImage D.Device (creation_of size (option_copied name.entry) (option_copied format.entry)) result dev.old dev.new }
-    ensures stops { (ws : List Write) → AreStages (creation_of size (option_copied name.entry) (option_copied format.entry)) 0 ws
+    ensures writes { MakesImage D.Device
+        (creation_of size (option_copied name.entry) (option_copied format.entry)) result dev.old
+        dev.new }
+    ensures stops { (ws : List Write)
+        → AreStages (creation_of size (option_copied name.entry) (option_copied format.entry)) 0 ws
         → length ws ≡ 6 → AtEachStopOf D.Device (IsBeforeOrNone ws) ws dev.old }
-    ensures behind { let end = created_length (creation_of size (option_copied name.entry) (option_copied format.entry))
+    ensures behind { let end = created_length
+        (creation_of size (option_copied name.entry) (option_copied format.entry))
         in ChangesWithin (D.content dev.old) (D.content dev.new) 0 end }
     ensures unfinished { OnErr result ((D.content dev.new ≡ D.content dev.old)
-        ⊎ ((file : List ℕ) → D.content dev.new ≡ Some file → image_refusal file ≡ Some (InHeader Magic))) }
-    ensures unwritten { OnFalse (wrote result) ((D.content dev.new ≡ D.content dev.old) × (D.log dev.new ≡ D.log dev.old)
+        ⊎ ((file : List ℕ) → D.content dev.new ≡ Some file
+        → image_refusal file ≡ Some (InHeader Magic))) }
+    ensures unwritten { OnFalse (wrote result)
+        ((D.content dev.new ≡ D.content dev.old) × (D.log dev.new ≡ D.log dev.old)
         × (D.size dev.new ≡ D.size dev.old) × (D.faults dev.new ≡ D.faults dev.old)) }
     ensures flushed { D.is_flushed dev.new
-        ≡ (if wrote result then option_map (λ _. false) (D.is_flushed dev.old) else D.is_flushed dev.old) }
-    ensures size { let end = created_length (creation_of size (option_copied name.entry) (option_copied format.entry))
+        ≡ (if wrote result then option_map (λ _. false) (D.is_flushed dev.old)
+        else D.is_flushed dev.old) }
+    ensures size { let end = created_length
+        (creation_of size (option_copied name.entry) (option_copied format.entry))
         in OnOk result (D.size dev.new ≡ max (D.size dev.old) end) }
     ensures grows { D.size dev.old ≤ D.size dev.new }
-    ensures bound { let end = created_length (creation_of size (option_copied name.entry) (option_copied format.entry))
+    ensures bound { let end = created_length
+        (creation_of size (option_copied name.entry) (option_copied format.entry))
         in D.size dev.new ≤ max (D.size dev.old) end }
     ensures faults { D.faults dev.old ≤ D.faults dev.new }
     ensures capacity { D.capacity dev.new ≡ D.capacity dev.old }

@@ -91,7 +91,8 @@ impl Image {
     /// Whether a cluster for an L2 table can be taken where one is needed.
     fn table_fits(&self, cluster: u64, capacity: u64) -> bool
         requires { cluster < length self.now.tables.words }
-        ensures { IsTrue result ↔ (needs_table self.now cluster ≡ true → CanTake self.now 0 capacity) }
+        ensures { IsTrue result ↔
+            (needs_table self.now cluster ≡ true → CanTake self.now 0 capacity) }
     {
         !self.needs_table(cluster) || self.can_take(0, capacity)
     }
@@ -99,7 +100,9 @@ impl Image {
     /// Whether a cluster for the data can be taken where one is needed.
     fn host_fits(&self, cluster: u64, capacity: u64) -> bool
         requires { cluster < length self.now.tables.words }
-        ensures { IsTrue result ↔ (needs_host self.now cluster ≡ true → CanTake self.now (if needs_table self.now cluster then 1 else 0) capacity) }
+        ensures { IsTrue result ↔
+            (needs_host self.now cluster ≡ true
+            → CanTake self.now (if needs_table self.now cluster then 1 else 0) capacity) }
     {
         !self.needs_host(cluster) || self.can_take(self.taken_before_host(cluster), capacity)
     }

@@ -26,7 +26,9 @@ pub(crate) fn cluster_buffer(alloc: Global) -> Result<Vec<u8>, NoMemory>
 
 /// The first cluster of a file, with zeros past the file's end.
 fn read_first_cluster<D: Device>(alloc: Global, dev: &mut D) -> Result<Vec<u8>, ImageStop>
-    ensures read { IfOk result (λ cluster. (file : List ℕ) → D.content dev.old ≡ Some file → cluster.items ≡ bytes_at file 0 65536) }
+    ensures read { IfOk result
+        (λ cluster. (file : List ℕ) → D.content dev.old ≡ Some file
+        → cluster.items ≡ bytes_at file 0 65536) }
     ensures stop { IfErr result (λ stop. refusal_of stop ≡ None) }
     ensures cause { IfErr result (HasCause (D.faults dev.old) (D.faults dev.new)) }
     ensures quiet { OnOk result (D.faults dev.new ≡ D.faults dev.old) }
@@ -49,8 +51,10 @@ fn read_first_cluster<D: Device>(alloc: Global, dev: &mut D) -> Result<Vec<u8>, 
 /// The header of the image on a device, or why it is refused. A file that is too short for one isn't read.
 #[tactic(auto, using(crate::proofs::FirstCluster::short_refused, crate::proofs::FirstCluster::refused_alike, crate::proofs::FirstCluster::accepted_alike, crate::proofs::FirstCluster::header_alike))]
 pub(crate) fn open_header<D: Device>(alloc: Global, dev: &mut D) -> Result<Header, ImageStop>
-    ensures judged { (file : List ℕ) → D.content dev.old ≡ Some file → Judges (header_stops file (D.size dev.old)) result }
-    ensures header { IfOk result (λ h. (file : List ℕ) → D.content dev.old ≡ Some file → header_of file ≡ h) }
+    ensures judged { (file : List ℕ) → D.content dev.old ≡ Some file
+        → Judges (header_stops file (D.size dev.old)) result }
+    ensures header { IfOk result
+        (λ h. (file : List ℕ) → D.content dev.old ≡ Some file → header_of file ≡ h) }
     ensures limits { IfOk result (λ h. IsWithinLimits h (D.size dev.old)) }
     ensures readable { IfOk result (λ h. CanBeRead h (D.size dev.old)) }
     ensures short { D.size dev.old < MIN_HEADER_LENGTH → result ≡ Err (ImageStop.Header Short) }

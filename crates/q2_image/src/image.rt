@@ -64,14 +64,17 @@ impl Image {
     pub fn mapping(&self, cluster: u64) -> Mapping
         requires { cluster < clusters_in self.now }
         ensures known { entry_of result ≡ entry_in self.now cluster }
-        ensures file { (file : List ℕ) → IsImageOf file self.now → entry_of result ≡ file_entry file cluster }
+        ensures file { (file : List ℕ) → IsImageOf file self.now
+            → entry_of result ≡ file_entry file cluster }
     {
         self.tables.lookup(cluster)
     }
 
     /// Whether no cluster of the disk is mapped, nor reads as zeros by itself.
     pub fn is_empty(&self) -> bool
-        ensures { IsTrue result ↔ ((cluster : ℕ) → cluster < clusters_in self.now → entry_in self.now cluster ≡ entries.Unallocated) }
+        ensures { IsTrue result ↔
+            ((cluster : ℕ) → cluster < clusters_in self.now
+            → entry_in self.now cluster ≡ entries.Unallocated) }
     {
         let clusters = self.header.size.div_ceil(cluster_size(&self.header));
         for cluster in 0..clusters {
@@ -93,7 +96,8 @@ impl Image {
         requires disk { span.start / cluster_size_in self.now < clusters_in self.now }
         requires mapped { IsHost (entry_in self.now (span.start / cluster_size_in self.now)) }
         requires whole { length buf.old ≡ span.len }
-        ensures read { OnOk result ((file backing : List ℕ) → D.content dev.old ≡ Some file → IsImageOf file self.now
+        ensures read { OnOk result
+            ((file backing : List ℕ) → D.content dev.old ≡ Some file → IsImageOf file self.now
             → buf.new ≡ guest_bytes file backing span.start span.len) }
         ensures cause { IfErr result (HasReadCause (D.faults dev.old) (D.faults dev.new)) }
         ensures quiet { OnOk result (D.faults dev.new ≡ D.faults dev.old) }

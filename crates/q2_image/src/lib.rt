@@ -2,6 +2,7 @@
 #![tactic(auto)]
 
 mod autoclear;
+mod backing_name;
 mod changing;
 mod counting;
 mod create;

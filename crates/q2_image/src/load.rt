@@ -7,7 +7,7 @@ ghost use Rattle.q2_format.specs.Tables.{active_tree, refcount_table};
 ghost use Rattle.q2_tables.specs.Kept.{IsTreeOf};
 ghost use Rattle.q2_tables.specs.Loading.{IsLoaded};
 ghost use Rattle.q2_image.specs.Opening.{Judges, HasCause, place_stops};
-ghost use Rattle.q2_image.specs.Loading.{table_stops, reserved_entry, IsTableOf, IsTableRead, IsRead, TableTells};
+ghost use Rattle.q2_image.specs.Loading.{table_stops, reserved_entry, IsTableOf, IsTableRead, IsTableAnswer, TableTells};
 ghost use Rattle.q2_image.specs.Merge.{behind_reserved, merged_stop};
 
 use crate::counting::{RefTable, load_ref_table};
@@ -64,7 +64,9 @@ fn reserved_in(table: &RefTable) -> Option<u64>
 /// The words of the refcount table, where no reserved bit was found.
 fn words_of(header: &Header, table: RefTable) -> Result<Vec<u64>, ImageStop>
     ensures read { IfOk result (λ words. table ≡ RefTable.Read words) }
-    ensures reserved { IfErr result (λ stop. (index : ℕ) × (table ≡ RefTable.Reserved index) × (stop ≡ ImageStop.Reserved header.now.ref_offset index)) }
+    ensures reserved { IfErr result
+        (λ stop. (index : ℕ) × (table ≡ RefTable.Reserved index)
+        × (stop ≡ ImageStop.Reserved header.now.ref_offset index)) }
 {
     match table {
         RefTable::Read(words) => Ok(words),
@@ -85,11 +87,15 @@ fn load_behind<D: Device>(
     requires readable { CanBeRead header.now (D.size dev.old) }
     requires placed { place_stops header.now (D.size dev.old) ≡ None }
     requires told { (file : List ℕ) → D.content dev.old ≡ Some file
-        → TableTells file header.now (D.size dev.old) None (reserved_entry table) × IsTableOf file header.now table }
-    requires read { IsRead header.now (D.size dev.old) table }
+        → TableTells file header.now (D.size dev.old) None (reserved_entry table)
+        × IsTableOf file header.now table }
+    requires read { IsTableAnswer header.now (D.size dev.old) table }
     ensures judged { (file : List ℕ) → D.content dev.old ≡ Some file
-        → Judges (table_stops header.now (D.size dev.old) (refcount_table file header.now) (active_tree file header.now)) result }
-    ensures table { IfOk result (λ both. (file : List ℕ) → D.content dev.old ≡ Some file → both.0.items ≡ refcount_table file header.now) }
+        → Judges (table_stops header.now (D.size dev.old) (refcount_table file header.now)
+        (active_tree file header.now)) result }
+    ensures table { IfOk result
+        (λ both. (file : List ℕ) → D.content dev.old ≡ Some file
+        → both.0.items ≡ refcount_table file header.now) }
     ensures tree { IfOk result (λ both. (file : List ℕ) → D.content dev.old ≡ Some file
         → IsTreeOf (cluster_size header.now.cluster_bits) both.1 (active_tree file header.now)) }
     ensures has_table { IfOk result (λ both. IsTableRead header.now (D.size dev.old) both.0.items) }
@@ -122,8 +128,11 @@ pub(crate) fn load<D: Device>(
     requires readable { CanBeRead header.now (D.size dev.old) }
     requires placed { place_stops header.now (D.size dev.old) ≡ None }
     ensures judged { (file : List ℕ) → D.content dev.old ≡ Some file
-        → Judges (table_stops header.now (D.size dev.old) (refcount_table file header.now) (active_tree file header.now)) result }
-    ensures table { IfOk result (λ both. (file : List ℕ) → D.content dev.old ≡ Some file → both.0.items ≡ refcount_table file header.now) }
+        → Judges (table_stops header.now (D.size dev.old) (refcount_table file header.now)
+        (active_tree file header.now)) result }
+    ensures table { IfOk result
+        (λ both. (file : List ℕ) → D.content dev.old ≡ Some file
+        → both.0.items ≡ refcount_table file header.now) }
     ensures tree { IfOk result (λ both. (file : List ℕ) → D.content dev.old ≡ Some file
         → IsTreeOf (cluster_size header.now.cluster_bits) both.1 (active_tree file header.now)) }
     ensures has_table { IfOk result (λ both. IsTableRead header.now (D.size dev.old) both.0.items) }

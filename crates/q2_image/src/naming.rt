@@ -51,7 +51,8 @@ pub(crate) fn see_names(
 #[tactic(auto, using(crate::proofs::Sightings::twice_lowest))]
 pub(crate) fn check_overlap(seen: &Seen) -> Result<(), ImageStop>
     ensures no_fault { IfErr result IsNoFault }
-    ensures judged { (uses : ℕ → ℕ) → IsSeen uses seen.now → Judges (overlap_stop uses (length seen.now.named)) result }
+    ensures judged { (uses : ℕ → ℕ) → IsSeen uses seen.now
+        → Judges (overlap_stop uses (length seen.now.named)) result }
 {
     match seen.twice() {
         None => Ok(()),

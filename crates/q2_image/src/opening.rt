@@ -55,9 +55,12 @@ fn name_once(
     requires limits { IsWithinLimits header.now len }
     requires placed { ArePlaced header.now len table.now tables.now.l1 tables.now.words }
     ensures count { IfOk result (λ seen. length seen.named ≡ cluster_bound header.now len) }
-    ensures seen { IfOk result (IsSeen (uses_in header.now table.now tables.now.l1 tables.now.words)) }
+    ensures seen { IfOk result
+        (IsSeen (uses_in header.now table.now tables.now.l1 tables.now.words)) }
     ensures no_fault { IfErr result IsNoFault }
-    ensures judged { Judges (overlap_stop (uses_in header.now table.now tables.now.l1 tables.now.words) (cluster_bound header.now len)) result }
+    ensures judged { Judges
+        (overlap_stop (uses_in header.now table.now tables.now.l1 tables.now.words)
+        (cluster_bound header.now len)) result }
 {
     let seen = see_names(alloc, header, len, table, tables.l1(), tables.words())?;
     check_overlap(&seen)?;
@@ -70,7 +73,8 @@ fn check_names(header: &Header, refs: &Refs, seen: &Seen) -> Result<(), ImageSto
     requires list { header.now.ext_end < 2 ^ 32 }
     requires counts { length seen.now.named ≤ length refs.now.counts }
     ensures no_fault { IfErr result IsNoFault }
-    ensures judged { (uses : ℕ → ℕ) → IsSeen uses seen.now → overlap_stop uses (length seen.now.named) ≡ None
+    ensures judged { (uses : ℕ → ℕ) → IsSeen uses seen.now
+        → overlap_stop uses (length seen.now.named) ≡ None
         → Judges (names_stops header.now uses refs.now.counts (length seen.now.named)) result }
 {
     check_counted(seen, refs)?;
@@ -85,15 +89,25 @@ fn finish(
     tables: Tables,
     seen: &Seen,
 ) -> Result<Image, ImageStop>
+    requires readable { CanBeRead header len }
     requires limits { IsWithinLimits header len }
     requires places { place_stops header len ≡ None }
     requires counts { HasCounts header len (counts_loaded header len) refs }
     requires loaded { IsLoaded header len tables }
     requires count { length seen.now.named ≡ cluster_bound header len }
     requires seen { IsSeen (uses_in header refs.table tables.l1 tables.words) seen.now }
-    requires once { overlap_stop (uses_in header refs.table tables.l1 tables.words) (cluster_bound header len) ≡ None }
-    ensures judged { Judges (names_stops header (uses_in header refs.table tables.l1 tables.words) refs.counts (cluster_bound header len)) result }
-    ensures known { IfOk result (λ image. image ≡ record { header = header; tables = tables; refs = record refs { counts = take (reach_of header len) refs.counts } }) }
+    requires once { overlap_stop (uses_in header refs.table tables.l1 tables.words)
+        (cluster_bound header len) ≡ None }
+    ensures judged { Judges
+        (names_stops header (uses_in header refs.table tables.l1 tables.words) refs.counts
+        (cluster_bound header len)) result }
+    ensures known { IfOk result
+        (λ image. image
+        ≡ record {
+          header = header;
+          tables = tables;
+          refs = record refs { counts = take (reach_of header len) refs.counts };
+        }) }
     ensures no_fault { IfErr result IsNoFault }
 {
     check_names(&header, &refs, seen)?;
@@ -120,10 +134,14 @@ fn open_tables<D: Device>(
     requires places { place_stops header (D.size dev.old) ≡ None }
     requires table { IsTableRead header (D.size dev.old) table.items }
     requires loaded { IsLoaded header (D.size dev.old) tables }
-    requires read { (file : List ℕ) → D.content dev.old ≡ Some file → IsReadFrom file header table.items tables }
-    ensures judged { (file : List ℕ) → D.content dev.old ≡ Some file → Judges (image_refusal file) result }
-    ensures image { IfOk result (λ image. (file : List ℕ) → D.content dev.old ≡ Some file → IsImageOf file image) }
-    ensures reach { IfOk result (λ image. length image.refs.counts ≡ reach_of image.header (D.size dev.old)) }
+    requires read { (file : List ℕ) → D.content dev.old ≡ Some file
+        → IsReadFrom file header table.items tables }
+    ensures judged { (file : List ℕ) → D.content dev.old ≡ Some file
+        → Judges (image_refusal file) result }
+    ensures image { IfOk result
+        (λ image. (file : List ℕ) → D.content dev.old ≡ Some file → IsImageOf file image) }
+    ensures reach { IfOk result
+        (λ image. length image.refs.counts ≡ reach_of image.header (D.size dev.old)) }
     ensures cause { IfErr result (HasCause (D.faults dev.old) (D.faults dev.new)) }
     ensures quiet { OnOk result (D.faults dev.new ≡ D.faults dev.old) }
     ensures content { D.content dev.new ≡ D.content dev.old }
@@ -148,9 +166,12 @@ fn open_tables<D: Device>(
 /// table and the L2 tables, and the refcount blocks last, once nothing is named twice. `NoMemory` may always come.
 pub fn open_image<D: Device>(alloc: Global, dev: &mut D) -> Result<Image, ImageStop>
     // the first refusal of the file, or an image of it
-    ensures judged { (file : List ℕ) → D.content dev.old ≡ Some file → Judges (image_refusal file) result }
-    ensures image { IfOk result (λ image. (file : List ℕ) → D.content dev.old ≡ Some file → IsImageOf file image) }
-    ensures reach { IfOk result (λ image. length image.refs.counts ≡ reach_of image.header (D.size dev.old)) }
+    ensures judged { (file : List ℕ) → D.content dev.old ≡ Some file
+        → Judges (image_refusal file) result }
+    ensures image { IfOk result
+        (λ image. (file : List ℕ) → D.content dev.old ≡ Some file → IsImageOf file image) }
+    ensures reach { IfOk result
+        (λ image. length image.refs.counts ≡ reach_of image.header (D.size dev.old)) }
     ensures open { IfOk result IsOpen }
     // a file that is too short for a header isn't read
     ensures short { D.size dev.old < MIN_HEADER_LENGTH → result ≡ Err (ImageStop.Header Short) }

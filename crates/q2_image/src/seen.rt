@@ -66,7 +66,7 @@ fn own_offset(word: u64) -> u64
 
 impl Seen {
     ghost use Rattle.std.specs.Prelude.{◌≡◌, ℕ, ◌+◌, ◌/◌, ◌^◌, ◌<◌, ◌≤◌, false, length, slice_index_or, IfOk};
-    ghost use Rattle.q2_image.specs.Seen.{IsSeen, named_at, named_once, named_in_run, named_by, AreNamedBelow, twice_in};
+    ghost use Rattle.q2_image.specs.Seen.{IsSeen, named_at, named_once, named_in_run, times_named, AreNamedBelow, twice_in};
 
     /// No cluster is named, of so many.
     pub(crate) fn new(alloc: Global, clusters: u64) -> Result<Self, NoMemory>
@@ -83,7 +83,8 @@ impl Seen {
     pub(crate) fn mark(&mut self, cluster: u64)
         requires { cluster < length self.old.named }
         ensures count { length self.new.named ≡ length self.old.named }
-        ensures seen { (uses : ℕ → ℕ) → IsSeen uses self.old → IsSeen (λ k. uses k + named_at cluster k) self.new }
+        ensures seen { (uses : ℕ → ℕ) → IsSeen uses self.old
+            → IsSeen (λ k. uses k + named_at cluster k) self.new }
     {
         let at = cluster as usize;
         if self.named[at] {
@@ -97,7 +98,8 @@ impl Seen {
         requires within { first + count ≤ length self.old.named }
         requires small { length self.old.named < 2 ^ 63 }
         ensures count { length self.new.named ≡ length self.old.named }
-        ensures seen { (uses : ℕ → ℕ) → IsSeen uses self.old → IsSeen (λ k. uses k + named_in_run first count k) self.new }
+        ensures seen { (uses : ℕ → ℕ) → IsSeen uses self.old
+            → IsSeen (λ k. uses k + named_in_run first count k) self.new }
     {
         for cluster in first..first + count {
             self.mark(cluster);
@@ -109,7 +111,8 @@ impl Seen {
         requires size { 0 < cluster_size }
         requires placed { offset / cluster_size < length self.old.named }
         ensures count { length self.new.named ≡ length self.old.named }
-        ensures seen { (uses : ℕ → ℕ) → IsSeen uses self.old → IsSeen (λ k. uses k + named_once cluster_size offset k) self.new }
+        ensures seen { (uses : ℕ → ℕ) → IsSeen uses self.old
+            → IsSeen (λ k. uses k + named_once cluster_size offset k) self.new }
     {
         if offset != 0 {
             self.mark(offset / cluster_size);
@@ -121,7 +124,8 @@ impl Seen {
         requires size { 0 < cluster_size }
         requires placed { AreNamedBelow cluster_size kind words.now (length self.old.named) }
         ensures count { length self.new.named ≡ length self.old.named }
-        ensures seen { (uses : ℕ → ℕ) → IsSeen uses self.old → IsSeen (λ k. uses k + named_by cluster_size kind words.now k) self.new }
+        ensures seen { (uses : ℕ → ℕ) → IsSeen uses self.old
+            → IsSeen (λ k. uses k + times_named cluster_size kind words.now k) self.new }
     {
         for word in words {
             self.mark_offset(cluster_size, offset_in(kind, *word));

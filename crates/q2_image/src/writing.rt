@@ -16,7 +16,7 @@ ghost use Rattle.q2_tables.specs.Linking.{CanLink, link_end};
 ghost use Rattle.q2_image.specs.Image.{IsImageOf, IsOpen, clusters_in, cluster_size_in, word_in, entry_in};
 ghost use Rattle.q2_image.specs.Made.{MakesSteps, take_steps, table_steps, host_steps, entry_steps, fill_steps, clean_steps};
 ghost use Rattle.q2_image.specs.Reading.{IsHost, IsWithinCluster};
-ghost use Rattle.q2_image.specs.Writing.{IsDiskWith, IsSameDisk, HasEntriesBut, StaysTaken, IsSpelled, counts_once, IsSpare, IsIdle, MayName, Shows, PutFits, ZeroFits, AreClusterZeros, CanTake, IsFault, HasSameEntries, taken_at, after_take, needs_table, needs_host, idle_host, next_host, table_for, with_table, with_host};
+ghost use Rattle.q2_image.specs.Writing.{IsDiskWith, IsSameDisk, HasEntriesBut, StaysTaken, IsSpelled, counts_once, IsSpare, HoldsNoGuestByte, MayName, Shows, PutFits, ZeroFits, AreClusterZeros, CanTake, IsFault, HasSameEntries, taken_at, after_take, needs_table, needs_host, idle_host, next_host, table_for, with_table, with_host};
 
 use crate::header::cluster_size;
 use crate::image::Image;
@@ -49,16 +49,28 @@ impl Image {
     fn take_cluster<D: Device>(&mut self, dev: &mut D) -> Result<u64, DevStop>
         requires can { CanTake self.old 0 (D.capacity dev.old) }
         requires image { (file : List ℕ) → D.content dev.old ≡ Some file → IsImageOf file self.old }
-        ensures steps { MakesSteps D.Device self.old (take_steps self.old) (stop_of result) self.new dev.old dev.new }
+        ensures steps { MakesSteps D.Device self.old (take_steps self.old) (stop_of result) self.new
+            dev.old dev.new }
         ensures offset { IfOk result (λ offset. offset ≡ taken_at self.old 0) }
         ensures ok { OnOk result (self.new ≡ record self.old { refs = after_take self.old.refs }) }
-        ensures err { OnErr result ((self.new ≡ self.old) ⊎ (self.new ≡ record self.old { refs = with_block_for self.old.refs (free_cluster self.old.refs 0) })) }
+        ensures err { OnErr result
+            ((self.new ≡ self.old)
+            ⊎ (self.new ≡ record self.old {
+              refs = with_block_for self.old.refs
+                  (free_cluster self.old.refs 0);
+            })) }
         ensures taken { StaysTaken self.old self.new }
-        ensures spare { IfOk result (λ offset. (file : List ℕ) → D.content dev.new ≡ Some file → IsSpare file (offset / 65536)) }
-        ensures fresh { IfOk result (λ offset. (file : List ℕ) → D.content dev.old ≡ Some file → refcount_of file (header_of file) (offset / 65536) ≡ 0) }
-        ensures spare_stay { (old new : List ℕ) (n : ℕ) → D.content dev.old ≡ Some old → D.content dev.new ≡ Some new → IsSpare old n → IsSpare new n }
+        ensures spare { IfOk result
+            (λ offset. (file : List ℕ) → D.content dev.new ≡ Some file
+            → IsSpare file (offset / 65536)) }
+        ensures fresh { IfOk result
+            (λ offset. (file : List ℕ) → D.content dev.old ≡ Some file
+            → refcount_of file (header_of file) (offset / 65536) ≡ 0) }
+        ensures spare_stay { (old new : List ℕ) (n : ℕ) → D.content dev.old ≡ Some old
+            → D.content dev.new ≡ Some new → IsSpare old n → IsSpare new n }
         ensures image { (file : List ℕ) → D.content dev.new ≡ Some file → IsImageOf file self.new }
-        ensures disk { (old new : List ℕ) → D.content dev.old ≡ Some old → D.content dev.new ≡ Some new → IsSameDisk old new }
+        ensures disk { (old new : List ℕ) → D.content dev.old ≡ Some old
+            → D.content dev.new ≡ Some new → IsSameDisk old new }
         ensures cause { IfErr result (IsFault (D.faults dev.old) (D.faults dev.new)) }
         ensures told { is_some (D.content dev.new) ≡ is_some (D.content dev.old) }
         ensures faults { D.faults dev.old ≤ D.faults dev.new }
@@ -80,13 +92,19 @@ impl Image {
         requires small { host < 549755813888 }
         requires fits { host + 65536 ≤ D.capacity dev.old }
         requires image { (file : List ℕ) → D.content dev.old ≡ Some file → IsImageOf file self.now }
-        requires idle { (file : List ℕ) → D.content dev.old ≡ Some file → IsIdle 65536 file self.now host }
-        ensures writes { Writes D.Device (write_of host bytes.now ∷ []) (stop_of result) dev.old dev.new }
-        ensures written { OnOk result ((file : List ℕ) → D.content dev.new ≡ Some file → bytes_at file host 65536 ≡ bytes.now) }
+        requires idle { (file : List ℕ) → D.content dev.old ≡ Some file
+            → HoldsNoGuestByte 65536 file self.now host }
+        ensures writes { Writes D.Device (write_of host bytes.now ∷ []) (stop_of result) dev.old
+            dev.new }
+        ensures written { OnOk result
+            ((file : List ℕ) → D.content dev.new ≡ Some file
+            → bytes_at file host 65536 ≡ bytes.now) }
         ensures reaches { OnOk result (host + 65536 ≤ D.size dev.new) }
-        ensures spare_stay { (old new : List ℕ) (n : ℕ) → D.content dev.old ≡ Some old → D.content dev.new ≡ Some new → IsSpare old n → IsSpare new n }
+        ensures spare_stay { (old new : List ℕ) (n : ℕ) → D.content dev.old ≡ Some old
+            → D.content dev.new ≡ Some new → IsSpare old n → IsSpare new n }
         ensures image { (file : List ℕ) → D.content dev.new ≡ Some file → IsImageOf file self.now }
-        ensures disk { (old new : List ℕ) → D.content dev.old ≡ Some old → D.content dev.new ≡ Some new → IsSameDisk old new }
+        ensures disk { (old new : List ℕ) → D.content dev.old ≡ Some old
+            → D.content dev.new ≡ Some new → IsSameDisk old new }
         ensures cause { IfErr result (IsFault (D.faults dev.old) (D.faults dev.new)) }
         ensures told { is_some (D.content dev.new) ≡ is_some (D.content dev.old) }
         ensures faults { D.faults dev.old ≤ D.faults dev.new }
@@ -107,14 +125,19 @@ impl Image {
         requires below { cluster < length self.old.tables.words }
         requires can { CanLink self.old.tables cluster table }
         requires entry { IsWritable (entry_of to) }
-        requires reached { host_of (entry_of to) < length self.old.refs.counts * cluster_size_in self.old }
+        requires reached { host_of (entry_of to)
+            < length self.old.refs.counts * cluster_size_in self.old }
         requires whole { table % 65536 ≡ 0 }
         requires near { table + 65536 ≤ 549755813888 }
         requires fits { link_end self.old.tables cluster table ≤ D.capacity dev.old }
         requires image { (file : List ℕ) → D.content dev.old ≡ Some file → IsImageOf file self.old }
-        requires spare { (file : List ℕ) → D.content dev.old ≡ Some file → table ≢ 0 → IsSpare file (table / 65536) }
-        requires may { (file : List ℕ) → D.content dev.old ≡ Some file → MayName 65536 file self.old cluster table (host_of (entry_of to)) }
-        ensures steps { MakesSteps D.Device self.old (entry_steps self.old cluster (entry_of to) table) (stop_of result) self.new dev.old dev.new }
+        requires spare { (file : List ℕ) → D.content dev.old ≡ Some file → table ≢ 0
+            → IsSpare file (table / 65536) }
+        requires may { (file : List ℕ) → D.content dev.old ≡ Some file
+            → MayName 65536 file self.old cluster table (host_of (entry_of to)) }
+        ensures steps { MakesSteps D.Device self.old
+            (entry_steps self.old cluster (entry_of to) table) (stop_of result) self.new dev.old
+            dev.new }
         ensures entry { OnOk result (entry_in self.new cluster ≡ entry_of to) }
         ensures spelled { OnOk result (IsSpelled self.new cluster) }
         ensures others { HasEntriesBut self.old self.new cluster }
@@ -122,9 +145,13 @@ impl Image {
         ensures header { self.new.header ≡ self.old.header }
         ensures refs { self.new.refs ≡ self.old.refs }
         ensures image { (file : List ℕ) → D.content dev.new ≡ Some file → IsImageOf file self.new }
-        ensures disk { OnOk result ((old new bytes : List ℕ) → D.content dev.old ≡ Some old → D.content dev.new ≡ Some new
-            → length bytes ≡ 65536 → Shows 65536 old (entry_of to) bytes → IsDiskWith old new (cluster * 65536) bytes) }
-        ensures kept { OnErr result ((old new : List ℕ) → D.content dev.old ≡ Some old → D.content dev.new ≡ Some new → IsSameDisk old new) }
+        ensures disk { OnOk result
+            ((old new bytes : List ℕ) → D.content dev.old ≡ Some old → D.content dev.new ≡ Some new
+            → length bytes ≡ 65536 → Shows 65536 old (entry_of to) bytes
+            → IsDiskWith old new (cluster * 65536) bytes) }
+        ensures kept { OnErr result
+            ((old new : List ℕ) → D.content dev.old ≡ Some old → D.content dev.new ≡ Some new
+            → IsSameDisk old new) }
         ensures cause { IfErr result (IsFault (D.faults dev.old) (D.faults dev.new)) }
         ensures told { is_some (D.content dev.new) ≡ is_some (D.content dev.old) }
         ensures faults { D.faults dev.old ≤ D.faults dev.new }
@@ -145,16 +172,21 @@ impl Image {
     /// Takes a cluster for the L2 table of a guest cluster, where that has none, and gives its offset, else 0.
     fn new_table<D: Device>(&mut self, dev: &mut D, cluster: u64) -> Result<u64, DevStop>
         requires below { cluster < length self.old.tables.words }
-        requires can { needs_table self.old cluster ≡ true → CanTake self.old 0 (D.capacity dev.old) }
+        requires can { needs_table self.old cluster ≡ true
+            → CanTake self.old 0 (D.capacity dev.old) }
         requires image { (file : List ℕ) → D.content dev.old ≡ Some file → IsImageOf file self.old }
-        ensures steps { MakesSteps D.Device self.old (table_steps self.old cluster) (stop_of result) self.new dev.old dev.new }
+        ensures steps { MakesSteps D.Device self.old (table_steps self.old cluster) (stop_of result)
+            self.new dev.old dev.new }
         ensures table { IfOk result (λ table. table ≡ table_for self.old cluster) }
         ensures ok { OnOk result (self.new ≡ with_table self.old cluster) }
         ensures same { HasSameEntries self.old self.new }
         ensures taken { StaysTaken self.old self.new }
-        ensures spare { IfOk result (λ table. (file : List ℕ) → D.content dev.new ≡ Some file → table ≢ 0 → IsSpare file (table / 65536)) }
+        ensures spare { IfOk result
+            (λ table. (file : List ℕ) → D.content dev.new ≡ Some file → table ≢ 0
+            → IsSpare file (table / 65536)) }
         ensures image { (file : List ℕ) → D.content dev.new ≡ Some file → IsImageOf file self.new }
-        ensures disk { (old new : List ℕ) → D.content dev.old ≡ Some old → D.content dev.new ≡ Some new → IsSameDisk old new }
+        ensures disk { (old new : List ℕ) → D.content dev.old ≡ Some old
+            → D.content dev.new ≡ Some new → IsSameDisk old new }
         ensures cause { IfErr result (IsFault (D.faults dev.old) (D.faults dev.new)) }
         ensures told { is_some (D.content dev.new) ≡ is_some (D.content dev.old) }
         ensures faults { D.faults dev.old ≤ D.faults dev.new }
@@ -170,19 +202,27 @@ impl Image {
     /// a host cluster behind an entry which reads as zeros, or else of a cluster that is taken.
     fn new_host<D: Device>(&mut self, dev: &mut D, cluster: u64) -> Result<u64, DevStop>
         requires below { cluster < length self.old.tables.words }
-        requires can { needs_host self.old cluster ≡ true → CanTake self.old 0 (D.capacity dev.old) }
+        requires can { needs_host self.old cluster ≡ true
+            → CanTake self.old 0 (D.capacity dev.old) }
         requires image { (file : List ℕ) → D.content dev.old ≡ Some file → IsImageOf file self.old }
-        ensures steps { MakesSteps D.Device self.old (host_steps self.old cluster) (stop_of result) self.new dev.old dev.new }
+        ensures steps { MakesSteps D.Device self.old (host_steps self.old cluster) (stop_of result)
+            self.new dev.old dev.new }
         ensures host { IfOk result (λ host. host ≡ next_host self.old cluster) }
         ensures ok { OnOk result (self.new ≡ with_host self.old cluster) }
         ensures same { HasSameEntries self.old self.new }
         ensures taken { StaysTaken self.old self.new }
-        ensures spare { IfOk result (λ host. needs_host self.old cluster ≡ true → (file : List ℕ) → D.content dev.new ≡ Some file → IsSpare file (host / 65536)) }
-        ensures fresh { IfOk result (λ host. needs_host self.old cluster ≡ true → (file : List ℕ) → D.content dev.old ≡ Some file
+        ensures spare { IfOk result
+            (λ host. needs_host self.old cluster ≡ true → (file : List ℕ)
+            → D.content dev.new ≡ Some file → IsSpare file (host / 65536)) }
+        ensures fresh { IfOk result
+            (λ host. needs_host self.old cluster ≡ true → (file : List ℕ)
+            → D.content dev.old ≡ Some file
             → refcount_of file (header_of file) (host / 65536) ≡ 0) }
-        ensures spare_stay { (old new : List ℕ) (n : ℕ) → D.content dev.old ≡ Some old → D.content dev.new ≡ Some new → IsSpare old n → IsSpare new n }
+        ensures spare_stay { (old new : List ℕ) (n : ℕ) → D.content dev.old ≡ Some old
+            → D.content dev.new ≡ Some new → IsSpare old n → IsSpare new n }
         ensures image { (file : List ℕ) → D.content dev.new ≡ Some file → IsImageOf file self.new }
-        ensures disk { (old new : List ℕ) → D.content dev.old ≡ Some old → D.content dev.new ≡ Some new → IsSameDisk old new }
+        ensures disk { (old new : List ℕ) → D.content dev.old ≡ Some old
+            → D.content dev.new ≡ Some new → IsSameDisk old new }
         ensures cause { IfErr result (IsFault (D.faults dev.old) (D.faults dev.new)) }
         ensures told { is_some (D.content dev.new) ≡ is_some (D.content dev.old) }
         ensures faults { D.faults dev.old ≤ D.faults dev.new }
@@ -208,17 +248,23 @@ impl Image {
         requires whole { length bytes.now ≡ 65536 }
         requires fits { PutFits self.old cluster (D.capacity dev.old) }
         requires image { (file : List ℕ) → D.content dev.old ≡ Some file → IsImageOf file self.old }
-        ensures steps { MakesSteps D.Device self.old (fill_steps self.old cluster bytes.now) (stop_of result) self.new dev.old dev.new }
+        ensures steps { MakesSteps D.Device self.old (fill_steps self.old cluster bytes.now)
+            (stop_of result) self.new dev.old dev.new }
         ensures mapped { OnOk result (IsHost (entry_in self.new cluster)) }
         ensures spelled { OnOk result (IsSpelled self.new cluster) }
-        ensures single { OnOk result (needs_host self.old cluster ≡ true → is_single (word_in self.new cluster) ≡ true) }
+        ensures single { OnOk result
+            (needs_host self.old cluster ≡ true → is_single (word_in self.new cluster) ≡ true) }
         ensures unmapped { OnErr result (word_in self.new cluster ≡ word_in self.old cluster) }
         ensures others { HasEntriesBut self.old self.new cluster }
         ensures taken { StaysTaken self.old self.new }
         ensures header { self.new.header ≡ self.old.header }
         ensures image { (file : List ℕ) → D.content dev.new ≡ Some file → IsImageOf file self.new }
-        ensures disk { OnOk result ((old new : List ℕ) → D.content dev.old ≡ Some old → D.content dev.new ≡ Some new → IsDiskWith old new (cluster * 65536) bytes.now) }
-        ensures kept { OnErr result ((old new : List ℕ) → D.content dev.old ≡ Some old → D.content dev.new ≡ Some new → IsSameDisk old new) }
+        ensures disk { OnOk result
+            ((old new : List ℕ) → D.content dev.old ≡ Some old → D.content dev.new ≡ Some new
+            → IsDiskWith old new (cluster * 65536) bytes.now) }
+        ensures kept { OnErr result
+            ((old new : List ℕ) → D.content dev.old ≡ Some old → D.content dev.new ≡ Some new
+            → IsSameDisk old new) }
         ensures cause { IfErr result (IsFault (D.faults dev.old) (D.faults dev.new)) }
         ensures told { is_some (D.content dev.new) ≡ is_some (D.content dev.old) }
         ensures faults { D.faults dev.old ≤ D.faults dev.new }
@@ -236,17 +282,22 @@ impl Image {
         requires below { cluster < length self.old.tables.words }
         requires fits { ZeroFits self.old cluster (D.capacity dev.old) }
         requires image { (file : List ℕ) → D.content dev.old ≡ Some file → IsImageOf file self.old }
-        ensures steps { MakesSteps D.Device self.old (clean_steps self.old cluster) (stop_of result) self.new dev.old dev.new }
-        ensures mapped { OnOk result (entry_in self.new cluster ≡ Zero (host_of (entry_in self.old cluster))) }
+        ensures steps { MakesSteps D.Device self.old (clean_steps self.old cluster) (stop_of result)
+            self.new dev.old dev.new }
+        ensures mapped { OnOk result
+            (entry_in self.new cluster ≡ Zero (host_of (entry_in self.old cluster))) }
         ensures spelled { OnOk result (IsSpelled self.new cluster) }
         ensures unmapped { OnErr result (word_in self.new cluster ≡ word_in self.old cluster) }
         ensures others { HasEntriesBut self.old self.new cluster }
         ensures taken { StaysTaken self.old self.new }
         ensures header { self.new.header ≡ self.old.header }
         ensures image { (file : List ℕ) → D.content dev.new ≡ Some file → IsImageOf file self.new }
-        ensures disk { OnOk result ((old new zeros : List ℕ) → D.content dev.old ≡ Some old → D.content dev.new ≡ Some new
+        ensures disk { OnOk result
+            ((old new zeros : List ℕ) → D.content dev.old ≡ Some old → D.content dev.new ≡ Some new
             → AreClusterZeros 65536 zeros → IsDiskWith old new (cluster * 65536) zeros) }
-        ensures kept { OnErr result ((old new : List ℕ) → D.content dev.old ≡ Some old → D.content dev.new ≡ Some new → IsSameDisk old new) }
+        ensures kept { OnErr result
+            ((old new : List ℕ) → D.content dev.old ≡ Some old → D.content dev.new ≡ Some new
+            → IsSameDisk old new) }
         ensures cause { IfErr result (IsFault (D.faults dev.old) (D.faults dev.new)) }
         ensures told { is_some (D.content dev.new) ≡ is_some (D.content dev.old) }
         ensures faults { D.faults dev.old ≤ D.faults dev.new }

@@ -1,6 +1,6 @@
 use Rattle.std.proofs.Common.{ℕ, Option, None, sym, subst}
 use Rattle.q2_format.specs.Tables.{active_tree, refcount_table}
-use Rattle.q2_image.specs.Loading.{table_stops, reserved_entry, TableTells, IsTableOf, IsRead}
+use Rattle.q2_image.specs.Loading.{table_stops, reserved_entry, TableTells, IsTableOf, IsTableAnswer}
 use Rattle.q2_image.specs.Opening.{Names}
 use Rattle.q2_image.specs.Merge.{merged_stop}
 use Rattle.q2_image.specs.declared.counting.RefTable.{RefTable}
@@ -22,7 +22,7 @@ returns-in-Ok-words_of-clause-table g c = λ file told.
 
 pub returns-in-Ok-words_of-clause-has_table : goal.returns-in-Ok-words_of-clause-has_table
 returns-in-Ok-words_of-clause-has_table g c =
-    let P : RefTable → Type 0 = λ table. IsRead c.args.header.now (g.D.Device.size c.args.dev.now) table in
+    let P : RefTable → Type 0 = λ table. IsTableAnswer c.args.header.now (g.D.Device.size c.args.dev.now) table in
     subst P c.in-Ok-words_of.ensures.read c.requires.read
 
 pub returns-in-Ok-words_of-clause-tree : goal.returns-in-Ok-words_of-clause-tree

@@ -37,4 +37,4 @@ invariant_of-result c =
     let kept : c.keep_first.new.self ≡ first (reach_of c.args.header c.args.len) = c.keep_first.ensures.kept ∙ ap first c.reach.ensures in
     let P : refs.Kept → Type 0 = λ r. IsOpen (record { header = c.args.header; tables = c.args.tables; refs = r }) in
     subst P (sym kept)
-    (is_open c.args.header c.args.len c.args.refs c.args.tables c.requires.limits c.requires.places c.requires.loaded c.requires.counts judged)
+    (is_open c.args.header c.args.len c.args.refs c.args.tables c.requires.readable c.requires.limits c.requires.places c.requires.loaded c.requires.counts judged)

@@ -1,6 +1,6 @@
 use Rattle.std.proofs.Common.{ℕ, ◌+◌, List, ap, arith}
 use Rattle.std.proofs.lemmas.List.{take_all}
-use Rattle.q2_image.specs.Seen.{named_by, named_once}
+use Rattle.q2_image.specs.Seen.{times_named, named_once}
 use Rattle.q2_image.proofs.Sightings.{seen_alike, words-more}
 use Rattle.q2_image.proofs.seen.Seen.mark_words.Goals as goal
 
@@ -15,4 +15,4 @@ loop-word-preserved c = (
 )
 
 pub returns-clause-seen : goal.returns-clause-seen
-returns-clause-seen c = λ uses seen. seen_alike _ _ _ (λ k. ap (λ (ws : List ℕ). uses k + named_by c.args.cluster_size c.args.kind ws k) (take_all c.loop-word.word-index c.args.words.now (omega arith))) (c.loop-word.invariant.1 uses seen)
+returns-clause-seen c = λ uses seen. seen_alike _ _ _ (λ k. ap (λ (ws : List ℕ). uses k + times_named c.args.cluster_size c.args.kind ws k) (take_all c.loop-word.word-index c.args.words.now (omega arith))) (c.loop-word.invariant.1 uses seen)

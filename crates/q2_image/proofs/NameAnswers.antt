@@ -1,0 +1,260 @@
+-- The answers of the calls by which an image gets another backing name: the list of their writes, and the file that a device tells then.
+use Rattle.std.proofs.Common.{◌≡◌, ◌≢◌, ℕ, ◌+◌, ◌-◌, ◌<◌, ◌≤◌, ◌⊎◌, inl, inr, max, Bool, true, false, List, [], ◌∷◌, ◌++◌, length, Option, Some, None, Result, Ok, Err, OnOk, OnErr, refl, sym, ap, subst, ◌∙◌, arith}
+use Rattle.std.proofs.lemmas.List.{append-nil}
+use Rattle.std.specs.Option.{ForSome, option_map}
+use Rattle.std.specs.Prelude.{IfErr}
+use Rattle.std.specs.Str.{IsUtf8}
+use Rattle.blk_base.specs.Content.{Write, after_writes, with_bytes}
+use Rattle.blk_base.specs.Device.{Reads, Untouched, Wrote, Writes, stop_of}
+use Rattle.blk_base.specs.Writes.{write_of, end_of_writes, AtEachStop}
+use Rattle.blk_base.specs.declared.device.Device.{Ghosts}
+use Rattle.blk_base.specs.declared.fault.DevStop.{DevStop}
+use Rattle.blk_base.specs.declared.fault.DevStop.TheVariants.{Io, NoSpace}
+use Rattle.blk_base.proofs.DeviceLemmas.{content_after, untouched-writes, wrote-content, writes_sooner, writes_then}
+use Rattle.q2_format.specs.Created.{IsNewName, IsNewFormat}
+use Rattle.q2_format.specs.declared.header.Header.{Header}
+use Rattle.q2_refs.proofs.Placing.{told_before}
+use Rattle.q2_image.specs.BackingName.{EndsWithFields, FailsBefore, HasSameName, IsStoppedRenaming, MakesLast, MakesRenaming, RenamesImage, between_in, count_of, early_writes, ending_length, ending_writes, fields_end, format_writes, last_bytes, last_writes, name_in, rename_end, rename_writes, text_writes, with_format, with_name}
+use Rattle.q2_image.specs.Image.{Known, IsImageOf, IsOpen}
+use Rattle.q2_image.specs.Made.{clear_writes}
+use Rattle.q2_image.specs.Writing.{IsFault, IsSameDisk, autocleared}
+use Rattle.q2_image.proofs.HeaderWrites.{KeepsName}
+use Rattle.q2_image.proofs.LastWrite.{IsReadyFor, IsRenamed, last_made}
+use Rattle.q2_image.proofs.NameCalls.{early_end, fields_behind, fields_fault, fields_sooner, fields_stopped, writes_fault}
+use Rattle.q2_image.proofs.NameSteps.{ending_stops, text_stops}
+use Rattle.q2_image.proofs.NameStops.{StaysAsNamed, before_fields, early_stops, m4_is, open_with_format, ready_for_fields, same_name}
+use Rattle.q2_image.proofs.OwnStops.{same_disk_as}
+use Rattle.q2_image.proofs.OwnTold.{open_cleared}
+use Rattle.q2_image.proofs.OwnWrites.{disk_then}
+
+-- the answer of a call that stops
+abbrev pub stopped_as : DevStop → Result (Unit {0}) DevStop
+stopped_as stop = Err stop
+
+module _ {D : Type 0} (g : Ghosts D) where
+  -- All writes but the last, by the call at which they stop.
+  module _ (image k1 k3 : Known) (name format : Option (List ℕ)) (n : ℕ) (is1 : k1 ≡ autocleared image) where
+    abbrev C : List Write
+    C = clear_writes image
+
+    abbrev T : List Write
+    T = text_writes image.header name
+
+    abbrev F : List Write
+    F = format_writes image.header format
+
+    abbrev E : List Write
+    E = ending_writes image.header name n
+
+    pub stopped_1 : (stop : DevStop) (a b : D) → Writes g C (Some stop) a b → Writes g (early_writes image n name format) (Some stop) a b
+    stopped_1 stop a b w = writes_sooner g C (T ++ (F ++ E)) stop a b w
+
+    text_is : (stop : Option DevStop) (b c : D) → Writes g (text_writes k1.header name) stop b c → Writes g T stop b c
+    text_is stop b c w = let P : Known → Type 0 = λ k. Writes g (text_writes k.header name) stop b c in subst P is1 w
+
+    format_is : (stop : Option DevStop) (b c : D) → Writes g (format_writes k1.header format) stop b c → Writes g F stop b c
+    format_is stop b c w = let P : Known → Type 0 = λ k. Writes g (format_writes k.header format) stop b c in subst P is1 w
+
+    pub stopped_2 : (stop : DevStop) (a b c : D) → Writes g C None a b → Writes g (text_writes k1.header name) (Some stop) b c
+        → Writes g (early_writes image n name format) (Some stop) a c
+    stopped_2 stop a b c w1 w2 = writes_then g C (T ++ (F ++ E)) (Some stop) a b c w1 (writes_sooner g T (F ++ E) stop b c (text_is (Some stop) b c w2))
+
+    pub stopped_3 : (stop : DevStop) (a b c d : D) → Writes g C None a b → Writes g (text_writes k1.header name) None b c
+        → Writes g (format_writes k1.header format) (Some stop) c d → Writes g (early_writes image n name format) (Some stop) a d
+    stopped_3 stop a b c d w1 w2 w3 =
+        writes_then g C (T ++ (F ++ E)) (Some stop) a b d w1
+        (writes_then g T (F ++ E) (Some stop) b c d (text_is None b c w2) (writes_sooner g F E stop c d (format_is (Some stop) c d w3)))
+
+    pub ended_4 : (is3 : k3 ≡ with_format k1 format) (stop : Option DevStop) (a b c d e : D) → Writes g C None a b → Writes g (text_writes k1.header name) None b c
+        → Writes g (format_writes k1.header format) None c d → Writes g (ending_writes k3.header name n) stop d e → Writes g (early_writes image n name format) stop a e
+    ended_4 is3 stop a b c d e w1 w2 w3 w4 =
+        let P : Known → Type 0 = λ k. Writes g (ending_writes k.header name n) stop d e in
+        let Q : Known → Type 0 = λ k. Writes g (ending_writes (with_format k format).header name n) stop d e in
+        let ending : Writes g E stop d e = subst Q is1 (subst P is3 w4) in
+        writes_then g C (T ++ (F ++ E)) stop a b e w1
+        (writes_then g T (F ++ E) stop b c e (text_is None b c w2) (writes_then g F E stop c d e (format_is None c d w3) ending))
+
+  -- What a device tells behind some writes, by what it told before them.
+  pub told_by : (P : List ℕ → List ℕ → Type 0) (ws : List Write) (stop : Option DevStop) (a b : D) → Writes g ws stop a b
+      → ((file : List ℕ) → g.content a ≡ Some file → AtEachStop (P file) ws file) → (now : List ℕ) → g.content b ≡ Some now
+      → (file : List ℕ) × (g.content a ≡ Some file) × P file now
+  told_by P ws stop a b writes all now told =
+      let was = told_before (λ bytes. after_writes bytes writes.made) (g.content a) (g.content b) now writes.wrote.content told in
+      (was.0, was.1, content_after g (P was.0) ws stop a b was.0 now writes (all was.0 was.1) was.1 told)
+
+  pub text_image : (image : Known) (name : Option (List ℕ)) (stop : Option DevStop) (a b : D) → IsOpen image → ForSome name IsNewName
+      → ((file : List ℕ) → g.content a ≡ Some file → IsImageOf file image) → Writes g (text_writes image.header name) stop a b
+      → (file : List ℕ) → g.content b ≡ Some file → IsImageOf file image
+  text_image image name stop a b ready new is writes file told =
+      (told_by (λ file now. KeepsName file now image) (text_writes image.header name) stop a b writes
+      (λ file was. text_stops file image (is file was) ready name new) file told).2.image
+
+  pub ending_image : (image : Known) (name : Option (List ℕ)) (n : ℕ) (stop : Option DevStop) (a b : D) → IsOpen image
+      → ((file : List ℕ) → g.content a ≡ Some file → IsImageOf file image) → Writes g (ending_writes image.header name n) stop a b
+      → (file : List ℕ) → g.content b ≡ Some file → IsImageOf file image
+  ending_image image name n stop a b ready is writes file told =
+      (told_by (λ file now. KeepsName file now image) (ending_writes image.header name n) stop a b writes
+      (λ file was. ending_stops file image name n (is file was) ready) file told).2.image
+
+  -- The whole call.
+  module _ (image : Known) (name format : Option (List ℕ)) (n : ℕ) (a b c : D) (is : (file : List ℕ) → g.content a ≡ Some file → IsImageOf file image) (ready : IsOpen image)
+      (new_name : ForSome name IsNewName) (new_format : ForSome format IsNewFormat) where
+    abbrev early : List Write
+    early = early_writes image n name format
+
+    abbrev next : Known
+    next = with_format (autocleared image) format
+
+    pub early_told : (stop : Option DevStop) → Writes g early stop a b → (old new : List ℕ) → g.content a ≡ Some old → g.content b ≡ Some new → StaysAsNamed old new
+    early_told stop writes old new was told =
+        content_after g (StaysAsNamed old) early stop a b old new writes (early_stops old image name format n (is old was) ready new_name new_format) was told
+
+    pub stopped_told : (stop : DevStop) (k : Known) → k ≡ next → Writes g early None a b → EndsWithFields g k.header [] name (Some stop) b c
+        → (old new : List ℕ) → g.content a ≡ Some old → g.content c ≡ Some new → StaysAsNamed old new
+    stopped_told stop k known first last old new was told =
+        let P : Known → Type 0 = λ x. EndsWithFields g x.header [] name (Some stop) b c in
+        let open_next = open_with_format (autocleared image) format (open_cleared image ready) new_format in
+        early_told None first old new was (sym (fields_stopped g next name stop b c open_next (subst P known last)) ∙ told)
+
+    mid_image : Writes g early None a b → (mid : List ℕ) → g.content b ≡ Some mid → IsImageOf mid next
+    mid_image first mid told =
+        let wrote = subst (λ (ws : List Write). Wrote g ws a b) first.part first.wrote in
+        let before = told_before (λ bytes. after_writes bytes early) (g.content a) (g.content b) mid wrote.content told in
+        let there = is before.0 before.1 in
+        let K : List ℕ → Type 0 = λ m. IsImageOf m next in
+        subst K (sym (m4_is before.0 image name format n there ready new_name new_format) ∙ before.2) (before_fields before.0 image name format n there ready new_name new_format).image
+
+    -- where the last write stopped
+    pub stopped_image : (stop : DevStop) (k : Known) → k ≡ next → Writes g early None a b → EndsWithFields g k.header [] name (Some stop) b c
+        → (new : List ℕ) → g.content c ≡ Some new → IsImageOf new next
+    stopped_image stop k known first last new told =
+        let P : Known → Type 0 = λ x. EndsWithFields g x.header [] name (Some stop) b c in
+        let open_next = open_with_format (autocleared image) format (open_cleared image ready) new_format in
+        mid_image first new (sym (fields_stopped g next name stop b c open_next (subst P known last)) ∙ told)
+
+    -- and where it was made
+    module _ (text : ForSome name IsUtf8) (length_told : (file : List ℕ) → g.content a ≡ Some file → ending_writes image.header name n ≡ ending_writes image.header name (ending_length file image.header))
+        (k : Known) (known : k ≡ next) (first : Writes g early None a b) (last : EndsWithFields g k.header [] name None b c) where
+      wrote_first : Wrote g early a b
+      wrote_first = subst (λ (ws : List Write). Wrote g ws a b) first.part first.wrote
+
+      last_next : EndsWithFields g next.header [] name None b c
+      last_next = let P : Known → Type 0 = λ x. EndsWithFields g x.header [] name None b c in subst P known last
+
+      made_last : MakesLast g next.header [] name None b c
+      made_last = elim last_next [
+        | inl made ↦ made
+        | inr fails ↦ absurd (let is = fails.is in cc)
+      ]
+
+      all_told : (old new : List ℕ) → g.content a ≡ Some old → g.content c ≡ Some new
+          → IsRenamed (after_writes old early) new next name
+      all_told old new was told =
+          let mid : List ℕ = after_writes old early in
+          let mid_told : g.content b ≡ Some mid = wrote_first.content ∙ ap (option_map (λ (bytes : List ℕ). after_writes bytes early)) was in
+          let made = made_last in
+          let ws : List Write = last_writes next.header made.between name in
+          let W : List Write → Type 0 = λ xs. Wrote g xs b c in
+          let wrote : Wrote g ws b c = subst W made.writes.part made.writes.wrote in
+          let now = wrote-content g ws b c mid new wrote mid_told told in
+          let between : made.between ≡ between_in mid next.header = made.told mid mid_told in
+          let there = is old was in
+          let at = m4_is old image name format n there ready new_name new_format in
+          let R : List ℕ → Type 0 = λ m. IsReadyFor m image.header name in
+          let ready_there = subst R (sym at) (ready_for_fields old image name format n there ready new_name new_format text (length_told old was)) in
+          let open_next = open_with_format (autocleared image) format (open_cleared image ready) new_format in
+          let done = last_made mid next name (mid_image first mid mid_told) open_next new_name (record { text = ready_there.text; ending = ready_there.ending }) in
+          let same : with_bytes mid 8 (last_bytes next.header (between_in mid next.header) name) ≡ new =
+          ap (λ (bytes : List ℕ). with_bytes mid 8 (last_bytes next.header bytes name)) (sym between) ∙ sym now in
+          let S : List ℕ → Type 0 = λ m. IsRenamed mid m next name in
+          subst S same done
+
+      told_first : (new : List ℕ) → g.content c ≡ Some new → (old : List ℕ) × (g.content a ≡ Some old)
+      told_first new told =
+          let made = made_last in
+          let mid = told_before (λ bytes. after_writes bytes made.writes.made) (g.content b) (g.content c) new made.writes.wrote.content told in
+          let old = told_before (λ bytes. after_writes bytes early) (g.content a) (g.content b) mid.0 wrote_first.content mid.1 in
+          (old.0, old.1)
+
+      pub renamed_name : (new : List ℕ) → g.content c ≡ Some new → name_in new ≡ name
+      renamed_name new told = let was = told_first new told in (all_told was.0 new was.1 told).name_is
+
+      pub renamed_image : (new : List ℕ) → g.content c ≡ Some new → IsImageOf new (with_name k name None)
+      renamed_image new told =
+          let was = told_first new told in
+          let K : Known → Type 0 = λ x. IsImageOf new (with_name x name None) in
+          subst K (sym known) (all_told was.0 new was.1 told).image_is
+
+      pub renamed_disk : (old new : List ℕ) → g.content a ≡ Some old → g.content c ≡ Some new → IsSameDisk old new
+      renamed_disk old new was told =
+          let mid : List ℕ = after_writes old early in
+          let mid_told : g.content b ≡ Some mid = wrote_first.content ∙ ap (option_map (λ (bytes : List ℕ). after_writes bytes early)) was in
+          disk_then old mid new 0 [] (early_told None first old mid was mid_told).disk (all_told old new was told).disk
+
+  -- A read before the writes.
+  pub behind_read : (ws : List Write) (stop : Option DevStop) (a b c : D) → Untouched g a b → Writes g ws stop b c → Writes g ws stop a c
+  behind_read ws stop a b c quiet writes = writes_then g [] ws stop a b c (untouched-writes g a b quiet) writes
+
+  -- The same writes for the header with and without another format.
+  same_fields : (image : Known) (format name : Option (List ℕ)) (ws : List Write) (stop : Option DevStop) (b c : D)
+      → EndsWithFields g (with_format (autocleared image) format).header ws name stop b c → EndsWithFields g image.header ws name stop b c
+  same_fields image format name ws stop b c (inl last) = inl (record { between = last.between; whole = last.whole; told = last.told; writes = last.writes })
+  same_fields image format name ws stop b c (inr fails) = inr fails
+
+  -- What the call leaves of image and device, by where it stops.
+  module _ (image : Known) (name format : Option (List ℕ)) (n : ℕ) (a b c : D) (ready : IsOpen image) (new_name : ForSome name IsNewName) (fits : rename_end image name format ≤ g.capacity a)
+      (length_told : (file : List ℕ) → g.content a ≡ Some file → ending_writes image.header name n ≡ ending_writes image.header name (ending_length file image.header)) where
+    abbrev ws : List Write
+    ws = early_writes image n name format
+
+    end_early : end_of_writes ws ≤ g.capacity a
+    end_early = omega (arith, fits, early_end image name format n ready new_name)
+
+    pub early_fault : (stop : DevStop) → Writes g ws (Some stop) a b → IsFault (g.faults a) (g.faults b) stop
+    early_fault stop writes = writes_fault g ws (Err stop) a b writes end_early
+
+    pub early_changes : (stop : DevStop) (left : Known) → Writes g ws (Some stop) a b → IsStoppedRenaming image format left → RenamesImage g image name format (stopped_as stop) left a b
+    early_changes (Io count) left writes known = inr (known, record { n = n; told = length_told; makes = fields_sooner g image.header ws name (Io count) a b writes })
+    early_changes NoSpace left writes known = absurd (early_fault NoSpace writes)
+
+    module _ (k left : Known) (known : k ≡ with_format (autocleared image) format) (first : Writes g ws None a b) where
+      ends : (stop : Option DevStop) → EndsWithFields g k.header [] name stop b c → EndsWithFields g image.header ws name stop a c
+      ends stop last =
+          let P : Known → Type 0 = λ x. EndsWithFields g x.header [] name stop b c in
+          fields_behind g image.header ws name stop a b c first (same_fields image format name [] stop b c (subst P known last))
+
+      pub last_changes : (r : Result (Unit {0}) DevStop) → EndsWithFields g k.header [] name (stop_of r) b c → OnOk r (left ≡ with_name k name None) → OnErr r (left ≡ k)
+          → RenamesImage g image name format r left a c
+      last_changes (Ok done) last ok err =
+          let P : Known → Type 0 = λ x. left ≡ with_name x name None in
+          (subst P known ok, record { n = n; told = length_told; makes = ends None last })
+      last_changes (Err (Io count)) last ok err =
+          inr (inr (inr (err ∙ known)), record { n = n; told = length_told; makes = ends (Some (Io count)) last })
+      last_changes (Err NoSpace) last ok err =
+          absurd (fields_fault g image.header ws name (Err NoSpace) a c (ends (Some NoSpace) last) ready.list end_early (omega (arith, fits)))
+
+  -- What it tells then, by its answer.
+  module _ (image : Known) (name format : Option (List ℕ)) (n : ℕ) (a b c : D) (is : (file : List ℕ) → g.content a ≡ Some file → IsImageOf file image) (ready : IsOpen image)
+      (new_name : ForSome name IsNewName) (new_format : ForSome format IsNewFormat) (text : ForSome name IsUtf8)
+      (length_told : (file : List ℕ) → g.content a ≡ Some file → ending_writes image.header name n ≡ ending_writes image.header name (ending_length file image.header))
+      (k left : Known) (known : k ≡ with_format (autocleared image) format) (first : Writes g (early_writes image n name format) None a b) where
+    pub last_named : (r : Result (Unit {0}) DevStop) → EndsWithFields g k.header [] name (stop_of r) b c → OnOk r ((file : List ℕ) → g.content c ≡ Some file → name_in file ≡ name)
+    last_named (Ok done) last = renamed_name image name format n a b c is ready new_name new_format text length_told k known first last
+    last_named (Err stop) last = tt
+
+    pub last_kept : (r : Result (Unit {0}) DevStop) → EndsWithFields g k.header [] name (stop_of r) b c
+        → OnErr r ((old new : List ℕ) → g.content a ≡ Some old → g.content c ≡ Some new → HasSameName old new)
+    last_kept (Ok done) last = tt
+    last_kept (Err stop) last = λ old new was told. (stopped_told image name format n a b c is ready new_name new_format stop k known first last old new was told).name
+
+    pub last_image_is : (r : Result (Unit {0}) DevStop) → EndsWithFields g k.header [] name (stop_of r) b c → OnOk r (left ≡ with_name k name None) → OnErr r (left ≡ k)
+        → (file : List ℕ) → g.content c ≡ Some file → IsImageOf file left
+    last_image_is (Ok done) last ok err file told =
+        subst (IsImageOf file) (sym ok) (renamed_image image name format n a b c is ready new_name new_format text length_told k known first last file told)
+    last_image_is (Err stop) last ok err file told =
+        subst (IsImageOf file) (sym (err ∙ known)) (stopped_image image name format n a b c is ready new_name new_format stop k known first last file told)
+
+    pub last_disk_is : (r : Result (Unit {0}) DevStop) → EndsWithFields g k.header [] name (stop_of r) b c
+        → (old new : List ℕ) → g.content a ≡ Some old → g.content c ≡ Some new → IsSameDisk old new
+    last_disk_is (Ok done) last old new was told = renamed_disk image name format n a b c is ready new_name new_format text length_told k known first last old new was told
+    last_disk_is (Err stop) last old new was told = (stopped_told image name format n a b c is ready new_name new_format stop k known first last old new was told).disk

@@ -1,0 +1,183 @@
+-- Another backing name for an image: which writes it takes, and what they leave.
+use Rattle.std.specs.Prelude.{◌≡◌, ◌⊎◌, ℕ, ◌+◌, ◌-◌, ◌<◌, ◌≤◌, max, ◌==◌, ◌&&◌, nat_lt, if◌then◌else◌, List, [], ◌∷◌, ◌++◌, length, take, replicate, Option, Some, None, Result, Ok, Err}
+use Rattle.std.specs.Option.{option_map_or}
+use Rattle.blk_base.specs.Content.{Write, after_writes}
+use Rattle.blk_base.specs.Content as content
+use Rattle.blk_base.specs.Device.{CountsFault, Reads, Untouched, Writes, Wrote}
+use Rattle.blk_base.specs.Writes.{write_of, end_of_writes}
+use Rattle.blk_base.specs.declared.device.Device.{Ghosts}
+use Rattle.blk_base.specs.declared.device.Stop.{Stop}
+use Rattle.blk_base.specs.declared.device.Stop.TheVariants as why
+use Rattle.blk_base.specs.declared.fault.DevStop.{DevStop}
+use Rattle.blk_base.specs.declared.fault.DevStop.TheVariants.{Io, NoSpace}
+use Rattle.q2_format.specs.Bytes.{number_at, bytes_at}
+use Rattle.q2_format.specs.Header.{header_of}
+use Rattle.q2_format.specs.Renamed.{new_name_offset, format_room, format_bytes, name_fields, needs_ending, next_extension, replaced_format, renamed}
+use Rattle.q2_format.specs.Sound.{IsSound}
+use Rattle.q2_format.specs.declared.header.Header.{Header}
+use Rattle.q2_format.specs.declared.header.Place.{Place}
+use Rattle.q2_image.specs.Creating.{text_at}
+use Rattle.q2_image.specs.Image.{Known}
+use Rattle.q2_image.specs.Made.{clear_writes}
+use Rattle.q2_image.specs.Writing.{IsSameDisk, autocleared, autoclear_end}
+
+-- Which writes it takes, in their order.
+
+-- the text, behind the list of extensions and beside the present name
+abbrev pub text_writes : Header → Option (List ℕ) → List Write
+text_writes h None = []
+text_writes h (Some name) = write_of (new_name_offset h) name ∷ []
+
+-- the format, with its length, where it can take the present one's place
+abbrev pub format_writes : Header → Option (List ℕ) → List Write
+format_writes h None = []
+format_writes h (Some format) =
+    option_map_or
+    (λ (place : Place). write_of (place.at - 4) (format_bytes format) ∷ []) (format_room h) []
+
+-- what the file says of the length of the ending extension's own data
+abbrev pub ending_length : List ℕ → Header → ℕ
+ending_length file h = number_at file (h.ext_end - 4) 4
+
+-- it becomes 0 where they would end past the new name
+abbrev pub ending_writes : Header → Option (List ℕ) → ℕ → List Write
+ending_writes h None n = []
+ending_writes h (Some name) n =
+    if h.ended && nat_lt (new_name_offset h) (h.ext_end + n)
+    then write_of (h.ext_end - 4) (replicate 4 0) ∷ [] else []
+
+-- all of these, behind the autoclear field
+abbrev pub early_writes : Known → ℕ → Option (List ℕ) → Option (List ℕ) → List Write
+early_writes image n name format =
+    let h = image.header in
+    clear_writes image ++ (text_writes h name ++ (format_writes h format ++ ending_writes h name n))
+
+-- what stands in a file between the fields of the name and the place for an ending extension
+abbrev pub between_in : List ℕ → Header → List ℕ
+between_in file h = bytes_at file 20 (next_extension h - 20)
+
+-- the fields of the name; where the list needs an ending extension, what stands in front of it and that
+abbrev pub last_bytes : Header → List ℕ → Option (List ℕ) → List ℕ
+last_bytes h between name =
+    name_fields h name ++ (if needs_ending h then between ++ replicate 8 0 else [])
+
+-- one write makes the new name the image's
+abbrev pub last_writes : Header → List ℕ → Option (List ℕ) → List Write
+last_writes h between name = write_of 8 (last_bytes h between name) ∷ []
+
+-- all writes, for a file with these bytes
+abbrev pub rename_writes : Known → List ℕ → Option (List ℕ) → Option (List ℕ) → List Write
+rename_writes image file name format =
+    let early = early_writes image (ending_length file image.header) name format in
+    early ++ last_writes image.header (between_in (after_writes file early) image.header) name
+
+-- where the last of them ends
+abbrev pub fields_end : Header → ℕ
+fields_end h = if needs_ending h then next_extension h + 8 else 20
+
+-- the highest end of them, whatever bytes the file has
+abbrev pub rename_end : Known → Option (List ℕ) → Option (List ℕ) → ℕ
+rename_end image name format =
+    let h = image.header in
+    max (autoclear_end image)
+    (max (end_of_writes (text_writes h name))
+    (max (end_of_writes (format_writes h format)) (fields_end h)))
+
+-- What is known.
+
+-- the image once its header names another format
+abbrev pub with_format : Known → Option (List ℕ) → Known
+with_format image format =
+    record image { header = record image.header { format = replaced_format image.header format } }
+
+abbrev pub with_format_at : Known → Place → Known
+with_format_at image place = record image { header = record image.header { format = Some place } }
+
+-- and once it has the name
+abbrev pub with_name : Known → Option (List ℕ) → Option (List ℕ) → Known
+with_name image name format = record image { header = renamed image.header name format }
+
+-- what is known behind a stop: nothing changed, the autoclear field is 0, or the format is named too
+abbrev pub IsStoppedRenaming : Known → Option (List ℕ) → Known → Type 0
+IsStoppedRenaming image format left =
+    (left ≡ image) ⊎ ((left ≡ autocleared image) ⊎ (left ≡ with_format (autocleared image) format))
+
+-- What a call leaves of a device.
+
+-- the fault that an answer tells
+abbrev pub count_of : {A : Type 0} → Result A DevStop → Option ℕ
+count_of (Ok done) = None
+count_of (Err (Io count)) = Some count
+count_of (Err NoSpace) = None
+
+-- the stop of a call whose write stopped, by the count of faults then
+abbrev pub stop_by : Stop → ℕ → DevStop
+stop_by why.Failed count = Io count
+stop_by why.NoSpace count = NoSpace
+
+-- these fields, and behind them so many bytes of what a device told, and the 8 of an ending extension, begin a buffer
+pub record IsPutBetween (fields : List ℕ) (n : ℕ) (told : Option (List ℕ)) (buffer : List ℕ) : Type
+    0 where
+  pub between : List ℕ
+  pub whole : length between ≡ n
+  pub is : (file : List ℕ) → told ≡ Some file → between ≡ content.bytes_at file 20 n
+  pub put : take (n + 20) buffer ≡ fields ++ (between ++ replicate 8 0)
+
+-- The last write is made behind others. What stands in it between fields and ending extension was read before it.
+pub record MakesLast {D : Type 0} (g : Ghosts D) (h : Header) (early : List Write)
+    (name : Option (List ℕ)) (stop : Option DevStop) (before now : D) : Type 0 where
+  pub between : List ℕ
+  pub whole : length between ≡ next_extension h - 20
+  pub told : (file : List ℕ) → g.content before ≡ Some file
+      → between ≡ between_in (after_writes file early) h
+  pub writes : Writes g (early ++ last_writes h between name) stop before now
+
+-- or that read failed
+pub record FailsBefore {D : Type 0} (g : Ghosts D) (early : List Write) (stop : Option DevStop)
+    (before now : D) : Type 0 where
+  pub count : ℕ
+  pub is : stop ≡ Some (Io count)
+  pub wrote : Wrote g early before now
+  pub cause : CountsFault (Some count) (g.faults before) (g.faults now)
+
+abbrev pub EndsWithFields : {D : Type 0} → Ghosts D → Header → List Write → Option (List ℕ)
+    → Option DevStop → D → D → Type 0
+EndsWithFields g h early name stop before now =
+    MakesLast g h early name stop before now ⊎ FailsBefore g early stop before now
+
+-- All the writes. The length of the ending extension was read before them, where it has a say.
+pub record MakesRenaming {D : Type 0} (g : Ghosts D) (image : Known) (name format : Option (List ℕ))
+    (stop : Option DevStop) (before now : D) : Type 0 where
+  pub n : ℕ
+  pub told : (file : List ℕ) → g.content before ≡ Some file
+      → ending_writes image.header name n
+      ≡ ending_writes image.header name (ending_length file image.header)
+  pub makes : EndsWithFields g image.header (early_writes image n name format) name stop before now
+
+-- what a call leaves of an image and of its device that gives it another backing name
+abbrev pub RenamesImage : {A D : Type 0} → Ghosts D → Known → Option (List ℕ) → Option (List ℕ)
+    → Result A DevStop → Known → D → D → Type 0
+RenamesImage g image name format (Ok done) left before now =
+    (left ≡ with_name (autocleared image) name format)
+    × MakesRenaming g image name format None before now
+RenamesImage g image name format (Err (Io count)) left before now =
+    ((left ≡ image) × Reads g (Some count) before now)
+    ⊎ (IsStoppedRenaming image format left
+    × MakesRenaming g image name format (Some (Io count)) before now)
+RenamesImage g image name format (Err NoSpace) left before now =
+    (left ≡ image) × Untouched g before now
+
+-- The name that a file's header says.
+
+abbrev pub name_in : List ℕ → Option (List ℕ)
+name_in file = text_at file (header_of file).name
+
+-- the header says the same name, at the same place
+pub record HasSameName (before now : List ℕ) : Type 0 where
+  pub place : (header_of now).name ≡ (header_of before).name
+  pub text : name_in now ≡ name_in before
+
+-- wherever it stops, the file is sound, its disk is the same, and it has the old name or the new one
+abbrev pub IsOldOrRenamed : Option (List ℕ) → List ℕ → List ℕ → Type 0
+IsOldOrRenamed name before now =
+    IsSound now × IsSameDisk before now × (HasSameName before now ⊎ (name_in now ≡ name))
