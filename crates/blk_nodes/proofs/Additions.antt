@@ -10,7 +10,7 @@ use Rattle.blk_graph.specs.Edits.{IsLone, child_of}
 use Rattle.blk_graph.specs.declared.edge.Edge.{Edge}
 use Rattle.blk_graph.specs.declared.edge.Role.{Role}
 use Rattle.blk_graph.specs.Edits.{with_edge, without_parent}
-use Rattle.blk_graph.specs.Graph.{Graph, NodeRow, HasNode, ids, IsSound, with_node as with_graph_node}
+use Rattle.blk_graph.specs.Graph.{Graph, NodeRow, HasNode, ids, IsSoundGraph, with_node as with_graph_node}
 use Rattle.blk_graph.specs.Judged.{other_nodes, without_node}
 use Rattle.blk_graph.specs.Refreshed.{kind_at, no_kind, refreshed, IsRefreshed}
 use Rattle.blk_graph.specs.declared.kind.NodeKind.{NodeKind}
@@ -26,7 +26,7 @@ use Rattle.blk_graph.specs.declared.edge.Conflict.{Conflict as Pair}
 use Rattle.blk_nodes.specs.Adding.{with_node, with_device, with_below, file_edge, Breaks}
 use Rattle.blk_nodes.specs.Contents.{below}
 use Rattle.blk_nodes.specs.Nodes.{Nodes, DeviceState, is_of, row_at, device_in, size_by, size_of, file_of, backing_of, node_kind}
-use Rattle.blk_nodes.specs.Joined.{IsFile, HasSize, IsPart, HasBelow, IsSized, IsJoined, DifferInNode}
+use Rattle.blk_nodes.specs.Joined.{IsFile, HasSize, IsPartOfFile, HasBelow, IsSized, IsJoined, DifferInNode}
 use Rattle.blk_nodes.specs.declared.row.Driver.{Driver}
 use Rattle.blk_nodes.specs.declared.row.Driver.TheVariants.{File, Raw, Qcow2, CopyOnRead}
 use Rattle.blk_nodes.specs.declared.row.Row.{Row}
@@ -186,7 +186,7 @@ module _ (old new : Nodes) (id : ℕ) (name : List ℕ) (row : Row) (joined : Is
   own_file : row.driver ≡ File → IsFile new id
   own_file driver = record { row = row; there = row_new; driver = driver }
 
-  pub joined_added : Extends old new → IsSound new.graph → IsSized row.size row.driver → HasBelow new id row.size row.driver
+  pub joined_added : Extends old new → IsSoundGraph new.graph → IsSized row.size row.driver → HasBelow new id row.size row.driver
       → ((node : ℕ) → IsSome (device_in new.devices node) → ((node ≡ id) × (row.driver ≡ File)) ⊎ IsSome (device_in old.devices node))
       → AllPairs DifferInNode new.devices → IsJoined new
   joined_added e sound sized below held once = record {
@@ -242,7 +242,7 @@ module _ (nodes : Nodes) (id size : ℕ) (name : List ℕ) (is_read_only : Bool)
       let bad : IsSome (device_in nodes.devices id) = subst (λ (n : ℕ). IsSome (device_in nodes.devices n)) at_id held in
       let no = rw none at bad in absurd (cc no)
 
-  pub joined_file : IsSound added.graph → IsJoined added
+  pub joined_file : IsSoundGraph added.graph → IsJoined added
   joined_file sound = joined_added nodes added id name file_row joined absent small refl refl refl extends_file sound tt
       (rw (device_new nodes.devices device id (no_device nodes id joined absent), node, eq-eqb id id refl) refl)
       (λ n some. held_or n (device_in nodes.devices n) refl some)
@@ -265,7 +265,7 @@ set-back [] i v d is = refl
 set-back (x ∷ xs) zero v d is = ap (λ y. y ∷ xs) (sym is)
 set-back (x ∷ xs) (suc i) v d is = ap (λ ys. x ∷ ys) (set-back xs i v d is)
 
-pub taken_back : (graph : Graph) (id : ℕ) (name : List ℕ) (kind : NodeKind) → IsSound graph → (HasNode graph id → ⊥)
+pub taken_back : (graph : Graph) (id : ℕ) (name : List ℕ) (kind : NodeKind) → IsSoundGraph graph → (HasNode graph id → ⊥)
     → IsLone graph.edges id → IsRefreshed (set graph.kinds id kind) graph.edges
     → without_node id (with_graph_node graph id name kind) ≡ graph
 taken_back graph id name kind sound absent lone stays =
@@ -279,11 +279,11 @@ taken_back graph id name kind sound absent lone stays =
     ∙ ap (λ (ks : List NodeKind). make graph.nodes ks edges') kinds_are
     ∙ ap (make graph.nodes graph.kinds) edges_are
 
-pub graph_back : (old mid new : Graph) (id : ℕ) (name : List ℕ) (kind : NodeKind) → IsSound old → (HasNode old id → ⊥) → mid ≡ with_graph_node old id name kind
-    → IsLone mid.edges id → IsSound mid → new ≡ without_node id mid → new ≡ old
+pub graph_back : (old mid new : Graph) (id : ℕ) (name : List ℕ) (kind : NodeKind) → IsSoundGraph old → (HasNode old id → ⊥) → mid ≡ with_graph_node old id name kind
+    → IsLone mid.edges id → IsSoundGraph mid → new ≡ without_node id mid → new ≡ old
 graph_back old mid new id name kind sound absent more lone sound' gone =
     let lone' : IsLone old.edges id = rw more at lone in
-    let made : IsSound (with_graph_node old id name kind) = rw more at sound' in
+    let made : IsSoundGraph (with_graph_node old id name kind) = rw more at sound' in
     gone ∙ ap (without_node id) more ∙ taken_back old id name kind sound absent lone' made.just.refreshed
 
 pub has_after : (graph : Graph) (id : ℕ) (name : List ℕ) (kind : NodeKind) (node : ℕ) → HasNode graph node
@@ -335,17 +335,17 @@ module _ (nodes : Nodes) (id file : ℕ) (name : List ℕ) (row : Row) (joined :
   pub file_below : file_of over_file id ≡ Some file
   file_below = child_of-refreshed kinds_after (Node id) FileRole edges_after ∙ child-new (file_edge id file) nodes.graph.edges lone.leaves
 
-  pub joined_raw : (offset size : ℕ) → IsSound over_file.graph → row.driver ≡ Raw (record { offset = offset; size = size }) → row.size ≡ size
+  pub joined_raw : (offset size : ℕ) → IsSoundGraph over_file.graph → row.driver ≡ Raw (record { offset = offset; size = size }) → row.size ≡ size
       → offset + size ≤ size_of nodes file → offset + size ≤ 9223372036854775808 → IsJoined over_file
   joined_raw offset size sound driver whole within fits =
       let same = size_same nodes over_file extends_over file is_file in
       let sized : (size ≡ row.size) × (offset + row.size ≤ 9223372036854775808) = (sym whole, omega (arith, whole, fits)) in
-      let part : IsPart over_file id offset size = record { file = file; edge = file_below; is_file = file_kept nodes over_file extends_over file is_file; within = omega (arith, same, within) } in
+      let part : IsPartOfFile over_file id offset size = record { file = file; edge = file_below; is_file = file_kept nodes over_file extends_over file is_file; within = omega (arith, same, within) } in
       joined_added nodes over_file id name row joined absent small refl refl refl extends_over sound
       (subst (IsSized row.size) (sym driver) sized) (subst (HasBelow over_file id row.size) (sym driver) part) (λ n some. inr some) joined.once
 
 -- edges of guests, which are no node's
-pub joined_edges : (nodes : Nodes) (edges : List Edge) → IsJoined nodes → IsSound (record nodes.graph { edges = edges }) → ((parent : ℕ) (role : Role) → child_of (Node parent) role edges ≡ child_of (Node parent) role nodes.graph.edges)
+pub joined_edges : (nodes : Nodes) (edges : List Edge) → IsJoined nodes → IsSoundGraph (record nodes.graph { edges = edges }) → ((parent : ℕ) (role : Role) → child_of (Node parent) role edges ≡ child_of (Node parent) role nodes.graph.edges)
     → IsJoined (record nodes { graph = record nodes.graph { edges = edges } })
 joined_edges nodes edges joined sound same =
     let new : Nodes = record nodes { graph = record nodes.graph { edges = edges } } in

@@ -20,7 +20,7 @@ use Rattle.q2_image.proofs.Guests.{guest_host, guest_zero, guest_unallocated, ge
 use Rattle.q2_image.proofs.Mapped.{entry_of_file, below_words}
 use Rattle.blk_nodes.specs.Contents.{bytes_of, file_node_disk, below, disk_by, disk_in, disk_of}
 use Rattle.blk_nodes.specs.Nodes.{Nodes, AreTold, row_at, size_by, size_of, file_of, backing_of}
-use Rattle.blk_nodes.specs.Joined.{IsPart, IsOverlay, IsCopying, IsJoined}
+use Rattle.blk_nodes.specs.Joined.{IsPartOfFile, IsOverlay, IsCopying, IsJoined}
 use Rattle.blk_nodes.specs.Found.{found_bytes}
 use Rattle.blk_nodes.specs.Sources.{in_below, step_by_entry, step_by, step_of, source_in, source_of, byte_at}
 use Rattle.blk_nodes.specs.declared.row.Driver.{Driver}
@@ -105,7 +105,7 @@ module _ (turns : ℕ) (nodes : Nodes) (joined : IsJoined nodes) (all : AreTold 
       let size : size_of nodes node ≡ row.size = ap size_by there in
       get_or-bytes_at (bytes_of nodes node) 0 (size_of nodes node) (place + i) (omega (arith, size, inside)) ∙ ap (λ (k : ℕ). get_or (bytes_of nodes node) k 0) (omega arith)
   by_driver node row (Raw part) there driver inside =
-      let is : IsPart nodes node part.offset part.size = rw driver at (joined.below node row there) in
+      let is : IsPartOfFile nodes node part.offset part.size = rw driver at (joined.below node row there) in
       let sized = rw driver at (joined.sized node row there) in
       let size : part.size ≡ row.size = sized.0 in
       let within = is.within in

@@ -4,7 +4,7 @@ use Rattle.std.specs.Prelude.{OnOk, OnErr}
 use Rattle.std.specs.Option.{option_map}
 use Rattle.std.proofs.lemmas.Bool.{eq-eqb, ne_eqb, cases_eq}
 use Rattle.blk_graph.specs.Edits.{child_of, child_after, stays, with_edge, with_over}
-use Rattle.blk_graph.specs.Graph.{Graph, HasNode, IsSound}
+use Rattle.blk_graph.specs.Graph.{Graph, HasNode, IsSoundGraph}
 use Rattle.blk_graph.specs.Judged.{with_edges}
 use Rattle.blk_graph.specs.declared.stop.GraphStop.{GraphStop}
 use Rattle.blk_graph.specs.Permissions.{node_edge, has_role}
@@ -175,7 +175,7 @@ module _ (nodes : Nodes) (edges : List Edge) (node overlay : ℕ) (joined : IsJo
     }
   ]
 
-  pub joined_over : IsSound over.graph → IsJoined over
+  pub joined_over : IsSoundGraph over.graph → IsJoined over
   joined_over sound = record {
     rows = joined.rows;
     sound = sound;
@@ -199,10 +199,10 @@ overlay_role nodes node overlay joined cover =
 
 -- all belongs together afterwards, whatever the graph answered
 pub when_taken : (nodes : Nodes) (graph : Graph) (node overlay : ℕ) (result : Result (Unit {0}) GraphStop) → IsJoined nodes → IsCover nodes node overlay
-    → OnOk result (graph ≡ with_edges nodes.graph (with_over node overlay nodes.graph.edges)) → OnErr result (graph ≡ nodes.graph) → IsSound graph
+    → OnOk result (graph ≡ with_edges nodes.graph (with_over node overlay nodes.graph.edges)) → OnErr result (graph ≡ nodes.graph) → IsSoundGraph graph
     → IsJoined (record nodes { graph = graph })
 when_taken nodes graph node overlay (Ok done) joined cover ok err sound =
-    let made : IsSound (with_edges nodes.graph (with_over node overlay nodes.graph.edges)) = rw ok at sound in
+    let made : IsSoundGraph (with_edges nodes.graph (with_over node overlay nodes.graph.edges)) = rw ok at sound in
     rw ok (joined_over nodes (refreshed nodes.graph.kinds (with_over node overlay nodes.graph.edges)) node overlay joined cover
     (moved_edges node overlay nodes.graph.kinds nodes.graph.edges) made)
 when_taken nodes graph node overlay (Err stop) joined cover ok err sound = rw err joined

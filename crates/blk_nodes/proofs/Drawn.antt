@@ -2,7 +2,7 @@
 use Rattle.std.proofs.Common.{◌≡◌, ◌≢◌, ℕ, true, List, Option, Some, None, Result, Ok, Err, inl, inr}
 use Rattle.std.specs.Prelude.{Contains, IfSome, MatchResult, OnOk}
 use Rattle.blk_graph.specs.Edits.{with_edge, IsLone}
-use Rattle.blk_graph.specs.Graph.{Graph, ids, HasNode, IsFit, IsSound}
+use Rattle.blk_graph.specs.Graph.{Graph, ids, HasNode, IsFit, IsSoundGraph}
 use Rattle.blk_graph.specs.Paths.{IsAcyclic, LeadsBack}
 use Rattle.blk_graph.specs.Permissions.{node_edge, has_role}
 use Rattle.blk_graph.specs.Refreshed.{kind_at, refreshed}
@@ -49,8 +49,8 @@ enters_put edges id child role apart enters e h = elim (Contains-with_edge (node
 ]
 
 -- what is derived from it is sound, where it keeps the rule
-pub draft_sound : (graph : Graph) (edges : List Edge) → IsSound graph → IsDraft graph edges
-    → first_conflict (ids graph) (refreshed graph.kinds edges) ≡ None → IsSound (record graph { edges = refreshed graph.kinds edges })
+pub draft_sound : (graph : Graph) (edges : List Edge) → IsSoundGraph graph → IsDraft graph edges
+    → first_conflict (ids graph) (refreshed graph.kinds edges) ≡ None → IsSoundGraph (record graph { edges = refreshed graph.kinds edges })
 draft_sound graph edges sound draft none =
     let made = IsFit-refreshed graph graph.kinds edges draft.fit in
     record {
@@ -70,7 +70,7 @@ draft_sound graph edges sound draft none =
     }
 
 -- the edges of a node over a file and a backing node
-module _ (graph : Graph) (id file : ℕ) (sound : IsSound graph) (there : HasNode graph id) (lone : IsLone graph.edges id)
+module _ (graph : Graph) (id file : ℕ) (sound : IsSoundGraph graph) (there : HasNode graph id) (lone : IsLone graph.edges id)
     (below : HasNode graph file × (file ≢ id)) (may_file : has_role (kind_at graph.kinds id).kind File ≡ true) where
   abbrev with_file : List Edge
   with_file = with_edge (node_edge id File file) graph.edges

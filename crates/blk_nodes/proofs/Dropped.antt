@@ -1,14 +1,14 @@
 -- What is left where a node goes that no edge leads to.
-use Rattle.std.proofs.Common.{◌≡◌, ◌≢◌, ◌⊎◌, ℕ, zero, suc, ◌<◌, ◌==◌, Bool, true, false, cond, List, [], ◌∷◌, ◌++◌, length, map, get_or, set, take, drop, Option, Some, None, Result, Ok, Err, refl, sym, ◌∙◌, ap, subst, arith, inl, inr}
-use Rattle.std.specs.Prelude.{IsSome, Contains, AllPairs, MatchOption, filter, not}
+use Rattle.std.proofs.Common.{◌≡◌, ◌≢◌, ℕ, zero, suc, ◌<◌, ◌==◌, Bool, true, false, cond, List, [], ◌∷◌, get_or, Option, Some, None, Result, Ok, Err, refl, sym, ◌∙◌, ap, arith, inl, inr}
+use Rattle.std.specs.Prelude.{Contains, AllPairs, MatchOption, filter, not}
 use Rattle.std.specs.List.{position, remove}
 use Rattle.std.proofs.lemmas.Bool.{eqb-true, eq-eqb, ne_eqb, cases_eq}
 use Rattle.std.proofs.lemmas.List.{length-set, get_or-set_same, get_or-set_other}
 use Rattle.std.proofs.lemmas.List.Kept.{AllPairs-filter}
 use Rattle.blk_graph.specs.Edits.{child_of, without_parent}
-use Rattle.blk_graph.specs.Graph.{Graph, NodeRow, HasNode, ids, IsSound}
-use Rattle.blk_graph.specs.Judged.{other_nodes, without_node}
-use Rattle.blk_graph.specs.Refreshed.{kind_at, no_kind, refreshed}
+use Rattle.blk_graph.specs.Graph.{NodeRow, HasNode, IsSoundGraph}
+use Rattle.blk_graph.specs.Judged.{other_nodes}
+use Rattle.blk_graph.specs.Refreshed.{no_kind}
 use Rattle.blk_graph.specs.declared.edge.Edge.{Edge}
 use Rattle.blk_graph.specs.declared.stop.GraphStop.{GraphStop}
 use Rattle.blk_graph.specs.declared.stop.GraphStop.TheVariants.{InUse}
@@ -16,20 +16,18 @@ use Rattle.blk_graph.specs.declared.edge.Parent.{Parent}
 use Rattle.blk_graph.specs.declared.edge.Parent.TheVariants.{Node}
 use Rattle.blk_graph.specs.declared.edge.Role.{Role}
 use Rattle.blk_graph.specs.declared.edge.Role.TheVariants.{File as FileRole, Backing}
-use Rattle.blk_graph.specs.declared.kind.NodeKind.{NodeKind}
 use Rattle.blk_graph.proofs.ChildLemmas.{child-edge, child-without}
 use Rattle.blk_graph.proofs.Members.{Contains-here, Contains-there, Contains-cases, Contains-filter, Contains-map, map-Contains}
 use Rattle.blk_graph.proofs.RefreshLemmas.{child_of-refreshed}
 use Rattle.blk_nodes.specs.Contents.{disk_of}
 use Rattle.blk_nodes.specs.Dropping.{other_devices, without}
 use Rattle.blk_nodes.specs.Joined.{IsFile, HasSize, HasBelow, IsJoined, DifferInNode}
-use Rattle.blk_nodes.specs.Nodes.{Nodes, DeviceState, is_of, row_at, device_in, size_by, size_of, file_of, backing_of, node_kind}
+use Rattle.blk_nodes.specs.Nodes.{Nodes, DeviceState, is_of, row_at, device_in, size_by, size_of}
 use Rattle.blk_nodes.specs.declared.row.Driver.{Driver}
 use Rattle.blk_nodes.specs.declared.row.Driver.TheVariants.{File, Raw, Qcow2, CopyOnRead}
 use Rattle.blk_nodes.specs.declared.row.Row.{Row}
 use Rattle.blk_nodes.proofs.Additions.{Extends, some_row, not_some}
 use Rattle.blk_nodes.proofs.HeldDevices.{IsFirst, first, later, missing, is_placed}
-use Rattle.blk_nodes.proofs.Joints.{held_by}
 use Rattle.blk_nodes.proofs.KeptDisks.{disk_stays}
 
 -- what passes the test is kept
@@ -153,7 +151,7 @@ module _ (nodes : Nodes) (node : ℕ) (joined : IsJoined nodes) (small : node < 
   below_left n size CopyOnRead apart is =
       record { child = is.child; edge = child_left n FileRole apart ∙ is.edge; same = size_left is.child size (child_apart n FileRole is.child is.edge) is.same }
 
-  pub joined_left : IsSound left.graph → IsJoined left
+  pub joined_left : IsSoundGraph left.graph → IsJoined left
   joined_left sound = record {
     rows = length-set nodes.rows node None ∙ joined.rows;
     sound = sound;
@@ -189,7 +187,7 @@ module _ (nodes : Nodes) (node : ℕ) (joined : IsJoined nodes) (small : node < 
     backings = λ n row there. sym (child_left n Backing (apart_row n row there));
   }
 
-  pub disks_left : IsSound left.graph → (other : ℕ) → HasNode left.graph other → disk_of left other ≡ disk_of nodes other
+  pub disks_left : IsSoundGraph left.graph → (other : ℕ) → HasNode left.graph other → disk_of left other ≡ disk_of nodes other
   disks_left sound other has = sym (disk_stays left nodes extends_left (joined_left sound) other has)
 
 -- the first device of a node is the only one

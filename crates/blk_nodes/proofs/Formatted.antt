@@ -1,31 +1,20 @@
 -- What is left where an image is created in a node's file.
-use Rattle.std.proofs.Common.{◌≡◌, ◌≢◌, ◌⊎◌, ℕ, ◌<◌, ◌≤◌, max, cond, false, List, length, get_or, set, Option, Some, None, Result, Ok, Err, refl, sym, ◌∙◌, ap, subst, arith, inl, inr}
-use Rattle.std.specs.Prelude.{IsSome, Contains, option_map, OnOk, OnErr}
+use Rattle.std.proofs.Common.{◌≡◌, ◌≢◌, ℕ, List, get_or, set, Some, None, Result, refl, inl, inr}
+use Rattle.std.specs.Prelude.{Contains}
 use Rattle.std.specs.List.{position}
-use Rattle.std.specs.Bool.{OnFalse}
-use Rattle.blk_base.specs.declared.fault.DevNo.{DevNo}
 use Rattle.blk_graph.specs.Judged.{first_parent}
 use Rattle.blk_graph.specs.declared.edge.Edge.{Edge}
 use Rattle.blk_graph.specs.declared.edge.Parent.TheVariants.{Node}
 use Rattle.blk_graph.specs.declared.edge.Role.TheVariants.{File as FileRole}
 use Rattle.blk_graph.proofs.ChildLemmas.{child-edge, reached-entered}
 use Rattle.blk_graph.proofs.NodeLemmas.{no_child_from_None}
-use Rattle.q2_format.specs.Created.{Creation, created_length, IsCreated}
-use Rattle.q2_format.specs.Sound.{InHeader, image_refusal}
-use Rattle.q2_format.specs.declared.header.HeaderStop.TheVariants.{Magic}
-use Rattle.q2_image.specs.Creating.{ChangesWithin, CreateAnswers, wrote}
-use Rattle.q2_image.specs.Image.{Known, IsImageOf}
-use Rattle.q2_image.specs.declared.create.CreateStop.{CreateStop}
-use Rattle.q2_image.specs.declared.create.CreateStop.TheVariants as image
+use Rattle.q2_format.specs.Created.{Creation}
 use Rattle.blk_nodes.specs.Contents.{disk_of}
-use Rattle.blk_nodes.specs.Formatting.{format_stop, IsFormatOf, IsFormatAt, HoldsAfter, HasFormatCause, is_tried}
+use Rattle.blk_nodes.specs.Formatting.{IsFormatOf, IsFormatAt}
 use Rattle.blk_nodes.specs.Joined.{IsJoined}
-use Rattle.blk_nodes.specs.Nodes.{Nodes, DeviceState, is_of, row_at, device_in, file_of}
+use Rattle.blk_nodes.specs.Nodes.{Nodes, DeviceState, is_of, file_of}
 use Rattle.blk_nodes.specs.Reading.{LeadsTo}
-use Rattle.blk_nodes.specs.declared.row.Driver.TheVariants.{Qcow2}
-use Rattle.blk_nodes.specs.declared.row.Row.{Row}
 use Rattle.blk_nodes.specs.declared.stop.FormatStop.{FormatStop}
-use Rattle.blk_nodes.specs.declared.stop.FormatStop.TheVariants.{Io, NoSpace, NoMemory}
 use Rattle.blk_nodes.proofs.HeldDevices.{at_place, put_held, only_at}
 use Rattle.blk_nodes.proofs.Written.{disk_apart, joined_changed}
 

@@ -1,8 +1,6 @@
 -- The devices of the nodes in their list, and one that was used.
-use Rattle.std.proofs.Common.{◌≡◌, ◌≢◌, ℕ, zero, suc, ◌<◌, ◌≤◌, ◌==◌, nat_lt, Bool, true, false, cond, List, [], ◌∷◌, length, map, get_or, set, refl, sym, ◌∙◌, ap, subst, arith, Option, Some, None, Result, Ok, Err, ◌⊎◌, inl, inr}
-use Rattle.std.specs.Prelude.{IsSome, is_some, Contains, IfOk, IfErr, OnOk, option_map, ◌&&◌}
-use Rattle.blk_base.specs.Content.{Write}
-use Rattle.blk_base.specs.Writes.{are_none}
+use Rattle.std.proofs.Common.{◌≡◌, ◌≢◌, ℕ, zero, suc, ◌<◌, ◌≤◌, ◌==◌, nat_lt, Bool, true, false, cond, List, [], ◌∷◌, length, map, get_or, set, refl, sym, ◌∙◌, ap, subst, arith, Option, Some, None, Result, Ok, Err}
+use Rattle.std.specs.Prelude.{IsSome, is_some, Contains, IfOk, IfErr, OnOk}
 use Rattle.std.specs.List.{position, position_or_len}
 use Rattle.std.proofs.lemmas.List.{get_or_default, set-get_or}
 use Rattle.std.proofs.lemmas.List.Quantifiers.{position-Some}
@@ -15,6 +13,7 @@ use Rattle.blk_base.specs.declared.fault.Outcome.{Outcome}
 use Rattle.blk_base.specs.declared.fault.Outcome.TheVariants.{Good, Torn, Io, NoSpace}
 use Rattle.blk_nodes.specs.Contents.{told, bytes_by}
 use Rattle.blk_nodes.specs.Nodes.{DeviceState, AreTold, is_of, device_in}
+use Rattle.blk_nodes.specs.Changing.{ImageChange}
 use Rattle.blk_nodes.specs.Writing.{IsDeviceAfter, IsWriteOf, IsWriteAt, IsImageCall, IsImageCallAt, HasImageCause, HasRoomBy, HasRoomAt}
 use Rattle.blk_nodes.specs.Flushing.{IsFlushOf, IsFlushAt}
 use Rattle.q2_image.specs.Image.{Known}
@@ -269,11 +268,11 @@ unopened_over file devices at d y (Err stop) place risen is = record {
 }
 
 -- a call of the image on one of the devices
-pub called_over : (file : ℕ) (devices : List DeviceState) (at : ℕ) (d y : DeviceState) (fits : ℕ → Type 0) (own : Option ℕ) (made : ℕ → ℕ → Type 0)
+pub called_over : (file : ℕ) (devices : List DeviceState) (at : ℕ) (d y : DeviceState) (fits : ℕ → Type 0) (own : Option ℕ) (change : ImageChange)
     (image now : Known) (place : ℕ) (bytes : List ℕ) (outcome : Outcome) → position (is_of file) devices ≡ Some at
-    → IsImageCall (fits (get_or devices at d).capacity) own made (get_or devices at d) y image now place bytes outcome
-    → IsImageCallAt file fits own made devices (set devices at y) image now place bytes outcome
-called_over file devices at d y fits own made image now place bytes outcome is call = record {
+    → IsImageCall (fits (get_or devices at d).capacity) own change (get_or devices at d) y image now place bytes outcome
+    → IsImageCallAt file fits own change devices (set devices at y) image now place bytes outcome
+called_over file devices at d y fits own change image now place bytes outcome is call = record {
   before = get_or devices at d;
   after = y;
   held = at_place file devices at d is;
@@ -303,17 +302,8 @@ device_risen old new is = record {
   node = ap (λ (d : DeviceState). d.node) is.same;
   number = ap (λ (d : DeviceState). d.number) is.same;
   told = ap (λ (d : DeviceState). is_some d.content) is.same;
-  flushed = inl (ap (λ (d : DeviceState). d.is_flushed) is.same);
-  capacity = ap (λ (d : DeviceState). d.capacity) is.same;
   faults = is.faults;
 }
-
--- a device that made these writes
-pub flushed_after : (made : List Write) (old new : Option Bool) → new ≡ option_map (λ f. are_none made && f) old
-    → (new ≡ old) ⊎ (new ≡ option_map (λ _. false) old)
-flushed_after [] None new is = inl is
-flushed_after [] (Some f) new is = inl is
-flushed_after (w ∷ made) old new is = inr is
 
 pub some_device : (found : Option DeviceState) → IsSome found → (device : DeviceState) × (found ≡ Some device)
 some_device None is = absurd (cc is)

@@ -1,11 +1,12 @@
 -- What a call of an image leaves of its device, by how it went.
-use Rattle.std.proofs.Common.{◌≡◌, ◌≢◌, ℕ, ◌+◌, ◌*◌, ◌/◌, ◌%◌, ◌<◌, ◌≤◌, ◌⊎◌, Bool, false, List, [], ◌∷◌, take, get_or, replicate, Option, Some, Result, Ok, Err, refl, sym, ◌∙◌, ap, subst, arith, inl, inr}
-use Rattle.std.specs.Prelude.{option_map, OnOk, OnErr}
+use Rattle.std.proofs.Common.{◌≡◌, ◌≢◌, ℕ, ◌+◌, ◌%◌, ◌<◌, ◌≤◌, ◌⊎◌, Bool, List, [], ◌∷◌, take, get_or, replicate, Option, Some, None, Result, Ok, Err, refl, sym, ◌∙◌, ap, subst, arith, inl, inr}
+use Rattle.std.specs.Prelude.{OnOk, OnErr}
 use Rattle.std.proofs.lemmas.Bool.{cases_lt, cases_eq, eq-eqb, ne_eqb}
 use Rattle.std.proofs.lemmas.List.{length-replicate, get_or-replicate, get_or_past}
-use Rattle.blk_base.specs.Content.{Log}
+use Rattle.blk_base.specs.Content.{Log, Write}
 use Rattle.blk_base.specs.Pieces.{Extent}
 use Rattle.blk_base.specs.declared.fault.DevNo.{DevNo}
+use Rattle.blk_base.specs.Device.{AtEachStopOf, Untouched, Wrote}
 use Rattle.blk_base.specs.Writes.{write_of}
 use Rattle.blk_base.specs.declared.device.Device.{Ghosts}
 use Rattle.blk_base.specs.declared.device.Stop.{Stop}
@@ -13,8 +14,7 @@ use Rattle.blk_base.specs.declared.device.Stop.TheVariants as why
 use Rattle.blk_base.specs.declared.device.WriteStop.{WriteStop}
 use Rattle.blk_base.specs.declared.fault.DevStop.{DevStop}
 use Rattle.blk_base.specs.declared.fault.DevStop.TheVariants as stops
-use Rattle.blk_base.specs.declared.fault.Outcome.{Outcome}
-use Rattle.blk_base.specs.declared.fault.Outcome.TheVariants.{Good, Torn, Io, NoSpace}
+use Rattle.blk_base.specs.declared.fault.Outcome.TheVariants.{Good}
 use Rattle.q2_format.specs.Sizes.{cluster_size, clusters_for}
 use Rattle.q2_format.specs.declared.header.Header.{Header}
 use Rattle.q2_format.specs.Entry.{l2_entry}
@@ -22,29 +22,13 @@ use Rattle.q2_format.specs.declared.entries.L2Entry.{L2Entry}
 use Rattle.q2_format.specs.declared.entries.L2Entry.TheVariants.{Unallocated, Zero, Host, Compressed, Reserved}
 use Rattle.q2_image.specs.Image.{Known, clusters_in, word_in, entry_in}
 use Rattle.q2_image.specs.Reading.{IsHost}
-use Rattle.q2_image.specs.Made.{WriteStep, WroteOwn, ChangesImage, own_writes}
-use Rattle.q2_image.specs.Writing.{IsDiskWith, IsSameDisk, HasHeaderOf, HasEntriesBut, CanTake, AreClusterZeros, ZeroFits, IsOwnStop, autocleared, autoclear_end, table_for}
+use Rattle.q2_image.specs.Made.{WriteStep, MakesSteps, WroteOwn, ChangesImage, IsOldOrWith, IsOwnPart, own_writes, writes_of_steps}
+use Rattle.q2_image.specs.Writing.{IsDiskWith, IsSameDisk, HasHeaderOf, HasEntriesBut, CanTake, AreClusterZeros, ClearsFirst, ZeroFits, IsOwnStop, autocleared, autoclear_end, table_for}
 use Rattle.q2_tables.specs.Linking.{link_end}
-use Rattle.blk_nodes.specs.Entries.{Stays, IsEntryAfter}
+use Rattle.blk_nodes.specs.Changing.{seen, ChangesBySteps, ChangesInPlace}
 use Rattle.blk_nodes.specs.Nodes.{DeviceState}
 use Rattle.blk_nodes.specs.Reading.{StoppedBy}
 use Rattle.blk_nodes.specs.Writing.{taken_by, write_outcome, cluster_outcome, StaysMapped, HasImageCause}
-use Rattle.blk_nodes.proofs.HeldDevices.{flushed_after}
-
--- it is flushed no more than it was
-abbrev pub IsFlushedNoMore : Option Bool → Option Bool → Type 0
-IsFlushedNoMore old new = (new ≡ old) ⊎ (new ≡ option_map (λ _. false) old)
-
-pub own_flushed : {D : Type 0} (g : Ghosts D) (old new : Known) (span : Extent) (bytes : List ℕ) (before now : D) → WroteOwn g old new span bytes before now
-    → IsFlushedNoMore (g.is_flushed before) (g.is_flushed now)
-own_flushed g old new span bytes before now (inl is) = flushed_after (own_writes old span bytes) (g.is_flushed before) (g.is_flushed now) is.1.flushed
-own_flushed g old new span bytes before now (inr is) = flushed_after (write_of 88 [] ∷ []) (g.is_flushed before) (g.is_flushed now) is.3.flushed
-
-pub cluster_flushed : {D : Type 0} (g : Ghosts D) (image : Known) (steps : List WriteStep) (r : Result (Unit {0}) DevStop) (left : Known) (before now : D)
-    → ChangesImage g image steps r left before now → IsFlushedNoMore (g.is_flushed before) (g.is_flushed now)
-cluster_flushed g image steps (Ok done) left before now is = flushed_after is.writes.made (g.is_flushed before) (g.is_flushed now) is.writes.wrote.flushed
-cluster_flushed g image steps (Err (stops.Io count)) left before now is = flushed_after is.writes.made (g.is_flushed before) (g.is_flushed now) is.writes.wrote.flushed
-cluster_flushed g image steps (Err stops.NoSpace) left before now is = inl is.1.reads.flushed
 
 -- no byte of a disk that stays is another from any place on
 pub same_from : (old new : List ℕ) (at : ℕ) → IsSameDisk old new → IsDiskWith old new at []
@@ -148,16 +132,6 @@ pub own_word : (old new : Known) (cluster : ℕ) → (new ≡ old) ⊎ (new ≡ 
 own_word old new cluster (inl same) = ap (λ (k : Known). get_or k.tables.words cluster 0) same
 own_word old new cluster (inr same) = ap (λ (k : Known). get_or k.tables.words cluster 0) same
 
-pub own_entries : (old new : Known) (but : ℕ) → (new ≡ old) ⊎ (new ≡ autocleared old) → HasEntriesBut old new but
-own_entries old new but is cluster apart = own_word old new cluster is
-
--- an entry that stays does so however the write went
-pub stays_after : (o : Outcome) (old new : ℕ) → new ≡ old → IsEntryAfter Stays o old new
-stays_after Good old new is = is
-stays_after (Torn done dev count) old new is = is
-stays_after (Io dev count) old new is = is
-stays_after (NoSpace dev) old new is = is
-
 -- clusters that have entries keep some
 pub own_mapped : (old new : Known) → (new ≡ old) ⊎ (new ≡ autocleared old) → StaysMapped old new
 own_mapped old new is cluster mapped none =
@@ -186,27 +160,6 @@ cluster_mapped r old new cluster others made kept other mapped none = elim (case
     at_cluster (Ok done) made kept was gone = made gone
     at_cluster (Err stop) made kept was gone = was (sym (ap l2_entry kept) ∙ gone)
 
--- the entry of a cluster of which the whole was written, by how that went
-pub cluster_entry : (device : DeviceState) (made : ℕ → ℕ → Type 0) (r : Result (Unit {0}) DevStop) (old new : Known) (cluster : ℕ) (o : Outcome) → o ≡ cluster_outcome device r
-    → OnOk r (made (word_in old cluster) (word_in new cluster)) → OnErr r (word_in new cluster ≡ word_in old cluster)
-    → IsEntryAfter made o (word_in old (cluster * 65536 / 65536)) (word_in new (cluster * 65536 / 65536))
-cluster_entry device made r old new cluster o is ok kept =
-    let here : cluster * 65536 / 65536 ≡ cluster = omega arith in
-    subst (λ (k : ℕ). IsEntryAfter made o (word_in old k) (word_in new k)) (sym here)
-    (subst (λ (o : Outcome). IsEntryAfter made o (word_in old cluster) (word_in new cluster)) (sym is) (by r ok kept))
-  where
-    by : (r : Result (Unit {0}) DevStop) → OnOk r (made (word_in old cluster) (word_in new cluster)) → OnErr r (word_in new cluster ≡ word_in old cluster)
-        → IsEntryAfter made (cluster_outcome device r) (word_in old cluster) (word_in new cluster)
-    by (Ok done) ok kept = ok
-    by (Err (stops.Io count)) ok kept = kept
-    by (Err stops.NoSpace) ok kept = kept
-
-pub stop_flushed : {D : Type 0} (g : Ghosts D) (old new : Known) (span : Extent) (bytes : List ℕ) (before now : D) (w : Stop)
-    → (w ≡ why.Failed → WroteOwn g old new span bytes before now) → (w ≡ why.NoSpace → g.is_flushed now ≡ g.is_flushed before)
-    → IsFlushedNoMore (g.is_flushed before) (g.is_flushed now)
-stop_flushed g old new span bytes before now why.Failed wrote same = own_flushed g old new span bytes before now (wrote refl)
-stop_flushed g old new span bytes before now why.NoSpace wrote same = inl (same refl)
-
 -- a device of which all that is seen stays
 pub same_state : (a b : DeviceState) → b.node ≡ a.node → b.number ≡ a.number → b.content ≡ a.content → b.is_flushed ≡ a.is_flushed → b.log ≡ a.log → b.size ≡ a.size
     → b.capacity ≡ a.capacity → b.faults ≡ a.faults → b ≡ a
@@ -222,15 +175,109 @@ same_state a b node number content flushed log size capacity faults =
     ∙ ap (λ (k : ℕ). made a.node a.number a.content a.is_flushed a.log a.size k b.faults) capacity
     ∙ ap (λ (q : ℕ). made a.node a.number a.content a.is_flushed a.log a.size a.capacity q) faults
 
+-- A device in its place, as it is seen.
+abbrev pub state_of : {D : Type 0} → Ghosts D → ℕ → DevNo → D → DeviceState
+state_of g node number device = record {
+  node = node;
+  number = number;
+  content = g.content device;
+  is_flushed = g.is_flushed device;
+  log = g.log device;
+  size = g.size device;
+  capacity = g.capacity device;
+  faults = g.faults device;
+}
+
+module _ {D : Type 0} (g : Ghosts D) (node : ℕ) (number : DevNo) (before now : D) where
+  abbrev first_state : DeviceState
+  first_state = state_of g node number before
+
+  abbrev last_state : DeviceState
+  last_state = state_of g node number now
+
+  wrote_seen : (ws : List Write) → Wrote g ws before now → Wrote seen ws first_state last_state
+  wrote_seen ws is = record {
+    content = is.content;
+    size = is.size;
+    log = is.log;
+    same_log = is.same_log;
+    flushed = is.flushed;
+    capacity = is.capacity;
+    faults = is.faults;
+  }
+
+  steps_seen : (image left : Known) (steps : List WriteStep) (stop : Option DevStop) → MakesSteps g image steps stop left before now
+      → MakesSteps seen image steps stop left first_state last_state
+  steps_seen image left steps stop is = record {
+    writes = record {
+      made = is.writes.made;
+      part = is.writes.part;
+      wrote = wrote_seen is.writes.made is.writes.wrote;
+      cause = is.writes.cause;
+    };
+    known = is.known;
+  }
+
+  untouched_seen : Untouched g before now → last_state ≡ first_state
+  untouched_seen is =
+      same_state first_state last_state refl refl is.reads.content is.reads.flushed is.reads.log is.reads.size is.reads.capacity is.cause
+
+  -- a call of a whole cluster
+  pub cluster_change : (image left : Known) (steps : List WriteStep) (place : ℕ) (bytes : List ℕ) (IsMade : Known → Type 0) (r : Result (Unit {0}) DevStop)
+      → ChangesImage g image steps r left before now → ClearsFirst (g.content before) (g.content now) left
+      → (r ≢ Err stops.NoSpace → AtEachStopOf g (IsOldOrWith place bytes) (writes_of_steps steps) before)
+      → OnOk r (IsMade left) → ChangesBySteps steps place bytes IsMade image left first_state last_state (cluster_outcome last_state r)
+  cluster_change image left steps place bytes IsMade (Ok done) is cleared at_stops ok =
+      (record { made = steps_seen image left steps None is; cleared = cleared; stops = at_stops (λ bad. absurd (cc bad)) }, ok)
+  cluster_change image left steps place bytes IsMade (Err (stops.Io count)) is cleared at_stops ok =
+      record { made = steps_seen image left steps (Some (stops.Io count)) is; cleared = cleared; stops = at_stops (λ bad. absurd (cc bad)) }
+  cluster_change image left steps place bytes IsMade (Err stops.NoSpace) is cleared at_stops ok = (is.0, untouched_seen is.1)
+
+  own_seen : (image left : Known) (span : Extent) (bytes : List ℕ) → WroteOwn g image left span bytes before now
+      → WroteOwn seen image left span bytes first_state last_state
+  own_seen image left span bytes (inl is) = inl (is.0, wrote_seen (own_writes image span bytes) is.1)
+  own_seen image left span bytes (inr is) = inr (is.0, is.1, is.2, wrote_seen (write_of 88 [] ∷ []) is.3)
+
+  -- and one in place, that was made
+  pub own_made : (image left : Known) (span : Extent) (bytes : List ℕ) → WroteOwn g image left span bytes before now
+      → ClearsFirst (g.content before) (g.content now) left → AtEachStopOf g (IsOwnPart span.start bytes) (own_writes image span bytes) before
+      → ChangesInPlace span bytes image left first_state last_state Good
+  own_made image left span bytes is cleared at_stops = record { wrote = own_seen image left span bytes is; cleared = cleared; stops = at_stops }
+
+  -- or that stopped
+  pub own_stopped : (image left : Known) (span : Extent) (bytes : List ℕ) (stop : WriteStop)
+      → (stop.why ≡ why.Failed → WroteOwn g image left span (take stop.done bytes) before now) → ClearsFirst (g.content before) (g.content now) left
+      → AtEachStopOf g (IsOwnPart span.start bytes) (own_writes image span bytes) before
+      → (stop.why ≡ why.NoSpace → (last_state ≡ first_state) × (left ≡ image))
+      → ChangesInPlace span bytes image left first_state last_state (write_outcome last_state stop)
+  own_stopped image left span bytes stop wrote cleared at_stops full = by stop.why refl
+    where
+      by : (w : Stop) → stop.why ≡ w → ChangesInPlace span bytes image left first_state last_state (write_outcome last_state stop)
+      by why.NoSpace w = let all = full w in rw w (all.1, all.0)
+      by why.Failed w =
+          let done : WroteOwn seen image left span (take stop.done bytes) first_state last_state = own_seen image left span (take stop.done bytes) (wrote w) in
+          elim (cases_eq stop.done 0) [
+            | inl zero ↦
+                let test = eq-eqb stop.done 0 zero in
+                let none : WroteOwn seen image left span [] first_state last_state =
+                subst (λ (n : ℕ). WroteOwn seen image left span (take n bytes) first_state last_state) zero done in
+                rw (w, test) (record { wrote = none; cleared = cleared; stops = at_stops })
+            | inr some ↦ let test = ne_eqb stop.done 0 some in rw (w, test) (record { wrote = done; cleared = cleared; stops = at_stops })
+          ]
+
 zeros_at : (n i : ℕ) → ◌≡◌ {A = ℕ} (get_or (replicate n 0) i 0) 0
 zeros_at n i = let len = length-replicate {A = ℕ} n 0 in elim (cases_lt i n) [ inl below ↦ get_or-replicate n i 0 0 below | inr past ↦ get_or_past (replicate n 0) i 0 (omega arith) ]
+
+-- the zeros of a cluster of c bytes
+pub cluster_zeros : (c : ℕ) → AreClusterZeros c (replicate c 0)
+cluster_zeros c = record { whole = length-replicate {A = ℕ} c 0; zeros = zeros_at c }
 
 -- a zero write, with the zeros of a cluster
 pub zeros_disk : (r : Result (Unit {0}) DevStop) (old new : Option (List ℕ)) (at : ℕ)
     → OnOk r ((b now zeros : List ℕ) → old ≡ Some b → new ≡ Some now → AreClusterZeros 65536 zeros → IsDiskWith b now at zeros)
     → OnOk r ((b now : List ℕ) → old ≡ Some b → new ≡ Some now → IsDiskWith b now at (replicate 65536 0))
 zeros_disk (Ok done) old new at ok = λ b now is_old is_new.
-    ok b now (replicate 65536 0) is_old is_new (record { whole = length-replicate {A = ℕ} 65536 0; zeros = zeros_at 65536 })
+    ok b now (replicate 65536 0) is_old is_new (cluster_zeros 65536)
 zeros_disk (Err stop) old new at ok = tt
 
 -- the header but for the autoclear field tells how many clusters there are

@@ -1,23 +1,26 @@
 -- What a piece that is written to an image leaves of all nodes.
-use Rattle.std.proofs.Common.{◌≡◌, ◌≢◌, ℕ, ◌+◌, ◌-◌, ◌/◌, ◌%◌, ◌≤◌, min, true, List, [], ◌++◌, length, take, drop, replicate, Option, Some, None, refl, sym, ◌∙◌, ap, subst, arith, inl, inr}
+use Rattle.std.proofs.Common.{◌≡◌, ◌≢◌, ℕ, ◌+◌, ◌-◌, ◌%◌, ◌≤◌, min, Bool, true, false, List, [], ◌++◌, length, take, drop, replicate, Option, Some, None, refl, sym, ◌∙◌, ap, subst, arith, inl, inr}
 use Rattle.std.specs.Prelude.{IsSome, is_some}
 use Rattle.std.proofs.lemmas.Bool.{cases_eq}
 use Rattle.std.proofs.lemmas.List.{get_or-set_same, get_or-set_other, length-set, length-replicate, take-append-le, take_all}
 use Rattle.blk_base.specs.Content.{bytes_at, with_bytes}
 use Rattle.blk_base.specs.Pieces.{Extent}
+use Rattle.blk_base.specs.declared.fault.DevNo.{DevNo}
 use Rattle.blk_base.specs.declared.fault.Outcome.{Outcome}
 use Rattle.blk_base.specs.declared.fault.Outcome.TheVariants.{Good, Torn, Io, NoSpace}
 use Rattle.q2_format.specs.Contents.{image_disk}
-use Rattle.q2_image.specs.Image.{Known, IsOpen, word_in}
-use Rattle.q2_image.specs.Room.{WriteFits, ZerosFit, entry_for, is_whole}
+use Rattle.q2_format.specs.declared.entries.L2Entry.{L2Entry}
+use Rattle.q2_format.specs.declared.entries.L2Entry.TheVariants as entries
+use Rattle.q2_image.specs.Image.{Known, IsOpen}
+use Rattle.q2_image.specs.Room.{WriteFits, PartZerosFit, ZerosFit, ZerosFitBy, entry_for, is_whole}
 use Rattle.blk_graph.specs.declared.edge.Role.TheVariants.{File as FileRole}
 use Rattle.blk_nodes.specs.Contents.{told, below, disk_by, disk_of, bytes_of}
-use Rattle.blk_nodes.specs.Entries.{IsEntryAfter, IsWritten, IsZeroed, LeavesRow}
+use Rattle.blk_nodes.specs.Changing.{ImageChange, IsWritten, IsZeroed, ChangesPart, ZeroesPart, ZeroesBy, LeavesRow}
 use Rattle.blk_nodes.specs.Found.{found_bytes, IsReadFrom}
 use Rattle.blk_nodes.specs.Joined.{IsOverlay, IsJoined}
 use Rattle.blk_nodes.specs.Nodes.{Nodes, DeviceState, AreTold, row_at, device_in, size_by, size_of, file_of, backing_of}
-use Rattle.blk_nodes.specs.Parts.{HasPiece, IsPieceOf, StopsReading, CallsPiece, WritesPart, row_in}
-use Rattle.blk_nodes.specs.Reading.{HaveRisen, LeadsTo, StoppedBelow}
+use Rattle.blk_nodes.specs.Parts.{HasPiece, IsPieceOf, RefusesPiece, StopsReading, CallsPiece, WritesPart, row_in}
+use Rattle.blk_nodes.specs.Reading.{HasRisen, HaveRisen, LeadsTo, StoppedBelow}
 use Rattle.blk_nodes.specs.Sources.{source_of}
 use Rattle.blk_nodes.specs.Walk.{IsKnownAt, LeadsToSource}
 use Rattle.blk_nodes.specs.Writing.{taken_by, IsDeviceAfter, HasImageCause, HasPieceCause, WritesImage, WritesBy, WritesPiece, ZerosBy, ZerosPiece, own_place_by, zeros_place, IsDriverAfter, AreRowsAfter, LeavesNodes, OwnsFile, own_file, IsOverApart, CanBeWritten, MayWrite, IsApart}
@@ -39,7 +42,8 @@ use Rattle.blk_nodes.proofs.Written.{disk_apart}
 module _ (nodes : Nodes) (joined : IsJoined nodes) (part : Part) (may : MayWrite nodes part.node) (edge : file_of nodes part.node ≡ Some part.file)
     (source_is : source_of nodes part.node part.whole.start ≡ part.source) (leads : LeadsToSource nodes.graph.edges part.node part.source)
     (piece : HasPiece nodes.rows nodes.devices part) (rows : List (Option Row)) (devices : List DeviceState) (fits : Known → ℕ → Type 0) (own : Known → Option ℕ)
-    (made : Known → ℕ → ℕ → Type 0) (bytes : List ℕ) (outcome : Outcome) (w : WritesPart fits own made nodes.rows rows nodes.devices devices part bytes outcome) where
+    (change : ImageChange) (bytes : List ℕ) (outcome : Outcome) (w : WritesPart fits own change nodes.rows rows nodes.devices devices part bytes outcome)
+    (refuses : (device : DeviceState) (dev : DevNo) → (fits w.image device.capacity → ⊥) → change w.image w.image device device (NoSpace dev)) where
   abbrev new : Nodes
   new = record nodes { rows = rows; devices = devices }
 
@@ -79,25 +83,47 @@ module _ (nodes : Nodes) (joined : IsJoined nodes) (part : Part) (may : MayWrite
     own = subst (λ (rs : List (Option Row)). AreRowsAfter (row_at nodes node) (row_in rs node)) (sym same) (row_refl (row_at nodes node));
   }
 
-  abbrev cluster : ℕ
-  cluster = part.span.start / 65536
+  -- how the image and the device of its file changed
+  abbrev Changed : Known → Type 0
+  Changed now = (file : ℕ) (before after : DeviceState) → file_of nodes node ≡ Some file → device_in nodes.devices file ≡ Some before → device_in devices file ≡ Some after
+      → change w.image now before after outcome
 
   -- where its row did not
-  left_same : rows ≡ nodes.rows → IsEntryAfter (made w.image) outcome (word_in w.image cluster) (word_in w.image cluster)
-      → LeavesRow made (Qcow2 w.image) w.row (row_at new node) cluster outcome
-  left_same same entry = (
-    w.image,
-    ap (λ (rs : List (Option Row)). row_in rs node) same ∙ w.there ∙ ap (λ (r : Row). Some r) (sym (same_row w.row w.image w.driver)),
-    record { header = refl; taken = λ n taken. taken; others = λ other apart. refl; own = entry },
-  )
+  left_same : rows ≡ nodes.rows → Changed w.image → LeavesRow change (Qcow2 w.image) w.row nodes new node outcome
+  left_same same changed = record {
+    now = w.image;
+    left = ap (λ (rs : List (Option Row)). row_in rs node) same ∙ w.there ∙ ap (λ (r : Row). Some r) (sym (same_row w.row w.image w.driver));
+    changed = changed;
+  }
+
+  its_file : (file : ℕ) → file_of nodes node ≡ Some file → part.file ≡ file
+  its_file file is = cc (sym edge ∙ is)
+
+  -- where nothing was tried
+  refused_row : (r : RefusesPiece part.file (fits w.image) nodes.rows rows nodes.devices devices outcome) → Changed w.image
+  refused_row r file before after is held left =
+      let first : r.device ≡ before = cc (sym r.held ∙ ap (device_in nodes.devices) (its_file file is) ∙ held) in
+      let full : fits w.image before.capacity → ⊥ = subst (λ (d : DeviceState). fits w.image d.capacity → ⊥) first r.full in
+      let stays : before ≡ after = cc (sym held ∙ sym (ap (λ (ds : List DeviceState). device_in ds file) r.devices_same) ∙ left) in
+      subst (λ (o : Outcome). change w.image w.image before after o) (sym r.is)
+      (subst (λ (d : DeviceState). change w.image w.image before d (NoSpace r.dev)) stays (refuses before r.dev full))
 
   -- where the read of the rest of the cluster was stopped
-  module _ (s : StopsReading part (fits w.image) nodes.rows rows nodes.devices devices outcome) where
+  module _ (s : StopsReading part (fits w.image) change w.image nodes.rows rows nodes.devices devices outcome) where
     abbrev read : Nodes
     read = record nodes { devices = devices }
 
     read_is : new ≡ read
     read_is = let with_rows : List (Option Row) → Nodes = λ rs. record nodes { rows = rs; devices = devices } in ap with_rows s.rows_same
+
+    stopped_row : Changed w.image
+    stopped_row file before after is held left =
+        let here = its_file file is in
+        let same : s.device ≡ before = cc (sym s.held ∙ ap (device_in nodes.devices) here ∙ held) in
+        let was = before_rise file nodes.devices devices after s.risen left in
+        let its : was.0 ≡ before = cc (sym was.1 ∙ held) in
+        let risen : HasRisen s.device after = subst (λ (d : DeviceState). HasRisen d after) (its ∙ sym same) was.2 in
+        subst (λ (d : DeviceState). change w.image w.image d after outcome) same (s.changed after risen)
 
     joined_stopped : IsJoined new
     joined_stopped = subst IsJoined (sym read_is) (joined_after nodes devices s.risen joined)
@@ -126,7 +152,7 @@ module _ (nodes : Nodes) (joined : IsJoined nodes) (part : Part) (may : MayWrite
         }
 
   -- where the image was called
-  module _ (c : CallsPiece part (fits w.image) (own w.image) (made w.image) w.image w.row nodes.rows rows nodes.devices devices bytes outcome) where
+  module _ (c : CallsPiece part (fits w.image) (own w.image) change w.image w.row nodes.rows rows nodes.devices devices bytes outcome) where
     abbrev row_after : Row
     row_after = record w.row { driver = Qcow2 c.now }
 
@@ -142,9 +168,17 @@ module _ (nodes : Nodes) (joined : IsJoined nodes) (part : Part) (may : MayWrite
     own_now : AreRowsAfter (row_at nodes node) (row_in rows node)
     own_now =
         let after : IsDriverAfter w.row.driver (Qcow2 c.now)
-        = subst (λ (d : Driver). IsDriverAfter d (Qcow2 c.now)) (sym w.driver) (c.now, refl, c.changed.header, c.changed.taken, c.mapped) in
+        = subst (λ (d : Driver). IsDriverAfter d (Qcow2 c.now)) (sym w.driver) (c.now, refl, c.header, c.taken, c.mapped) in
         subst (λ (f : Option Row). AreRowsAfter f (row_in rows node)) (sym w.there)
         (row_after, row_now, record { size = refl; is_read_only = refl; driver = after })
+
+    called_row : Changed c.now
+    called_row file before after is held left =
+        let here = its_file file is in
+        let first : c.before ≡ before = cc (sym c.held ∙ ap (device_in nodes.devices) here ∙ held) in
+        let last : c.after ≡ after = cc (sym c.held_now ∙ ap (device_in devices) here ∙ left) in
+        subst (λ (d : DeviceState). change w.image c.now before d outcome) last
+        (subst (λ (d : DeviceState). change w.image c.now d c.after outcome) first c.changed)
 
     leaves_called : LeavesNodes nodes new node
     leaves_called = record { graph = refl; others = others_now; own = own_now }
@@ -325,16 +359,14 @@ module _ (nodes : Nodes) (joined : IsJoined nodes) (part : Part) (may : MayWrite
     ]
   ]
 
-  pub left_piece : LeavesRow made (Qcow2 w.image) w.row (row_at new node) cluster outcome
-  left_piece =
-      let After : Outcome → Type 0 = λ o. IsEntryAfter (made w.image) o (word_in w.image cluster) (word_in w.image cluster) in
-      elim w.wrote [
-        | inl r ↦ left_same r.rows_same (subst After (sym r.is) refl)
-        | inr called ↦ elim called [
-          | inl s ↦ left_same s.rows_same (subst After (sym s.is) refl)
-          | inr c ↦ (c.now, row_now c, c.changed)
-        ]
-      ]
+  pub left_piece : LeavesRow change (Qcow2 w.image) w.row nodes new node outcome
+  left_piece = elim w.wrote [
+    | inl r ↦ left_same r.rows_same (refused_row r)
+    | inr called ↦ elim called [
+      | inl s ↦ left_same s.rows_same (stopped_row s)
+      | inr c ↦ record { now = c.now; left = row_now c; changed = called_row c }
+    ]
+  ]
 
   pub wrote_piece : WritesImage (fits w.image) (own w.image) nodes new node (length bytes) outcome
   wrote_piece = elim w.wrote [
@@ -358,27 +390,56 @@ module _ (nodes : Nodes) (joined : IsJoined nodes) (part : Part) (may : MayWrite
     ]
   ]
 
+-- Where there is no room, nothing changes.
+refuses_part : (e : L2Entry) (span : Extent) (bytes : List ℕ) (image : Known) (device : DeviceState) (dev : DevNo)
+    → ChangesPart e span bytes image image device device (NoSpace dev)
+refuses_part entries.Unallocated span bytes image device dev = (refl, refl)
+refuses_part (entries.Zero host) span bytes image device dev = (refl, refl)
+refuses_part (entries.Host host) span bytes image device dev = (refl, refl)
+refuses_part entries.Compressed span bytes image device dev = (refl, refl)
+refuses_part entries.Reserved span bytes image device dev = (refl, refl)
+
+pub refuses_written : (span : Extent) (bytes : List ℕ) (image : Known) (device : DeviceState) (dev : DevNo)
+    → IsWritten span bytes image image device device (NoSpace dev)
+refuses_written span bytes image device dev = refuses_part (entry_for image span) span bytes image device dev
+
+refuses_zeroes : (e : L2Entry) (span : Extent) (image : Known) (device : DeviceState) (dev : DevNo) → (PartZerosFit e image span device.capacity → ⊥)
+    → ZeroesPart e span image image device device (NoSpace dev)
+refuses_zeroes entries.Unallocated span image device dev full = (refl, refl)
+refuses_zeroes (entries.Zero host) span image device dev full = absurd (full tt)
+refuses_zeroes (entries.Host host) span image device dev full = (refl, refl)
+refuses_zeroes entries.Compressed span image device dev full = (refl, refl)
+refuses_zeroes entries.Reserved span image device dev full = (refl, refl)
+
+pub refuses_zeroed : (span : Extent) (image : Known) (device : DeviceState) (dev : DevNo) → (ZerosFit image span device.capacity → ⊥)
+    → IsZeroed span image image device device (NoSpace dev)
+refuses_zeroed span image device dev full = by (is_whole image span) full
+  where
+    by : (b : Bool) → (ZerosFitBy b image span device.capacity → ⊥) → ZeroesBy b span image image device device (NoSpace dev)
+    by true full = (refl, refl)
+    by false full = refuses_zeroes (entry_for image span) span image device dev full
+
 -- A piece of a qcow2 node, by what the node is.
 pub piece_image : (old new : Nodes) (node : ℕ) (span : Extent) (bytes : List ℕ) (outcome : Outcome) (row : Row) (image : Known) → row_at old node ≡ Some row → row.driver ≡ Qcow2 image
     → WritesImage (WriteFits image span) (own_place_by (entry_for image span) image span) old new node (length bytes) outcome
-    → LeavesRow (λ _. IsWritten) (Qcow2 image) row (row_at new node) (span.start / 65536) outcome → WritesPiece old new node span bytes outcome
+    → LeavesRow (IsWritten span bytes) (Qcow2 image) row old new node outcome → WritesPiece old new node span bytes outcome
 piece_image old new node span bytes outcome row image there driver wrote left = record {
   row = row;
   there = there;
   wrote = subst (λ (d : Driver). WritesBy d old new node span bytes outcome) (sym driver) wrote;
-  left = subst (λ (d : Driver). LeavesRow (λ _. IsWritten) d row (row_at new node) (span.start / 65536) outcome) (sym driver) left;
+  left = subst (λ (d : Driver). LeavesRow (IsWritten span bytes) d row old new node outcome) (sym driver) left;
 }
 
 pub zeros_image : (old new : Nodes) (node : ℕ) (span : Extent) (outcome : Outcome) (row : Row) (image : Known) → row_at old node ≡ Some row → row.driver ≡ Qcow2 image
     → WritesImage (ZerosFit image span) (zeros_place (is_whole image span) image span) old new node (length (replicate {A = ℕ} span.len 0)) outcome
-    → LeavesRow (λ image. IsZeroed (is_whole image span)) (Qcow2 image) row (row_at new node) (span.start / 65536) outcome → ZerosPiece old new node span outcome
+    → LeavesRow (IsZeroed span) (Qcow2 image) row old new node outcome → ZerosPiece old new node span outcome
 zeros_image old new node span outcome row image there driver wrote left =
     let P : ℕ → Type 0 = λ n. WritesImage (ZerosFit image span) (zeros_place (is_whole image span) image span) old new node n outcome in
     record {
       row = row;
       there = there;
       wrote = subst (λ (d : Driver). ZerosBy d old new node span outcome) (sym driver) (subst P (length-replicate {A = ℕ} span.len 0) wrote);
-      left = subst (λ (d : Driver). LeavesRow (λ image. IsZeroed (is_whole image span)) d row (row_at new node) (span.start / 65536) outcome) (sym driver) left;
+      left = subst (λ (d : Driver). LeavesRow (IsZeroed span) d row old new node outcome) (sym driver) left;
     }
 
 -- a slice that takes the place of the whole list

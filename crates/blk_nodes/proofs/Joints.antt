@@ -8,7 +8,7 @@ use Rattle.q2_format.specs.declared.entries.L2Entry.{L2Entry}
 use Rattle.q2_format.specs.declared.entries.L2Entry.TheVariants as entries
 use Rattle.q2_image.specs.Image.{Known, IsImageOf, entry_in}
 use Rattle.blk_nodes.specs.Nodes.{Nodes, DeviceState, no_nodes, row_at, device_in, size_by, size_of, file_of, backing_of}
-use Rattle.blk_nodes.specs.Joined.{IsFile, HasSize, IsPart, IsOverlay, IsCopying, HasBelow, IsJoined, DifferInNode}
+use Rattle.blk_nodes.specs.Joined.{IsFile, HasSize, IsPartOfFile, IsOverlay, IsCopying, HasBelow, IsJoined, DifferInNode}
 use Rattle.blk_nodes.specs.Reading.{HaveRisen}
 use Rattle.blk_nodes.specs.Sources.{in_below, step_by_entry, step_by, step_of}
 use Rattle.blk_nodes.specs.Walk.{GoesOn}
@@ -144,7 +144,7 @@ pub goes_by : (nodes : Nodes) (node place : ℕ) (row : Row) (driver : Driver) �
     → GoesOn nodes place (step_by node (file_of nodes node) (backing_of nodes node) place driver)
 goes_by nodes node place row File joined there driver below = rw driver at (joined.below node row there)
 goes_by nodes node place row (Raw part) joined there driver below =
-    let is : IsPart nodes node part.offset part.size = rw driver at (joined.below node row there) in
+    let is : IsPartOfFile nodes node part.offset part.size = rw driver at (joined.below node row there) in
     rw is.edge (held_by nodes is.file joined is.is_file)
 goes_by nodes node place row (Qcow2 image) joined there driver below =
     let is : IsOverlay nodes node image = rw driver at (joined.below node row there) in

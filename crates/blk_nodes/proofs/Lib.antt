@@ -13,6 +13,7 @@ pub mod Dropped
 mod Written
 mod ImageCalls
 mod ImageDisks
+pub mod Changed
 pub mod Alike
 mod PartsWritten
 mod PartFits

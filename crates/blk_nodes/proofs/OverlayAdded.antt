@@ -1,13 +1,12 @@
 -- A qcow2 node that was added: what it has below it, and what each node reads as.
-use Rattle.std.proofs.Common.{◌≡◌, ◌≢◌, ℕ, ◌<◌, ◌==◌, Bool, true, false, cond, List, [], ◌∷◌, ◌++◌, set, Option, Some, None, refl, sym, ◌∙◌, ap, subst, arith, inl, inr}
-use Rattle.std.specs.Prelude.{IsSome, IfSome, Contains, find}
+use Rattle.std.proofs.Common.{◌≡◌, ◌≢◌, ℕ, ◌<◌, ◌==◌, Bool, true, false, cond, List, [], ◌∷◌, ◌++◌, set, Option, Some, None, refl, sym, ◌∙◌, ap, subst, inl, inr}
+use Rattle.std.specs.Prelude.{IfSome, Contains, find}
 use Rattle.std.specs.Option.{option_map}
 use Rattle.std.proofs.lemmas.Bool.{eqb-true, eq-eqb}
 use Rattle.std.proofs.lemmas.List.Elements.{Contains-push_cases}
 use Rattle.blk_graph.specs.Edits.{IsLone, takes_place, is_edge, child_of, with_edge}
-use Rattle.blk_graph.specs.Graph.{Graph, HasNode, IsSound, with_node as with_graph_node}
+use Rattle.blk_graph.specs.Graph.{Graph, HasNode, IsSoundGraph, with_node as with_graph_node}
 use Rattle.blk_graph.specs.Permissions.{node_edge}
-use Rattle.blk_graph.specs.Refreshed.{refreshed}
 use Rattle.blk_graph.specs.declared.edge.Edge.{Edge}
 use Rattle.blk_graph.specs.declared.edge.Parent.TheVariants.{Node}
 use Rattle.blk_graph.specs.declared.edge.Role.{Role}
@@ -19,11 +18,11 @@ use Rattle.blk_graph.proofs.Members.{Contains-here, Contains-there}
 use Rattle.blk_graph.proofs.RefreshLemmas.{child_of-refreshed}
 use Rattle.blk_graph.proofs.RuleLemmas.{find-none}
 use Rattle.q2_format.specs.Contents.{image_disk}
-use Rattle.q2_image.specs.Image.{Known, IsImageOf}
+use Rattle.q2_image.specs.Image.{Known}
 use Rattle.blk_nodes.specs.Adding.{file_edge}
 use Rattle.blk_nodes.specs.Contents.{below, disk_of, bytes_of}
-use Rattle.blk_nodes.specs.Joined.{IsFile, HasSize, IsOverlay, HasBelow, IsSized, IsJoined}
-use Rattle.blk_nodes.specs.Nodes.{Nodes, DeviceState, row_at, device_in, size_by, size_of, file_of, backing_of, node_kind}
+use Rattle.blk_nodes.specs.Joined.{IsFile, HasSize, IsOverlay, IsJoined}
+use Rattle.blk_nodes.specs.Nodes.{Nodes, DeviceState, row_at, size_by, size_of, file_of, backing_of, node_kind}
 use Rattle.blk_nodes.specs.Overlays.{Asked, backing_node, backing_size, backing_stop, format_edges, copying_row, qcow2_row, with_children, with_qcow2, IsOpened, IsOpening, MayBeAdded, IsQcow2Stop}
 use Rattle.blk_nodes.specs.Reading.{HaveRisen}
 use Rattle.blk_nodes.specs.declared.backing.Backing.{Backing}
@@ -187,7 +186,7 @@ module _ (nodes : Nodes) (id child size : ℕ) (name : List ℕ) (is_read_only :
       let found = some_row (row_at nodes child) (joined.there child has) in
       record { row = found.0; there = found.1; is = sym (ap size_by found.1) ∙ is }
 
-  pub joined_copying : IsSound copying.graph → IsJoined copying
+  pub joined_copying : IsSoundGraph copying.graph → IsJoined copying
   joined_copying sound =
       joined_added nodes copying id name (copying_row size is_read_only) joined absent small refl refl refl
       (extends_formed nodes id name (copying_row size is_read_only) child None joined absent small lone) sound tt
@@ -201,7 +200,7 @@ module _ (nodes : Nodes) (id child size : ℕ) (name : List ℕ) (is_read_only :
   pub disks_copying : (other : ℕ) → HasNode nodes.graph other → disk_of copying other ≡ disk_of nodes other
   disks_copying = disks_formed nodes id name (copying_row size is_read_only) child None joined absent small lone
 
-  pub disk_copying : IsSound copying.graph → disk_of copying id ≡ disk_of nodes child
+  pub disk_copying : IsSoundGraph copying.graph → disk_of copying id ≡ disk_of nodes child
   disk_copying sound =
       unfolds copying (joined_copying sound) id (copying_row size is_read_only)
       (formed_row nodes id name (copying_row size is_read_only) child None joined absent small lone)
@@ -232,7 +231,7 @@ module _ (nodes : Nodes) (asked : Asked) (id : ℕ) (image : Known) (joined : Is
       subst (λ (n : ℕ). HasSize nodes n image.header.size) same (fits_size nodes image below joined has fits)
 
   module _ (has : IfSome (backing_node asked.backing) (HasNode nodes.graph)) (opened : IsOpened nodes.devices asked.file image)
-      (fits : backing_stop image asked.backing (backing_size nodes asked.backing) ≡ None) (sound : IsSound made.graph) where
+      (fits : backing_stop image asked.backing (backing_size nodes asked.backing) ≡ None) (sound : IsSoundGraph made.graph) where
     overlay : IsOverlay made id image
     overlay = record {
       file = asked.file;

@@ -10,11 +10,11 @@ use Rattle.q2_tables.specs.declared.mapping.Mapping.{Mapping}
 use Rattle.q2_tables.specs.declared.mapping.Mapping.TheVariants as mappings
 use Rattle.q2_format.specs.declared.entries.L2Entry.{L2Entry}
 use Rattle.q2_format.specs.declared.entries.L2Entry.TheVariants as entries
-use Rattle.q2_image.specs.Image.{Known, entry_in, word_in}
+use Rattle.q2_image.specs.Image.{Known, entry_in}
 use Rattle.q2_image.specs.Reading.{IsHost}
 use Rattle.q2_image.specs.Room.{WriteFits, ZerosFit, PartZerosFit, WriteFitsBy, ZerosFitBy, cluster_of, entry_for, is_whole}
 use Rattle.q2_image.specs.Writing.{PutFits, ZeroFits, own_end, own_place}
-use Rattle.blk_nodes.specs.Entries.{Stays, IsMapped, IsCleared, IsWrittenBy, IsWritten, IsPartZeroedBy, IsZeroed}
+use Rattle.blk_nodes.specs.Changing.{ImageChange, ChangesAround, ChangesInPlace, ChangesPart, ClearsCluster, IsWritten, IsZeroed, ZeroesBy, ZeroesPart}
 use Rattle.blk_nodes.specs.Nodes.{DeviceState, device_in}
 use Rattle.blk_nodes.specs.Parts.{OfImage, HasPiece, IsPieceOf, WritesPart, row_in}
 use Rattle.blk_nodes.specs.Writing.{own_place_by, zeros_place}
@@ -46,12 +46,13 @@ no_place image span (entries.Host host) none = absurd (none tt)
 no_place image span entries.Compressed none = refl
 no_place image span entries.Reserved none = refl
 
-now_mapped : (e : L2Entry) → (IsHost e → ⊥) → (old new : ℕ) → IsMapped old new → IsWrittenBy e old new
-now_mapped entries.Unallocated none old new is = is
-now_mapped (entries.Zero host) none old new is = is
-now_mapped (entries.Host host) none old new is = absurd (none tt)
-now_mapped entries.Compressed none old new is = is
-now_mapped entries.Reserved none old new is = is
+around_part : (e : L2Entry) → (IsHost e → ⊥) → (span : Extent) (bytes : List ℕ) (image now : Known) (before after : DeviceState) (o : Outcome)
+    → ChangesAround span bytes image now before after o → ChangesPart e span bytes image now before after o
+around_part entries.Unallocated none span bytes image now before after o is = is
+around_part (entries.Zero host) none span bytes image now before after o is = is
+around_part (entries.Host host) none span bytes image now before after o is = absurd (none tt)
+around_part entries.Compressed none span bytes image now before after o is = is
+around_part entries.Reserved none span bytes image now before after o is = is
 
 -- a piece is a whole cluster, up to the disk's end, exactly where it is as long
 module _ (span : Extent) (size : ℕ) (some : 0 < span.len) (block : span.start % 65536 + span.len ≤ 65536) (inside : end_of span ≤ size) where
@@ -84,7 +85,7 @@ module _ (rows left : List (Option Row)) (old new : List DeviceState) (part : Pa
   cluster = part.span.start / 65536
 
   -- of one of these writes
-  module _ (fits : Known → ℕ → Type 0) (own : Known → Option ℕ) (made : Known → ℕ → ℕ → Type 0) (w : WritesPart fits own made rows left old new part bytes outcome) where
+  module _ (fits : Known → ℕ → Type 0) (own : Known → Option ℕ) (change : ImageChange) (w : WritesPart fits own change rows left old new part bytes outcome) where
     piece : IsPieceOf rows old part w.image
     piece = image_found (row_in rows part.node) w.row w.image (IsPieceOf rows old part) w.there w.driver has
 
@@ -117,11 +118,11 @@ module _ (rows left : List (Option Row)) (old new : List DeviceState) (part : Pa
   abbrev at_own : Known → Option ℕ
   at_own image = Some (own_place image part.span)
 
-  abbrev stays : Known → ℕ → ℕ → Type 0
-  stays image = Stays
+  abbrev in_place : ImageChange
+  in_place = ChangesInPlace part.span bytes
 
-  abbrev written : Known → ℕ → ℕ → Type 0
-  written image = IsWritten
+  abbrev written : ImageChange
+  written = IsWritten part.span bytes
 
   abbrev ClusterFits : Known → ℕ → Type 0
   ClusterFits image = PutFits image cluster
@@ -129,27 +130,27 @@ module _ (rows left : List (Option Row)) (old new : List DeviceState) (part : Pa
   abbrev nowhere : Known → Option ℕ
   nowhere image = None
 
-  abbrev is_mapped : Known → ℕ → ℕ → Type 0
-  is_mapped image = IsMapped
+  abbrev around : ImageChange
+  around = ChangesAround part.span bytes
 
   pub write_own_as : (host : ℕ) → OfImage (row_in rows part.node) (λ image. entries.Host host ≡ entry_in image cluster)
-      → WritesPart OwnFits at_own stays rows left old new part bytes outcome
-      → WritesPart (λ image. WriteFits image part.span) (λ image. own_place_by (entry_for image part.span) image part.span) (λ _. IsWritten) rows left old new part bytes outcome
+      → WritesPart OwnFits at_own in_place rows left old new part bytes outcome
+      → WritesPart (λ image. WriteFits image part.span) (λ image. own_place_by (entry_for image part.span) image part.span) written rows left old new part bytes outcome
   write_own_as host is w =
-      let entry = entry_of_image OwnFits at_own stays w (entries.Host host) is in
-      wrote_as rows left old new part bytes outcome OwnFits (λ image. WriteFits image part.span) at_own (λ image. own_place_by (entry_for image part.span) image part.span) stays written w
+      let entry = entry_of_image OwnFits at_own in_place w (entries.Host host) is in
+      wrote_as rows left old new part bytes outcome OwnFits (λ image. WriteFits image part.span) at_own (λ image. own_place_by (entry_for image part.span) image part.span) in_place written w
       (λ capacity fit. subst (λ (e : L2Entry). WriteFitsBy e w.image part.span capacity) (sym entry) fit)
       (λ capacity fit. subst (λ (e : L2Entry). WriteFitsBy e w.image part.span capacity) entry fit)
       (sym (ap (λ (e : L2Entry). own_place_by e w.image part.span) entry))
-      (λ word same. subst (λ (e : L2Entry). IsWrittenBy e (word_in w.image cluster) word) (entry_at OwnFits at_own stays w (entries.Host host) is) same)
+      (λ now before after o is. subst (λ (e : L2Entry). ChangesPart e part.span bytes w.image now before after o) (sym entry) is)
 
   pub write_put_as : (e : L2Entry) → (IsHost e → ⊥) → OfImage (row_in rows part.node) (λ image. e ≡ entry_in image cluster)
-      → WritesPart ClusterFits nowhere is_mapped rows left old new part bytes outcome
-      → WritesPart (λ image. WriteFits image part.span) (λ image. own_place_by (entry_for image part.span) image part.span) (λ _. IsWritten) rows left old new part bytes outcome
+      → WritesPart ClusterFits nowhere around rows left old new part bytes outcome
+      → WritesPart (λ image. WriteFits image part.span) (λ image. own_place_by (entry_for image part.span) image part.span) written rows left old new part bytes outcome
   write_put_as e none is w =
-      let entry = entry_of_image ClusterFits nowhere is_mapped w e is in
-      let at = clusters ClusterFits nowhere is_mapped w in
-      wrote_as rows left old new part bytes outcome ClusterFits (λ image. WriteFits image part.span) nowhere (λ image. own_place_by (entry_for image part.span) image part.span) is_mapped written w
+      let entry = entry_of_image ClusterFits nowhere around w e is in
+      let at = clusters ClusterFits nowhere around w in
+      wrote_as rows left old new part bytes outcome ClusterFits (λ image. WriteFits image part.span) nowhere (λ image. own_place_by (entry_for image part.span) image part.span) around written w
       (λ capacity fit.
       subst (λ (e : L2Entry). WriteFitsBy e w.image part.span capacity) (sym entry)
       (put_to w.image part.span capacity e none (subst (λ (k : ℕ). PutFits w.image k capacity) (sym at) fit)))
@@ -157,9 +158,9 @@ module _ (rows left : List (Option Row)) (old new : List DeviceState) (part : Pa
       subst (λ (k : ℕ). PutFits w.image k capacity) at
       (put_back w.image part.span capacity e none (subst (λ (e : L2Entry). WriteFitsBy e w.image part.span capacity) entry fit)))
       (sym (ap (λ (e : L2Entry). own_place_by e w.image part.span) entry ∙ no_place w.image part.span e none))
-      (λ word mapped.
-      subst (λ (e : L2Entry). IsWrittenBy e (word_in w.image cluster) word) (entry_at ClusterFits nowhere is_mapped w e is)
-      (now_mapped e none (word_in w.image cluster) word mapped))
+      (λ now before after o is.
+      subst (λ (e : L2Entry). ChangesPart e part.span bytes w.image now before after o) (sym entry)
+      (around_part e none part.span bytes w.image now before after o is))
 
   abbrev to_zeros : Known → ℕ → Type 0
   to_zeros image = ZerosFit image part.span
@@ -167,11 +168,11 @@ module _ (rows left : List (Option Row)) (old new : List DeviceState) (part : Pa
   abbrev zeros_at : Known → Option ℕ
   zeros_at image = zeros_place (is_whole image part.span) image part.span
 
-  abbrev zeroed : Known → ℕ → ℕ → Type 0
-  zeroed image = IsZeroed (is_whole image part.span)
+  abbrev zeroed : ImageChange
+  zeroed = IsZeroed part.span
 
-  abbrev cleared : Known → ℕ → ℕ → Type 0
-  cleared image = IsCleared
+  abbrev cleared : ImageChange
+  cleared = ClearsCluster cluster
 
   pub zero_clear_as : part.span.len ≡ part.whole.len → WritesPart (λ image. ZeroFits image cluster) nowhere cleared rows left old new part bytes outcome
       → WritesPart to_zeros zeros_at zeroed rows left old new part bytes outcome
@@ -185,13 +186,16 @@ module _ (rows left : List (Option Row)) (old new : List DeviceState) (part : Pa
       (λ capacity fit.
       subst (λ (k : ℕ). ZeroFits w.image k capacity) at (subst (λ (b : Bool). ZerosFitBy b w.image part.span capacity) whole fit))
       (sym (ap (λ (b : Bool). zeros_place b w.image part.span) whole))
-      (λ word reads. subst (λ (b : Bool). IsZeroed b (word_in w.image cluster) word) (sym whole) reads)
+      (λ now before after o is.
+      subst (λ (b : Bool). ZeroesBy b part.span w.image now before after o) (sym whole)
+      (subst (λ (k : ℕ). ClearsCluster k w.image now before after o) (sym at) is))
 
   -- zeros of a part that are written as other bytes are
   module _ (less : part.span.len ≢ part.whole.len) (e : L2Entry) (plain : (image : Known) (capacity : ℕ) → WriteFitsBy e image part.span capacity → PartZerosFit e image part.span capacity)
       (back : (image : Known) (capacity : ℕ) → PartZerosFit e image part.span capacity → WriteFitsBy e image part.span capacity)
-      (keeps : (old new : ℕ) → IsWrittenBy e old new → IsPartZeroedBy e old new) (is : OfImage (row_in rows part.node) (λ image. e ≡ entry_in image cluster))
-      (w : WritesPart (λ image. WriteFits image part.span) (λ image. own_place_by (entry_for image part.span) image part.span) (λ _. IsWritten) rows left old new part bytes outcome) where
+      (keeps : (image now : Known) (before after : DeviceState) (o : Outcome) → ChangesPart e part.span bytes image now before after o
+      → ZeroesPart e part.span image now before after o) (is : OfImage (row_in rows part.node) (λ image. e ≡ entry_in image cluster))
+      (w : WritesPart (λ image. WriteFits image part.span) (λ image. own_place_by (entry_for image part.span) image part.span) written rows left old new part bytes outcome) where
     abbrev ByWrite : Known → ℕ → Type 0
     ByWrite image = WriteFits image part.span
 
@@ -202,7 +206,6 @@ module _ (rows left : List (Option Row)) (old new : List DeviceState) (part : Pa
     zero_part_as =
         let test = part_is ByWrite by_entry written w less in
         let entry = entry_of_image ByWrite by_entry written w e is in
-        let at = entry_at ByWrite by_entry written w e is in
         wrote_as rows left old new part bytes outcome ByWrite to_zeros by_entry zeros_at written zeroed w
         (λ capacity fit.
         subst (λ (b : Bool). ZerosFitBy b w.image part.span capacity) (sym test)
@@ -214,10 +217,11 @@ module _ (rows left : List (Option Row)) (old new : List DeviceState) (part : Pa
         subst (λ (e : L2Entry). WriteFitsBy e w.image part.span capacity) (sym entry)
         (back w.image capacity (subst (λ (e : L2Entry). PartZerosFit e w.image part.span capacity) entry of_part)))
         (sym (ap (λ (b : Bool). zeros_place b w.image part.span) test))
-        (λ word is_written.
-        subst (λ (b : Bool). IsZeroed b (word_in w.image cluster) word) (sym test)
-        (subst (λ (e : L2Entry). IsPartZeroedBy e (word_in w.image cluster) word) at
-        (keeps (word_in w.image cluster) word (subst (λ (e : L2Entry). IsWrittenBy e (word_in w.image cluster) word) (sym at) is_written))))
+        (λ now before after o is_written.
+        subst (λ (b : Bool). ZeroesBy b part.span w.image now before after o) (sym test)
+        (subst (λ (e : L2Entry). ZeroesPart e part.span w.image now before after o) (sym entry)
+        (keeps w.image now before after o
+        (subst (λ (e : L2Entry). ChangesPart e part.span bytes w.image now before after o) entry is_written))))
 
   -- and of one that reads as zeros already
   pub zero_left_fits : (row : Row) (image : Known) (host capacity : ℕ) → IsPieceOf rows old part image → part.span.len ≢ part.whole.len
@@ -230,16 +234,16 @@ module _ (rows left : List (Option Row)) (old new : List DeviceState) (part : Pa
       let entry : entry_for image part.span ≡ entries.Zero host = entry_is rows old part image piece ∙ sym is in
       subst (λ (b : Bool). ZerosFitBy b image part.span capacity) (sym test) (subst (λ (e : L2Entry). PartZerosFit e image part.span capacity) (sym entry) tt)
 
-  pub zero_left_entry : (image : Known) (host : ℕ) → IsPieceOf rows old part image → part.span.len ≢ part.whole.len → entries.Zero host ≡ entry_in image cluster
-      → IsZeroed (is_whole image part.span) (word_in image cluster) (word_in image cluster)
-  zero_left_entry image host piece less is =
+  pub zero_left_change : (image : Known) (host : ℕ) (device : DeviceState) → IsPieceOf rows old part image → part.span.len ≢ part.whole.len
+      → entries.Zero host ≡ entry_in image cluster → IsZeroed part.span image image device device Good
+  zero_left_change image host device piece less is =
       let bits = size_bits rows old part image piece in
       let len = len_is rows old part image piece in
       let test : is_whole image part.span ≡ false
       = rw bits (whole_false part.span image.header.size piece.some piece.block piece.inside (λ same. less (same ∙ sym len))) in
-      let word : ℕ = word_in image cluster in
-      let stays : Stays word word = refl in
-      subst (λ (b : Bool). IsZeroed b word word) (sym test) (subst (λ (e : L2Entry). IsPartZeroedBy e word word) is stays)
+      let entry : entry_for image part.span ≡ entries.Zero host = entry_is rows old part image piece ∙ sym is in
+      subst (λ (b : Bool). ZeroesBy b part.span image image device device Good) (sym test)
+      (subst (λ (e : L2Entry). ZeroesPart e part.span image image device device Good) (sym entry) ((refl, refl), refl))
 
 -- What a cluster is mapped to.
 pub not_host : (m : Mapping) → ((host : ℕ) → m ≡ mappings.Host host → ⊥) → IsHost (entry_of m) → ⊥
@@ -267,30 +271,31 @@ of_part image span capacity mappings.Unallocated none fits = fits
 of_part image span capacity (mappings.Zero host) none fits = absurd (none host refl)
 of_part image span capacity (mappings.Host host) none fits = fits
 
-rest_zeroed : (m : Mapping) → ((host : ℕ) → m ≡ mappings.Zero host → ⊥) → (old new : ℕ) → IsWrittenBy (entry_of m) old new → IsPartZeroedBy (entry_of m) old new
-rest_zeroed mappings.Unallocated none old new is = is
-rest_zeroed (mappings.Zero host) none old new is = absurd (none host refl)
-rest_zeroed (mappings.Host host) none old new is = is
+rest_zeroed : (m : Mapping) → ((host : ℕ) → m ≡ mappings.Zero host → ⊥) → (span : Extent) (image now : Known) (before after : DeviceState) (o : Outcome)
+    → ChangesPart (entry_of m) span (replicate span.len 0) image now before after o → ZeroesPart (entry_of m) span image now before after o
+rest_zeroed mappings.Unallocated none span image now before after o is = is
+rest_zeroed (mappings.Zero host) none span image now before after o is = absurd (none host refl)
+rest_zeroed (mappings.Host host) none span image now before after o is = is
 
-pub zero_rest_as : (rows left : List (Option Row)) (old new : List DeviceState) (part : Part) (bytes : List ℕ) (outcome : Outcome) (has : HasPiece rows old part)
+pub zero_rest_as : (rows left : List (Option Row)) (old new : List DeviceState) (part : Part) (outcome : Outcome) (has : HasPiece rows old part)
     → part.span.len ≢ part.whole.len → (m : Mapping) → ((host : ℕ) → m ≡ mappings.Zero host → ⊥)
     → OfImage (row_in rows part.node) (λ image. entry_of m ≡ entry_in image (part.span.start / 65536))
-    → WritesPart (λ image. WriteFits image part.span) (λ image. own_place_by (entry_for image part.span) image part.span) (λ _. IsWritten) rows left old new part bytes outcome
-    → WritesPart (λ image. ZerosFit image part.span) (λ image. zeros_place (is_whole image part.span) image part.span) (λ image. IsZeroed (is_whole image part.span)) rows left old new part bytes outcome
-zero_rest_as rows left old new part bytes outcome has less m none seen w =
-    zero_part_as rows left old new part bytes outcome has less (entry_of m) (λ image capacity fits. to_part image part.span capacity m none fits)
-    (λ image capacity fits. of_part image part.span capacity m none fits) (rest_zeroed m none) seen w
+    → WritesPart (λ image. WriteFits image part.span) (λ image. own_place_by (entry_for image part.span) image part.span) (IsWritten part.span (replicate part.span.len 0)) rows left old new part (replicate part.span.len 0) outcome
+    → WritesPart (λ image. ZerosFit image part.span) (λ image. zeros_place (is_whole image part.span) image part.span) (IsZeroed part.span) rows left old new part (replicate part.span.len 0) outcome
+zero_rest_as rows left old new part outcome has less m none seen w =
+    zero_part_as rows left old new part (replicate part.span.len 0) outcome has less (entry_of m) (λ image capacity fits. to_part image part.span capacity m none fits)
+    (λ image capacity fits. of_part image part.span capacity m none fits) (rest_zeroed m none part.span) seen w
 
 pub zero_left_as : (rows : List (Option Row)) (old : List DeviceState) (part : Part) (has : HasPiece rows old part) → part.span.len ≢ part.whole.len → (host : ℕ)
     → OfImage (row_in rows part.node) (λ image. entries.Zero host ≡ entry_in image (part.span.start / 65536))
-    → WritesPart (λ image. ZerosFit image part.span) (λ image. zeros_place (is_whole image part.span) image part.span) (λ image. IsZeroed (is_whole image part.span)) rows rows old old part (replicate part.span.len 0) Good
+    → WritesPart (λ image. ZerosFit image part.span) (λ image. zeros_place (is_whole image part.span) image part.span) (IsZeroed part.span) rows rows old old part (replicate part.span.len 0) Good
 zero_left_as rows old part has less host seen =
     let image = has_image (row_in rows part.node) (IsPieceOf rows old part) has in
     let entry : entries.Zero host ≡ entry_in image.1 (part.span.start / 65536)
     = image_found (row_in rows part.node) image.0 image.1 (λ image. entries.Zero host ≡ entry_in image (part.span.start / 65536)) image.2 image.3 seen in
     let device = some_device (device_in old part.file) image.4.held in
     left_wrote rows old part (λ image. ZerosFit image part.span) (λ image. zeros_place (is_whole image part.span) image part.span)
-    (λ image. IsZeroed (is_whole image part.span)) image.0 image.1 host device.0
+    (IsZeroed part.span) image.0 image.1 host device.0
     image.2 image.3 image.4 (row_below rows part.node image.0 image.2) (sym entry) device.1
     (zero_left_fits rows rows old old part (replicate part.span.len 0) Good has image.0 image.1 host device.0.capacity image.4 less entry)
-    (zero_left_entry rows rows old old part (replicate part.span.len 0) Good has image.1 host image.4 less entry)
+    (zero_left_change rows rows old old part (replicate part.span.len 0) Good has image.1 host device.0 image.4 less entry)

@@ -1,8 +1,8 @@
 -- What the calls of an image leave where they write a piece.
-use Rattle.std.proofs.Common.{◌≡◌, ℕ, ◌+◌, ◌-◌, ◌*◌, ◌/◌, ◌%◌, ◌<◌, ◌≤◌, ◌⊎◌, min, true, List, [], ◌∷◌, ◌++◌, length, take, drop, get_or, set, replicate, Option, Some, None, refl, sym, ◌∙◌, ap, subst, arith, inl, inr}
+use Rattle.std.proofs.Common.{◌≡◌, ℕ, ◌+◌, ◌-◌, ◌*◌, ◌/◌, ◌%◌, ◌<◌, ◌≤◌, ◌⊎◌, min, true, false, List, [], ◌∷◌, ◌++◌, length, take, drop, get_or, set, replicate, Option, Some, None, refl, sym, ◌∙◌, ap, subst, arith, inl, inr}
 use Rattle.std.proofs.lemmas.Bool.{cases_lt}
 use Rattle.std.proofs.lemmas.List.{get_or-take, set-get_or}
-use Rattle.blk_base.proofs.Contents.{get_or-with_bytes_inside, get_or-with_bytes_outside, overwritten-within}
+use Rattle.blk_base.proofs.Contents.{get_or-with_bytes_inside, get_or-with_bytes_outside, length-overwritten, overwritten-within}
 use Rattle.blk_base.specs.Content.{bytes_at, with_bytes}
 use Rattle.blk_base.specs.Pieces.{Extent}
 use Rattle.blk_base.specs.declared.fault.DevNo.{DevNo}
@@ -13,15 +13,15 @@ use Rattle.q2_format.specs.Header.{header_of}
 use Rattle.q2_format.specs.declared.header.Header.{Header}
 use Rattle.q2_format.specs.declared.entries.L2Entry.TheVariants as entries
 use Rattle.q2_image.specs.Guest.{file_entry}
-use Rattle.q2_image.specs.Image.{Known, IsImageOf, cluster_size_in, clusters_in, entry_in, word_in}
+use Rattle.q2_image.specs.Image.{Known, IsImageOf, cluster_size_in, clusters_in, entry_in}
 use Rattle.q2_image.specs.Room.{cluster_of, entry_for}
-use Rattle.q2_image.specs.Writing.{IsDiskWith, HasEntriesBut, PutFits, ZeroFits, own_end, own_place}
+use Rattle.q2_image.specs.Writing.{IsDiskWith, PutFits, ZeroFits, own_end, own_place}
 use Rattle.q2_image.proofs.Guests.{guest_zero}
 use Rattle.q2_image.proofs.Mapped.{entry_of_file}
 use Rattle.blk_base.specs.Outcomes.{is_good}
-use Rattle.blk_nodes.specs.Entries.{Stays, IsMapped, IsCleared, IsEntryAfter, IsImageAfter}
+use Rattle.blk_nodes.specs.Changing.{ImageChange, ChangesAround, ChangesInPlace, ClearsCluster, HasPart, PutsCluster}
 use Rattle.blk_nodes.specs.Found.{found_bytes, IsReadFrom}
-use Rattle.blk_nodes.specs.Reading.{IsReadAt}
+use Rattle.blk_nodes.specs.Reading.{HaveRisen, IsReadAt}
 use Rattle.blk_nodes.specs.Walk.{IsKnownAt}
 use Rattle.blk_nodes.specs.declared.source.Source.{Source}
 use Rattle.blk_nodes.specs.declared.source.Source.TheVariants as sources
@@ -33,7 +33,7 @@ use Rattle.blk_nodes.specs.declared.row.Driver.{Driver}
 use Rattle.blk_nodes.specs.declared.row.Driver.TheVariants.{Qcow2}
 use Rattle.blk_nodes.specs.declared.row.Row.{Row}
 use Rattle.blk_nodes.proofs.Chains.{has_entry}
-use Rattle.blk_nodes.proofs.HeldDevices.{HasRisen-refl, device_risen}
+use Rattle.blk_nodes.proofs.HeldDevices.{HasRisen-refl, device_risen, some_device}
 use Rattle.blk_nodes.proofs.ImageDisks.{disk_written, disk_put, disk_zeroed, disk_left}
 use Rattle.blk_nodes.proofs.Rows.{has_image, image_found, of_image, row_found}
 use Rattle.blk_nodes.proofs.Written.{length-written}
@@ -110,10 +110,31 @@ gathered rows devices part has old found bytes new whole is len read =
       ];
     }
 
+-- which has the bytes of the piece
+length-laid : (old bytes : List ℕ) (at : ℕ) → at + length bytes ≤ length old → length (with_bytes old at bytes) ≡ length old
+length-laid old [] at within = refl
+length-laid old (x ∷ xs) at within = length-overwritten old at (x ∷ xs) ∙ omega (arith, within)
+
+pub laid_part : (rows : List (Option Row)) (devices : List DeviceState) (part : Part) → HasPiece rows devices part → (old bytes new : List ℕ)
+    → length old ≡ 65536 → new ≡ take (part.span.start % 65536) old ++ bytes ++ drop (part.span.start % 65536 + length bytes) old → length bytes ≡ part.span.len
+    → HasPart 65536 part.span bytes new
+laid_part rows devices part has old bytes new whole is len =
+    let image = has_image (row_in rows part.node) (IsPieceOf rows devices part) has in
+    let piece : IsPieceOf rows devices part image.1 = image.4 in
+    let at : ℕ = part.span.start % 65536 in
+    let some = piece.some in
+    let block = piece.block in
+    let within : at + length bytes ≤ length old = omega (arith, whole, len, block) in
+    let put : new ≡ with_bytes old at bytes = is ∙ laid old bytes at within (omega (arith, len, some)) in
+    record {
+      whole = ap length put ∙ length-laid old bytes at within ∙ whole;
+      holds = λ i few. ap (λ (b : List ℕ). get_or b (at + i) 0) put ∙ get_or-with_bytes_inside old at bytes i few;
+    }
+
 -- a call on the image of a piece
 module _ (rows left : List (Option Row)) (old new : List DeviceState) (part : Part) (bytes all_bytes : List ℕ) (outcome : Outcome) (fits : Known → ℕ → Type 0) (own : Known → Option ℕ)
-    (made : Known → ℕ → ℕ → Type 0) (place : ℕ) (slot : Option Row) (has : HasPiece rows old part) (below : part.node < length rows)
-    (call : CallsRow part.file fits own made (row_in rows part.node) slot old new place all_bytes outcome)
+    (change : ImageChange) (place : ℕ) (slot : Option Row) (has : HasPiece rows old part) (below : part.node < length rows)
+    (call : CallsRow part.file fits own change (row_in rows part.node) slot old new place all_bytes outcome)
     (is_left : left ≡ set rows part.node slot) where
   pub piece : IsPieceOf rows old part call.image
   piece = image_found (row_in rows part.node) call.row call.image (IsPieceOf rows old part) call.there call.driver has
@@ -135,19 +156,10 @@ module _ (rows left : List (Option Row)) (old new : List DeviceState) (part : Pa
       let back : Some (record call.row { driver = Qcow2 call.image }) ≡ Some call.row = ap (λ (r : Row). Some r) (same_row call.row call.image call.driver) in
       (row_now ∙ ap with_image same ∙ ap (set rows part.node) back ∙ set_same rows part.node (Some call.row) below call.there, call.call.full dev none)
 
-  image_after : place / 65536 ≡ part.span.start / 65536 → IsImageAfter (made call.image) call.image call.now (part.span.start / 65536) outcome
-  image_after here = record {
-    header = call.call.call.wrote.header;
-    taken = call.call.call.wrote.taken;
-    others = subst (HasEntriesBut call.image call.now) here call.call.call.wrote.entries;
-    own = subst (λ (k : ℕ). IsEntryAfter (made call.image) outcome (word_in call.image k) (word_in call.now k)) here call.call.call.entry;
-  }
-
-  pub called_part : place / 65536 ≡ part.span.start / 65536
-      → HasImageCause (fits call.image call.call.before.capacity) (own call.image) (length bytes) call.call.before call.call.after call.image call.now outcome
+  pub called_part : HasImageCause (fits call.image call.call.before.capacity) (own call.image) (length bytes) call.call.before call.call.after call.image call.now outcome
       → (AreTold old → (b b' : List ℕ) → call.call.before.content ≡ Some b → call.call.after.content ≡ Some b' → IsDiskAfter old part (taken_by outcome bytes) b b')
-      → WritesPart fits own made rows left old new part bytes outcome
-  called_part here cause disk = record {
+      → WritesPart fits own change rows left old new part bytes outcome
+  called_part cause disk = record {
     row = call.row;
     image = call.image;
     there = call.there;
@@ -155,7 +167,8 @@ module _ (rows left : List (Option Row)) (old new : List DeviceState) (part : Pa
     wrote = inr (inr record {
       now = call.now;
       opened = call.opened;
-      changed = image_after here;
+      header = call.call.call.wrote.header;
+      taken = call.call.call.wrote.taken;
       mapped = call.call.call.wrote.mapped;
       row_now = row_now;
       before = call.call.before;
@@ -165,6 +178,7 @@ module _ (rows left : List (Option Row)) (old new : List DeviceState) (part : Pa
       only = call.call.only;
       cause = cause;
       full = full;
+      changed = call.call.call.changed;
       device = call.call.call.wrote.device;
       known = call.call.call.wrote.image;
       disk = disk;
@@ -174,15 +188,15 @@ module _ (rows left : List (Option Row)) (old new : List DeviceState) (part : Pa
 -- in place
 pub own_wrote : (rows left : List (Option Row)) (old new : List DeviceState) (part : Part) (bytes : List ℕ) (outcome : Outcome) (slot : Option Row) → HasPiece rows old part
     → part.node < length rows
-    → CallsRow part.file (λ image capacity. own_end image part.span ≤ capacity) (λ image. Some (own_place image part.span)) (λ _. Stays) (row_in rows part.node) slot old new part.span.start bytes outcome
+    → CallsRow part.file (λ image capacity. own_end image part.span ≤ capacity) (λ image. Some (own_place image part.span)) (ChangesInPlace part.span bytes) (row_in rows part.node) slot old new part.span.start bytes outcome
     → left ≡ set rows part.node slot → length bytes ≡ part.span.len
-    → WritesPart (λ image capacity. own_end image part.span ≤ capacity) (λ image. Some (own_place image part.span)) (λ _. Stays) rows left old new part bytes outcome
+    → WritesPart (λ image capacity. own_end image part.span ≤ capacity) (λ image. Some (own_place image part.span)) (ChangesInPlace part.span bytes) rows left old new part bytes outcome
 own_wrote rows left old new part bytes outcome slot has below call is_left len =
     let fits : Known → ℕ → Type 0 = λ image capacity. own_end image part.span ≤ capacity in
     let own : Known → Option ℕ = λ image. Some (own_place image part.span) in
-    let made : Known → ℕ → ℕ → Type 0 = λ _. Stays in
-    let is = piece rows left old new part bytes bytes outcome fits own made part.span.start slot has below call is_left in
-    called_part rows left old new part bytes bytes outcome fits own made part.span.start slot has below call is_left refl call.call.call.cause
+    let change : ImageChange = ChangesInPlace part.span bytes in
+    let is = piece rows left old new part bytes bytes outcome fits own change part.span.start slot has below call is_left in
+    called_part rows left old new part bytes bytes outcome fits own change part.span.start slot has below call is_left call.call.call.cause
     (λ all b b' was now backing rest.
     let size = size_in rows old part call.image is call.call.before b call.call.held was in
     let few = length-written outcome bytes in
@@ -190,9 +204,9 @@ own_wrote rows left old new part bytes outcome slot has below call is_left len =
     disk_written b b' backing part.span.start (taken_by outcome bytes) (call.call.call.wrote.disk b b' was now) (omega arith))
 
 -- of a whole cluster
-module _ (rows left : List (Option Row)) (old new : List DeviceState) (part : Part) (outcome : Outcome) (fits : Known → ℕ → Type 0) (made : Known → ℕ → ℕ → Type 0)
+module _ (rows left : List (Option Row)) (old new : List DeviceState) (part : Part) (outcome : Outcome) (fits : Known → ℕ → Type 0) (change : ImageChange)
     (slot : Option Row) (has : HasPiece rows old part) (below : part.node < length rows) (all_bytes bytes : List ℕ)
-    (call : CallsRow part.file fits (λ _. None) made (row_in rows part.node) slot old new (part.span.start / 65536 * 65536) all_bytes outcome)
+    (call : CallsRow part.file fits (λ _. None) change (row_in rows part.node) slot old new (part.span.start / 65536 * 65536) all_bytes outcome)
     (is_left : left ≡ set rows part.node slot)
     (good : AreTold old → (b b' : List ℕ) → call.call.before.content ≡ Some b → call.call.after.content ≡ Some b' → (header_of b).size ≡ call.image.header.size
     → IsDiskWith b b' (part.span.start - part.span.start % 65536) all_bytes → IsDiskAfter old part bytes b b') where
@@ -203,7 +217,7 @@ module _ (rows left : List (Option Row)) (old new : List DeviceState) (part : Pa
   here = omega arith
 
   pub cluster_piece : IsPieceOf rows old part call.image
-  cluster_piece = piece rows left old new part bytes all_bytes outcome fits (λ _. None) made (part.span.start / 65536 * 65536) slot has below call is_left
+  cluster_piece = piece rows left old new part bytes all_bytes outcome fits (λ _. None) change (part.span.start / 65536 * 65536) slot has below call is_left
 
   by : (o : Outcome) → HasImageCause (fits call.image call.call.before.capacity) None (length all_bytes) call.call.before call.call.after call.image call.now o
       → AreTold old → (b b' : List ℕ) → call.call.before.content ≡ Some b → call.call.after.content ≡ Some b' → (header_of b).size ≡ call.image.header.size
@@ -215,26 +229,68 @@ module _ (rows left : List (Option Row)) (old new : List DeviceState) (part : Pa
   by (NoSpace dev) cause all b b' was now size is = λ backing rest.
       let inside = cluster_piece.inside in disk_written b b' backing base [] is (omega arith)
 
-  pub cluster_wrote : WritesPart fits (λ _. None) made rows left old new part bytes outcome
+  pub cluster_wrote : WritesPart fits (λ _. None) change rows left old new part bytes outcome
   cluster_wrote =
-      called_part rows left old new part bytes all_bytes outcome fits (λ _. None) made (part.span.start / 65536 * 65536) slot has below call is_left (omega arith)
+      called_part rows left old new part bytes all_bytes outcome fits (λ _. None) change (part.span.start / 65536 * 65536) slot has below call is_left
       (cause_of (fits call.image call.call.before.capacity) (length all_bytes) (length bytes) call.call.before call.call.after call.image call.now outcome call.call.call.cause)
       (λ all b b' was now.
       let size = size_in rows old part call.image cluster_piece call.call.before b call.call.held was in
       let disk : IsDiskWith b b' base (taken_by outcome all_bytes) = subst (λ (at : ℕ). IsDiskWith b b' at (taken_by outcome all_bytes)) here (call.call.call.wrote.disk b b' was now) in
       by outcome call.call.call.cause all b b' was now size disk)
 
+-- the same call by other words for the change
+calls_as : (file : ℕ) (fits : Known → ℕ → Type 0) (own : Known → Option ℕ) (change to : ImageChange) (old new : Option Row) (before after : List DeviceState) (place : ℕ)
+    (bytes : List ℕ) (outcome : Outcome) (call : CallsRow file fits own change old new before after place bytes outcome)
+    → to call.image call.now call.call.before call.call.after outcome → CallsRow file fits own to old new before after place bytes outcome
+calls_as file fits own change to old new before after place bytes outcome call changed = record {
+  row = call.row;
+  image = call.image;
+  now = call.now;
+  there = call.there;
+  driver = call.driver;
+  left = call.left;
+  opened = call.opened;
+  call = record {
+    before = call.call.before;
+    after = call.call.after;
+    held = call.call.held;
+    left = call.call.left;
+    call = record { wrote = call.call.call.wrote; cause = call.call.call.cause; changed = changed };
+    only = call.call.only;
+    full = call.call.full;
+  };
+}
+
+-- a cluster that was put together is put around the bytes of a part
+around : (part : Extent) (bytes cluster : List ℕ) (image now : Known) (before after : DeviceState) (outcome : Outcome) → HasPart (cluster_size_in image) part bytes cluster
+    → (number : ℕ) → number ≡ cluster_of image part → PutsCluster number cluster image now before after outcome → ChangesAround part bytes image now before after outcome
+around part bytes cluster image now before after outcome has number is puts =
+    by outcome (subst (λ (n : ℕ). PutsCluster n cluster image now before after outcome) is puts)
+  where
+    by : (o : Outcome) → PutsCluster (cluster_of image part) cluster image now before after o → ChangesAround part bytes image now before after o
+    by Good puts = (record { cluster = cluster; has = has; puts = puts.0 }, puts.1)
+    by (Torn done dev count) puts = puts
+    by (Io dev count) puts = inl record { cluster = cluster; has = has; puts = puts }
+    by (NoSpace dev) puts = puts
+
 -- a put, of a cluster that was put together
 pub put_wrote : (rows left : List (Option Row)) (old new : List DeviceState) (part : Part) (bytes cluster : List ℕ) (outcome : Outcome) (slot : Option Row) → HasPiece rows old part
     → part.node < length rows
-    → CallsRow part.file (λ image. PutFits image (part.span.start / 65536)) (λ _. None) (λ _. IsMapped) (row_in rows part.node) slot old new (part.span.start / 65536 * 65536) cluster outcome
-    → left ≡ set rows part.node slot → length bytes ≡ part.span.len → length cluster ≡ 65536
+    → CallsRow part.file (λ image. PutFits image (part.span.start / 65536)) (λ _. None) (PutsCluster (part.span.start / 65536) cluster) (row_in rows part.node) slot old new (part.span.start / 65536 * 65536) cluster outcome
+    → left ≡ set rows part.node slot → length bytes ≡ part.span.len → HasPart 65536 part.span bytes cluster
     → (AreTold old → IsGathered cluster (found_bytes old part.source part.whole.start part.whole.len) part.whole.len (part.span.start % 65536) bytes)
-    → WritesPart (λ image. PutFits image (part.span.start / 65536)) (λ _. None) (λ _. IsMapped) rows left old new part bytes outcome
-put_wrote rows left old new part bytes cluster outcome slot has below call is_left len whole gathered =
+    → WritesPart (λ image. PutFits image (part.span.start / 65536)) (λ _. None) (ChangesAround part.span bytes) rows left old new part bytes outcome
+unfolding calls_as
+put_wrote rows left old new part bytes cluster outcome slot has below put is_left len holds rest_is =
     let fits : Known → ℕ → Type 0 = λ image. PutFits image (part.span.start / 65536) in
-    let is : IsPieceOf rows old part call.image
-    = piece rows left old new part bytes cluster outcome fits (λ _. None) (λ _. IsMapped) (part.span.start / 65536 * 65536) slot has below call is_left in
+    let is : IsPieceOf rows old part put.image
+    = piece rows left old new part bytes cluster outcome fits (λ _. None) (PutsCluster (part.span.start / 65536) cluster) (part.span.start / 65536 * 65536) slot has below put is_left in
+    let change : ImageChange = ChangesAround part.span bytes in
+    let call : CallsRow part.file fits (λ _. None) change (row_in rows part.node) slot old new (part.span.start / 65536 * 65536) cluster outcome
+    = calls_as part.file fits (λ _. None) (PutsCluster (part.span.start / 65536) cluster) change (row_in rows part.node) slot old new (part.span.start / 65536 * 65536) cluster outcome put
+    (around part.span bytes cluster put.image put.now put.call.before put.call.after outcome
+    (subst (λ (c : ℕ). HasPart c part.span bytes cluster) (sym (size_bits rows old part put.image is)) holds)
+    (part.span.start / 65536) (sym (cluster_is rows old part put.image is)) put.call.call.changed) in
     let good : AreTold old → (b b' : List ℕ) → call.call.before.content ≡ Some b → call.call.after.content ≡ Some b' → (header_of b).size ≡ call.image.header.size
     → IsDiskWith b b' (part.span.start - part.span.start % 65536) cluster → IsDiskAfter old part bytes b b'
     = λ all b b' was now size disk backing rest.
@@ -245,21 +301,21 @@ put_wrote rows left old new part bytes cluster outcome slot has below call is_le
     let found : List ℕ = found_bytes old part.source part.whole.start part.whole.len in
     let at_base : found ≡ bytes_at (image_disk b backing) (part.span.start - part.span.start % 65536) part.whole.len
     = rest ∙ ap (λ (k : ℕ). bytes_at (image_disk b backing) k part.whole.len) start in
-    disk_put b b' backing part.span.start part.whole.len bytes cluster found disk whole (gathered all) at_base
+    disk_put b b' backing part.span.start part.whole.len bytes cluster found disk holds.whole (rest_is all) at_base
     (count ∙ ap (λ (s : ℕ). min 65536 (s - (part.span.start - part.span.start % 65536))) (sym size)) (omega arith) (omega arith) in
-    cluster_wrote rows left old new part outcome fits (λ _. IsMapped) slot has below cluster bytes call is_left good
+    cluster_wrote rows left old new part outcome fits change slot has below cluster bytes call is_left good
 
 -- a whole cluster that is made to read as zeros
 pub clear_wrote : (rows left : List (Option Row)) (old new : List DeviceState) (part : Part) (outcome : Outcome) (slot : Option Row) → HasPiece rows old part
     → part.node < length rows
-    → CallsRow part.file (λ image. ZeroFits image (part.span.start / 65536)) (λ _. None) (λ _. IsCleared) (row_in rows part.node) slot old new (part.span.start / 65536 * 65536) (replicate 65536 0) outcome
+    → CallsRow part.file (λ image. ZeroFits image (part.span.start / 65536)) (λ _. None) (ClearsCluster (part.span.start / 65536)) (row_in rows part.node) slot old new (part.span.start / 65536 * 65536) (replicate 65536 0) outcome
     → left ≡ set rows part.node slot → part.span.len ≡ part.whole.len
-    → WritesPart (λ image. ZeroFits image (part.span.start / 65536)) (λ _. None) (λ _. IsCleared) rows left old new part (replicate part.span.len 0) outcome
+    → WritesPart (λ image. ZeroFits image (part.span.start / 65536)) (λ _. None) (ClearsCluster (part.span.start / 65536)) rows left old new part (replicate part.span.len 0) outcome
 clear_wrote rows left old new part outcome slot has below call is_left all_of =
     let fits : Known → ℕ → Type 0 = λ image. ZeroFits image (part.span.start / 65536) in
     let zeros : List ℕ = replicate part.span.len 0 in
     let is : IsPieceOf rows old part call.image
-    = piece rows left old new part zeros (replicate 65536 0) outcome fits (λ _. None) (λ _. IsCleared) (part.span.start / 65536 * 65536) slot has below call is_left in
+    = piece rows left old new part zeros (replicate 65536 0) outcome fits (λ _. None) (ClearsCluster (part.span.start / 65536)) (part.span.start / 65536 * 65536) slot has below call is_left in
     let good : AreTold old → (b b' : List ℕ) → call.call.before.content ≡ Some b → call.call.after.content ≡ Some b' → (header_of b).size ≡ call.image.header.size
     → IsDiskWith b b' (part.span.start - part.span.start % 65536) (replicate 65536 0) → IsDiskAfter old part zeros b b'
     = λ all b b' was now size disk backing rest.
@@ -267,16 +323,15 @@ clear_wrote rows left old new part outcome slot has below call is_left all_of =
     let inside = is.inside in
     let first = begins rows old part call.image is all_of in
     disk_zeroed b b' backing part.span.start part.span.len disk first (omega arith) (omega arith) in
-    cluster_wrote rows left old new part outcome fits (λ _. IsCleared) slot has below (replicate 65536 0) zeros call is_left good
+    cluster_wrote rows left old new part outcome fits (ClearsCluster (part.span.start / 65536)) slot has below (replicate 65536 0) zeros call is_left good
 
 -- a part of a cluster that reads as zeros already
-pub left_wrote : (rows : List (Option Row)) (old : List DeviceState) (part : Part) (fits : Known → ℕ → Type 0) (own : Known → Option ℕ) (made : Known → ℕ → ℕ → Type 0)
+pub left_wrote : (rows : List (Option Row)) (old : List DeviceState) (part : Part) (fits : Known → ℕ → Type 0) (own : Known → Option ℕ) (change : ImageChange)
     (row : Row) (image : Known) (host : ℕ) (device : DeviceState)
     → row_in rows part.node ≡ Some row → row.driver ≡ Qcow2 image → IsPieceOf rows old part image → part.node < length rows
     → entry_in image (part.span.start / 65536) ≡ entries.Zero host → device_in old part.file ≡ Some device → fits image device.capacity
-    → made image (word_in image (part.span.start / 65536)) (word_in image (part.span.start / 65536))
-    → WritesPart fits own made rows rows old old part (replicate part.span.len 0) Good
-left_wrote rows old part fits own made row image host device there driver is below entry held fit left = record {
+    → change image image device device Good → WritesPart fits own change rows rows old old part (replicate part.span.len 0) Good
+left_wrote rows old part fits own change row image host device there driver is below entry held fit left = record {
   row = row;
   image = image;
   there = there;
@@ -284,7 +339,8 @@ left_wrote rows old part fits own made row image host device there driver is bel
   wrote = inr (inr record {
     now = image;
     opened = is.opened;
-    changed = record { header = refl; taken = λ n taken. taken; others = λ cluster apart. refl; own = left };
+    header = refl;
+    taken = λ n taken. taken;
     mapped = λ cluster mapped. mapped;
     row_now = sym (ap (set rows part.node) (ap (λ (r : Row). Some r) (same_row row image driver)) ∙ set_same rows part.node (Some row) below there);
     before = device;
@@ -294,6 +350,7 @@ left_wrote rows old part fits own made row image host device there driver is bel
     only = record { nodes = refl; others = λ other apart. refl };
     cause = (fit, refl);
     full = λ dev none. absurd (cc none);
+    changed = left;
     device = device_risen device device (HasRisen-refl device);
     known = λ b content. is.known device b held content;
     disk = λ all b b' was now backing rest.
@@ -316,22 +373,15 @@ left_wrote rows old part fits own made row image host device there driver is bel
 
 -- The same by other words for the room and the place.
 module _ (rows left : List (Option Row)) (old new : List DeviceState) (part : Part) (bytes : List ℕ) (outcome : Outcome) (fits to : Known → ℕ → Type 0) (own place : Known → Option ℕ)
-    (made shows : Known → ℕ → ℕ → Type 0) (w : WritesPart fits own made rows left old new part bytes outcome) (there : (capacity : ℕ) → fits w.image capacity → to w.image capacity)
+    (change shows : ImageChange) (w : WritesPart fits own change rows left old new part bytes outcome) (there : (capacity : ℕ) → fits w.image capacity → to w.image capacity)
     (back : (capacity : ℕ) → to w.image capacity → fits w.image capacity) (same : own w.image ≡ place w.image)
-    (shown : (word : ℕ) → made w.image (word_in w.image (part.span.start / 65536)) word → shows w.image (word_in w.image (part.span.start / 65536)) word) where
+    (shown : (now : Known) (before after : DeviceState) (o : Outcome) → change w.image now before after o → shows w.image now before after o) where
   cause_as : (capacity n : ℕ) (before after : DeviceState) (now : Known) (o : Outcome) → HasImageCause (fits w.image capacity) (own w.image) n before after w.image now o
       → HasImageCause (to w.image capacity) (place w.image) n before after w.image now o
   cause_as capacity n before after now Good is = (there capacity is.0, is.1)
   cause_as capacity n before after now (Torn done dev count) is = (there capacity is.0, subst (λ (p : Option ℕ). IsTornAt p n done) same is.1, is.2)
   cause_as capacity n before after now (Io dev count) is = (there capacity is.0, is.1)
   cause_as capacity n before after now (NoSpace dev) is = ((λ fit. is.0 (back capacity fit)), is.1, is.2, is.3)
-
-  entry_as : (o : Outcome) (word : ℕ) → IsEntryAfter (made w.image) o (word_in w.image (part.span.start / 65536)) word
-      → IsEntryAfter (shows w.image) o (word_in w.image (part.span.start / 65536)) word
-  entry_as Good word is = shown word is
-  entry_as (Torn done dev count) word is = is
-  entry_as (Io dev count) word is = is
-  entry_as (NoSpace dev) word is = is
 
   pub wrote_as : WritesPart to place shows rows left old new part bytes outcome
   wrote_as = record {
@@ -361,16 +411,13 @@ module _ (rows left : List (Option Row)) (old new : List DeviceState) (part : Pa
           read = s.read;
           risen = s.risen;
           rows_same = s.rows_same;
+          changed = λ after risen. shown w.image s.device after outcome (s.changed after risen);
         })
         | inr c ↦ inr (inr record {
           now = c.now;
           opened = c.opened;
-          changed = record {
-            header = c.changed.header;
-            taken = c.changed.taken;
-            others = c.changed.others;
-            own = entry_as outcome (word_in c.now (part.span.start / 65536)) c.changed.own;
-          };
+          header = c.header;
+          taken = c.taken;
           mapped = c.mapped;
           row_now = c.row_now;
           before = c.before;
@@ -380,6 +427,7 @@ module _ (rows left : List (Option Row)) (old new : List DeviceState) (part : Pa
           only = c.only;
           cause = cause_as c.before.capacity (length bytes) c.before c.after c.now outcome c.cause;
           full = c.full;
+          changed = shown c.now c.before c.after outcome c.changed;
           device = c.device;
           known = c.known;
           disk = c.disk;
@@ -413,11 +461,11 @@ module _ (rows : List (Option Row)) (old : List DeviceState) (part : Part) (has 
   set_at slot = ap (λ (k : ℕ). set rows k slot) same
 
   pub own_at : (new : List DeviceState) (bytes : List ℕ) (outcome : Outcome) (slot : Option Row)
-      → CallsRow part.file (λ image capacity. own_end image part.span ≤ capacity) (λ image. Some (own_place image part.span)) (λ _. Stays) found slot old new part.span.start bytes outcome
+      → CallsRow part.file (λ image capacity. own_end image part.span ≤ capacity) (λ image. Some (own_place image part.span)) (ChangesInPlace part.span bytes) found slot old new part.span.start bytes outcome
       → length bytes ≡ part.span.len
-      → WritesPart (λ image capacity. own_end image part.span ≤ capacity) (λ image. Some (own_place image part.span)) (λ _. Stays) rows (set rows index slot) old new part bytes outcome
+      → WritesPart (λ image capacity. own_end image part.span ≤ capacity) (λ image. Some (own_place image part.span)) (ChangesInPlace part.span bytes) rows (set rows index slot) old new part bytes outcome
   own_at new bytes outcome slot call len =
-      let P : Option Row → Type 0 = λ f. CallsRow part.file (λ image capacity. own_end image part.span ≤ capacity) (λ image. Some (own_place image part.span)) (λ _. Stays) f slot old new
+      let P : Option Row → Type 0 = λ f. CallsRow part.file (λ image capacity. own_end image part.span ≤ capacity) (λ image. Some (own_place image part.span)) (ChangesInPlace part.span bytes) f slot old new
       part.span.start bytes outcome in
       own_wrote rows (set rows index slot) old new part bytes outcome slot has below_node (subst P (sym there) call) (set_at slot) len
 
@@ -425,11 +473,11 @@ module _ (rows : List (Option Row)) (old : List DeviceState) (part : Part) (has 
   clear_asks = of_found (λ image. (part.span.start / 65536 < clusters_in image) × IsKnownAt part.file old image) (λ row image piece. (cluster_below image piece, piece.known))
 
   pub clear_at : (new : List DeviceState) (outcome : Outcome) (slot : Option Row)
-      → CallsRow part.file (λ image. ZeroFits image (part.span.start / 65536)) (λ _. None) (λ _. IsCleared) found slot old new (part.span.start / 65536 * 65536) (replicate 65536 0) outcome
+      → CallsRow part.file (λ image. ZeroFits image (part.span.start / 65536)) (λ _. None) (ClearsCluster (part.span.start / 65536)) found slot old new (part.span.start / 65536 * 65536) (replicate 65536 0) outcome
       → part.span.len ≡ part.whole.len
-      → WritesPart (λ image. ZeroFits image (part.span.start / 65536)) (λ _. None) (λ _. IsCleared) rows (set rows index slot) old new part (replicate part.span.len 0) outcome
+      → WritesPart (λ image. ZeroFits image (part.span.start / 65536)) (λ _. None) (ClearsCluster (part.span.start / 65536)) rows (set rows index slot) old new part (replicate part.span.len 0) outcome
   clear_at new outcome slot call all =
-      let P : Option Row → Type 0 = λ f. CallsRow part.file (λ image. ZeroFits image (part.span.start / 65536)) (λ _. None) (λ _. IsCleared) f slot old new
+      let P : Option Row → Type 0 = λ f. CallsRow part.file (λ image. ZeroFits image (part.span.start / 65536)) (λ _. None) (ClearsCluster (part.span.start / 65536)) f slot old new
       (part.span.start / 65536 * 65536) (replicate 65536 0) outcome in
       clear_wrote rows (set rows index slot) old new part outcome slot has below_node (subst P (sym there) call) (set_at slot) all
 
@@ -472,22 +520,80 @@ put_asks rows old mid part room read has index first found same below is_first i
       fits_by part.file old (PutFits row.1 (part.span.start / 65536)) room (good_is room room_good) room_of,
     ))
 
+-- where the read of the rest of the cluster was stopped
+no_torn : (source : Source) (old new : List DeviceState) (done : ℕ) (dev : DevNo) (count : ℕ) → IsReadFrom source old new (Torn done dev count) → ⊥
+no_torn sources.Zeros old new done dev count is = cc is.0
+no_torn (sources.File file start) old new done dev count is = is
+no_torn (sources.Image node file) old new done dev count is = is
+
+no_space : (source : Source) (old new : List DeviceState) (dev : DevNo) → IsReadFrom source old new (NoSpace dev) → ⊥
+no_space sources.Zeros old new dev is = cc is.0
+no_space (sources.File file start) old new dev is = is
+no_space (sources.Image node file) old new dev is = is
+
+pub read_stopped : (rows : List (Option Row)) (old mid : List DeviceState) (part : Part) (bytes : List ℕ) (room read : Outcome) → HasPiece rows old part → (index : ℕ) (first : Option Row)
+    → index ≡ part.node → index < length rows → first ≡ get_or rows index first
+    → OfImage first (λ image. HasRoomAt part.file old (PutFits image (part.span.start / 65536)) room) → is_good room ≡ true → is_good read ≡ false
+    → IsReadFrom part.source old mid read ⊎ ((read ≡ Good) × (mid ≡ old)) → HaveRisen old mid
+    → WritesPart (λ image. PutFits image (part.span.start / 65536)) (λ _. None) (ChangesAround part.span bytes) rows rows old mid part bytes read
+read_stopped rows old mid part bytes room read has index first same below is_first fits room_good read_bad outcome risen = by read refl read_bad outcome
+  where
+    row : (row : Row) × (image : Known) × (row_in rows part.node ≡ Some row) × (row.driver ≡ Qcow2 image) × IsPieceOf rows old part image
+    row = has_image (row_in rows part.node) (IsPieceOf rows old part) has
+
+    here : row_in rows part.node ≡ first
+    here = row_found rows index part.node first same below is_first
+
+    room_of : HasRoomAt part.file old (PutFits row.1 (part.span.start / 65536)) room
+    room_of = image_found first row.0 row.1 (λ image. HasRoomAt part.file old (PutFits image (part.span.start / 65536)) room) (sym here ∙ row.2) row.3 fits
+
+    device : (device : DeviceState) × (device_in old part.file ≡ Some device)
+    device = some_device (device_in old part.file) row.4.held
+
+    by : (o : Outcome) → read ≡ o → is_good o ≡ false → IsReadFrom part.source old mid o ⊎ ((o ≡ Good) × (mid ≡ old))
+        → WritesPart (λ image. PutFits image (part.span.start / 65536)) (λ _. None) (ChangesAround part.span bytes) rows rows old mid part bytes read
+    by Good is bad outcome = absurd (cc bad)
+    by (Torn done dev count) is bad (inl at) = absurd (no_torn part.source old mid done dev count at)
+    by (Torn done dev count) is bad (inr good) = absurd (cc good.0)
+    by (NoSpace dev) is bad (inl at) = absurd (no_space part.source old mid dev at)
+    by (NoSpace dev) is bad (inr good) = absurd (cc good.0)
+    by (Io dev count) is bad (inr good) = absurd (cc good.0)
+    by (Io dev count) is bad (inl at) = record {
+      row = row.0;
+      image = row.1;
+      there = row.2;
+      driver = row.3;
+      wrote = inr (inl record {
+        dev = dev;
+        count = count;
+        is = is;
+        device = device.0;
+        held = device.1;
+        fit = fits_by part.file old (PutFits row.1 (part.span.start / 65536)) room (good_is room room_good) room_of device.0 device.1;
+        read = subst (IsReadFrom part.source old mid) (sym is) at;
+        risen = risen;
+        rows_same = refl;
+        changed = λ after rose. subst (λ (o : Outcome). ChangesAround part.span bytes row.1 row.1 device.0 after o) (sym is) (inr (refl, rose));
+      });
+    }
+
 pub put_at : (rows : List (Option Row)) (old mid new : List DeviceState) (part : Part) (bytes cluster gathered_in : List ℕ) (read outcome : Outcome) (slot : Option Row) → HasPiece rows old part
     → (index : ℕ) (found : Option Row) → index ≡ part.node → index < length rows → found ≡ get_or rows index found
-    → CallsRow part.file (λ image. PutFits image (part.span.start / 65536)) (λ _. None) (λ _. IsMapped) found slot mid new (part.span.start / 65536 * 65536) cluster outcome
-    → length bytes ≡ part.span.len → length cluster ≡ 65536 → cluster ≡ gathered_in → is_good read ≡ true → IsReadFrom part.source old mid read ⊎ ((read ≡ Good) × (mid ≡ old))
+    → CallsRow part.file (λ image. PutFits image (part.span.start / 65536)) (λ _. None) (PutsCluster (part.span.start / 65536) cluster) found slot mid new (part.span.start / 65536 * 65536) cluster outcome
+    → length bytes ≡ part.span.len → cluster ≡ gathered_in → is_good read ≡ true → IsReadFrom part.source old mid read ⊎ ((read ≡ Good) × (mid ≡ old))
     → (AreTold old → read ≡ Good → IsGathered gathered_in (found_bytes old part.source part.whole.start part.whole.len) part.whole.len (part.span.start % 65536) bytes)
-    → WritesPart (λ image. PutFits image (part.span.start / 65536)) (λ _. None) (λ _. IsMapped) rows (set rows index slot) old new part bytes outcome
-put_at rows old mid new part bytes cluster gathered_in read outcome slot has index found same below is call len whole is_cluster read_good read_is gathered =
+    → (read ≡ Good → HasPart 65536 part.span bytes gathered_in)
+    → WritesPart (λ image. PutFits image (part.span.start / 65536)) (λ _. None) (ChangesAround part.span bytes) rows (set rows index slot) old new part bytes outcome
+put_at rows old mid new part bytes cluster gathered_in read outcome slot has index found same below is call len is_cluster read_good read_is gathered holds =
     let good : read ≡ Good = good_is read read_good in
     let stays : mid ≡ old = good_read part.source old mid read good read_is in
     let found_is : row_in rows part.node ≡ found = row_found rows index part.node found same below is in
-    let P : Option Row → Type 0 = λ f. CallsRow part.file (λ image. PutFits image (part.span.start / 65536)) (λ _. None) (λ _. IsMapped) f slot mid new
+    let P : Option Row → Type 0 = λ f. CallsRow part.file (λ image. PutFits image (part.span.start / 65536)) (λ _. None) (PutsCluster (part.span.start / 65536) cluster) f slot mid new
     (part.span.start / 65536 * 65536) cluster outcome in
-    let Q : List DeviceState → Type 0 = λ devices. CallsRow part.file (λ image. PutFits image (part.span.start / 65536)) (λ _. None) (λ _. IsMapped) (row_in rows part.node) slot devices new
+    let Q : List DeviceState → Type 0 = λ devices. CallsRow part.file (λ image. PutFits image (part.span.start / 65536)) (λ _. None) (PutsCluster (part.span.start / 65536) cluster) (row_in rows part.node) slot devices new
     (part.span.start / 65536 * 65536) cluster outcome in
-    let there_call : CallsRow part.file (λ image. PutFits image (part.span.start / 65536)) (λ _. None) (λ _. IsMapped) (row_in rows part.node) slot old new (part.span.start / 65536 * 65536) cluster outcome
+    let there_call : CallsRow part.file (λ image. PutFits image (part.span.start / 65536)) (λ _. None) (PutsCluster (part.span.start / 65536) cluster) (row_in rows part.node) slot old new (part.span.start / 65536 * 65536) cluster outcome
     = subst Q stays (subst P (sym found_is) call) in
     put_wrote rows (set rows index slot) old new part bytes cluster outcome slot has (omega (arith, same, below)) there_call
-    (ap (λ (k : ℕ). set rows k slot) same) len whole
+    (ap (λ (k : ℕ). set rows k slot) same) len (subst (HasPart 65536 part.span bytes) (sym is_cluster) (holds good))
     (λ all. subst (λ (b : List ℕ). IsGathered b (found_bytes old part.source part.whole.start part.whole.len) part.whole.len (part.span.start % 65536) bytes) (sym is_cluster) (gathered all good))

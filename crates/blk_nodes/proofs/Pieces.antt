@@ -1,5 +1,5 @@
 -- Where a piece of a qcow2 node lies.
-use Rattle.std.proofs.Common.{◌≡◌, ℕ, ◌+◌, ◌-◌, ◌%◌, ◌<◌, ◌≤◌, Option, Some, None, refl, sym, ◌∙◌, ap, subst, arith}
+use Rattle.std.proofs.Common.{◌≡◌, ℕ, ◌<◌, ◌≤◌, Some, None, sym, ◌∙◌, ap, subst, arith}
 use Rattle.blk_base.specs.Pieces.{Extent, end_of}
 use Rattle.q2_image.specs.Image.{Known}
 use Rattle.q2_image.specs.Reading.{IsWithinCluster}

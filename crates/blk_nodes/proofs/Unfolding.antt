@@ -1,9 +1,8 @@
 -- The disk of a node is made of the disks below it: no path is longer than 63 edges, so 64 turns are enough.
-use Rattle.std.proofs.Common.{◌≡◌, ℕ, zero, suc, ◌-◌, ◌≤◌, List, [], ◌∷◌, length, Option, Some, None, refl, sym, ◌∙◌, ap, arith}
+use Rattle.std.proofs.Common.{◌≡◌, ℕ, zero, suc, ◌≤◌, List, [], ◌∷◌, length, Option, Some, None, refl, sym, ◌∙◌, ap, arith}
 use Rattle.std.specs.Prelude.{Contains}
-use Rattle.q2_format.specs.Contents.{raw_disk, image_disk}
-use Rattle.blk_graph.specs.Edits.{child_of}
-use Rattle.blk_graph.specs.Graph.{IsSound, PathsAreShort}
+use Rattle.q2_format.specs.Contents.{image_disk}
+use Rattle.blk_graph.specs.Graph.{PathsAreShort}
 use Rattle.blk_graph.specs.Paths.{IsPath}
 use Rattle.blk_graph.specs.declared.edge.Edge.{Edge}
 use Rattle.blk_graph.specs.declared.edge.Parent.TheVariants.{Node}

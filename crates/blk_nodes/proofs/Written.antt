@@ -1,5 +1,5 @@
 -- What a write to the file of one node leaves of the nodes.
-use Rattle.std.proofs.Common.{◌≡◌, ◌≢◌, ℕ, zero, suc, ◌+◌, ◌/◌, ◌≤◌, List, [], length, replicate, Option, Some, None, refl, sym, ◌∙◌, ap, subst, arith, inl, inr}
+use Rattle.std.proofs.Common.{◌≡◌, ◌≢◌, ℕ, zero, suc, ◌+◌, ◌≤◌, List, [], length, replicate, Option, Some, None, refl, sym, ◌∙◌, ap, subst, arith, inl, inr}
 use Rattle.std.specs.Prelude.{IsSome, option_map}
 use Rattle.std.proofs.lemmas.Bool.{cases_eq}
 use Rattle.std.proofs.lemmas.List.{length-take}
@@ -12,11 +12,10 @@ use Rattle.raw_image.proofs.PartLemmas.{with_bytes-part}
 use Rattle.q2_format.proofs.ByPlace.{length-bytes_at as length-format_bytes, get_or-bytes_at as get_or-format_bytes}
 use Rattle.q2_format.specs.Contents.{file_disk, raw_disk, image_disk}
 use Rattle.q2_image.specs.Image.{Known, IsImageOf}
-use Rattle.q2_image.specs.Room.{is_whole}
 use Rattle.blk_graph.specs.declared.edge.Role.TheVariants.{File as FileRole, Backing}
 use Rattle.blk_nodes.specs.Contents.{told, below, disk_by, disk_in, disk_of, bytes_by, bytes_of, file_node_disk}
-use Rattle.blk_nodes.specs.Entries.{IsWritten, IsZeroed, LeavesRow}
-use Rattle.blk_nodes.specs.Joined.{IsFile, HasSize, IsPart, IsOverlay, HasBelow, IsJoined}
+use Rattle.blk_nodes.specs.Changing.{ImageChange, IsWritten, IsZeroed, LeavesRow}
+use Rattle.blk_nodes.specs.Joined.{IsFile, HasSize, IsPartOfFile, IsOverlay, HasBelow, IsJoined}
 use Rattle.blk_nodes.specs.Nodes.{Nodes, DeviceState, AreTold, row_at, device_in, size_by, size_of, file_of, backing_of}
 use Rattle.blk_nodes.specs.Parts.{OfImage, OfImageBy, IsImage}
 use Rattle.blk_nodes.specs.Reading.{OnlyAt, LeadsTo}
@@ -226,7 +225,7 @@ module _ (nodes : Nodes) (joined : IsJoined nodes) (node place : ℕ) (may : May
       let step : step_of nodes node place ≡ Found (sources.File node place) = step_there is in
       (node, place, walk_ends nodes node place (sources.File node place) 64 (omega arith) step, refl, refl)
   stands_by (Raw part) is plain =
-      let below : IsPart nodes node part.offset part.size = rw is at (joined.below node may.row may.there) in
+      let below : IsPartOfFile nodes node part.offset part.size = rw is at (joined.below node may.row may.there) in
       let step : step_of nodes node place ≡ Found (sources.File below.file (part.offset + place))
       = step_there is ∙ ap (λ (f : Option ℕ). in_file f (part.offset + place)) below.edge in
       (below.file, part.offset + place, walk_ends nodes node place (sources.File below.file (part.offset + place)) 64 (omega arith) step, below.edge, refl)
@@ -289,7 +288,7 @@ module _ (nodes : Nodes) (joined : IsJoined nodes) (node place : ℕ) (may : May
         ∙ ap (λ (n : ℕ). with_bytes (file_disk may.row.size (bytes_of nodes n)) place xs) (sym here)
         ∙ ap (λ (b : List ℕ). with_bytes b place xs) (sym (disk_of_file nodes node may.row may.there is))
     disk_by_driver all inside (Raw part) is plain =
-        let below : IsPart nodes node part.offset part.size = rw is at (joined.below node may.row may.there) in
+        let below : IsPartOfFile nodes node part.offset part.size = rw is at (joined.below node may.row may.there) in
         let sized = rw is at (joined.sized node may.row may.there) in
         let size : part.size ≡ may.row.size = sized.0 in
         let within = below.within in
@@ -384,18 +383,18 @@ module _ (nodes : Nodes) (joined : IsJoined nodes) where
       device_by base found.0 found.0.driver (ends 64 64 node (no_path nodes joined 64 (omega arith) node) (omega arith)) (joined.below base found.0 found.1)
 
 -- the row of a node that is no image
-row_plain : (made : Known → ℕ → ℕ → Type 0) (driver : Driver) (row : Row) (new : Option Row) (cluster : ℕ) (outcome : Outcome) → IsPlain driver → new ≡ Some row
-    → LeavesRow made driver row new cluster outcome
-row_plain made File row new cluster outcome is same = same
-row_plain made (Raw part) row new cluster outcome is same = same
-row_plain made (Qcow2 image) row new cluster outcome is same = absurd is
-row_plain made CopyOnRead row new cluster outcome is same = absurd is
+row_plain : (change : ImageChange) (driver : Driver) (row : Row) (old new : Nodes) (node : ℕ) (outcome : Outcome) → IsPlain driver → row_at new node ≡ Some row
+    → LeavesRow change driver row old new node outcome
+row_plain change File row old new node outcome is same = same
+row_plain change (Raw part) row old new node outcome is same = same
+row_plain change (Qcow2 image) row old new node outcome is same = absurd is
+row_plain change CopyOnRead row old new node outcome is same = absurd is
 
 -- A piece of such a node, by what the node is.
 pub piece_plain : (old new : Nodes) (node : ℕ) (span : Extent) (bytes : List ℕ) (outcome : Outcome) (may : MayWrite old node) → IsPlain may.row.driver
     → WritesFile old new node span.start bytes outcome → row_at new node ≡ row_at old node → WritesPiece old new node span bytes outcome
 piece_plain old new node span bytes outcome may plain wrote same =
-    record { row = may.row; there = may.there; wrote = by may.row.driver plain; left = row_plain (λ _. IsWritten) may.row.driver may.row (row_at new node) (span.start / 65536) outcome plain (same ∙ may.there) }
+    record { row = may.row; there = may.there; wrote = by may.row.driver plain; left = row_plain (IsWritten span bytes) may.row.driver may.row old new node outcome plain (same ∙ may.there) }
   where
     by : (driver : Driver) → IsPlain driver → WritesBy driver old new node span bytes outcome
     by File is = wrote
@@ -406,7 +405,7 @@ piece_plain old new node span bytes outcome may plain wrote same =
 pub zeros_plain : (old new : Nodes) (node : ℕ) (span : Extent) (outcome : Outcome) (may : MayWrite old node) → IsPlain may.row.driver
     → WritesFile old new node span.start (replicate span.len 0) outcome → row_at new node ≡ row_at old node → ZerosPiece old new node span outcome
 zeros_plain old new node span outcome may plain wrote same =
-    record { row = may.row; there = may.there; wrote = by may.row.driver plain; left = row_plain (λ image. IsZeroed (is_whole image span)) may.row.driver may.row (row_at new node) (span.start / 65536) outcome plain (same ∙ may.there) }
+    record { row = may.row; there = may.there; wrote = by may.row.driver plain; left = row_plain (IsZeroed span) may.row.driver may.row old new node outcome plain (same ∙ may.there) }
   where
     by : (driver : Driver) → IsPlain driver → ZerosBy driver old new node span outcome
     by File is = wrote

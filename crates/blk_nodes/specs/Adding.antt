@@ -1,5 +1,5 @@
 -- What an addition makes of the nodes, and why one is refused.
-use Rattle.std.specs.Prelude.{◌≡◌, ℕ, Bool, true, false, not, List, [], ◌∷◌, ◌++◌, length, slice_set, Option, Some, None}
+use Rattle.std.specs.Prelude.{◌≡◌, ℕ, Bool, false, not, List, [], ◌∷◌, ◌++◌, length, slice_set, Option, Some, None}
 use Rattle.blk_graph.specs.Edits.{with_edge, without_parent}
 use Rattle.blk_graph.specs.Graph.{Graph, HasName, ids, with_node as with_graph_node}
 use Rattle.blk_graph.specs.Ids.{IsLowestFree}
@@ -55,10 +55,12 @@ file_edge node file = node_edge node File file
 
 -- one more edge, from which what others ask and share is derived
 abbrev pub with_below : Nodes → Edge → Nodes
-with_below nodes edge = record nodes { graph = with_edges nodes.graph (with_edge edge nodes.graph.edges) }
+with_below nodes edge =
+    record nodes { graph = with_edges nodes.graph (with_edge edge nodes.graph.edges) }
 
 -- the first broken pair, if there is one, of the edges that a new node would make
-pub record Breaks (nodes : Nodes) (kind : NodeKind) (edges : ℕ → List Edge → List Edge) (found : Option Pair) : Type 0 where
+pub record Breaks (nodes : Nodes) (kind : NodeKind) (edges : ℕ → List Edge → List Edge)
+    (found : Option Pair) : Type 0 where
   pub id : ℕ
   pub lowest : IsLowestFree (ids nodes.graph) id
   pub first : first_conflict (ids nodes.graph ++ id ∷ [])
@@ -92,7 +94,8 @@ is_read_only_in (Some row) = row.is_read_only
 
 -- the edge of a guest's drive, which writes where the node may be written
 abbrev pub guest_edge : Nodes → ℕ → ℕ → Bool → Edge
-guest_edge nodes guest node share_rw = drive_edge guest node (not (is_read_only_in (row_at nodes node))) share_rw
+guest_edge nodes guest node share_rw =
+    drive_edge guest node (not (is_read_only_in (row_at nodes node))) share_rw
 
 -- the nodes without a guest's edges
 abbrev pub without_guest : ℕ → Nodes → Nodes

@@ -31,8 +31,10 @@ below disk (Some node) = disk node
 -- copy-on-read reads as its child.
 abbrev pub disk_by : Nodes → (ℕ → List ℕ) → ℕ → Driver → List ℕ
 disk_by nodes disk node File = file_node_disk nodes node
-disk_by nodes disk node (Raw part) = raw_disk part.offset part.size (below (file_node_disk nodes) (file_of nodes node))
-disk_by nodes disk node (Qcow2 image) = image_disk (below (bytes_of nodes) (file_of nodes node)) (below disk (backing_of nodes node))
+disk_by nodes disk node (Raw part) =
+    raw_disk part.offset part.size (below (file_node_disk nodes) (file_of nodes node))
+disk_by nodes disk node (Qcow2 image) =
+    image_disk (below (bytes_of nodes) (file_of nodes node)) (below disk (backing_of nodes node))
 disk_by nodes disk node CopyOnRead = below disk (file_of nodes node)
 
 -- the disk of a node, down a chain of so many nodes

@@ -17,7 +17,8 @@ moved_child node overlay child = if child == node then overlay else child
 
 -- the nodes with an overlay over one of them
 abbrev pub covered : ℕ → ℕ → Nodes → Nodes
-covered node overlay nodes = record nodes { graph = with_edges nodes.graph (with_over node overlay nodes.graph.edges) }
+covered node overlay nodes =
+    record nodes { graph = with_edges nodes.graph (with_over node overlay nodes.graph.edges) }
 
 -- A qcow2 node that shows what is below it: it maps no cluster, no node reads it yet, and devices tell their bytes.
 pub record IsClear (nodes : Nodes) (overlay : ℕ) : Type 0 where
@@ -27,7 +28,8 @@ pub record IsClear (nodes : Nodes) (overlay : ℕ) : Type 0 where
 
 -- the overlay reads as the node did, and each other node as it did
 abbrev pub ReadCovered : Nodes → Nodes → ℕ → ℕ → Type 0
-ReadCovered old new node overlay = (other : ℕ) → disk_of new other ≡ disk_of old (if other == overlay then node else other)
+ReadCovered old new node overlay =
+    (other : ℕ) → disk_of new other ≡ disk_of old (if other == overlay then node else other)
 
 -- A qcow2 node may be put over a node: it is another one, of the same size, and the node is no format node's file, since those
 -- edges never move.
@@ -38,5 +40,6 @@ pub record IsCover (nodes : Nodes) (node overlay : ℕ) : Type 0 where
   pub driver : row.driver ≡ Qcow2 image
   pub other : overlay ≢ node
   pub same : HasSize nodes node image.header.size
-  pub files : (parent : ℕ) (row : Row) → row_at nodes parent ≡ Some row → file_of nodes parent ≡ Some node
+  pub files : (parent : ℕ) (row : Row) → row_at nodes parent ≡ Some row
+      → file_of nodes parent ≡ Some node
       → row.driver ≡ CopyOnRead

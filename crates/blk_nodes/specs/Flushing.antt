@@ -1,5 +1,5 @@
 -- What a flush of a node leaves and answers.
-use Rattle.std.specs.Prelude.{◌≡◌, ℕ, ◌≤◌, zero, suc, ◌||◌, List, Option, Some, None, option_map}
+use Rattle.std.specs.Prelude.{◌≡◌, ℕ, ◌≤◌, zero, suc, ◌||◌, List, Some, None, option_map}
 use Rattle.blk_base.specs.Outcomes.{is_good}
 use Rattle.blk_base.specs.declared.fault.Outcome.{Outcome}
 use Rattle.blk_base.specs.declared.fault.Outcome.TheVariants.{Good, Torn, Io, NoSpace}
@@ -27,7 +27,10 @@ HasFlushCause old new (NoSpace dev) = ⊥
 
 -- a device after a flush
 pub record IsFlushOf (old new : DeviceState) (outcome : Outcome) : Type 0 where
-  pub is : new ≡ record old { is_flushed = option_map (λ f. is_good outcome || f) old.is_flushed; faults = new.faults }
+  pub is : new ≡ record old {
+    is_flushed = option_map (λ f. is_good outcome || f) old.is_flushed;
+    faults = new.faults;
+  }
   pub faults : old.faults ≤ new.faults
   pub cause : HasFlushCause old new outcome
 

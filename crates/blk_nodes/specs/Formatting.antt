@@ -1,5 +1,5 @@
 -- What the creation of an image in the file of a node leaves and answers.
-use Rattle.std.specs.Prelude.{◌≡◌, ◌⊎◌, ℕ, ◌<◌, ◌≤◌, max, Bool, true, false, if◌then◌else◌, List, length, Option, option_map, Some, Result, Ok, Err, OnOk}
+use Rattle.std.specs.Prelude.{◌≡◌, ◌⊎◌, ℕ, ◌<◌, ◌≤◌, max, Bool, true, false, if◌then◌else◌, List, length, option_map, Some, Result, Ok, Err, OnOk}
 use Rattle.blk_base.specs.declared.fault.DevNo.{DevNo}
 use Rattle.q2_format.specs.Created.{Creation, CanBeCreated, created_length, IsCreated}
 use Rattle.q2_format.specs.Sound.{InHeader, image_refusal}
@@ -40,11 +40,13 @@ HoldsAfter new before (Err stop) now = (now ≡ before) ⊎ (image_refusal now �
 abbrev pub HasFormatCause : DeviceState → DeviceState → ℕ → Result (Unit {0}) FormatStop → Type 0
 HasFormatCause old new end (Ok done) = (end ≤ old.capacity) × (new.faults ≡ old.faults)
 HasFormatCause old new end (Err (Io dev count)) = (end ≤ old.capacity) × StoppedBy old new dev count
-HasFormatCause old new end (Err (NoSpace dev)) = (old.capacity < end) × (dev ≡ old.number) × (new ≡ old)
+HasFormatCause old new end (Err (NoSpace dev)) =
+    (old.capacity < end) × (dev ≡ old.number) × (new ≡ old)
 HasFormatCause old new end (Err NoMemory) = (end ≤ old.capacity) × (new ≡ old)
 
 -- a device in whose file an image is created, or not
-pub record IsFormatOf (old new : DeviceState) (image : Creation) (result : Result (Unit {0}) FormatStop) : Type 0 where
+pub record IsFormatOf (old new : DeviceState) (image : Creation)
+    (result : Result (Unit {0}) FormatStop) : Type 0 where
   pub node : new.node ≡ old.node
   pub number : new.number ≡ old.number
   pub within : ChangesWithin old.content new.content 0 (created_length image)
@@ -53,13 +55,15 @@ pub record IsFormatOf (old new : DeviceState) (image : Creation) (result : Resul
   pub size : OnOk result (new.size ≡ max old.size (created_length image))
   pub grows : old.size ≤ new.size
   pub bound : new.size ≤ max old.size (created_length image)
-  pub flushed : new.is_flushed ≡ (if is_tried result then option_map (λ _. false) old.is_flushed else old.is_flushed)
+  pub flushed : new.is_flushed
+      ≡ (if is_tried result then option_map (λ _. false) old.is_flushed else old.is_flushed)
   pub capacity : new.capacity ≡ old.capacity
   pub faults : old.faults ≤ new.faults
   pub cause : HasFormatCause old new (created_length image) result
 
 -- the same of the device of a `file` node, and all others as before
-pub record IsFormatAt (file : ℕ) (old new : List DeviceState) (image : Creation) (result : Result (Unit {0}) FormatStop) : Type 0 where
+pub record IsFormatAt (file : ℕ) (old new : List DeviceState) (image : Creation)
+    (result : Result (Unit {0}) FormatStop) : Type 0 where
   pub before : DeviceState
   pub after : DeviceState
   pub held : device_in old file ≡ Some before

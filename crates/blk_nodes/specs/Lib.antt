@@ -8,7 +8,7 @@ pub mod Found
 pub mod Adding
 pub mod Overlays
 pub mod Dropping
-pub mod Entries
+pub mod Changing
 pub mod Writing
 pub mod Parts
 pub mod Flushing

@@ -1,5 +1,5 @@
 -- What the addition of a qcow2 node makes of the nodes, and why one is refused.
-use Rattle.std.specs.Prelude.{◌≡◌, ◌≢◌, ℕ, ◌<◌, ◌==◌, Bool, if◌then◌else◌, is_some, List, length, Option, Some, None, not}
+use Rattle.std.specs.Prelude.{◌≡◌, ◌≢◌, ℕ, ◌<◌, ◌==◌, Bool, if◌then◌else◌, is_some, List, length, Option, Some, None}
 use Rattle.blk_graph.specs.Edits.{with_edge}
 use Rattle.blk_graph.specs.Graph.{HasName, ids}
 use Rattle.blk_graph.specs.Ids.{IsLowestFree}
@@ -8,7 +8,6 @@ use Rattle.blk_graph.specs.Permissions.{node_edge}
 use Rattle.blk_graph.specs.declared.edge.Edge.{Edge}
 use Rattle.blk_graph.specs.declared.edge.Role.TheVariants as roles
 use Rattle.blk_graph.specs.declared.kind.Kind.TheVariants as kinds
-use Rattle.blk_graph.specs.declared.kind.NodeKind.{NodeKind}
 use Rattle.q2_format.specs.References.{reach_of}
 use Rattle.q2_format.specs.Sound.{image_refusal}
 use Rattle.q2_format.specs.declared.entries.L2Entry.TheVariants as entries
@@ -57,10 +56,18 @@ abbrev pub edges_for : Asked → ℕ → List Edge → List Edge
 edges_for asked id edges = format_edges id asked.file (backing_node asked.backing) edges
 
 abbrev pub qcow2_row : Known → Bool → Row
-qcow2_row image is_read_only = record { driver = Qcow2 image; size = image.header.size; is_read_only = is_read_only }
+qcow2_row image is_read_only = record {
+  driver = Qcow2 image;
+  size = image.header.size;
+  is_read_only = is_read_only;
+}
 
 abbrev pub copying_row : ℕ → Bool → Row
-copying_row size is_read_only = record { driver = CopyOnRead; size = size; is_read_only = is_read_only }
+copying_row size is_read_only = record {
+  driver = CopyOnRead;
+  size = size;
+  is_read_only = is_read_only;
+}
 
 -- the nodes with one more, and its edges
 abbrev pub with_children : Nodes → ℕ → List ℕ → Row → ℕ → Option ℕ → Nodes
@@ -70,7 +77,8 @@ with_children nodes id name row child backing =
 
 abbrev pub with_qcow2 : Nodes → Asked → ℕ → Known → Nodes
 with_qcow2 nodes asked id image =
-    with_children nodes id asked.name (qcow2_row image asked.is_read_only) asked.file (backing_node asked.backing)
+    with_children nodes id asked.name (qcow2_row image asked.is_read_only) asked.file
+    (backing_node asked.backing)
 
 -- the image on a device is open
 pub record IsOpenedOn (device : DeviceState) (image : Known) : Type 0 where
@@ -105,11 +113,14 @@ pub record IsUnopened (old new : List DeviceState) (file : ℕ) (stop : ImageSto
 
 -- what was said of a backing node doesn't fit the image
 abbrev pub backing_stop : Known → Backing → ℕ → Option AddStop
-backing_stop image Unsaid size = if is_some image.header.name then Some stops.BackingNeeded else None
+backing_stop image Unsaid size =
+    if is_some image.header.name then Some stops.BackingNeeded else None
 backing_stop image Null size = None
-backing_stop image (Node node) size = if size == image.header.size then None else Some stops.SizeDiffers
+backing_stop image (Node node) size =
+    if size == image.header.size then None else Some stops.SizeDiffers
 
-pub record IsMisfit (devices : List DeviceState) (file : ℕ) (backing : Backing) (size : ℕ) (stop : AddStop) : Type 0 where
+pub record IsMisfit (devices : List DeviceState) (file : ℕ) (backing : Backing) (size : ℕ)
+    (stop : AddStop) : Type 0 where
   pub image : Known
   pub opened : IsOpened devices file image
   pub stops : backing_stop image backing size ≡ Some stop
@@ -124,9 +135,12 @@ abbrev pub IsOpening : List DeviceState → List DeviceState → ℕ → Backing
 IsOpening old new file backing size stops.NameTaken = ⊥
 IsOpening old new file backing size stops.TooManyNodes = ⊥
 IsOpening old new file backing size (stops.Conflict pair) = ⊥
-IsOpening old new file backing size (stops.Image stop) = IsUnopened old new file stop × (stop ≢ images.NoMemory)
-IsOpening old new file backing size stops.BackingNeeded = IsMisfit old file backing size stops.BackingNeeded
-IsOpening old new file backing size stops.SizeDiffers = IsMisfit old file backing size stops.SizeDiffers
+IsOpening old new file backing size (stops.Image stop) =
+    IsUnopened old new file stop × (stop ≢ images.NoMemory)
+IsOpening old new file backing size stops.BackingNeeded =
+    IsMisfit old file backing size stops.BackingNeeded
+IsOpening old new file backing size stops.SizeDiffers =
+    IsMisfit old file backing size stops.SizeDiffers
 IsOpening old new file backing size stops.NoMemory = Unit {0}
 
 -- the node is there, over the image in its file
@@ -155,7 +169,8 @@ IsQcow2Stop old new asked stops.TooManyNodes =
 IsQcow2Stop old new asked (stops.Conflict pair) = HasPlace old asked.name
     × IsDenied old (kind_with kinds.Qcow2 asked.is_read_only) (edges_for asked) pair × (new ≡ old)
 IsQcow2Stop old new asked stop = MayBeAdded old asked
-    × IsOpening old.devices new.devices asked.file asked.backing (backing_size old asked.backing) stop
+    × IsOpening old.devices new.devices asked.file asked.backing (backing_size old asked.backing)
+    stop
 
 -- a qcow2 node maps no cluster
 pub record IsFresh (nodes : Nodes) (node : ℕ) : Type 0 where
@@ -163,4 +178,5 @@ pub record IsFresh (nodes : Nodes) (node : ℕ) : Type 0 where
   pub image : Known
   pub there : row_at nodes node ≡ Some row
   pub driver : row.driver ≡ Qcow2 image
-  pub empty : (cluster : ℕ) → cluster < clusters_in image → entry_in image cluster ≡ entries.Unallocated
+  pub empty : (cluster : ℕ) → cluster < clusters_in image
+      → entry_in image cluster ≡ entries.Unallocated

@@ -1,5 +1,5 @@
 -- A piece of a qcow2 node: where it lies, and what its writing leaves of the rows and the devices.
-use Rattle.std.specs.Prelude.{◌≡◌, ◌⊎◌, ℕ, ◌+◌, ◌-◌, ◌/◌, ◌%◌, ◌<◌, ◌≤◌, min, List, length, slice_index, slice_index_or, slice_set, Option, Some, None, IsSome}
+use Rattle.std.specs.Prelude.{◌≡◌, ◌⊎◌, ℕ, ◌+◌, ◌-◌, ◌%◌, ◌<◌, ◌≤◌, min, List, length, slice_index, slice_index_or, slice_set, Option, Some, None, IsSome}
 use Rattle.blk_base.specs.Content.{bytes_at, with_bytes}
 use Rattle.blk_base.specs.Pieces.{Extent, end_of}
 use Rattle.blk_base.specs.declared.fault.DevNo.{DevNo}
@@ -8,10 +8,11 @@ use Rattle.blk_base.specs.declared.fault.Outcome.TheVariants.{Io, NoSpace}
 use Rattle.q2_format.specs.Contents.{image_disk}
 use Rattle.q2_image.specs.Image.{Known, IsImageOf, IsOpen}
 use Rattle.q2_image.specs.Reading.{IsWithinCluster}
-use Rattle.blk_nodes.specs.Entries.{IsImageAfter}
+use Rattle.q2_image.specs.Writing.{HasHeaderOf, StaysTaken}
+use Rattle.blk_nodes.specs.Changing.{ImageChange}
 use Rattle.blk_nodes.specs.Found.{found_bytes, IsReadFrom}
 use Rattle.blk_nodes.specs.Nodes.{Nodes, DeviceState, AreTold, device_in, row_at}
-use Rattle.blk_nodes.specs.Reading.{HaveRisen, OnlyAt}
+use Rattle.blk_nodes.specs.Reading.{HasRisen, HaveRisen, OnlyAt}
 use Rattle.blk_nodes.specs.Walk.{IsKnownAt, CanBeRead}
 use Rattle.blk_nodes.specs.Writing.{taken_by, StaysMapped, IsDeviceAfter, IsImageCallAt, HasImageCause}
 use Rattle.blk_nodes.specs.declared.part.Part.{Part}
@@ -66,7 +67,7 @@ pub record IsGathered (cluster found : List ℕ) (n at : ℕ) (bytes : List ℕ)
 
 -- a call of the image in a row, on the device of a `file` node
 pub record CallsRow (file : ℕ) (fits : Known → ℕ → Type 0) (own : Known → Option ℕ)
-    (made : Known → ℕ → ℕ → Type 0) (old new : Option Row) (before after : List DeviceState)
+    (change : ImageChange) (old new : Option Row) (before after : List DeviceState)
     (place : ℕ) (bytes : List ℕ) (outcome : Outcome) : Type 0 where
   pub row : Row
   pub image : Known
@@ -75,8 +76,8 @@ pub record CallsRow (file : ℕ) (fits : Known → ℕ → Type 0) (own : Known 
   pub driver : row.driver ≡ Qcow2 image
   pub left : new ≡ Some (record row { driver = Qcow2 now })
   pub opened : IsOpen now
-  pub call : IsImageCallAt file (fits image) (own image) (made image) before after image now place
-      bytes outcome
+  pub call : IsImageCallAt file (fits image) (own image) change before after image now place bytes
+      outcome
 
 -- What the writing of a piece leaves.
 
@@ -93,8 +94,9 @@ pub record RefusesPiece (file : ℕ) (fits : ℕ → Type 0) (rows left : List (
   pub devices_same : new ≡ old
 
 -- the read of the rest of the cluster was stopped
-pub record StopsReading (part : Part) (fits : ℕ → Type 0) (rows left : List (Option Row))
-    (old new : List DeviceState) (outcome : Outcome) : Type 0 where
+pub record StopsReading (part : Part) (fits : ℕ → Type 0) (change : ImageChange) (image : Known)
+    (rows left : List (Option Row)) (old new : List DeviceState) (outcome : Outcome)
+    : Type 0 where
   pub dev : DevNo
   pub count : ℕ
   pub is : outcome ≡ Io dev count
@@ -104,6 +106,8 @@ pub record StopsReading (part : Part) (fits : ℕ → Type 0) (rows left : List 
   pub read : IsReadFrom part.source old new outcome
   pub risen : HaveRisen old new
   pub rows_same : left ≡ rows
+  pub changed : (after : DeviceState) → HasRisen device after
+      → change image image device after outcome
 
 -- the image's disk has the piece's bytes, over each backing disk from which the rest of the cluster was found
 abbrev pub IsDiskAfter : List DeviceState → Part → List ℕ → List ℕ → List ℕ → Type 0
@@ -113,12 +117,13 @@ IsDiskAfter devices part bytes old new = (backing : List ℕ)
     → image_disk new backing ≡ with_bytes (image_disk old backing) part.span.start bytes
 
 -- the image was called
-pub record CallsPiece (part : Part) (fits : ℕ → Type 0) (own : Option ℕ)
-    (made : ℕ → ℕ → Type 0) (image : Known) (row : Row) (rows left : List (Option Row))
-    (old new : List DeviceState) (bytes : List ℕ) (outcome : Outcome) : Type 0 where
+pub record CallsPiece (part : Part) (fits : ℕ → Type 0) (own : Option ℕ) (change : ImageChange)
+    (image : Known) (row : Row) (rows left : List (Option Row)) (old new : List DeviceState)
+    (bytes : List ℕ) (outcome : Outcome) : Type 0 where
   pub now : Known
   pub opened : IsOpen now
-  pub changed : IsImageAfter made image now (part.span.start / 65536) outcome
+  pub header : HasHeaderOf image now
+  pub taken : StaysTaken image now
   pub mapped : StaysMapped image now
   pub row_now : left ≡ slice_set rows part.node (Some (record row { driver = Qcow2 now }))
   pub before : DeviceState
@@ -128,20 +133,20 @@ pub record CallsPiece (part : Part) (fits : ℕ → Type 0) (own : Option ℕ)
   pub only : OnlyAt part.file old new
   pub cause : HasImageCause (fits before.capacity) own (length bytes) before after image now outcome
   pub full : (dev : DevNo) → outcome ≡ NoSpace dev → (left ≡ rows) × (new ≡ old)
+  pub changed : change image now before after outcome
   pub device : IsDeviceAfter before after
   pub known : (b : List ℕ) → after.content ≡ Some b → IsImageOf b now
   pub disk : AreTold old → (b b' : List ℕ) → before.content ≡ Some b → after.content ≡ Some b'
       → IsDiskAfter old part (taken_by outcome bytes) b b'
 
 pub record WritesPart (fits : Known → ℕ → Type 0) (own : Known → Option ℕ)
-    (made : Known → ℕ → ℕ → Type 0) (rows left : List (Option Row))
-    (old new : List DeviceState) (part : Part) (bytes : List ℕ) (outcome : Outcome)
-    : Type 0 where
+    (change : ImageChange) (rows left : List (Option Row)) (old new : List DeviceState)
+    (part : Part) (bytes : List ℕ) (outcome : Outcome) : Type 0 where
   pub row : Row
   pub image : Known
   pub there : row_in rows part.node ≡ Some row
   pub driver : row.driver ≡ Qcow2 image
   pub wrote : RefusesPiece part.file (fits image) rows left old new outcome
-      ⊎ (StopsReading part (fits image) rows left old new outcome
-      ⊎ CallsPiece part (fits image) (own image) (made image) image row rows left old new
-      bytes outcome)
+      ⊎ (StopsReading part (fits image) change image rows left old new outcome
+      ⊎ CallsPiece part (fits image) (own image) change image row rows left old new bytes
+      outcome)

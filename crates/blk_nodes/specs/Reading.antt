@@ -39,13 +39,14 @@ pub record OnlyAt (file : ℕ) (old new : List DeviceState) : Type 0 where
   pub others : (other : ℕ) → other ≢ file → device_in new other ≡ device_in old other
 
 -- the device of a `file` node, and no other, stopped the call
-pub record StoppedAt (file : ℕ) (old new : List DeviceState) (dev : DevNo) (count : ℕ) : Type 0 where
-  pub before : DeviceState
-  pub after : DeviceState
-  pub held : device_in old file ≡ Some before
-  pub left : device_in new file ≡ Some after
-  pub stopped : StoppedBy before after dev count
-  pub only : OnlyAt file old new
+pub record StoppedAt (file : ℕ) (old new : List DeviceState) (dev : DevNo) (count : ℕ) : Type 0
+  where
+    pub before : DeviceState
+    pub after : DeviceState
+    pub held : device_in old file ≡ Some before
+    pub left : device_in new file ≡ Some after
+    pub stopped : StoppedBy before after dev count
+    pub only : OnlyAt file old new
 
 -- how a read of the device of a `file` node went
 abbrev pub IsReadAt : ℕ → List DeviceState → List DeviceState → Outcome → Type 0

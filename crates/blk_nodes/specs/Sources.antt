@@ -41,7 +41,8 @@ step_by_entry node file backing entries.Reserved = Found Zeros
 abbrev pub step_by : ℕ → Option ℕ → Option ℕ → ℕ → Driver → Step
 step_by node file backing place drivers.File = Found (File node place)
 step_by node file backing place (drivers.Raw part) = in_file file (part.offset + place)
-step_by node file backing place (drivers.Qcow2 image) = step_by_entry node file backing (entry_in image (place / 65536))
+step_by node file backing place (drivers.Qcow2 image) =
+    step_by_entry node file backing (entry_in image (place / 65536))
 step_by node file backing place drivers.CopyOnRead = in_below file
 
 abbrev pub step_of : Nodes → ℕ → ℕ → Step

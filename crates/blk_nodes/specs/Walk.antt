@@ -19,7 +19,7 @@ IsKnownAt file devices image =
     → device.content ≡ Some bytes → IsImageOf bytes image
 
 -- a place of an image's disk in a cluster of its own, and the device of its file
-pub record IsMapped (rows : List (Option Row)) (devices : List DeviceState)
+pub record IsPlaceMapped (rows : List (Option Row)) (devices : List DeviceState)
     (node file place : ℕ) : Type 0 where
   pub row : Row
   pub image : Known
@@ -34,7 +34,7 @@ pub record IsMapped (rows : List (Option Row)) (devices : List DeviceState)
 abbrev pub CanBeRead : List (Option Row) → List DeviceState → ℕ → Source → Type 0
 CanBeRead rows devices place Zeros = Unit {0}
 CanBeRead rows devices place (File file start) = IsSome (device_in devices file)
-CanBeRead rows devices place (Image node file) = IsMapped rows devices node file place
+CanBeRead rows devices place (Image node file) = IsPlaceMapped rows devices node file place
 
 -- and the node below has the place too
 abbrev pub GoesOn : Nodes → ℕ → Step → Type 0

@@ -1,5 +1,5 @@
 -- What a write of a piece leaves and answers, and which nodes may be written.
-use Rattle.std.specs.Prelude.{◌≡◌, ◌≢◌, ◌⊎◌, ℕ, ◌+◌, ◌/◌, ◌%◌, ◌<◌, ◌≤◌, ◌==◌, if◌then◌else◌, Bool, true, false, List, [], length, replicate, take, Option, option_map, is_some, Some, None, Result, Ok, Err}
+use Rattle.std.specs.Prelude.{◌≡◌, ◌≢◌, ◌⊎◌, ℕ, ◌+◌, ◌%◌, ◌<◌, ◌≤◌, ◌==◌, if◌then◌else◌, Bool, true, false, List, [], length, replicate, take, Option, option_map, is_some, Some, None, Result, Ok, Err}
 use Rattle.blk_base.specs.Content.{with_bytes, size_with, GoesOn}
 use Rattle.blk_base.specs.Pieces.{Extent}
 use Rattle.blk_base.specs.declared.device.Stop.{Stop}
@@ -12,10 +12,10 @@ use Rattle.blk_base.specs.declared.fault.Outcome.{Outcome}
 use Rattle.blk_base.specs.declared.fault.Outcome.TheVariants.{Good, Torn, Io, NoSpace}
 use Rattle.q2_format.specs.declared.entries.L2Entry.{L2Entry}
 use Rattle.q2_format.specs.declared.entries.L2Entry.TheVariants as entries
-use Rattle.q2_image.specs.Image.{Known, IsImageOf, entry_in, word_in}
+use Rattle.q2_image.specs.Image.{Known, IsImageOf, entry_in}
 use Rattle.q2_image.specs.Room.{WriteFits, ZerosFit, entry_for, is_whole}
-use Rattle.q2_image.specs.Writing.{IsDiskWith, HasHeaderOf, HasEntriesBut, StaysTaken, own_place}
-use Rattle.blk_nodes.specs.Entries.{IsEntryAfter, IsWritten, IsZeroed, LeavesRow}
+use Rattle.q2_image.specs.Writing.{IsDiskWith, HasHeaderOf, StaysTaken, own_place}
+use Rattle.blk_nodes.specs.Changing.{ImageChange, IsWritten, IsZeroed, LeavesRow}
 use Rattle.blk_nodes.specs.Nodes.{Nodes, DeviceState, row_at, device_in, file_of, backing_of}
 use Rattle.blk_nodes.specs.Reading.{HaveRisen, OnlyAt, StoppedBy, StoppedBelow, LeadsTo}
 use Rattle.blk_nodes.specs.Sources.{source_of}
@@ -76,15 +76,11 @@ pub record IsWriteAt (file : ℕ) (old new : List DeviceState) (place : ℕ) (by
 
 -- Of the image on a device.
 
--- what each call leaves of a device
+-- it is the same device, whose count may have risen
 pub record IsDeviceAfter (old new : DeviceState) : Type 0 where
   pub node : new.node ≡ old.node
   pub number : new.number ≡ old.number
   pub told : is_some new.content ≡ is_some old.content
-  -- it is flushed no more than it was
-  pub flushed : (new.is_flushed ≡ old.is_flushed)
-      ⊎ (new.is_flushed ≡ option_map (λ _. false) old.is_flushed)
-  pub capacity : new.capacity ≡ old.capacity
   pub faults : old.faults ≤ new.faults
 
 -- a guest cluster that has an entry keeps one
@@ -92,7 +88,7 @@ abbrev pub StaysMapped : Known → Known → Type 0
 StaysMapped before after = (cluster : ℕ) → entry_in before cluster ≢ entries.Unallocated
     → entry_in after cluster ≢ entries.Unallocated
 
--- what a call leaves of an image and of its device that writes these bytes from a place of the image's disk on
+-- what is so of an image and of its device behind a call that writes these bytes from a place of the image's disk on
 pub record IsImageWrite (old new : DeviceState) (before after : Known) (place : ℕ)
     (bytes : List ℕ) : Type 0 where
   pub device : IsDeviceAfter old new
@@ -102,7 +98,6 @@ pub record IsImageWrite (old new : DeviceState) (before after : Known) (place : 
       → IsDiskWith b now place bytes
   pub header : HasHeaderOf before after
   pub taken : StaysTaken before after
-  pub entries : HasEntriesBut before after (place / 65536)
   pub mapped : StaysMapped before after
 
 -- n bytes were torn that are written in place there; none are where they aren't
@@ -120,23 +115,23 @@ HasImageCause fits place n old new before after (Io dev count) = fits × Stopped
 HasImageCause fits place n old new before after (NoSpace dev) =
     (fits → ⊥) × (dev ≡ old.number) × (new ≡ old) × (after ≡ before)
 
-pub record IsImageCall (fits : Type 0) (own : Option ℕ) (made : ℕ → ℕ → Type 0)
+pub record IsImageCall (fits : Type 0) (own : Option ℕ) (change : ImageChange)
     (old new : DeviceState) (before after : Known) (place : ℕ) (bytes : List ℕ)
     (outcome : Outcome) : Type 0 where
   pub wrote : IsImageWrite old new before after place (taken_by outcome bytes)
   pub cause : HasImageCause fits own (length bytes) old new before after outcome
-  pub entry : IsEntryAfter made outcome (word_in before (place / 65536))
-      (word_in after (place / 65536))
+  pub changed : change before after old new outcome
 
 -- the same of the device of a `file` node; whether there is room goes by its capacity
 pub record IsImageCallAt (file : ℕ) (fits : ℕ → Type 0) (own : Option ℕ)
-    (made : ℕ → ℕ → Type 0) (old new : List DeviceState) (image now : Known) (place : ℕ)
+    (change : ImageChange) (old new : List DeviceState) (image now : Known) (place : ℕ)
     (bytes : List ℕ) (outcome : Outcome) : Type 0 where
   pub before : DeviceState
   pub after : DeviceState
   pub held : device_in old file ≡ Some before
   pub left : device_in new file ≡ Some after
-  pub call : IsImageCall (fits before.capacity) own made before after image now place bytes outcome
+  pub call : IsImageCall (fits before.capacity) own change before after image now place bytes
+      outcome
   pub only : OnlyAt file old new
   pub full : (dev : DevNo) → outcome ≡ NoSpace dev → new ≡ old
 
@@ -232,8 +227,7 @@ pub record WritesPiece (old new : Nodes) (node : ℕ) (span : Extent) (bytes : L
   pub row : Row
   pub there : row_at old node ≡ Some row
   pub wrote : WritesBy row.driver old new node span bytes outcome
-  pub left : LeavesRow (λ _. IsWritten) row.driver row (row_at new node) (span.start / 65536)
-      outcome
+  pub left : LeavesRow (IsWritten span bytes) row.driver row old new node outcome
 
 -- zeros are written in place where they are no whole cluster
 abbrev pub zeros_place : Bool → Known → Extent → Option ℕ
@@ -252,8 +246,7 @@ pub record ZerosPiece (old new : Nodes) (node : ℕ) (span : Extent)
   pub row : Row
   pub there : row_at old node ≡ Some row
   pub wrote : ZerosBy row.driver old new node span outcome
-  pub left : LeavesRow (λ image. IsZeroed (is_whole image span)) row.driver row (row_at new node)
-      (span.start / 65536) outcome
+  pub left : LeavesRow (IsZeroed span) row.driver row old new node outcome
 
 -- What stays.
 

@@ -1,7 +1,7 @@
 //! The edges of a new node, why they are refused, and a node that is taken back.
 ghost use Rattle.std.specs.Prelude.{◌≡◌, ◌≢◌, ◌<◌, true, None, Some, MatchResult, OnOk, OnErr, IfSome};
 ghost use Rattle.blk_graph.specs.Edits.{IsLone};
-ghost use Rattle.blk_graph.specs.Graph.{HasNode, IsSound, ids};
+ghost use Rattle.blk_graph.specs.Graph.{HasNode, IsSoundGraph, ids};
 ghost use Rattle.blk_graph.specs.Judged.{IsEditStop, without_node};
 ghost use Rattle.blk_graph.specs.Permissions.{has_role};
 ghost use Rattle.blk_graph.specs.Refreshed.{kind_at, refreshed};
@@ -60,10 +60,11 @@ pub(crate) fn draw_edges(
     requires file_role { has_role (kind_at graph.now.kinds node).kind Role.File ≡ true }
     requires backing_role { IfSome backing
         (λ _. has_role (kind_at graph.now.kinds node).kind Role.Backing ≡ true) }
-    ensures drawn { draft.new ≡ refreshed graph.now.kinds (format_edges node file backing graph.now.edges) }
+    ensures drawn { draft.new
+        ≡ refreshed graph.now.kinds (format_edges node file backing graph.now.edges) }
     ensures judged { MatchResult result (λ _. first_conflict (ids graph.now) draft.new ≡ None)
         (λ pair. first_conflict (ids graph.now) draft.new ≡ Some pair) }
-    ensures sound { OnOk result (IsSound (record graph.now { edges = draft.new })) }
+    ensures sound { OnOk result (IsSoundGraph (record graph.now { edges = draft.new })) }
 {
     draft.copy_from(graph.list());
     draft.put(Edge::of_node(node, Role::File, file));
@@ -74,7 +75,7 @@ pub(crate) fn draw_edges(
 
 /// Gives a graph the edges that were drawn for it.
 pub(crate) fn take_drawn(graph: &mut Graph, draft: &mut EdgeList)
-    requires { IsSound (record graph.old { edges = draft.old }) }
+    requires { IsSoundGraph (record graph.old { edges = draft.old }) }
     ensures { graph.new ≡ record graph.old { edges = draft.old } }
 {
     let kinds = *graph.kinds();

@@ -1,5 +1,6 @@
 //! The bytes of a cluster while it is put together.
 ghost use Rattle.std.specs.Prelude.{◌≡◌, ◌⊎◌, ℕ, ◌+◌, ◌%◌, ◌<◌, ◌≤◌, List, ◌++◌, length, take, drop, slice_index, vec_len, IfOk};
+ghost use Rattle.blk_nodes.specs.Changing.{HasPart};
 ghost use Rattle.blk_nodes.specs.Found.{found_bytes, IsReadFrom};
 ghost use Rattle.blk_nodes.specs.Nodes.{AreTold};
 ghost use Rattle.blk_nodes.specs.Parts.{HasPiece, IsGathered};
@@ -119,6 +120,7 @@ impl Cluster {
         ensures bytes { AreTold devices.old → result ≡ Outcome.Good → IsGathered self.new
             (found_bytes devices.old part.now.source part.now.whole.start part.now.whole.len)
             part.now.whole.len (part.now.span.start % 65536) bytes.now }
+        ensures part { result ≡ Outcome.Good → HasPart 65536 part.now.span bytes.now self.new }
         ensures outcome { IsReadFrom part.now.source devices.old devices.new result
             ⊎ ((result ≡ Outcome.Good) × (devices.new ≡ devices.old)) }
         ensures devices { HaveRisen devices.old devices.new }

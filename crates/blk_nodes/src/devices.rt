@@ -77,7 +77,8 @@ impl<D: Device> Held<D> {
 
     /// Reads what stands on the device from a place on.
     fn read(&mut self, place: u64, buffer: &mut [u8]) -> Outcome
-        ensures read { (bytes : List ℕ) → self.old.content ≡ Some bytes → result ≡ Outcome.Good → buffer.new ≡ bytes_at bytes place (length buffer.old) }
+        ensures read { (bytes : List ℕ) → self.old.content ≡ Some bytes → result ≡ Outcome.Good
+            → buffer.new ≡ bytes_at bytes place (length buffer.old) }
         ensures outcome { IsReadOf self.old self.new result }
         ensures kept { HasRisen self.old self.new }
     {
@@ -94,7 +95,8 @@ impl<D: Device> Held<D> {
         requires inside { span.start < image.now.header.size }
         requires host { IsHost (entry_in image.now (span.start / 65536)) }
         requires whole { length buffer.old ≡ span.len }
-        ensures read { (bytes : List ℕ) → self.old.content ≡ Some bytes → IsImageOf bytes image.now → result ≡ Outcome.Good
+        ensures read { (bytes : List ℕ) → self.old.content ≡ Some bytes → IsImageOf bytes image.now
+            → result ≡ Outcome.Good
             → buffer.new ≡ guest_bytes bytes [] span.start span.len }
         ensures outcome { IsReadOf self.old self.new result }
         ensures kept { HasRisen self.old self.new }
@@ -179,7 +181,8 @@ impl<D: Device> Held<D> {
         requires size { size ≤ MAX_DISK_SIZE }
         requires name { ForSome name (λ name. IsNewName name.now) }
         requires format { ForSome format (λ format. IsNewFormat format.now) }
-        ensures { IsFormatOf self.old self.new (creation_of size (option_copied name.entry) (option_copied format.entry)) result }
+        ensures { IsFormatOf self.old self.new
+            (creation_of size (option_copied name.entry) (option_copied format.entry)) result }
     {
         match create_image(alloc, &mut self.device, size, name, format) {
             Ok(()) => Ok(()),
@@ -238,7 +241,8 @@ impl<D: Device> Devices<D> {
     /// Reads from the file of a `file` node.
     pub(crate) fn read_file(&mut self, file: NodeId, start: u64, buffer: &mut [u8]) -> Outcome
         requires { IsSome (device_in self.old file) }
-        ensures read { AreTold self.old → result ≡ Outcome.Good → buffer.new ≡ bytes_at (bytes_by (device_in self.old file)) start (length buffer.old) }
+        ensures read { AreTold self.old → result ≡ Outcome.Good
+            → buffer.new ≡ bytes_at (bytes_by (device_in self.old file)) start (length buffer.old) }
         ensures outcome { IsReadAt file self.old self.new result }
         ensures devices { HaveRisen self.old self.new }
     {
@@ -265,8 +269,11 @@ impl<D: Device> Devices<D> {
         requires inside { span.start < image.now.header.size }
         requires host { IsHost (entry_in image.now (span.start / 65536)) }
         requires whole { length buffer.old ≡ span.len }
-        requires known { (device : DeviceState) (bytes : List ℕ) → device_in self.old file ≡ Some device → device.content ≡ Some bytes → IsImageOf bytes image.now }
-        ensures read { AreTold self.old → result ≡ Outcome.Good → buffer.new ≡ guest_bytes (bytes_by (device_in self.old file)) [] span.start span.len }
+        requires known { (device : DeviceState) (bytes : List ℕ)
+            → device_in self.old file ≡ Some device → device.content ≡ Some bytes
+            → IsImageOf bytes image.now }
+        ensures read { AreTold self.old → result ≡ Outcome.Good
+            → buffer.new ≡ guest_bytes (bytes_by (device_in self.old file)) [] span.start span.len }
         ensures outcome { IsReadAt file self.old self.new result }
         ensures devices { HaveRisen self.old self.new }
     {
@@ -312,7 +319,8 @@ impl<D: Device> Devices<D> {
         requires { AllPairs DifferInNode self.old }
         ensures left { self.new ≡ other_devices node self.old }
         ensures device { MatchOption result (device_in self.old node ≡ None)
-            (λ device. (held : DeviceState) × (device_in self.old node ≡ Some held) × (held ≡ record held {
+            (λ device. (held : DeviceState) × (device_in self.old node ≡ Some held)
+            × (held ≡ record held {
               content = D.content device;
               is_flushed = D.is_flushed device;
               log = D.log device;
@@ -361,7 +369,8 @@ impl<D: Device> Devices<D> {
         requires size { size ≤ MAX_DISK_SIZE }
         requires name { ForSome name (λ name. IsNewName name.now) }
         requires format { ForSome format (λ format. IsNewFormat format.now) }
-        ensures { IsFormatAt file self.old self.new (creation_of size (option_copied name.entry) (option_copied format.entry)) result }
+        ensures { IsFormatAt file self.old self.new
+            (creation_of size (option_copied name.entry) (option_copied format.entry)) result }
     {
         match self.place_of(file) {
             Some(at) => {

@@ -6,7 +6,7 @@ ghost use Rattle.blk_nodes.specs.Contents.{bytes_by};
 ghost use Rattle.blk_nodes.specs.Found.{found_bytes, IsReadFrom};
 ghost use Rattle.blk_nodes.specs.Nodes.{AreTold, device_in};
 ghost use Rattle.blk_nodes.specs.Reading.{HaveRisen, IsReadAt};
-ghost use Rattle.blk_nodes.specs.Walk.{CanBeRead, IsMapped};
+ghost use Rattle.blk_nodes.specs.Walk.{CanBeRead, IsPlaceMapped};
 
 use crate::devices::Devices;
 use crate::row::{Driver, Row};
@@ -32,7 +32,7 @@ fn read_mapped<D: Device>(
     requires rows { length rows.now ≡ 64 }
     requires some { 0 < span.len }
     requires block { IsWithinCluster 65536 span }
-    requires mapped { IsMapped rows.now devices.old node file span.start }
+    requires mapped { IsPlaceMapped rows.now devices.old node file span.start }
     requires whole { length buffer.old ≡ span.len }
     ensures read { AreTold devices.old → result ≡ Outcome.Good
         → buffer.new ≡ guest_bytes (bytes_by (device_in devices.old file)) [] span.start span.len }

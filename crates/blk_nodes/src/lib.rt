@@ -14,8 +14,6 @@ mod parts;
 mod row;
 mod source;
 mod stop;
-#[cfg(test)]
-mod tests;
 mod zeros;
 
 pub use backing::Backing;

@@ -65,7 +65,8 @@ impl<D: Device> Model for Nodes<D> {
 
     ghost view = { λ n. record { graph = n.graph; rows = n.rows.items; devices = n.devices } };
 
-    ghost invariant = { λ n. IsJoined (record { graph = n.graph; rows = n.rows.items; devices = n.devices }) };
+    ghost invariant = { λ n. IsJoined
+        (record { graph = n.graph; rows = n.rows.items; devices = n.devices }) };
 }
 
 /// Rows for 64 nodes that aren't there yet.
@@ -127,7 +128,8 @@ impl<D: Device> Nodes<D> {
 
     /// Why no node of this name can be added.
     fn check_name(&self, name: &str) -> Result<(), AddStop>
-        ensures ok { OnOk result (¬ HasName self.now.graph name.now × (length self.now.graph.nodes ≢ 64)) }
+        ensures ok { OnOk result
+            (¬ HasName self.now.graph name.now × (length self.now.graph.nodes ≢ 64)) }
         ensures stop { IfErr result (IsNameStop self.now.graph name.now) }
     {
         if self.graph.node_named(name).is_some() {
@@ -149,15 +151,32 @@ impl<D: Device> Nodes<D> {
         number: DevNo,
         read_only: bool,
     ) -> Result<NodeId, (AddStop, D)>
-        ensures taken { IsErrAnd result (λ e. e.0 ≡ AddStop.NameTaken) ↔ HasName self.old.graph name.bytes }
-        ensures full { IsErrAnd result (λ e. e.0 ≡ AddStop.TooManyNodes) ↔ ((length self.old.graph.nodes ≡ 64) × ¬ HasName self.old.graph name.bytes) }
+        ensures taken { IsErrAnd result
+            (λ e. e.0 ≡ AddStop.NameTaken) ↔ HasName self.old.graph name.bytes }
+        ensures full { IsErrAnd result
+            (λ e. e.0 ≡ AddStop.TooManyNodes) ↔
+            ((length self.old.graph.nodes ≡ 64) × ¬ HasName self.old.graph name.bytes) }
         ensures only { IfErr result (λ e. IsFileStop e.0) }
-        ensures ok { IfOk result (λ id. self.new ≡ with_device (with_node self.old id name.bytes (record { driver = Driver.File; size = D.size device; is_read_only = read_only }))
-            (record { node = id; number = number; content = D.content device; is_flushed = D.is_flushed device; log = D.log device; size = D.size device; capacity = D.capacity device; faults = D.faults device })) }
+        ensures ok { IfOk result
+            (λ id. self.new
+            ≡ with_device
+            (with_node self.old id name.bytes
+            (record { driver = Driver.File; size = D.size device; is_read_only = read_only }))
+            (record {
+              node = id;
+              number = number;
+              content = D.content device;
+              is_flushed = D.is_flushed device;
+              log = D.log device;
+              size = D.size device;
+              capacity = D.capacity device;
+              faults = D.faults device;
+            })) }
         ensures lowest { IfOk result (IsLowestFree (ids self.old.graph)) }
         ensures disks { OnOk result ((other : ℕ) → HasNode self.old.graph other
             → disk_of self.new other ≡ disk_of self.old other) }
-        ensures disk { IfOk result (λ id. disk_of self.new id ≡ file_disk (D.size device) (told (D.content device))) }
+        ensures disk { IfOk result
+            (λ id. disk_of self.new id ≡ file_disk (D.size device) (told (D.content device))) }
         ensures err { OnErr result (self.new ≡ self.old) }
         ensures back { IfErr result (λ e. e.1 ≡ device) }
     {
@@ -200,14 +219,17 @@ impl<D: Device> Nodes<D> {
         ensures full { (result ≡ Err AddStop.TooManyNodes)
             ↔ ((length self.old.graph.nodes ≡ 64) × ¬ HasName self.old.graph name.bytes) }
         ensures denied { (pair : Pair) → result ≡ Err (AddStop.Conflict pair)
-            → IsDenied self.old (kind_with Kind.Raw read_only) (λ id. with_edge (file_edge id file)) pair }
+            → IsDenied self.old (kind_with Kind.Raw read_only)
+            (λ id. with_edge (file_edge id file)) pair }
         ensures only { IfErr result IsOverStop }
         ensures ok { IfOk result (λ id. self.new
-            ≡ with_below (with_node self.old id name.bytes (raw_row part read_only)) (file_edge id file)) }
+            ≡ with_below (with_node self.old id name.bytes (raw_row part read_only))
+            (file_edge id file)) }
         ensures lowest { IfOk result (IsLowestFree (ids self.old.graph)) }
         ensures disks { OnOk result ((other : ℕ) → HasNode self.old.graph other
             → disk_of self.new other ≡ disk_of self.old other) }
-        ensures disk { IfOk result (λ id. disk_of self.new id ≡ raw_disk part.start part.len (disk_of self.old file)) }
+        ensures disk { IfOk result
+            (λ id. disk_of self.new id ≡ raw_disk part.start part.len (disk_of self.old file)) }
         ensures err { OnErr result (self.new ≡ self.old) }
     {
         if let Err(stop) = self.check_name(name.as_str()) {
@@ -256,15 +278,26 @@ impl<D: Device> Nodes<D> {
         requires file { IsFile self.old file }
         requires backing { IfSome (backing_node backing) (HasNode self.old.graph) }
         ensures ok { IfOk result (IsQcow2Added self.old self.new
-            (record { name = name.bytes; file = file; backing = backing; is_read_only = read_only })) }
+            (record {
+              name = name.bytes;
+              file = file;
+              backing = backing;
+              is_read_only = read_only;
+            })) }
         ensures stop { IfErr result (IsQcow2Stop self.old self.new
-            (record { name = name.bytes; file = file; backing = backing; is_read_only = read_only })) }
+            (record {
+              name = name.bytes;
+              file = file;
+              backing = backing;
+              is_read_only = read_only;
+            })) }
         ensures err { OnErr result (self.new ≡ record self.old { devices = self.new.devices }) }
         ensures devices { HaveRisen self.old.devices self.new.devices }
         ensures disks { OnOk result ((other : ℕ) → HasNode self.old.graph other
             → disk_of self.new other ≡ disk_of self.old other) }
         ensures disk { IfOk result (λ id. disk_of self.new id
-            ≡ image_disk (bytes_of self.old file) (below (disk_of self.old) (backing_node backing))) }
+            ≡ image_disk (bytes_of self.old file)
+            (below (disk_of self.old) (backing_node backing))) }
     {
         let size = self.backing_size(&backing);
         if let Err(stop) = self.check_name(name.as_str()) {
@@ -309,10 +342,12 @@ impl<D: Device> Nodes<D> {
         ensures full { (result ≡ Err AddStop.TooManyNodes)
             ↔ ((length self.old.graph.nodes ≡ 64) × ¬ HasName self.old.graph name.bytes) }
         ensures denied { (pair : Pair) → result ≡ Err (AddStop.Conflict pair)
-            → IsDenied self.old (kind_with Kind.CopyOnRead read_only) (λ id. with_edge (file_edge id child)) pair }
+            → IsDenied self.old (kind_with Kind.CopyOnRead read_only)
+            (λ id. with_edge (file_edge id child)) pair }
         ensures only { IfErr result IsOverStop }
         ensures ok { IfOk result (λ id. self.new
-            ≡ with_children self.old id name.bytes (copying_row (size_of self.old child) read_only) child None) }
+            ≡ with_children self.old id name.bytes (copying_row (size_of self.old child) read_only)
+            child None) }
         ensures lowest { IfOk result (IsLowestFree (ids self.old.graph)) }
         ensures disks { OnOk result ((other : ℕ) → HasNode self.old.graph other
             → disk_of self.new other ≡ disk_of self.old other) }
@@ -357,9 +392,13 @@ impl<D: Device> Nodes<D> {
         requires node { HasNode self.old.graph node }
         requires number { guest < 80 }
         ensures denied { (pair : Pair) → result ≡ Err pair
-            → first_conflict (ids self.old.graph) (with_below self.old (guest_edge self.old guest node share_rw)).graph.edges ≡ Some pair }
-        ensures ok { OnOk result (self.new ≡ with_below self.old (guest_edge self.old guest node share_rw)) }
-        ensures kept { IsOk result ↔ KeepsPermissions (with_below self.old (guest_edge self.old guest node share_rw)).graph.edges }
+            → first_conflict (ids self.old.graph)
+            (with_below self.old (guest_edge self.old guest node share_rw)).graph.edges
+            ≡ Some pair }
+        ensures ok { OnOk result
+            (self.new ≡ with_below self.old (guest_edge self.old guest node share_rw)) }
+        ensures kept { IsOk result ↔ KeepsPermissions
+            (with_below self.old (guest_edge self.old guest node share_rw)).graph.edges }
         ensures err { OnErr result (self.new ≡ self.old) }
         ensures disks { (other : ℕ) → disk_of self.new other ≡ disk_of self.old other }
     {
@@ -426,7 +465,8 @@ impl<D: Device> Nodes<D> {
         requires block { IsWithinCluster 65536 span }
         requires inside { end_of span ≤ size_of self.old node }
         requires whole { length buffer.old ≡ span.len }
-        ensures read { AreTold self.old.devices → ReadsDisk result (disk_of self.old node) span buffer.new }
+        ensures read { AreTold self.old.devices
+            → ReadsDisk result (disk_of self.old node) span buffer.new }
         ensures outcome { IsReadBelow self.old self.new node result }
         ensures kept { self.new ≡ record self.old { devices = self.new.devices } }
         ensures devices { HaveRisen self.old.devices self.new.devices }

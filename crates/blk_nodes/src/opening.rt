@@ -23,7 +23,8 @@ fn image_stop(stop: ImageStop) -> AddStop
 
 /// Whether what was said of the backing node, whose disk has `size` bytes, fits the image.
 fn check_backing(image: &Image, backing: &Backing, size: u64) -> Result<(), AddStop>
-    ensures { MatchOption (backing_stop image.now backing.now size) (result ≡ Ok tt) (λ stop. result ≡ Err stop) }
+    ensures { MatchOption (backing_stop image.now backing.now size) (result ≡ Ok tt)
+        (λ stop. result ≡ Err stop) }
 {
     match backing {
         Backing::Unsaid => {

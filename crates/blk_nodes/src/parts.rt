@@ -5,7 +5,7 @@ ghost use Rattle.q2_image.specs.Reading.{IsHost, IsWithinCluster};
 ghost use Rattle.q2_image.specs.Room.{WriteFits, ZerosFit, entry_for, is_whole};
 ghost use Rattle.q2_image.specs.Writing.{PutFits, ZeroFits, own_end, own_place};
 ghost use Rattle.q2_tables.specs.Entries.{entry_of};
-ghost use Rattle.blk_nodes.specs.Entries.{Stays, IsMapped, IsCleared, IsWritten, IsZeroed};
+ghost use Rattle.blk_nodes.specs.Changing.{ChangesAround, ChangesInPlace, ClearsCluster, IsWritten, IsZeroed, PutsCluster};
 ghost use Rattle.blk_nodes.specs.Nodes.{device_in};
 ghost use Rattle.blk_nodes.specs.Parts.{OfImage, HasPiece, CallsRow, WritesPart, row_in};
 ghost use Rattle.blk_nodes.specs.Walk.{IsKnownAt};
@@ -64,7 +64,7 @@ fn write_row<D: Device>(
         × (span.start < image.header.size) × IsHost (entry_in image (span.start / 65536))
         × IsKnownAt file devices.old image) }
     ensures { CallsRow file (λ image capacity. own_end image span ≤ capacity)
-        (λ image. Some (own_place image span)) (λ _. Stays)
+        (λ image. Some (own_place image span)) (ChangesInPlace span bytes.now)
         row.old row.new devices.old devices.new span.start bytes.now result }
 {
     let Some(taken) = row.take() else {
@@ -100,7 +100,8 @@ fn put_row<D: Device>(
     requires whole { length bytes.now ≡ 65536 }
     requires image { OfImage row.old (λ image. (cluster < clusters_in image)
         × IsKnownAt file devices.old image × FitsAt file devices.old (PutFits image cluster)) }
-    ensures { CallsRow file (λ image. PutFits image cluster) (λ _. None) (λ _. IsMapped)
+    ensures { CallsRow file (λ image. PutFits image cluster) (λ _. None)
+        (PutsCluster cluster bytes.now)
         row.old row.new devices.old devices.new (cluster * 65536) bytes.now result }
 {
     let Some(taken) = row.take() else {
@@ -134,7 +135,7 @@ fn zero_row<D: Device>(
     requires held { IsSome (device_in devices.old file) }
     requires image { OfImage row.old (λ image. (cluster < clusters_in image)
         × IsKnownAt file devices.old image) }
-    ensures { CallsRow file (λ image. ZeroFits image cluster) (λ _. None) (λ _. IsCleared)
+    ensures { CallsRow file (λ image. ZeroFits image cluster) (λ _. None) (ClearsCluster cluster)
         row.old row.new devices.old devices.new (cluster * 65536) (replicate 65536 0) result }
 {
     let Some(taken) = row.take() else {
@@ -171,7 +172,8 @@ fn put_part<D: Device>(
     requires piece { HasPiece rows.old devices.old part.now }
     requires whole { length bytes.now ≡ part.now.span.len }
     ensures { WritesPart (λ image. PutFits image (part.now.span.start / 65536)) (λ _. None)
-        (λ _. IsMapped) rows.old rows.new devices.old devices.new part.now bytes.now result }
+        (ChangesAround part.now.span bytes.now) rows.old rows.new devices.old devices.new part.now
+        bytes.now result }
 {
     let span = part.span;
     let at = part.node.index();
@@ -200,7 +202,7 @@ fn own_part<D: Device>(
     requires mapped { OfImage (row_in rows.old part.now.node)
         (λ image. IsHost (entry_in image (part.now.span.start / 65536))) }
     ensures { WritesPart (λ image capacity. own_end image part.now.span ≤ capacity)
-        (λ image. Some (own_place image part.now.span)) (λ _. Stays)
+        (λ image. Some (own_place image part.now.span)) (ChangesInPlace part.now.span bytes.now)
         rows.old rows.new devices.old devices.new part.now bytes.now result }
 {
     let at = part.node.index();
@@ -213,7 +215,8 @@ fn clear_part<D: Device>(rows: &mut [Option<Row>], devices: &mut Devices<D>, par
     requires piece { HasPiece rows.old devices.old part.now }
     requires all { part.now.span.len ≡ part.now.whole.len }
     ensures { WritesPart (λ image. ZeroFits image (part.now.span.start / 65536)) (λ _. None)
-        (λ _. IsCleared) rows.old rows.new devices.old devices.new part.now
+        (ClearsCluster (part.now.span.start / 65536))
+        rows.old rows.new devices.old devices.new part.now
         (replicate part.now.span.len 0) result }
 {
     let span = part.span;
@@ -233,7 +236,8 @@ pub(crate) fn write_part<D: Device>(
     requires piece { HasPiece rows.old devices.old part.now }
     requires whole { length bytes.now ≡ part.now.span.len }
     ensures { WritesPart (λ image. WriteFits image part.now.span)
-        (λ image. own_place_by (entry_for image part.now.span) image part.now.span) (λ _. IsWritten)
+        (λ image. own_place_by (entry_for image part.now.span) image part.now.span)
+        (IsWritten part.now.span bytes.now)
         rows.old rows.new devices.old devices.new part.now bytes.now result }
 {
     let span = part.span;
@@ -256,7 +260,7 @@ pub(crate) fn zero_part<D: Device>(
     requires zeros { zeros.now ≡ replicate part.now.span.len 0 }
     ensures { WritesPart (λ image. ZerosFit image part.now.span)
         (λ image. zeros_place (is_whole image part.now.span) image part.now.span)
-        (λ image. IsZeroed (is_whole image part.now.span))
+        (IsZeroed part.now.span)
         rows.old rows.new devices.old devices.new part.now
         (replicate part.now.span.len 0) result }
 {

@@ -3,7 +3,7 @@ ghost use Rattle.std.specs.Prelude.{◌≡◌, ◌<◌, ◌≤◌, ◌*◌, ◌/
 ghost use Rattle.q2_image.specs.Image.{IsImageOf, clusters_in, entry_in};
 ghost use Rattle.q2_image.specs.Reading.{IsHost, IsWithinCluster};
 ghost use Rattle.q2_image.specs.Writing.{PutFits, ZeroFits, own_end, own_place};
-ghost use Rattle.blk_nodes.specs.Entries.{Stays, IsMapped, IsCleared};
+ghost use Rattle.blk_nodes.specs.Changing.{ChangesInPlace, ClearsCluster, PutsCluster};
 ghost use Rattle.blk_nodes.specs.Nodes.{device_in};
 ghost use Rattle.blk_nodes.specs.Walk.{IsKnownAt};
 ghost use Rattle.blk_nodes.specs.Writing.{FitsAt, HasRoomAt, HasRoomBy, IsImageCall, IsImageCallAt, cluster_outcome};
@@ -36,8 +36,8 @@ impl<D: Device> Held<D> {
         requires whole { length bytes.now ≡ span.len }
         requires known { (b : List ℕ) → self.old.content ≡ Some b → IsImageOf b image.old }
         ensures { IsImageCall (own_end image.old span ≤ self.old.capacity)
-            (Some (own_place image.old span)) Stays self.old self.new image.old image.new
-            span.start bytes.now result }
+            (Some (own_place image.old span)) (ChangesInPlace span bytes.now)
+            self.old self.new image.old image.new span.start bytes.now result }
     {
         let _ = image.cluster_size();
         match image.write_own(&mut self.device, span, bytes) {
@@ -52,7 +52,8 @@ impl<D: Device> Held<D> {
         requires fits { PutFits image.old cluster self.old.capacity }
         requires whole { length bytes.now ≡ 65536 }
         requires known { (b : List ℕ) → self.old.content ≡ Some b → IsImageOf b image.old }
-        ensures { IsImageCall (PutFits image.old cluster self.old.capacity) None IsMapped
+        ensures { IsImageCall (PutFits image.old cluster self.old.capacity) None
+            (PutsCluster cluster bytes.now)
             self.old self.new image.old image.new (cluster * 65536) bytes.now result }
     {
         let _ = image.cluster_size();
@@ -64,7 +65,8 @@ impl<D: Device> Held<D> {
     fn zero_image(&mut self, image: &mut Image, cluster: u64) -> Outcome
         requires cluster { cluster < clusters_in image.old }
         requires known { (b : List ℕ) → self.old.content ≡ Some b → IsImageOf b image.old }
-        ensures { IsImageCall (ZeroFits image.old cluster self.old.capacity) None IsCleared
+        ensures { IsImageCall (ZeroFits image.old cluster self.old.capacity) None
+            (ClearsCluster cluster)
             self.old self.new image.old image.new (cluster * 65536) (replicate 65536 0) result }
     {
         let _ = image.cluster_size();
@@ -101,8 +103,8 @@ impl<D: Device> Devices<D> {
         requires whole { length bytes.now ≡ span.len }
         requires known { IsKnownAt file self.old image.old }
         ensures { IsImageCallAt file (λ capacity. own_end image.old span ≤ capacity)
-            (Some (own_place image.old span)) Stays self.old self.new image.old image.new
-            span.start bytes.now result }
+            (Some (own_place image.old span)) (ChangesInPlace span bytes.now)
+            self.old self.new image.old image.new span.start bytes.now result }
     {
         match self.place_of(file) {
             Some(at) => {
@@ -126,7 +128,8 @@ impl<D: Device> Devices<D> {
         requires fits { FitsAt file self.old (PutFits image.old cluster) }
         requires whole { length bytes.now ≡ 65536 }
         requires known { IsKnownAt file self.old image.old }
-        ensures { IsImageCallAt file (PutFits image.old cluster) None IsMapped
+        ensures { IsImageCallAt file (PutFits image.old cluster) None
+            (PutsCluster cluster bytes.now)
             self.old self.new image.old image.new (cluster * 65536) bytes.now result }
     {
         match self.place_of(file) {
@@ -143,7 +146,7 @@ impl<D: Device> Devices<D> {
         requires held { IsSome (device_in self.old file) }
         requires cluster { cluster < clusters_in image.old }
         requires known { IsKnownAt file self.old image.old }
-        ensures { IsImageCallAt file (ZeroFits image.old cluster) None IsCleared
+        ensures { IsImageCallAt file (ZeroFits image.old cluster) None (ClearsCluster cluster)
             self.old self.new image.old image.new (cluster * 65536) (replicate 65536 0) result }
     {
         match self.place_of(file) {

@@ -19,7 +19,8 @@ impl<D: Device> Nodes<D> {
         requires overlay { IsCover self.old node overlay }
         ensures judged { IsJudged (ids self.old.graph) self.old.graph.kinds
             (with_over node overlay self.old.graph.edges) result }
-        ensures no_cycle { IsApart self.old.graph.edges node overlay → result ≢ Err GraphStop.Cycle }
+        ensures no_cycle { IsApart self.old.graph.edges node overlay
+            → result ≢ Err GraphStop.Cycle }
         ensures ok { OnOk result (self.new ≡ covered node overlay self.old) }
         ensures disks { OnOk result (IsClear self.old overlay
             → ReadCovered self.old self.new node overlay) }

@@ -17,8 +17,10 @@ impl<D: Device> Nodes<D> {
         ensures answer { MatchOption (first_parent node self.old.graph.edges) (IsOk result)
             (λ parent. result ≡ Err (GraphStop.InUse parent)) }
         ensures ok { OnOk result (self.new ≡ without node self.old) }
-        ensures back { IfOk result (λ device. MatchOption device (device_in self.old.devices node ≡ None)
-            (λ device. (held : DeviceState) × (device_in self.old.devices node ≡ Some held) × (held ≡ record held {
+        ensures back { IfOk result
+            (λ device. MatchOption device (device_in self.old.devices node ≡ None)
+            (λ device. (held : DeviceState) × (device_in self.old.devices node ≡ Some held)
+            × (held ≡ record held {
               content = D.content device;
               is_flushed = D.is_flushed device;
               log = D.log device;

@@ -33,7 +33,8 @@ impl<D: Device> Nodes<D> {
     /// Flushes the device under a node, at the end of its `file` edges. It is Good, or Io of that device.
     pub fn flush_node(&mut self, node: NodeId) -> Outcome
         requires { HasNode self.old.graph node }
-        ensures flushed { IsFlushAt (base_of self.old node) self.old.devices self.new.devices result }
+        ensures flushed { IsFlushAt (base_of self.old node) self.old.devices self.new.devices
+            result }
         ensures disks { (other : ℕ) → disk_of self.new other ≡ disk_of self.old other }
         ensures kept { self.new ≡ record self.old { devices = self.new.devices } }
     {

@@ -30,8 +30,10 @@ impl<D: Device> Nodes<D> {
         requires name { ForSome backing_file (λ name. IsNewName name.now) }
         requires format { ForSome backing_fmt (λ format. IsNewFormat format.now) }
         ensures formatted { IsFormatAt node self.old.devices self.new.devices
-            (creation_of size (option_copied backing_file.entry) (option_copied backing_fmt.entry)) result }
-        ensures others { (other : ℕ) → other ≢ node → disk_of self.new other ≡ disk_of self.old other }
+            (creation_of size (option_copied backing_file.entry) (option_copied backing_fmt.entry))
+            result }
+        ensures others { (other : ℕ) → other ≢ node
+            → disk_of self.new other ≡ disk_of self.old other }
         ensures kept { self.new ≡ record self.old { devices = self.new.devices } }
     {
         self.devices

@@ -64,15 +64,22 @@ impl<D: Device> Nodes<D> {
             ↔ ((length self.old.graph.nodes ≡ 64) × ¬ HasName self.old.graph name.bytes) }
         ensures denied { (pair : Pair) → result ≡ Err (AddStop.Conflict pair)
             → IsDenied self.old (kind_with Kind.Qcow2 read_only)
-            (edges_for (record { name = name.bytes; file = file; backing = backing; is_read_only = read_only })) pair }
+            (edges_for (record {
+              name = name.bytes;
+              file = file;
+              backing = backing;
+              is_read_only = read_only;
+            })) pair }
         ensures only { IfErr result IsOverStop }
         ensures ok { IfOk result (λ id. self.new ≡ with_qcow2 self.old
-            (record { name = name.bytes; file = file; backing = backing; is_read_only = read_only }) id image) }
+            (record { name = name.bytes; file = file; backing = backing; is_read_only = read_only })
+            id image) }
         ensures lowest { IfOk result (IsLowestFree (ids self.old.graph)) }
         ensures disks { OnOk result ((other : ℕ) → HasNode self.old.graph other
             → disk_of self.new other ≡ disk_of self.old other) }
         ensures disk { IfOk result (λ id. disk_of self.new id
-            ≡ image_disk (bytes_of self.old file) (below (disk_of self.old) (backing_node backing))) }
+            ≡ image_disk (bytes_of self.old file)
+            (below (disk_of self.old) (backing_node backing))) }
         ensures err { OnErr result (self.new ≡ self.old) }
     {
         if let Err(stop) = self.check_name(name.as_str()) {

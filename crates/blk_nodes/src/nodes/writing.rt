@@ -141,7 +141,8 @@ impl<D: Device> Nodes<D> {
         ensures wrote { ZerosPiece self.old self.new node span result }
         ensures disk { AreTold self.old.devices
             → disk_of self.new node
-            ≡ with_bytes (disk_of self.old node) span.start (taken_by result (replicate span.len 0)) }
+            ≡ with_bytes (disk_of self.old node) span.start
+            (taken_by result (replicate span.len 0)) }
         ensures others { (other : ℕ) → IsApart self.old other node
             → disk_of self.new other ≡ disk_of self.old other }
         ensures kept { LeavesNodes self.old self.new node }
@@ -165,7 +166,8 @@ impl<D: Device> Nodes<D> {
         ensures wrote { ZerosPiece self.old self.new node span result }
         ensures disk { AreTold self.old.devices
             → disk_of self.new node
-            ≡ with_bytes (disk_of self.old node) span.start (taken_by result (replicate span.len 0)) }
+            ≡ with_bytes (disk_of self.old node) span.start
+            (taken_by result (replicate span.len 0)) }
         ensures others { (other : ℕ) → IsApart self.old other node
             → disk_of self.new other ≡ disk_of self.old other }
         ensures kept { LeavesNodes self.old self.new node }
@@ -191,7 +193,8 @@ impl<D: Device> Nodes<D> {
         ensures wrote { 0 < span.len → ZerosPiece self.old self.new node span result }
         ensures disk { AreTold self.old.devices
             → disk_of self.new node
-            ≡ with_bytes (disk_of self.old node) span.start (taken_by result (replicate span.len 0)) }
+            ≡ with_bytes (disk_of self.old node) span.start
+            (taken_by result (replicate span.len 0)) }
         ensures others { (other : ℕ) → IsApart self.old other node
             → disk_of self.new other ≡ disk_of self.old other }
         ensures kept { LeavesNodes self.old self.new node }

@@ -1,4 +1,4 @@
-use Rattle.std.proofs.Common.{◌≡◌, List, length, Option, Some, None, Ok, Err, refl, sym, ◌∙◌, ap, arith}
+use Rattle.std.proofs.Common.{◌≡◌, List, refl}
 use Rattle.blk_graph.specs.Refreshed.{refreshed}
 use Rattle.blk_graph.specs.declared.edge.Edge.{Edge}
 use Rattle.blk_nodes.specs.Overlays.{format_edges}

@@ -1,4 +1,4 @@
-use Rattle.std.proofs.Common.{◌≡◌, ◌==◌, ℕ, Bool, true, false, cond, List, refl, sym, ◌∙◌, subst, Option, Some, None, Ok, Err}
+use Rattle.std.proofs.Common.{◌≡◌, ◌==◌, ℕ, Bool, true, false, cond, List, refl, sym, subst, Option, Some, None, Ok, Err}
 use Rattle.std.specs.Prelude.{Result, MatchOption, is_some}
 use Rattle.q2_image.specs.Image.{Known}
 use Rattle.blk_nodes.specs.Nodes.{DeviceState}

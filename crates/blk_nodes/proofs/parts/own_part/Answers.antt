@@ -1,4 +1,4 @@
-use Rattle.std.proofs.Common.{◌≡◌, List, Option, get_or, ◌<◌, ◌≤◌, set, length, sym, ◌∙◌, ap, subst, arith}
+use Rattle.std.proofs.Common.{List, Option, get_or, ◌<◌, length, arith}
 use Rattle.std.proofs.lemmas.List.{get_or_default}
 use Rattle.blk_nodes.specs.declared.row.Row.{Row}
 use Rattle.blk_nodes.proofs.PartsWritten.{own_at}

@@ -1,8 +1,7 @@
-use Rattle.std.proofs.Common.{◌≡◌, List, Option, get_or, ◌/◌, ◌<◌, ◌≤◌, length, sym, ◌∙◌, ap, subst, arith}
-use Rattle.q2_format.specs.declared.entries.L2Entry.TheVariants as entries
+use Rattle.std.proofs.Common.{◌≡◌, List, Option, get_or, ◌/◌, ◌<◌, length, ap, subst, arith}
 use Rattle.std.proofs.lemmas.List.{get_or_default}
 use Rattle.blk_nodes.specs.declared.row.Row.{Row}
-use Rattle.q2_image.specs.Image.{Known, entry_in}
+use Rattle.q2_image.specs.Image.{entry_in}
 use Rattle.q2_tables.specs.Entries.{entry_of}
 use Rattle.q2_tables.specs.declared.mapping.Mapping.{Mapping}
 use Rattle.blk_nodes.specs.Parts.{OfImage, row_in}

@@ -1,11 +1,8 @@
-use Rattle.std.proofs.Common.{◌≡◌, ◌/◌, ◌<◌, Some, refl, sym, ◌∙◌, ap, arith}
-use Rattle.std.proofs.lemmas.Grind.{common_steps}
+use Rattle.std.proofs.Common.{◌≡◌, ◌/◌, ◌<◌, Some, refl, ap}
 use Rattle.blk_base.specs.Pieces.{Extent}
-use Rattle.q2_image.specs.Image.{Known, clusters_in, entry_in}
+use Rattle.q2_image.specs.Image.{clusters_in, entry_in}
 use Rattle.q2_image.specs.Reading.{IsHost}
-use Rattle.q2_image.specs.Writing.{PutFits}
 use Rattle.blk_nodes.specs.Walk.{IsKnownAt}
-use Rattle.blk_nodes.specs.Writing.{FitsAt}
 use Rattle.blk_nodes.proofs.ImageCalls.{clusters_same}
 use Rattle.blk_nodes.proofs.Rows.{image_found}
 use Rattle.blk_nodes.proofs.parts.write_row.Goals as goal

@@ -1,7 +1,7 @@
-use Rattle.std.proofs.Common.{◌≡◌, List, Option, get_or, ◌≢◌, ◌/◌, ◌<◌, ◌≤◌, ℕ, replicate, length, sym, ◌∙◌, ap, subst, arith}
+use Rattle.std.proofs.Common.{◌≡◌, List, Option, get_or, ◌≢◌, ◌/◌, ◌<◌, replicate, length, sym, ◌∙◌, ap, subst, arith}
 use Rattle.std.proofs.lemmas.List.{get_or_default}
 use Rattle.blk_nodes.specs.declared.row.Row.{Row}
-use Rattle.q2_image.specs.Image.{Known, entry_in}
+use Rattle.q2_image.specs.Image.{entry_in}
 use Rattle.q2_tables.specs.Entries.{entry_of}
 use Rattle.q2_tables.specs.declared.mapping.Mapping.{Mapping}
 use Rattle.blk_nodes.specs.Parts.{OfImage, row_in}
@@ -48,5 +48,5 @@ returns-in_default g c =
     let seen = seen_at c.args.rows.now c.args.part.now c.index.result row c.index.ensures.value within same
     c.mapping_of.result (rw start at c.mapping_of.ensures) in
     let wrote = rw c.requires.zeros at c.write_part.ensures in
-    zero_rest_as c.args.rows.now c.write_part.new.rows c.args.devices.now c.write_part.new.devices c.args.part.now (replicate c.args.part.now.span.len 0) c.write_part.result c.requires.piece
+    zero_rest_as c.args.rows.now c.write_part.new.rows c.args.devices.now c.write_part.new.devices c.args.part.now c.write_part.result c.requires.piece
     less c.mapping_of.result c.in_default.not-Zero seen wrote

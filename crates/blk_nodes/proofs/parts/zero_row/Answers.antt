@@ -1,9 +1,6 @@
-use Rattle.std.proofs.Common.{◌≡◌, ◌/◌, ◌<◌, Some, refl, sym, ◌∙◌, ap, rules}
-use Rattle.q2_image.specs.Image.{Known, clusters_in, entry_in}
-use Rattle.q2_image.specs.Reading.{IsHost}
-use Rattle.q2_image.specs.Writing.{PutFits}
+use Rattle.std.proofs.Common.{◌≡◌, ◌<◌, Some, refl}
+use Rattle.q2_image.specs.Image.{clusters_in}
 use Rattle.blk_nodes.specs.Walk.{IsKnownAt}
-use Rattle.blk_nodes.specs.Writing.{FitsAt}
 use Rattle.blk_nodes.proofs.ImageCalls.{clusters_same}
 use Rattle.blk_nodes.proofs.Rows.{image_found}
 use Rattle.blk_nodes.proofs.parts.zero_row.Goals as goal

@@ -1,4 +1,4 @@
-use Rattle.std.proofs.Common.{List, get_or, sym, ◌∙◌, subst}
+use Rattle.std.proofs.Common.{List, sym, ◌∙◌, subst}
 use Rattle.std.specs.Option.{option_copied}
 use Rattle.q2_format.specs.Created.{Creation, creation_of}
 use Rattle.blk_nodes.specs.Nodes.{DeviceState}

@@ -1,4 +1,4 @@
-use Rattle.std.proofs.Common.{List, get_or, sym, ◌∙◌, subst}
+use Rattle.std.proofs.Common.{List, sym, ◌∙◌, subst}
 use Rattle.blk_nodes.specs.Nodes.{DeviceState}
 use Rattle.blk_nodes.specs.Flushing.{IsFlushOf}
 use Rattle.blk_nodes.proofs.HeldDevices.{is_placed, flushed_over}

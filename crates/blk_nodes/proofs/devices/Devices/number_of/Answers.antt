@@ -1,5 +1,4 @@
-use Rattle.std.proofs.Common.{◌≡◌, List, sym, ◌∙◌, ap}
-use Rattle.blk_base.specs.declared.fault.DevNo.{DevNo}
+use Rattle.std.proofs.Common.{List, sym, ◌∙◌, ap}
 use Rattle.blk_nodes.specs.Nodes.{DeviceState}
 use Rattle.blk_nodes.proofs.HeldDevices.{at_place, is_placed}
 use Rattle.blk_nodes.proofs.devices.Devices.number_of.Goals as goal

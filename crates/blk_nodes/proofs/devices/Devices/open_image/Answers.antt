@@ -1,4 +1,4 @@
-use Rattle.std.proofs.Common.{List, get_or, sym, ◌∙◌, subst}
+use Rattle.std.proofs.Common.{List, sym, ◌∙◌, subst}
 use Rattle.std.specs.Prelude.{◌≡◌, IfOk, IfErr, OnOk}
 use Rattle.blk_nodes.specs.Nodes.{DeviceState}
 use Rattle.blk_nodes.specs.Overlays.{IsOpenedOn, IsUnopenedOn}

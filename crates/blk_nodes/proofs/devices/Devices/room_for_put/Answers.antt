@@ -1,4 +1,4 @@
-use Rattle.std.proofs.Common.{List, Some, None, get_or, sym, ◌∙◌, subst}
+use Rattle.std.proofs.Common.{List, sym, ◌∙◌, subst}
 use Rattle.q2_image.specs.Writing.{PutFits}
 use Rattle.blk_nodes.specs.Nodes.{DeviceState}
 use Rattle.blk_nodes.specs.Writing.{HasRoomBy}

@@ -1,4 +1,4 @@
-use Rattle.std.proofs.Common.{◌≡◌, List, Some, None, get_or, refl, sym, ◌∙◌, ap, subst}
+use Rattle.std.proofs.Common.{◌≡◌, List, Some, refl, sym, ◌∙◌, ap}
 use Rattle.std.specs.Prelude.{AllPairs}
 use Rattle.blk_nodes.specs.Joined.{DifferInNode}
 use Rattle.blk_nodes.specs.Nodes.{DeviceState, device_in}

@@ -1,4 +1,4 @@
-use Rattle.std.proofs.Common.{List, get_or, sym, ◌∙◌, subst}
+use Rattle.std.proofs.Common.{List, sym, ◌∙◌, subst}
 use Rattle.blk_nodes.specs.Nodes.{DeviceState}
 use Rattle.blk_nodes.specs.Writing.{IsWriteOf}
 use Rattle.blk_nodes.proofs.HeldDevices.{is_placed, written_over}

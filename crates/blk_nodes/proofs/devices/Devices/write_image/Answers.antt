@@ -1,6 +1,6 @@
 use Rattle.std.proofs.Common.{◌≤◌, ℕ, List, Some, get_or, sym, ◌∙◌, ap, subst}
 use Rattle.q2_image.specs.Writing.{own_end, own_place}
-use Rattle.blk_nodes.specs.Entries.{Stays}
+use Rattle.blk_nodes.specs.Changing.{ChangesInPlace}
 use Rattle.blk_nodes.specs.Nodes.{DeviceState}
 use Rattle.blk_nodes.specs.Writing.{IsImageCall}
 use Rattle.blk_nodes.proofs.HeldDevices.{is_placed, at_place, called_over}
@@ -26,5 +26,5 @@ returns g c =
     let place = rw (sym c.self.view_is) at (sym c.in-Some.ensures.place) in
     let fits : ℕ → Type 0 = λ (capacity : ℕ). own_end c.args.image.now c.args.span ≤ capacity in
     rw (sym c.self.view_is)
-    (called_over c.args.file items c.in-Some.at x y fits (Some (own_place c.args.image.now c.args.span)) Stays c.args.image.now c.write_image.new.image c.args.span.start c.args.bytes.now c.write_image.result place
-    (subst (λ (d : DeviceState). IsImageCall (fits d.capacity) (Some (own_place c.args.image.now c.args.span)) Stays d y c.args.image.now c.write_image.new.image c.args.span.start c.args.bytes.now c.write_image.result) c.index_mut-held.ensures.value c.write_image.ensures))
+    (called_over c.args.file items c.in-Some.at x y fits (Some (own_place c.args.image.now c.args.span)) (ChangesInPlace c.args.span c.args.bytes.now) c.args.image.now c.write_image.new.image c.args.span.start c.args.bytes.now c.write_image.result place
+    (subst (λ (d : DeviceState). IsImageCall (fits d.capacity) (Some (own_place c.args.image.now c.args.span)) (ChangesInPlace c.args.span c.args.bytes.now) d y c.args.image.now c.write_image.new.image c.args.span.start c.args.bytes.now c.write_image.result) c.index_mut-held.ensures.value c.write_image.ensures))

@@ -1,12 +1,14 @@
-use Rattle.std.proofs.Common.{◌≡◌, ◌*◌, ◌/◌, ℕ, List, None, length, refl, sym, subst, arith}
+use Rattle.std.proofs.Common.{◌*◌, ℕ, List, None, length, refl, sym, subst}
 use Rattle.std.proofs.lemmas.Result.{on_ok_weaker}
 use Rattle.blk_base.specs.declared.fault.Outcome.{Outcome}
-use Rattle.q2_image.specs.Image.{entry_in}
-use Rattle.q2_image.specs.Writing.{IsDiskWith, HasEntriesBut, PutFits}
-use Rattle.blk_nodes.specs.Entries.{IsMapped}
+use Rattle.q2_image.specs.Image.{cluster_size_in, entry_in}
+use Rattle.q2_image.specs.Made.{put_steps}
+use Rattle.q2_image.specs.Reading.{IsHost}
+use Rattle.q2_image.specs.Writing.{IsDiskWith, PutFits}
+use Rattle.blk_nodes.specs.Changing.{PutsCluster}
 use Rattle.blk_nodes.specs.Nodes.{DeviceState}
 use Rattle.blk_nodes.specs.Writing.{HasImageCause, taken_by}
-use Rattle.blk_nodes.proofs.ImageCalls.{host_mapped, cluster_mapped, cluster_entry, cluster_cause, cluster_disk, cluster_flushed}
+use Rattle.blk_nodes.proofs.ImageCalls.{host_mapped, cluster_mapped, cluster_cause, cluster_change, cluster_disk}
 use Rattle.blk_nodes.proofs.devices.Held.put_image.Goals as goal
 
 pub put_cluster-written-requires-clause-image : goal.put_cluster-written-requires-clause-image
@@ -42,15 +44,12 @@ returns g c =
     let fits = rw (sym c.self.view_is) at c.requires.fits in
     let ok = rw bits at e.disk in
     let bytes : List ℕ = c.args.bytes.now in
-    let place : c.args.cluster * 65536 / 65536 ≡ c.args.cluster = omega arith in
     rw (sym c.self.view_is) (record {
       wrote = record {
         device = record {
           node = refl;
           number = refl;
           told = e.told;
-          flushed = cluster_flushed g.D.Device image _ written left c.self.inside.device c.put_cluster-written.new.dev e.changes;
-          capacity = e.capacity;
           faults = e.faults;
         };
         image = e.image;
@@ -59,11 +58,12 @@ returns g c =
             (cluster_disk new written old.content new.content (c.args.cluster * 65536) bytes ok e.kept b now was is);
         header = e.header;
         taken = e.taken;
-        entries = subst (HasEntriesBut image left) (sym place) e.others;
         mapped = cluster_mapped written image left c.args.cluster e.others (on_ok_weaker written (host_mapped (entry_in left c.args.cluster)) e.mapped) e.unmapped;
       };
       cause = subst (HasImageCause (PutFits image c.args.cluster old.capacity) None (length bytes) old new image left) (sym c.cluster_outcome.ensures)
           (cluster_cause g.D.Device (PutFits image c.args.cluster old.capacity) None (length bytes) image _ written left c.self.inside.device c.put_cluster-written.new.dev old new refl refl refl e.changes
           (λ other. fits) (λ is. absurd (e.no_space.0 is fits)));
-      entry = cluster_entry new IsMapped written image left c.args.cluster c.cluster_outcome.result c.cluster_outcome.ensures e.mapped e.unmapped;
+      changed = subst (PutsCluster c.args.cluster bytes image left old new) (sym c.cluster_outcome.ensures)
+          (cluster_change g.D.Device c.self.inside.node c.self.inside.number c.self.inside.device c.put_cluster-written.new.dev image left
+          (put_steps image c.args.cluster bytes) (c.args.cluster * cluster_size_in image) bytes (λ now. IsHost (entry_in now c.args.cluster)) written e.changes e.cleared (λ other. e.stops fits) e.mapped);
     })

@@ -1,14 +1,32 @@
-use Rattle.std.proofs.Common.{◌≡◌, ◌/◌, ◌≤◌, ℕ, List, Some, length, refl, sym, ◌∙◌, ap, subst}
+use Rattle.std.proofs.Common.{◌≡◌, ◌≤◌, ℕ, List, Some, length, refl, sym, ◌∙◌, ap, subst}
 use Rattle.blk_base.specs.declared.device.Stop.TheVariants as why
 use Rattle.blk_base.specs.declared.fault.Outcome.{Outcome}
 use Rattle.q2_image.specs.Writing.{IsDiskWith, own_end, own_place}
 use Rattle.blk_nodes.specs.Nodes.{DeviceState}
 use Rattle.blk_nodes.specs.Writing.{HasImageCause, taken_by}
-use Rattle.blk_nodes.proofs.ImageCalls.{own_cause, own_entries, own_header, own_mapped, own_taken, own_word, same_state, stays_after, stop_flushed}
+use Rattle.blk_nodes.specs.Changing.{ChangesInPlace}
+use Rattle.blk_nodes.proofs.ImageCalls.{own_cause, own_header, own_made, own_mapped, own_stopped, own_taken, same_state}
 use Rattle.blk_nodes.proofs.devices.Held.write_image.Goals as goal
 
 pub write_own-requires-clause-image : goal.write_own-requires-clause-image
 write_own-requires-clause-image g c = λ file told. let known = rw (sym c.self.view_is) at c.requires.known in known file told
+
+pub returns-in-Ok : goal.returns-in-Ok
+returns-in-Ok g c =
+    let e = c.in-Ok.ensures in
+    rw (sym c.self.view_is) (record {
+      wrote = record {
+        device = record { node = refl; number = refl; told = e.told; faults = e.faults };
+        image = e.image;
+        disk = e.disk;
+        header = own_header c.args.image.now c.write_own.new.self e.known;
+        taken = e.taken;
+        mapped = own_mapped c.args.image.now c.write_own.new.self e.known;
+      };
+      cause = (e.fits, e.quiet);
+      changed = own_made g.D.Device c.self.inside.node c.self.inside.number c.self.inside.device c.write_own.new.dev c.args.image.now c.write_own.new.self
+          c.args.span c.args.bytes.now e.wrote e.cleared e.stops;
+    })
 
 pub returns-in-Err : goal.returns-in-Err
 returns-in-Err g c =
@@ -43,20 +61,20 @@ returns-in-Err g c =
           node = refl;
           number = refl;
           told = e.told;
-          flushed = stop_flushed g.D.Device c.args.image.now c.write_own.new.self c.args.span _ c.self.inside.device c.write_own.new.dev stop.why e.wrote (λ none. (e.untouched none).3);
-          capacity = e.capacity;
           faults = e.faults;
         };
         image = e.image;
         disk = λ b now was is. subst (λ (xs : List ℕ). IsDiskWith b now c.args.span.start xs) (sym some) (e.disk b now was is);
         header = own_header c.args.image.now c.write_own.new.self e.known;
         taken = e.taken;
-        entries = own_entries c.args.image.now c.write_own.new.self _ e.known;
         mapped = own_mapped c.args.image.now c.write_own.new.self e.known;
       };
       cause = subst (HasImageCause (own_end c.args.image.now c.args.span ≤ old.capacity) (Some (own_place c.args.image.now c.args.span)) (length bytes) old new c.args.image.now c.write_own.new.self)
           (sym c.stopped.ensures)
           (own_cause old new c.args.image.now c.write_own.new.self (own_place c.args.image.now c.args.span) (length bytes) (own_end c.args.image.now c.args.span) stop refl e.stop
           (λ none. let all = e.untouched none in (same_state old new refl refl all.1 all.3 all.2 all.4 e.capacity all.5, all.0)));
-      entry = stays_after c.stopped.result _ _ (own_word c.args.image.now c.write_own.new.self (c.args.span.start / 65536) e.known);
+      changed = subst (ChangesInPlace c.args.span bytes c.args.image.now c.write_own.new.self old new) (sym c.stopped.ensures)
+          (own_stopped g.D.Device c.self.inside.node c.self.inside.number c.self.inside.device c.write_own.new.dev c.args.image.now c.write_own.new.self c.args.span bytes
+          stop e.wrote e.cleared e.stops
+          (λ none. let all = e.untouched none in (same_state old new refl refl all.1 all.3 all.2 all.4 e.capacity all.5, all.0)));
     })

@@ -1,13 +1,15 @@
-use Rattle.std.proofs.Common.{◌≡◌, ◌*◌, ◌/◌, ℕ, List, None, length, replicate, refl, sym, subst, arith}
+use Rattle.std.proofs.Common.{◌≡◌, ◌*◌, ℕ, List, None, length, replicate, refl, sym, subst}
 use Rattle.std.proofs.lemmas.Result.{on_ok_weaker}
 use Rattle.blk_base.specs.declared.fault.Outcome.{Outcome}
 use Rattle.q2_format.specs.Entry.{host_of}
-use Rattle.q2_image.specs.Image.{entry_in}
-use Rattle.q2_image.specs.Writing.{IsDiskWith, HasEntriesBut, ZeroFits}
-use Rattle.blk_nodes.specs.Entries.{IsCleared}
+use Rattle.q2_format.specs.declared.entries.L2Entry.TheVariants.{Zero}
+use Rattle.q2_image.specs.Image.{cluster_size_in, entry_in}
+use Rattle.q2_image.specs.Made.{zero_steps}
+use Rattle.q2_image.specs.Writing.{IsDiskWith, ZeroFits}
+use Rattle.blk_nodes.specs.Changing.{ClearsCluster}
 use Rattle.blk_nodes.specs.Nodes.{DeviceState}
 use Rattle.blk_nodes.specs.Writing.{HasImageCause, taken_by}
-use Rattle.blk_nodes.proofs.ImageCalls.{zero_mapped, cluster_mapped, cluster_entry, stable_zero, zeros_disk, cluster_cause, cluster_disk, cluster_flushed, same_state}
+use Rattle.blk_nodes.proofs.ImageCalls.{zero_mapped, cluster_mapped, cluster_change, cluster_zeros, stable_zero, zeros_disk, cluster_cause, cluster_disk, same_state}
 use Rattle.blk_nodes.proofs.devices.Held.zero_image.Goals as goal
 
 pub zero_cluster-written-requires-clause-image : goal.zero_cluster-written-requires-clause-image
@@ -42,15 +44,12 @@ returns g c =
     } in
     let ok = zeros_disk written old.content new.content (c.args.cluster * 65536) (rw bits at e.disk) in
     let bytes : List ℕ = replicate 65536 0 in
-    let place : c.args.cluster * 65536 / 65536 ≡ c.args.cluster = omega arith in
     rw (sym c.self.view_is) (record {
       wrote = record {
         device = record {
           node = refl;
           number = refl;
           told = e.told;
-          flushed = cluster_flushed g.D.Device image _ written left c.self.inside.device c.zero_cluster-written.new.dev e.changes;
-          capacity = e.capacity;
           faults = e.faults;
         };
         image = e.image;
@@ -59,12 +58,17 @@ returns g c =
             (cluster_disk new written old.content new.content (c.args.cluster * 65536) bytes ok e.kept b now was is);
         header = e.header;
         taken = e.taken;
-        entries = subst (HasEntriesBut image left) (sym place) e.others;
         mapped = cluster_mapped written image left c.args.cluster e.others (on_ok_weaker written (zero_mapped (entry_in left c.args.cluster) (host_of (entry_in image c.args.cluster))) e.mapped) e.unmapped;
       };
       cause = subst (HasImageCause (ZeroFits image c.args.cluster old.capacity) None (length bytes) old new image left) (sym c.cluster_outcome.ensures)
           (cluster_cause g.D.Device (ZeroFits image c.args.cluster old.capacity) None (length bytes) image _ written left c.self.inside.device c.zero_cluster-written.new.dev old new refl refl refl e.changes
           (λ other. stable_zero c.args.image.now c.args.cluster old.capacity (λ none. other (e.no_space.1 none)))
           (λ is. let all = e.untouched is in (e.no_space.0 is, same_state old new refl refl all.1 all.3 all.2 all.4 e.capacity all.5, all.0)));
-      entry = cluster_entry new IsCleared written image left c.args.cluster c.cluster_outcome.result c.cluster_outcome.ensures e.mapped e.unmapped;
+      changed = subst (ClearsCluster c.args.cluster image left old new) (sym c.cluster_outcome.ensures)
+          (cluster_change g.D.Device c.self.inside.node c.self.inside.number c.self.inside.device c.zero_cluster-written.new.dev image left
+          (zero_steps image c.args.cluster) (c.args.cluster * cluster_size_in image) (replicate (cluster_size_in image) 0)
+          (λ now. entry_in now c.args.cluster ≡ Zero (host_of (entry_in image c.args.cluster))) written e.changes e.cleared
+          (λ other.
+          let fits = stable_zero c.args.image.now c.args.cluster old.capacity (λ none. other (e.no_space.1 none)) in
+          e.stops fits (replicate (cluster_size_in image) 0) (cluster_zeros (cluster_size_in image))) e.mapped);
     })

@@ -1,4 +1,4 @@
-use Rattle.std.proofs.Common.{◌≡◌, ◌≢◌, ℕ, ◌<◌, refl, sym, ◌∙◌, ap, subst}
+use Rattle.std.proofs.Common.{◌≡◌, ◌<◌, refl, sym, subst}
 use Rattle.blk_graph.specs.Edits.{IsLone}
 use Rattle.blk_graph.specs.Graph.{HasNode}
 use Rattle.blk_nodes.specs.Nodes.{Nodes, size_of}

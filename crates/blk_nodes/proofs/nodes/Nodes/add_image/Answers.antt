@@ -1,4 +1,4 @@
-use Rattle.std.proofs.Common.{◌≡◌, ◌≢◌, ℕ, ◌<◌, refl, sym, ◌∙◌, ap, subst}
+use Rattle.std.proofs.Common.{◌≡◌, ◌<◌, refl, sym, subst}
 use Rattle.std.specs.Prelude.{IfSome, Some, None}
 use Rattle.blk_graph.specs.Edits.{IsLone}
 use Rattle.blk_graph.specs.Graph.{HasNode}

@@ -1,7 +1,6 @@
 use Rattle.std.proofs.Common.{◌≡◌, ◌≢◌, ℕ, List, Bool, Err, refl, sym, ◌∙◌, ap}
 use Rattle.std.specs.Prelude.{not}
 use Rattle.blk_graph.specs.Edits.{child_of, with_edge}
-use Rattle.blk_graph.specs.Paths.{IsAcyclic, HasCycle}
 use Rattle.blk_graph.specs.Permissions.{drive_edge}
 use Rattle.blk_graph.specs.Refreshed.{refreshed}
 use Rattle.blk_graph.specs.declared.edge.Edge.{Edge}

@@ -1,4 +1,4 @@
-use Rattle.std.proofs.Common.{◌≡◌, refl, sym, ◌∙◌, ap}
+use Rattle.std.proofs.Common.{sym}
 use Rattle.blk_nodes.specs.Nodes.{Nodes}
 use Rattle.blk_nodes.proofs.Written.{base_held, joined_flushed, disks_flushed}
 use Rattle.blk_nodes.proofs.nodes.Nodes.flush_node.Goals as goal

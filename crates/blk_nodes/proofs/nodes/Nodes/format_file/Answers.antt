@@ -1,4 +1,4 @@
-use Rattle.std.proofs.Common.{◌≡◌, sym, ◌∙◌, ap}
+use Rattle.std.proofs.Common.{sym}
 use Rattle.std.specs.Option.{option_copied}
 use Rattle.q2_format.specs.Created.{Creation, creation_of}
 use Rattle.blk_nodes.specs.Nodes.{Nodes}

@@ -1,4 +1,4 @@
-use Rattle.std.proofs.Common.{◌≡◌, sym}
+use Rattle.std.proofs.Common.{sym}
 use Rattle.blk_nodes.specs.Joined.{IsFile}
 use Rattle.blk_nodes.specs.Nodes.{Nodes}
 use Rattle.blk_nodes.proofs.Disks.{disks_risen}

@@ -1,6 +1,5 @@
 use Rattle.std.proofs.Common.{◌≡◌, sym, ◌∙◌, ap}
-use Rattle.blk_nodes.specs.Nodes.{Nodes, size_of}
-use Rattle.blk_nodes.specs.Parts.{cluster_around}
+use Rattle.blk_nodes.specs.Nodes.{Nodes}
 use Rattle.blk_base.specs.Pieces.{Extent}
 use Rattle.blk_nodes.proofs.Pieces.{piece_of}
 use Rattle.blk_nodes.proofs.nodes.Nodes.part.Goals as goal

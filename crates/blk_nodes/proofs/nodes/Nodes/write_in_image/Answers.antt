@@ -1,10 +1,12 @@
 use Rattle.std.proofs.Common.{◌≡◌, ℕ, List, ◌++◌, length, take, drop, Option, Some, sym, ◌∙◌, ap, subst, arith}
 use Rattle.blk_base.specs.Content.{with_bytes}
 use Rattle.blk_base.specs.Pieces.{Extent}
+use Rattle.blk_base.specs.declared.fault.DevNo.{DevNo}
+use Rattle.blk_base.specs.declared.fault.Outcome.TheVariants.{NoSpace}
 use Rattle.q2_image.specs.Image.{Known}
 use Rattle.q2_image.specs.Room.{WriteFits, entry_for}
 use Rattle.blk_nodes.specs.Contents.{disk_of}
-use Rattle.blk_nodes.specs.Entries.{IsWritten}
+use Rattle.blk_nodes.specs.Changing.{ImageChange, IsWritten}
 use Rattle.blk_nodes.specs.Nodes.{Nodes, DeviceState, file_of}
 use Rattle.blk_nodes.specs.Parts.{WritesPart}
 use Rattle.blk_nodes.specs.Sources.{source_of}
@@ -12,7 +14,7 @@ use Rattle.blk_nodes.specs.Walk.{LeadsToSource}
 use Rattle.blk_nodes.specs.Writing.{MayWrite, IsApart, LeavesNodes, WritesPiece, own_place_by, taken_by}
 use Rattle.blk_nodes.specs.declared.part.Part.{Part}
 use Rattle.blk_nodes.specs.declared.row.Row.{Row}
-use Rattle.blk_nodes.proofs.Imaged.{joined_piece, disk_piece, others_piece, leaves_piece, left_piece, wrote_piece, piece_image, sliced}
+use Rattle.blk_nodes.proofs.Imaged.{refuses_written, joined_piece, disk_piece, others_piece, leaves_piece, left_piece, wrote_piece, piece_image, sliced}
 use Rattle.blk_nodes.proofs.nodes.Nodes.write_in_image.Goals as goal
 
 pub invariant_of-self : goal.invariant_of-self
@@ -22,22 +24,24 @@ invariant_of-self g c =
     let e = c.part-part.ensures in
     let fits : Known → ℕ → Type 0 = λ image. WriteFits image part.span in
     let own : Known → Option ℕ = λ image. own_place_by (entry_for image part.span) image part.span in
-    let made : Known → ℕ → ℕ → Type 0 = λ _. IsWritten in
     let rows : List (Option Row) = c.write_part.new.rows in
     let devices : List DeviceState = c.write_part.new.devices in
     let outcome = c.write_part.result in
     let bytes : List ℕ = c.args.bytes.now in
+    let change : ImageChange = IsWritten part.span bytes in
     let may = subst (MayWrite nodes) (sym e.node) (rw (sym c.self.view_is) at c.requires.may) in
     let edge = subst (λ (n : ℕ). file_of nodes n ≡ Some part.file) (sym e.node) (rw (sym c.self.view_is) at e.file) in
     let source = subst (λ (n : ℕ). source_of nodes n part.whole.start ≡ part.source) (sym e.node) (rw (sym c.self.view_is) at e.source) in
     let leads = subst (λ (n : ℕ). LeadsToSource nodes.graph.edges n part.source) (sym e.node) (rw (sym c.self.view_is) at e.leads) in
     let piece = rw (sym c.self.view_is) at e.piece in
-    let w : WritesPart fits own made nodes.rows rows nodes.devices devices part bytes outcome
-    = subst (λ (rs : List (Option Row)). WritesPart fits own made rs rows nodes.devices devices part bytes outcome) c.deref_mut.ensures.value c.write_part.ensures in
+    let w : WritesPart fits own change nodes.rows rows nodes.devices devices part bytes outcome
+    = subst (λ (rs : List (Option Row)). WritesPart fits own change rs rows nodes.devices devices part bytes outcome) c.deref_mut.ensures.value c.write_part.ensures in
+    let refuses : (device : DeviceState) (dev : DevNo) → (fits w.image device.capacity → ⊥) → change w.image w.image device device (NoSpace dev)
+    = λ device dev full. refuses_written part.span bytes w.image device dev in
     let whole : take c.self.inside.rows.len (rows ++ drop (length rows) nodes.rows) ≡ rows
     = sliced rows nodes.rows c.self.inside.rows.len (c.write_part.auto.rows ∙ ap length c.deref_mut.ensures.value) (omega (arith, c.self.inside.rows.ok.0)) in
     let new : Nodes = record nodes { rows = rows; devices = devices } in
-    rw whole (joined_piece nodes c.self.invariant part may edge source leads piece rows devices fits own made bytes outcome w)
+    rw whole (joined_piece nodes c.self.invariant part may edge source leads piece rows devices fits own change bytes outcome w refuses)
 
 pub returns-clause-wrote : goal.returns-clause-wrote
 returns-clause-wrote g c =
@@ -46,22 +50,24 @@ returns-clause-wrote g c =
     let e = c.part-part.ensures in
     let fits : Known → ℕ → Type 0 = λ image. WriteFits image part.span in
     let own : Known → Option ℕ = λ image. own_place_by (entry_for image part.span) image part.span in
-    let made : Known → ℕ → ℕ → Type 0 = λ _. IsWritten in
     let rows : List (Option Row) = c.write_part.new.rows in
     let devices : List DeviceState = c.write_part.new.devices in
     let outcome = c.write_part.result in
     let bytes : List ℕ = c.args.bytes.now in
+    let change : ImageChange = IsWritten part.span bytes in
     let may = subst (MayWrite nodes) (sym e.node) (rw (sym c.self.view_is) at c.requires.may) in
     let edge = subst (λ (n : ℕ). file_of nodes n ≡ Some part.file) (sym e.node) (rw (sym c.self.view_is) at e.file) in
     let source = subst (λ (n : ℕ). source_of nodes n part.whole.start ≡ part.source) (sym e.node) (rw (sym c.self.view_is) at e.source) in
     let leads = subst (λ (n : ℕ). LeadsToSource nodes.graph.edges n part.source) (sym e.node) (rw (sym c.self.view_is) at e.leads) in
     let piece = rw (sym c.self.view_is) at e.piece in
-    let w : WritesPart fits own made nodes.rows rows nodes.devices devices part bytes outcome
-    = subst (λ (rs : List (Option Row)). WritesPart fits own made rs rows nodes.devices devices part bytes outcome) c.deref_mut.ensures.value c.write_part.ensures in
+    let w : WritesPart fits own change nodes.rows rows nodes.devices devices part bytes outcome
+    = subst (λ (rs : List (Option Row)). WritesPart fits own change rs rows nodes.devices devices part bytes outcome) c.deref_mut.ensures.value c.write_part.ensures in
+    let refuses : (device : DeviceState) (dev : DevNo) → (fits w.image device.capacity → ⊥) → change w.image w.image device device (NoSpace dev)
+    = λ device dev full. refuses_written part.span bytes w.image device dev in
     let whole : take c.self.inside.rows.len (rows ++ drop (length rows) nodes.rows) ≡ rows
     = sliced rows nodes.rows c.self.inside.rows.len (c.write_part.auto.rows ∙ ap length c.deref_mut.ensures.value) (omega (arith, c.self.inside.rows.ok.0)) in
     let new : Nodes = record nodes { rows = rows; devices = devices } in
-    rw (sym c.self.view_is) (rw whole (subst (λ (n : ℕ). WritesPiece nodes new n c.args.span bytes outcome) e.node (subst (λ (s : Extent). WritesPiece nodes new part.node s bytes outcome) e.span (piece_image nodes new part.node part.span bytes outcome w.row w.image w.there w.driver (wrote_piece nodes c.self.invariant part may edge source leads piece rows devices fits own made bytes outcome w) (left_piece nodes c.self.invariant part may edge source leads piece rows devices fits own made bytes outcome w)))))
+    rw (sym c.self.view_is) (rw whole (subst (λ (n : ℕ). WritesPiece nodes new n c.args.span bytes outcome) e.node (subst (λ (s : Extent). WritesPiece nodes new part.node s bytes outcome) e.span (piece_image nodes new part.node part.span bytes outcome w.row w.image w.there w.driver (wrote_piece nodes c.self.invariant part may edge source leads piece rows devices fits own change bytes outcome w refuses) (left_piece nodes c.self.invariant part may edge source leads piece rows devices fits own change bytes outcome w refuses)))))
 
 pub returns-clause-disk : goal.returns-clause-disk
 returns-clause-disk g c =
@@ -70,22 +76,24 @@ returns-clause-disk g c =
     let e = c.part-part.ensures in
     let fits : Known → ℕ → Type 0 = λ image. WriteFits image part.span in
     let own : Known → Option ℕ = λ image. own_place_by (entry_for image part.span) image part.span in
-    let made : Known → ℕ → ℕ → Type 0 = λ _. IsWritten in
     let rows : List (Option Row) = c.write_part.new.rows in
     let devices : List DeviceState = c.write_part.new.devices in
     let outcome = c.write_part.result in
     let bytes : List ℕ = c.args.bytes.now in
+    let change : ImageChange = IsWritten part.span bytes in
     let may = subst (MayWrite nodes) (sym e.node) (rw (sym c.self.view_is) at c.requires.may) in
     let edge = subst (λ (n : ℕ). file_of nodes n ≡ Some part.file) (sym e.node) (rw (sym c.self.view_is) at e.file) in
     let source = subst (λ (n : ℕ). source_of nodes n part.whole.start ≡ part.source) (sym e.node) (rw (sym c.self.view_is) at e.source) in
     let leads = subst (λ (n : ℕ). LeadsToSource nodes.graph.edges n part.source) (sym e.node) (rw (sym c.self.view_is) at e.leads) in
     let piece = rw (sym c.self.view_is) at e.piece in
-    let w : WritesPart fits own made nodes.rows rows nodes.devices devices part bytes outcome
-    = subst (λ (rs : List (Option Row)). WritesPart fits own made rs rows nodes.devices devices part bytes outcome) c.deref_mut.ensures.value c.write_part.ensures in
+    let w : WritesPart fits own change nodes.rows rows nodes.devices devices part bytes outcome
+    = subst (λ (rs : List (Option Row)). WritesPart fits own change rs rows nodes.devices devices part bytes outcome) c.deref_mut.ensures.value c.write_part.ensures in
+    let refuses : (device : DeviceState) (dev : DevNo) → (fits w.image device.capacity → ⊥) → change w.image w.image device device (NoSpace dev)
+    = λ device dev full. refuses_written part.span bytes w.image device dev in
     let whole : take c.self.inside.rows.len (rows ++ drop (length rows) nodes.rows) ≡ rows
     = sliced rows nodes.rows c.self.inside.rows.len (c.write_part.auto.rows ∙ ap length c.deref_mut.ensures.value) (omega (arith, c.self.inside.rows.ok.0)) in
     let new : Nodes = record nodes { rows = rows; devices = devices } in
-    rw (sym c.self.view_is) (rw whole (λ all. subst (λ (n : ℕ). disk_of new n ≡ with_bytes (disk_of nodes n) c.args.span.start (taken_by outcome bytes)) e.node (subst (λ (s : Extent). disk_of new part.node ≡ with_bytes (disk_of nodes part.node) s.start (taken_by outcome bytes)) e.span (disk_piece nodes c.self.invariant part may edge source leads piece rows devices fits own made bytes outcome w all))))
+    rw (sym c.self.view_is) (rw whole (λ all. subst (λ (n : ℕ). disk_of new n ≡ with_bytes (disk_of nodes n) c.args.span.start (taken_by outcome bytes)) e.node (subst (λ (s : Extent). disk_of new part.node ≡ with_bytes (disk_of nodes part.node) s.start (taken_by outcome bytes)) e.span (disk_piece nodes c.self.invariant part may edge source leads piece rows devices fits own change bytes outcome w refuses all))))
 
 pub returns-clause-others : goal.returns-clause-others
 returns-clause-others g c =
@@ -94,22 +102,24 @@ returns-clause-others g c =
     let e = c.part-part.ensures in
     let fits : Known → ℕ → Type 0 = λ image. WriteFits image part.span in
     let own : Known → Option ℕ = λ image. own_place_by (entry_for image part.span) image part.span in
-    let made : Known → ℕ → ℕ → Type 0 = λ _. IsWritten in
     let rows : List (Option Row) = c.write_part.new.rows in
     let devices : List DeviceState = c.write_part.new.devices in
     let outcome = c.write_part.result in
     let bytes : List ℕ = c.args.bytes.now in
+    let change : ImageChange = IsWritten part.span bytes in
     let may = subst (MayWrite nodes) (sym e.node) (rw (sym c.self.view_is) at c.requires.may) in
     let edge = subst (λ (n : ℕ). file_of nodes n ≡ Some part.file) (sym e.node) (rw (sym c.self.view_is) at e.file) in
     let source = subst (λ (n : ℕ). source_of nodes n part.whole.start ≡ part.source) (sym e.node) (rw (sym c.self.view_is) at e.source) in
     let leads = subst (λ (n : ℕ). LeadsToSource nodes.graph.edges n part.source) (sym e.node) (rw (sym c.self.view_is) at e.leads) in
     let piece = rw (sym c.self.view_is) at e.piece in
-    let w : WritesPart fits own made nodes.rows rows nodes.devices devices part bytes outcome
-    = subst (λ (rs : List (Option Row)). WritesPart fits own made rs rows nodes.devices devices part bytes outcome) c.deref_mut.ensures.value c.write_part.ensures in
+    let w : WritesPart fits own change nodes.rows rows nodes.devices devices part bytes outcome
+    = subst (λ (rs : List (Option Row)). WritesPart fits own change rs rows nodes.devices devices part bytes outcome) c.deref_mut.ensures.value c.write_part.ensures in
+    let refuses : (device : DeviceState) (dev : DevNo) → (fits w.image device.capacity → ⊥) → change w.image w.image device device (NoSpace dev)
+    = λ device dev full. refuses_written part.span bytes w.image device dev in
     let whole : take c.self.inside.rows.len (rows ++ drop (length rows) nodes.rows) ≡ rows
     = sliced rows nodes.rows c.self.inside.rows.len (c.write_part.auto.rows ∙ ap length c.deref_mut.ensures.value) (omega (arith, c.self.inside.rows.ok.0)) in
     let new : Nodes = record nodes { rows = rows; devices = devices } in
-    rw (sym c.self.view_is) (rw whole (λ other apart. others_piece nodes c.self.invariant part may edge source leads piece rows devices fits own made bytes outcome w other (subst (IsApart nodes other) (sym e.node) apart)))
+    rw (sym c.self.view_is) (rw whole (λ other apart. others_piece nodes c.self.invariant part may edge source leads piece rows devices fits own change bytes outcome w refuses other (subst (IsApart nodes other) (sym e.node) apart)))
 
 pub returns-clause-kept : goal.returns-clause-kept
 returns-clause-kept g c =
@@ -118,19 +128,21 @@ returns-clause-kept g c =
     let e = c.part-part.ensures in
     let fits : Known → ℕ → Type 0 = λ image. WriteFits image part.span in
     let own : Known → Option ℕ = λ image. own_place_by (entry_for image part.span) image part.span in
-    let made : Known → ℕ → ℕ → Type 0 = λ _. IsWritten in
     let rows : List (Option Row) = c.write_part.new.rows in
     let devices : List DeviceState = c.write_part.new.devices in
     let outcome = c.write_part.result in
     let bytes : List ℕ = c.args.bytes.now in
+    let change : ImageChange = IsWritten part.span bytes in
     let may = subst (MayWrite nodes) (sym e.node) (rw (sym c.self.view_is) at c.requires.may) in
     let edge = subst (λ (n : ℕ). file_of nodes n ≡ Some part.file) (sym e.node) (rw (sym c.self.view_is) at e.file) in
     let source = subst (λ (n : ℕ). source_of nodes n part.whole.start ≡ part.source) (sym e.node) (rw (sym c.self.view_is) at e.source) in
     let leads = subst (λ (n : ℕ). LeadsToSource nodes.graph.edges n part.source) (sym e.node) (rw (sym c.self.view_is) at e.leads) in
     let piece = rw (sym c.self.view_is) at e.piece in
-    let w : WritesPart fits own made nodes.rows rows nodes.devices devices part bytes outcome
-    = subst (λ (rs : List (Option Row)). WritesPart fits own made rs rows nodes.devices devices part bytes outcome) c.deref_mut.ensures.value c.write_part.ensures in
+    let w : WritesPart fits own change nodes.rows rows nodes.devices devices part bytes outcome
+    = subst (λ (rs : List (Option Row)). WritesPart fits own change rs rows nodes.devices devices part bytes outcome) c.deref_mut.ensures.value c.write_part.ensures in
+    let refuses : (device : DeviceState) (dev : DevNo) → (fits w.image device.capacity → ⊥) → change w.image w.image device device (NoSpace dev)
+    = λ device dev full. refuses_written part.span bytes w.image device dev in
     let whole : take c.self.inside.rows.len (rows ++ drop (length rows) nodes.rows) ≡ rows
     = sliced rows nodes.rows c.self.inside.rows.len (c.write_part.auto.rows ∙ ap length c.deref_mut.ensures.value) (omega (arith, c.self.inside.rows.ok.0)) in
     let new : Nodes = record nodes { rows = rows; devices = devices } in
-    rw (sym c.self.view_is) (rw whole (subst (LeavesNodes nodes new) e.node (leaves_piece nodes c.self.invariant part may edge source leads piece rows devices fits own made bytes outcome w)))
+    rw (sym c.self.view_is) (rw whole (subst (LeavesNodes nodes new) e.node (leaves_piece nodes c.self.invariant part may edge source leads piece rows devices fits own change bytes outcome w refuses)))

@@ -1,0 +1,164 @@
+-- What the writing of a piece makes of the image in a node's row and of the device of its file: which writes, in their order, and
+-- what is known of the image behind them.
+use Rattle.std.specs.Prelude.{◌≡◌, ◌⊎◌, ℕ, ◌+◌, ◌*◌, ◌%◌, ◌<◌, Bool, true, false, List, [], length, replicate, slice_index, take, Option, Some, None}
+use Rattle.blk_base.specs.Device.{AtEachStopOf}
+use Rattle.blk_base.specs.Pieces.{Extent}
+use Rattle.blk_base.specs.declared.device.Device.{Ghosts}
+use Rattle.blk_base.specs.declared.fault.DevStop.{DevStop}
+use Rattle.blk_base.specs.declared.fault.DevStop.TheVariants as stops
+use Rattle.blk_base.specs.declared.fault.Outcome.{Outcome}
+use Rattle.blk_base.specs.declared.fault.Outcome.TheVariants.{Good, Torn, Io, NoSpace}
+use Rattle.q2_format.specs.Entry.{host_of}
+use Rattle.q2_format.specs.declared.entries.L2Entry.{L2Entry}
+use Rattle.q2_format.specs.declared.entries.L2Entry.TheVariants as entries
+use Rattle.q2_image.specs.Image.{Known, cluster_size_in, entry_in}
+use Rattle.q2_image.specs.Made.{WriteStep, MakesSteps, WroteOwn, IsOldOrWith, IsOwnPart, own_writes, put_steps, writes_of_steps, zero_steps}
+use Rattle.q2_image.specs.Reading.{IsHost}
+use Rattle.q2_image.specs.Writing.{ClearsFirst}
+use Rattle.q2_image.specs.Room.{cluster_of, entry_for, is_whole}
+use Rattle.blk_nodes.specs.Nodes.{Nodes, DeviceState, row_at, device_in, file_of}
+use Rattle.blk_nodes.specs.Reading.{HasRisen}
+use Rattle.blk_nodes.specs.declared.row.Driver.{Driver}
+use Rattle.blk_nodes.specs.declared.row.Driver.TheVariants as drivers
+use Rattle.blk_nodes.specs.declared.row.Row.{Row}
+
+-- a device by what is seen of it
+abbrev pub seen : Ghosts DeviceState
+seen = record {
+  content = λ device. device.content;
+  is_flushed = λ device. device.is_flushed;
+  log = λ device. device.log;
+  size = λ device. device.size;
+  capacity = λ device. device.capacity;
+  faults = λ device. device.faults;
+}
+
+-- how an image and its device change: what is known of the one, before and after, what is seen of the other, and how it went
+abbrev pub ImageChange : Type 1
+ImageChange = Known → Known → DeviceState → DeviceState → Outcome → Type 0
+
+-- not at all
+abbrev pub IsUnchanged : Known → Known → DeviceState → DeviceState → Type 0
+IsUnchanged image now before after = (now ≡ image) × (after ≡ before)
+
+-- By steps.
+
+-- The steps are made, or a part of them, and the autoclear field is cleared before anything else. Wherever they stop, the file is
+-- sound, and its disk is the old one or the one with these bytes at a place.
+pub record MakesChange (steps : List WriteStep) (place : ℕ) (bytes : List ℕ)
+    (stop : Option DevStop) (image now : Known) (before after : DeviceState) : Type 0 where
+  pub made : MakesSteps seen image steps stop now before after
+  pub cleared : ClearsFirst before.content after.content now
+  pub stops : AtEachStopOf seen (IsOldOrWith place bytes) (writes_of_steps steps) before
+
+-- by how it went, and what is so of the image behind all of them
+abbrev pub ChangesBySteps : List WriteStep → ℕ → List ℕ → (Known → Type 0) → ImageChange
+ChangesBySteps steps place bytes IsMade image now before after Good =
+    MakesChange steps place bytes None image now before after × IsMade now
+ChangesBySteps steps place bytes IsMade image now before after (Torn done dev count) = ⊥
+ChangesBySteps steps place bytes IsMade image now before after (Io dev count) =
+    MakesChange steps place bytes (Some (stops.Io count)) image now before after
+ChangesBySteps steps place bytes IsMade image now before after (NoSpace dev) =
+    IsUnchanged image now before after
+
+-- a guest cluster gets these bytes in a host cluster where no guest byte lies
+abbrev pub PutsCluster : ℕ → List ℕ → ImageChange
+PutsCluster cluster bytes image =
+    ChangesBySteps (put_steps image cluster bytes) (cluster * cluster_size_in image) bytes
+    (λ now. IsHost (entry_in now cluster)) image
+
+-- a guest cluster is made to read as zeros by its entry alone
+abbrev pub ClearsCluster : ℕ → ImageChange
+ClearsCluster cluster image =
+    ChangesBySteps (zero_steps image cluster) (cluster * cluster_size_in image)
+    (replicate (cluster_size_in image) 0)
+    (λ now. entry_in now cluster ≡ entries.Zero (host_of (entry_in image cluster))) image
+
+-- Of a part of a cluster.
+
+-- The first of these bytes are written in place, behind a cleared autoclear field. Wherever that stops, the file is sound, and its
+-- disk is the old one with some of the first bytes of the part.
+pub record WritesInPlace (part : Extent) (bytes written : List ℕ) (image now : Known)
+    (before after : DeviceState) : Type 0 where
+  pub wrote : WroteOwn seen image now part written before after
+  pub cleared : ClearsFirst before.content after.content now
+  pub stops : AtEachStopOf seen (IsOwnPart part.start bytes) (own_writes image part bytes) before
+
+abbrev pub ChangesInPlace : Extent → List ℕ → ImageChange
+ChangesInPlace part bytes image now before after Good =
+    WritesInPlace part bytes bytes image now before after
+ChangesInPlace part bytes image now before after (Torn done dev count) =
+    WritesInPlace part bytes (take done bytes) image now before after
+ChangesInPlace part bytes image now before after (Io dev count) =
+    WritesInPlace part bytes [] image now before after
+ChangesInPlace part bytes image now before after (NoSpace dev) =
+    IsUnchanged image now before after
+
+-- the bytes of a whole cluster of c bytes, in which these have their place
+pub record HasPart (c : ℕ) (part : Extent) (bytes cluster : List ℕ) : Type 0 where
+  pub whole : length cluster ≡ c
+  pub holds : (i : ℕ) → i < length bytes
+      → slice_index cluster (part.start % c + i) ≡ slice_index bytes i
+
+-- the whole cluster is put, with the bytes of the part
+pub record PutsAround (part : Extent) (bytes : List ℕ) (stop : Option DevStop)
+    (image now : Known) (before after : DeviceState) : Type 0 where
+  pub cluster : List ℕ
+  pub has : HasPart (cluster_size_in image) part bytes cluster
+  pub puts : MakesChange (put_steps image (cluster_of image part) cluster)
+      (cluster_of image part * cluster_size_in image) cluster stop image now before after
+
+-- the rest of the cluster is read before; where that stops it, nothing is written
+abbrev pub ChangesAround : Extent → List ℕ → ImageChange
+ChangesAround part bytes image now before after Good =
+    PutsAround part bytes None image now before after
+    × IsHost (entry_in now (cluster_of image part))
+ChangesAround part bytes image now before after (Torn done dev count) = ⊥
+ChangesAround part bytes image now before after (Io dev count) =
+    PutsAround part bytes (Some (stops.Io count)) image now before after
+    ⊎ ((now ≡ image) × HasRisen before after)
+ChangesAround part bytes image now before after (NoSpace dev) =
+    IsUnchanged image now before after
+
+-- by what its cluster is mapped to
+abbrev pub ChangesPart : L2Entry → Extent → List ℕ → ImageChange
+ChangesPart (entries.Host host) part bytes = ChangesInPlace part bytes
+ChangesPart entry part bytes = ChangesAround part bytes
+
+-- Of a piece.
+
+-- bytes are written
+abbrev pub IsWritten : Extent → List ℕ → ImageChange
+IsWritten part bytes image = ChangesPart (entry_for image part) part bytes image
+
+-- zeros are written to a part of a cluster, and nothing is tried where that reads as zeros
+abbrev pub ZeroesPart : L2Entry → Extent → ImageChange
+ZeroesPart (entries.Zero host) part image now before after outcome =
+    IsUnchanged image now before after × (outcome ≡ Good)
+ZeroesPart entry part image now before after outcome =
+    ChangesPart entry part (replicate part.len 0) image now before after outcome
+
+-- zeros are written to a whole cluster, or to a part
+abbrev pub ZeroesBy : Bool → Extent → ImageChange
+ZeroesBy true part image = ClearsCluster (cluster_of image part) image
+ZeroesBy false part image = ZeroesPart (entry_for image part) part image
+
+abbrev pub IsZeroed : Extent → ImageChange
+IsZeroed part image = ZeroesBy (is_whole image part) part image
+
+-- Of a node.
+
+-- its row has what is known of the image behind the change
+pub record ChangesRow (change : ImageChange) (image : Known) (row : Row) (old new : Nodes)
+    (node : ℕ) (outcome : Outcome) : Type 0 where
+  pub now : Known
+  pub left : row_at new node ≡ Some (record row { driver = drivers.Qcow2 now })
+  pub changed : (file : ℕ) (before after : DeviceState) → file_of old node ≡ Some file
+      → device_in old.devices file ≡ Some before → device_in new.devices file ≡ Some after
+      → change image now before after outcome
+
+-- a node's row is as before, but for what is known of its image
+abbrev pub LeavesRow : ImageChange → Driver → Row → Nodes → Nodes → ℕ → Outcome → Type 0
+LeavesRow change (drivers.Qcow2 image) row old new node outcome =
+    ChangesRow change image row old new node outcome
+LeavesRow change driver row old new node outcome = row_at new node ≡ Some row
