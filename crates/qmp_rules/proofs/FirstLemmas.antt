@@ -1,5 +1,5 @@
 -- Asks one by one, until the first that is not met.
-use Rattle.std.proofs.Common.{◌≡◌, ℕ, ◌+◌, ◌<◌, ◌≤◌, List, [], ◌∷◌, ◌++◌, length, get_or, drop, Option, Some, None, refl, sym, ap, ◌∙◌, is_some, true, false}
+use Rattle.std.proofs.Common.{◌≡◌, ℕ, ◌+◌, ◌<◌, ◌≤◌, List, [], ◌∷◌, ◌++◌, length, get_or, drop, Option, Some, None, refl, sym, ap, ◌∙◌}
 use Rattle.std.specs.Borrow.{Bor}
 use Rattle.std.proofs.lemmas.List.{at_drop_more, at_drop_all}
 use Rattle.qmp_rules.specs.declared.ask.Ask.{Ask}
@@ -21,29 +21,19 @@ first_here t told asks i a within is =
     at_drop_more (λ rest. first t told (seen_asks rest)) asks i a within
     ∙ ap (λ b. or_else (holds t told (seen_ask b)) (first t told (seen_asks (drop (i + 1) asks)))) (sym is)
 
-else_met : (found rest : Option Refusal) → is_some found ≡ false → or_else found rest ≡ rest
-else_met None rest h = refl
-else_met (Some cause) rest h = cc
-
-else_unmet : (found rest : Option Refusal) → is_some found ≡ true → or_else found rest ≡ found
-else_unmet None rest h = cc
-else_unmet (Some cause) rest h = refl
-
-pub first_met : (t : Table) (told : Told) (asks : List Given) (i : ℕ) (a : Given) (found : Option Refusal) → i < length asks
-    → a ≡ get_or asks i a → found ≡ holds t told (seen_ask a) → is_some found ≡ false
+pub first_met : (t : Table) (told : Told) (asks : List Given) (i : ℕ) (a : Given) → i < length asks
+    → a ≡ get_or asks i a → None ≡ holds t told (seen_ask a)
     → first t told (seen_asks (drop i asks)) ≡ first t told (seen_asks (drop (i + 1) asks))
-first_met t told asks i a found within is looked none =
+first_met t told asks i a within is looked =
     first_here t told asks i a within is
     ∙ ap (λ f. or_else f (first t told (seen_asks (drop (i + 1) asks)))) (sym looked)
-    ∙ else_met found (first t told (seen_asks (drop (i + 1) asks))) none
 
-pub first_unmet : (t : Table) (told : Told) (asks : List Given) (i : ℕ) (a : Given) (found : Option Refusal) → i < length asks
-    → a ≡ get_or asks i a → found ≡ holds t told (seen_ask a) → is_some found ≡ true
-    → first t told (seen_asks (drop i asks)) ≡ found
-first_unmet t told asks i a found within is looked some =
+pub first_unmet : (t : Table) (told : Told) (asks : List Given) (i : ℕ) (a : Given) (cause : Refusal) → i < length asks
+    → a ≡ get_or asks i a → Some cause ≡ holds t told (seen_ask a)
+    → first t told (seen_asks (drop i asks)) ≡ Some cause
+first_unmet t told asks i a cause within is looked =
     first_here t told asks i a within is
     ∙ ap (λ f. or_else f (first t told (seen_asks (drop (i + 1) asks)))) (sym looked)
-    ∙ else_unmet found (first t told (seen_asks (drop (i + 1) asks))) some
 
 pub first_end : (t : Table) (told : Told) (asks : List Given) (i : ℕ) → length asks ≤ i
     → first t told (seen_asks (drop i asks)) ≡ None

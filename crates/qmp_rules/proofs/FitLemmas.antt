@@ -5,7 +5,7 @@ use Rattle.std.proofs.lemmas.Bool.{ltb-true}
 use Rattle.qmp_rules.specs.declared.change.Change.{Change}
 use Rattle.qmp_rules.specs.declared.change.Change.TheVariants as change
 use Rattle.qmp_rules.specs.Changes.{changed}
-use Rattle.qmp_rules.specs.Fitting.{Fits, AllFit, fits_always}
+use Rattle.qmp_rules.specs.Fitting.{ChangeFits, AllFit, fits_always}
 use Rattle.qmp_rules.specs.Table.{Table}
 
 both_left : (a b : Bool) → (a && b) ≡ true → a ≡ true
@@ -16,7 +16,7 @@ both_right : (a b : Bool) → (a && b) ≡ true → b ≡ true
 both_right true b h = h
 both_right false b h = cc
 
-fits_one : (t : Table) (c : Change) → fits_always c ≡ true → Fits t c
+fits_one : (t : Table) (c : Change) → fits_always c ≡ true → ChangeFits t c
 fits_one t (change.AddDevice device node) h = ltb-true device.number 80 h
 fits_one t (change.UseNode slot what node) h = ltb-true slot 16 h
 fits_one t (change.PutFilter row node) h = cc

@@ -1,5 +1,5 @@
 -- Commands that are carried out: no transaction is one.
-use Rattle.std.proofs.Common.{◌≡◌, refl, true, false, Option, Some, None, is_some, not}
+use Rattle.std.proofs.Common.{◌≡◌, refl, sym, ap, true, false, Option, Some, None, is_some, not}
 use Rattle.qmp_codec.specs.declared.command.Command.{Command}
 use Rattle.qmp_codec.specs.declared.command.Command.TheVariants as command
 use Rattle.qmp_codec.specs.Commands.{Cmd}
@@ -34,6 +34,9 @@ built_by c h = elim (is_built c) as (λ b. is_some (refused (not b) (refusal.Unk
   | true ↦ λ e. refl
   | false ↦ λ e. cc
 ] h
+
+pub built_none : (c : Cmd) → None ≡ unbuilt c → is_built c ≡ true
+built_none c h = built_by c (ap is_some (sym h))
 
 -- what is not refused is carried out
 pub built_unless : (t : Table) (told : Told) (c : Cmd) → refusal_of t told c ≡ None → is_built c ≡ true

@@ -37,7 +37,8 @@ untold = record { length = None; size = None; stopped = None; mapped = []; dirty
 
 abbrev pub conflict_refusal : Table → Conflict → Refusal
 conflict_refusal t pair =
-    refusal.Conflict (name_at t pair.node) (parent_name t pair.asks) (parent_name t pair.denies) pair.perm
+    refusal.Conflict (name_at t pair.node) (parent_name t pair.asks) (parent_name t pair.denies)
+    pair.perm
 
 -- the first pair of edges that breaks it
 unfoldable pub conflict_in : Table → Option Refusal
@@ -82,12 +83,14 @@ group_of t c = if is_grouped c.completion_mode then Some t.started else None
 
 abbrev pub action_refusal : Table → Told → Option ℕ → Act → Option Refusal
 action_refusal t told group a =
-    or_else (first t told (action_rest a)) (conflict_after (action_rewires a) t (action_edits t group a))
+    or_else (first t told (action_rest a))
+    (conflict_after (action_rewires a) t (action_edits t group a))
 
 abbrev pub actions_refusal : Table → Told → Option ℕ → List Act → Option Refusal
 actions_refusal t told group [] = None
 actions_refusal t told group (a ∷ actions) =
-    or_else (action_refusal t told group a) (actions_refusal (all_changed t (action_edits t group a)) told group actions)
+    or_else (action_refusal t told group a)
+    (actions_refusal (all_changed t (action_edits t group a)) told group actions)
 
 abbrev pub actions_edits : Table → Option ℕ → List Act → List Change
 actions_edits t group [] = []

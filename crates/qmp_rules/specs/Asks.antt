@@ -69,7 +69,8 @@ abbrev pub is_file : NodeRecord → Bool
 is_file row = takes drivers.File row.kind
 
 abbrev pub file_node : Table → List ℕ → Option NodeRecord
-file_node t name = option_and_then (λ row. if is_file row then Some row else None) (node_named t name)
+file_node t name =
+    option_and_then (λ row. if is_file row then Some row else None) (node_named t name)
 
 -- the name of the file that a node stands for
 abbrev pub name_of_file : NodeRecord → List ℕ
@@ -123,7 +124,8 @@ top_of t (Copy device target) = id_or 0 t (Some device)
 -- the target, or the base: of a commit the lowest node of the chain, where no base is named, and of such a stream none
 abbrev pub base_of : Table → Nodes1 → Option ℕ
 base_of t (Stream device base) = option_and_then (id_named t) base
-base_of t (Commit device base top) = Some (id_or (lowest t (top_of t (Commit device base top))) t base)
+base_of t (Commit device base top) =
+    Some (id_or (lowest t (top_of t (Commit device base top))) t base)
 base_of t (Copy device target) = id_named t target
 
 -- a commit is active exactly where its top is the device
@@ -139,7 +141,8 @@ held_nodes t (Copy device target) = top_of t (Copy device target) ∷ id_or 0 t 
 
 -- and those that it holds for reading
 abbrev pub read_nodes : Table → Nodes1 → List ℕ
-read_nodes t (Stream device base) = down_to (base_of t (Stream device base)) (below t (top_of t (Stream device base)))
+read_nodes t (Stream device base) =
+    down_to (base_of t (Stream device base)) (below t (top_of t (Stream device base)))
 read_nodes t (Commit device base top) = overlays t (top_of t (Commit device base top))
 read_nodes t (Copy device target) = []
 
@@ -152,7 +155,8 @@ abbrev pub looked_at : Table → Nodes1 → List ℕ
 looked_at t (Stream device base) =
     named_ids t (Some device) ++ named_ids t base ++ read_nodes t (Stream device base)
 looked_at t (Commit device base top) =
-    named_ids t (Some device) ++ named_ids t base ++ named_ids t top ++ held_nodes t (Commit device base top)
+    named_ids t (Some device) ++ named_ids t base ++ named_ids t top
+    ++ held_nodes t (Commit device base top)
     ++ read_nodes t (Commit device base top)
 looked_at t (Copy device target) = held_nodes t (Copy device target)
 
@@ -169,13 +173,15 @@ first_clash t held read (id ∷ ids) = or_else (clash t held read id) (first_cla
 
 -- the base lies strictly below the top, and the top is the device or below it
 abbrev pub not_below : Table → ℕ → ℕ → Option Refusal
-not_below t top base = refused (not (has_id base (below t top))) (refusal.NotInChain (name_at t base))
+not_below t top base =
+    refused (not (has_id base (below t top))) (refusal.NotInChain (name_at t base))
 
 abbrev pub not_in_chain : Table → Nodes1 → Option Refusal
 not_in_chain t (Stream device base) =
     if_there (not_below t (top_of t (Stream device base))) (base_of t (Stream device base))
 not_in_chain t (Commit device base top) = or_else
-    (if_there (not_below t (top_of t (Commit device base top))) (base_of t (Commit device base top)))
+    (if_there (not_below t (top_of t (Commit device base top)))
+    (base_of t (Commit device base top)))
     (refused (not (has_id (top_of t (Commit device base top)) (chain t (id_or 0 t (Some device)))))
     (refusal.NotInChain (name_at t (top_of t (Commit device base top)))))
 not_in_chain t (Copy device target) = None
@@ -208,7 +214,8 @@ first_reached t target (source ∷ sources) = or_else
 -- the second edge into a node
 abbrev pub second_into : ℕ → List Edge → Option Edge
 second_into id [] = None
-second_into id (edge ∷ edges) = if edge.child == id then first_into id edges else second_into id edges
+second_into id (edge ∷ edges) =
+    if edge.child == id then first_into id edges else second_into id edges
 
 -- an active commit has no overlay on its top, the top of every other one no parent but one, and the target of a copy
 -- reaches no source
@@ -216,17 +223,21 @@ abbrev pub in_the_way : Table → Nodes1 → Option Refusal
 in_the_way t (Stream device base) = None
 in_the_way t (Commit device base top) =
     let id = top_of t (Commit device base top) in
-    in_use t (name_at t id) (if is_active t device top then overlay_edge t id else second_into id t.edges)
-in_the_way t (Copy device target) = first_reached t (id_or 0 t (Some target)) (id_or 0 t (Some device) ∷ mirrored t.jobs)
+    in_use t (name_at t id)
+    (if is_active t device top then overlay_edge t id else second_into id t.edges)
+in_the_way t (Copy device target) =
+    first_reached t (id_or 0 t (Some target)) (id_or 0 t (Some device) ∷ mirrored t.jobs)
 
 -- ---- files
 
 -- the part of a file node begins, or ends, past the file
 abbrev pub part_begins : Option Amount → NodeRecord → Option Refusal
-part_begins offset row = refused (not (begins_within offset row.size)) (refusal.BadValue (codes "offset"))
+part_begins offset row =
+    refused (not (begins_within offset row.size)) (refusal.BadValue (codes "offset"))
 
 abbrev pub part_ends : Option Amount → Option Amount → NodeRecord → Option Refusal
-part_ends offset size row = refused (not (ends_within offset size row.size)) (refusal.BadValue (codes "size"))
+part_ends offset size row =
+    refused (not (ends_within offset size row.size)) (refusal.BadValue (codes "size"))
 
 -- it is too long; of a file that was used this isn't said
 abbrev pub part_too_long : Table → Option Amount → Option Amount → NodeRecord → Option Refusal
@@ -311,49 +322,69 @@ holds t told (ask.Good member ok) = refused (not ok) (refusal.BadValue member)
 holds t told (ask.Begins file offset) = if_there (part_begins offset) (file_node t file)
 holds t told (ask.Ends file offset size) = if_there (part_ends offset size) (file_node t file)
 holds t told (ask.Files what) = told_at what told.stopped
-holds t told (ask.Named member text) = if_named (λ name. refused (not (is_name name)) (refusal.BadName member)) text
-holds t told (ask.FileNamed member text) = if_named (λ name. refused (not (is_file_name name)) (refusal.BadName member)) text
+holds t told (ask.Named member text) =
+    if_named (λ name. refused (not (is_name name)) (refusal.BadName member)) text
+holds t told (ask.FileNamed member text) =
+    if_named (λ name. refused (not (is_file_name name)) (refusal.BadName member)) text
 holds t told (ask.Found name) =
     if_named (λ other. refused (is_none (node_named t other)) (refusal.NotFound other false)) name
 holds t told (ask.Kept id) = refused (not (has_name id t.kept)) (refusal.NotFound id false)
 holds t told (ask.DeviceFound id) = refused (is_none (device_named t id)) (refusal.NotFound id true)
 holds t told (ask.BitmapFound node name) =
-    if_named (λ other. refused (is_none (bitmap_named t node other)) (refusal.NotFound other false)) name
+    if_named (λ other. refused (is_none (bitmap_named t node other)) (refusal.NotFound other false))
+    name
 holds t told (ask.JobFound id) = refused (is_none (job_named t id)) (refusal.NotActive id)
-holds t told (ask.FreshNode name) = if_named (λ other. refused (is_some (node_named t other)) (refusal.NameTaken other)) name
-holds t told (ask.Apart first second) = if_named (λ other. refused (bytes_eq first other) (refusal.NameTaken first)) second
+holds t told (ask.FreshNode name) =
+    if_named (λ other. refused (is_some (node_named t other)) (refusal.NameTaken other)) name
+holds t told (ask.Apart first second) =
+    if_named (λ other. refused (bytes_eq first other) (refusal.NameTaken first)) second
 holds t told (ask.FreshDevice id) = refused (is_some (device_named t id)) (refusal.NameTaken id)
-holds t told (ask.FreshJob id) = refused (is_some (job_named t id) || has_name id t.kept) (refusal.NameTaken id)
-holds t told (ask.FreshBitmap node name) = refused (is_some (bitmap_named t node name)) (refusal.NameTaken name)
-holds t told (ask.RoomForNodes count) = refused (nat_lt 64 (length t.nodes + count)) (refusal.TooMany Nodes)
+holds t told (ask.FreshJob id) =
+    refused (is_some (job_named t id) || has_name id t.kept) (refusal.NameTaken id)
+holds t told (ask.FreshBitmap node name) =
+    refused (is_some (bitmap_named t node name)) (refusal.NameTaken name)
+holds t told (ask.RoomForNodes count) =
+    refused (nat_lt 64 (length t.nodes + count)) (refusal.TooMany Nodes)
 holds t told ask.RoomForDevice = refused (nat_le 64 (length t.devices)) (refusal.TooMany Devices)
 holds t told ask.RoomForJob = refused (nat_le 16 (length t.jobs)) (refusal.TooMany Jobs)
 holds t told ask.RoomForBitmap = refused (nat_le 64 (length t.bitmaps)) (refusal.TooMany Bitmaps)
 holds t told (ask.Drives name which) =
-    if_there (λ row. refused (not (takes which row.kind)) (refusal.Driver row.name)) (option_and_then (node_named t) name)
-holds t told (ask.Closed name) = refused (list_any (stands_for name) t.nodes) (refusal.File name InUse)
+    if_there (λ row. refused (not (takes which row.kind)) (refusal.Driver row.name))
+    (option_and_then (node_named t) name)
+holds t told (ask.Closed name) =
+    refused (list_any (stands_for name) t.nodes) (refusal.File name InUse)
 holds t told (ask.Fits file offset size) = if_there (part_too_long t offset size) (file_node t file)
 holds t told (ask.Known file is_raw) = lost t is_raw file
-holds t told (ask.KnownUnder file is_raw) = if_there (λ row. lost t is_raw (name_of_file row)) (file_node t file)
+holds t told (ask.KnownUnder file is_raw) =
+    if_there (λ row. lost t is_raw (name_of_file row)) (file_node t file)
 holds t told (ask.Settled name) =
-    if_there (λ row. refused (not (is_settled t row.id)) (refusal.Unsettled row.name)) (option_and_then (node_named t) name)
-holds t told (ask.Beside backing file) = if_named (λ other. refused (bytes_eq other file) (refusal.Unsettled other)) backing
+    if_there (λ row. refused (not (is_settled t row.id)) (refusal.Unsettled row.name))
+    (option_and_then (node_named t) name)
+holds t told (ask.Beside backing file) =
+    if_named (λ other. refused (bytes_eq other file) (refusal.Unsettled other)) backing
 holds t told (ask.Unheld node) = if_there (λ id. held_by t id (holder t id)) (id_named t node)
-holds t told (ask.Free nodes) = first_clash t (held_nodes t nodes) (read_nodes t nodes) (looked_at t nodes)
-holds t told (ask.BitmapFree node name) = if_there (busy t) (option_and_then (bitmap_named t node) name)
-holds t told (ask.Writable node) = if_there (λ row. refused row.read_only (refusal.ReadOnly row.name)) (node_named t node)
+holds t told (ask.Free nodes) =
+    first_clash t (held_nodes t nodes) (read_nodes t nodes) (looked_at t nodes)
+holds t told (ask.BitmapFree node name) =
+    if_there (busy t) (option_and_then (bitmap_named t node) name)
+holds t told (ask.Writable node) =
+    if_there (λ row. refused row.read_only (refusal.ReadOnly row.name)) (node_named t node)
 holds t told (ask.WritableUnder file read_only) =
-    if_there (λ row. refused (row.read_only && not read_only) (refusal.ReadOnly row.name)) (node_named t file)
-holds t told (ask.WritableWith node own ok) = refused (not ok) (refusal.ReadOnly (inline_name node own))
+    if_there (λ row. refused (row.read_only && not read_only) (refusal.ReadOnly row.name))
+    (node_named t file)
+holds t told (ask.WritableWith node own ok) =
+    refused (not ok) (refusal.ReadOnly (inline_name node own))
 holds t told (ask.InChain nodes) = not_in_chain t nodes
 holds t told (ask.SameSize first second) = differ (node_named t first) (node_named t second)
 holds t told (ask.EqualSizes nodes) = sizes t nodes
 holds t told (ask.NoBacking node) =
-    if_there (λ row. refused (is_some (child t row.id Backing)) (refusal.HasBacking row.name)) (node_named t node)
+    if_there (λ row. refused (is_some (child t row.id Backing)) (refusal.HasBacking row.name))
+    (node_named t node)
 holds t told (ask.Empty node) = refused (has_name node told.mapped) (refusal.NotEmpty node)
 holds t told (ask.Lone node) = if_there (in_use_at t node) (id_named t node)
 holds t told (ask.Clear nodes) = in_the_way t nodes
-holds t told (ask.JobReady id) = if_there (λ job. refused (not job.is_ready) (refusal.NotReady id)) (job_named t id)
+holds t told (ask.JobReady id) =
+    if_there (λ job. refused (not job.is_ready) (refusal.NotReady id)) (job_named t id)
 holds t told ask.Abort = Some refusal.Aborted
 
 -- the refusal of the first ask that is not met

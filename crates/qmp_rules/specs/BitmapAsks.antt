@@ -14,7 +14,8 @@ use Rattle.qmp_rules.specs.Values.{is_granularity, is_false}
 
 abbrev pub bitmap_add_values : BitmapAdd (List ℕ) → List Asking
 bitmap_add_values c =
-    Good (codes "granularity") (is_granularity c.granularity) ∷ Good (codes "persistent") (is_false c.persistent) ∷ []
+    Good (codes "granularity") (is_granularity c.granularity)
+    ∷ Good (codes "persistent") (is_false c.persistent) ∷ []
 
 abbrev pub bitmap_add_names : BitmapAdd (List ℕ) → List Asking
 bitmap_add_names c = Named (codes "node") (Some c.node) ∷ Named (codes "name") (Some c.name) ∷ []
@@ -28,7 +29,8 @@ abbrev pub bitmap_names : BitmapName (List ℕ) → List Asking
 bitmap_names c = Named (codes "node") (Some c.node) ∷ Named (codes "name") (Some c.name) ∷ []
 
 abbrev pub bitmap_rest : BitmapName (List ℕ) → List Asking
-bitmap_rest c = Found (Some c.node) ∷ BitmapFound c.node (Some c.name) ∷ BitmapFree c.node (Some c.name) ∷ []
+bitmap_rest c =
+    Found (Some c.node) ∷ BitmapFound c.node (Some c.name) ∷ BitmapFree c.node (Some c.name) ∷ []
 
 -- ---- block-dirty-bitmap-merge
 
@@ -52,11 +54,13 @@ all_source_names (s ∷ sources) = source_names s ++ all_source_names sources
 abbrev pub sources_found : List ℕ → SeenSources → List Asking
 sources_found node [] = []
 sources_found node (s ∷ sources) =
-    Found (Some (source_node node s)) ∷ BitmapFound (source_node node s) (Some (source_name s)) ∷ sources_found node sources
+    Found (Some (source_node node s)) ∷ BitmapFound (source_node node s) (Some (source_name s))
+    ∷ sources_found node sources
 
 abbrev pub sources_free : List ℕ → SeenSources → List Asking
 sources_free node [] = []
-sources_free node (s ∷ sources) = BitmapFree (source_node node s) (Some (source_name s)) ∷ sources_free node sources
+sources_free node (s ∷ sources) =
+    BitmapFree (source_node node s) (Some (source_name s)) ∷ sources_free node sources
 
 abbrev pub sources_equal : List ℕ → SeenSources → List Asking
 sources_equal node [] = []
@@ -64,7 +68,8 @@ sources_equal node (s ∷ sources) = SameSize node (source_node node s) ∷ sour
 
 abbrev pub merge_names : BitmapMerge (List ℕ) SeenSources → List Asking
 merge_names c =
-    Named (codes "node") (Some c.node) ∷ Named (codes "target") (Some c.target) ∷ all_source_names c.bitmaps
+    Named (codes "node") (Some c.node) ∷ Named (codes "target") (Some c.target)
+    ∷ all_source_names c.bitmaps
 
 abbrev pub merge_rest : BitmapMerge (List ℕ) SeenSources → List Asking
 merge_rest c =

@@ -28,11 +28,13 @@ filter_role _ = None
 
 -- the child of a filter; none for every other node
 abbrev pub filtered : Table → ℕ → Option ℕ
-filtered t id = option_and_then (child t id) (option_and_then (λ row. filter_role row.kind) (node_at t id))
+filtered t id =
+    option_and_then (child t id) (option_and_then (λ row. filter_role row.kind) (node_at t id))
 
 abbrev pub disk_from : ℕ → Table → ℕ → ℕ
 disk_from zero t id = id
-disk_from (suc more) t id = elim (filtered t id) as (λ _. ℕ) [ None ↦ id | Some below ↦ disk_from more t below ]
+disk_from (suc more) t id =
+    elim (filtered t id) as (λ _. ℕ) [ None ↦ id | Some below ↦ disk_from more t below ]
 
 -- the node that a node reads as: itself, or what a filter is over; no path is longer than there are nodes
 unfoldable pub disk_node : Table → ℕ → ℕ
@@ -80,21 +82,25 @@ is_overlay (Node id) = true
 is_overlay _ = false
 
 abbrev pub overlay_edge : Table → ℕ → Option Edge
-overlay_edge t id = find (λ edge. (edge.child == id) && (same_role edge.role Backing && is_overlay edge.parent)) t.edges
+overlay_edge t id =
+    find (λ edge. (edge.child == id) && (same_role edge.role Backing && is_overlay edge.parent))
+    t.edges
 
 abbrev pub parent_id : Parent → List ℕ
 parent_id (Node id) = id ∷ []
 parent_id _ = []
 
 abbrev pub overlays : Table → ℕ → List ℕ
-overlays t id = elim (overlay_edge t id) as (λ _. List ℕ) [ None ↦ [] | Some edge ↦ parent_id edge.parent ]
+overlays t id =
+    elim (overlay_edge t id) as (λ _. List ℕ) [ None ↦ [] | Some edge ↦ parent_id edge.parent ]
 
 -- ---- paths of any edges
 
 abbrev pub leads : ℕ → List Edge → ℕ → ℕ → Bool
 leads zero edges from to = false
 leads (suc more) edges from to =
-    list_any (λ edge. same_parent edge.parent (Node from) && ((edge.child == to) || leads more edges edge.child to)) edges
+    list_any (λ edge. same_parent edge.parent (Node from)
+    && ((edge.child == to) || leads more edges edge.child to)) edges
 
 -- a path of edges leads from one node to another
 unfoldable pub reaches : Table → ℕ → ℕ → Bool

@@ -78,7 +78,8 @@ bitmaps_but_of node rows = filter (λ row. not (row.node == node)) rows
 -- the bitmap of a job's source that the job copies by, where it does
 abbrev pub busy_by : ℕ → Option UsedBitmap → ℕ → List BitmapRow → List BitmapRow
 busy_by job None source rows = rows
-busy_by job (Some used) source rows = map (bitmap_changed source used.name (λ row. record row { busy = Some job })) rows
+busy_by job (Some used) source rows =
+    map (bitmap_changed source used.name (λ row. record row { busy = Some job })) rows
 
 -- ---- jobs
 
@@ -92,7 +93,8 @@ followed asked.Stop new = asked.Stop
 followed old new = new
 
 abbrev pub asked_for : ℕ → Asked → JobRecord → JobRecord
-asked_for number new job = if job.number == number then record job { asked = followed job.asked new } else job
+asked_for number new job =
+    if job.number == number then record job { asked = followed job.asked new } else job
 
 -- ---- devices and ids
 
@@ -123,11 +125,15 @@ changed t (change.AddFormat row file backing) =
 changed t (change.AddFilter row child) =
     rewired (t.nodes ++ row ∷ []) (with_edge (node_edge row.id File child) t.edges) t
 changed t (change.RemoveNode id) =
-    record (rewired (without_row id t.nodes) (without_parent (Node id) t.edges) t) { bitmaps = bitmaps_but_of id t.bitmaps }
+    record (rewired (without_row id t.nodes) (without_parent (Node id) t.edges) t) {
+      bitmaps = bitmaps_but_of id t.bitmaps;
+    }
 changed t (change.Unsettle id) = record t { nodes = with_unsettled id t.nodes }
 changed t (change.MakeWritable id) = rewired (with_writable id t.nodes) t.edges t
-changed t (change.PutFilter row node) = rewired (t.nodes ++ row ∷ []) (filtered_edges row.id node t.edges) t
-changed t (change.UseNode slot what node) = rewired t.nodes (with_edge (job_edge slot what node) t.edges) t
+changed t (change.PutFilter row node) =
+    rewired (t.nodes ++ row ∷ []) (filtered_edges row.id node t.edges) t
+changed t (change.UseNode slot what node) =
+    rewired t.nodes (with_edge (job_edge slot what node) t.edges) t
 changed t (change.StartJob row) = record t {
   jobs = t.jobs ++ row ∷ [];
   started = t.started + 1;
@@ -135,14 +141,24 @@ changed t (change.StartJob row) = record t {
 }
 changed t (change.AskJob number new) = record t { jobs = map (asked_for number new) t.jobs }
 changed t (change.AddDevice device node) =
-    record (rewired t.nodes (with_edge (device_edge device node) t.edges) t) { devices = t.devices ++ device ∷ [] }
+    record (rewired t.nodes (with_edge (device_edge device node) t.edges) t) {
+      devices = t.devices
+          ++ device ∷ [];
+    }
 changed t (change.RemoveDevice number) =
-    record (rewired t.nodes (without_parent (Guest number) t.edges) t) { devices = without_device number t.devices }
-changed t (change.Attach overlay node) = rewired t.nodes (with_edge (node_edge overlay Backing node) t.edges) t
-changed t (change.Move from to but) = rewired t.nodes (with_replaced from to (Some (Node but)) t.edges) t
+    record (rewired t.nodes (without_parent (Guest number) t.edges) t) {
+      devices = without_device
+          number t.devices;
+    }
+changed t (change.Attach overlay node) =
+    rewired t.nodes (with_edge (node_edge overlay Backing node) t.edges) t
+changed t (change.Move from to but) =
+    rewired t.nodes (with_replaced from to (Some (Node but)) t.edges) t
 changed t (change.AddBitmap row) = record t { bitmaps = t.bitmaps ++ row ∷ [] }
-changed t (change.RemoveBitmap node name) = record t { bitmaps = without_bitmap node name t.bitmaps }
-changed t (change.TurnBitmap node name on) = record t { bitmaps = with_turned node name on t.bitmaps }
+changed t (change.RemoveBitmap node name) =
+    record t { bitmaps = without_bitmap node name t.bitmaps }
+changed t (change.TurnBitmap node name on) =
+    record t { bitmaps = with_turned node name on t.bitmaps }
 changed t (change.ClearBitmap node name) = t
 changed t (change.MergeBitmap node name source_node source) = t
 

@@ -62,7 +62,8 @@ all_names (a ∷ actions) = action_names a ++ all_names actions
 -- the mode of completion, and the names that the actions have
 abbrev pub transaction_names : Transaction (List Act) → List Asking
 transaction_names c =
-    Good (codes "completion-mode") (absent_or is_completion_mode c.completion_mode) ∷ all_names c.actions
+    Good (codes "completion-mode") (absent_or is_completion_mode c.completion_mode)
+    ∷ all_names c.actions
 
 -- what a transaction asks of its whole line; what its actions ask of the table comes behind that, one after another
 abbrev pub transaction_asks : Transaction (List Act) → List Asking

@@ -73,7 +73,8 @@ next_free_id t = lowest_free (ids t ++ free_id t ∷ [])
 -- the first place of a name
 abbrev pub place_from : ℕ → List ℕ → List (List ℕ) → Option ℕ
 place_from k name [] = None
-place_from k name (other ∷ names) = if bytes_eq other name then Some k else place_from (k + 1) name names
+place_from k name (other ∷ names) =
+    if bytes_eq other name then Some k else place_from (k + 1) name names
 
 -- the lowest of so many numbers from one on that no device has
 abbrev pub unused_from : ℕ → ℕ → List Device → ℕ
@@ -83,7 +84,8 @@ unused_from (suc more) k devices =
 
 -- a device's number: the guest's of its name, or else the lowest above those of guests that no device has
 abbrev pub device_number : Table → List ℕ → ℕ
-device_number t id = unwrap_or (place_from 0 id t.guests) (unused_from 64 (length t.guests) t.devices)
+device_number t id =
+    unwrap_or (place_from 0 id t.guests) (unused_from 64 (length t.guests) t.devices)
 
 -- ---- blockdev-create
 
@@ -93,7 +95,8 @@ file_of_node t name = unwrap_or (option_map name_of_file (node_named t name)) []
 abbrev pub created_change : Table → Created (List ℕ) → List Change
 created_change t (created.File c) = MakeFile c.filename (amount_or 0 (Some c.size)) ∷ []
 created_change t (created.Qcow2 c) =
-    FormatFile (id_or 0 t (Some c.file)) (file_of_node t c.file) (amount_or 0 (Some c.size)) c.backing_file c.backing_fmt
+    FormatFile (id_or 0 t (Some c.file)) (file_of_node t c.file) (amount_or 0 (Some c.size))
+    c.backing_file c.backing_fmt
     ∷ []
 created_change t created.Unknown = []
 
@@ -144,7 +147,8 @@ goes_with id (Some own) = None
 
 -- the file node that is made with the node over it, which comes next
 abbrev pub inline_row : Table → Told → List ℕ → InlineFile (List ℕ) → NodeRecord
-inline_row t told name file = file_row (free_id t) (inline_name name file.node_name) (length_told told)
+inline_row t told name file =
+    file_row (free_id t) (inline_name name file.node_name) (length_told told)
     (is_read_only file.options) file.filename (goes_with (next_free_id t) file.node_name)
 
 abbrev pub size_of : Table → List ℕ → ℕ
@@ -152,11 +156,14 @@ size_of t name = unwrap_or (option_map (λ row. row.size) (node_named t name)) 0
 
 abbrev pub raw_row : ℕ → List ℕ → ℕ → Bool → AddRaw (List ℕ) → NodeRecord
 raw_row id name length read_only raw =
-    format_row kind.Raw id name (part_size raw.offset raw.size length) (part_offset raw.offset) read_only
+    format_row kind.Raw id name (part_size raw.offset raw.size length) (part_offset raw.offset)
+    read_only
 
-abbrev pub raw_edits : Table → Told → List ℕ → Bool → AddRaw (List ℕ) → FileRef (List ℕ) → List Change
+abbrev pub raw_edits : Table → Told → List ℕ → Bool → AddRaw (List ℕ) → FileRef (List ℕ)
+    → List Change
 raw_edits t told name read_only raw (file_ref.Name file) =
-    AddFormat (raw_row (free_id t) name (size_of t file) read_only raw) (id_or 0 t (Some file)) None ∷ []
+    AddFormat (raw_row (free_id t) name (size_of t file) read_only raw) (id_or 0 t (Some file)) None
+    ∷ []
 raw_edits t told name read_only raw (file_ref.Inline file) =
     AddFile (inline_row t told name file)
     ∷ AddFormat (raw_row (next_free_id t) name (length_told told) read_only raw) (free_id t) None
@@ -165,12 +172,15 @@ raw_edits t told name read_only raw (file_ref.Inline file) =
 abbrev pub image_row : ℕ → Told → List ℕ → Bool → NodeRecord
 image_row id told name read_only = format_row kind.Qcow2 id name (unwrap_or told.size 0) 0 read_only
 
-abbrev pub qcow2_edits : Table → Told → List ℕ → Bool → Option (List ℕ) → FileRef (List ℕ) → List Change
+abbrev pub qcow2_edits : Table → Told → List ℕ → Bool → Option (List ℕ) → FileRef (List ℕ)
+    → List Change
 qcow2_edits t told name read_only back (file_ref.Name file) =
-    AddFormat (image_row (free_id t) told name read_only) (id_or 0 t (Some file)) (option_and_then (id_named t) back) ∷ []
+    AddFormat (image_row (free_id t) told name read_only) (id_or 0 t (Some file))
+    (option_and_then (id_named t) back) ∷ []
 qcow2_edits t told name read_only back (file_ref.Inline file) =
     AddFile (inline_row t told name file)
-    ∷ AddFormat (image_row (next_free_id t) told name read_only) (free_id t) (option_and_then (id_named t) back)
+    ∷ AddFormat (image_row (next_free_id t) told name read_only) (free_id t)
+    (option_and_then (id_named t) back)
     ∷ []
 
 abbrev pub added_edits : Table → Told → List ℕ → Bool → Added (List ℕ) → List Change
@@ -180,7 +190,8 @@ added_edits t told name read_only (added.Raw raw) = raw_edits t told name read_o
 added_edits t told name read_only (added.Qcow2 image) =
     qcow2_edits t told name read_only (backing_name image.backing) image.file
 added_edits t told name read_only (added.CopyOnRead file) =
-    AddFilter (format_row kind.CopyOnRead (free_id t) name (size_of t file) 0 read_only) (id_or 0 t (Some file)) ∷ []
+    AddFilter (format_row kind.CopyOnRead (free_id t) name (size_of t file) 0 read_only)
+    (id_or 0 t (Some file)) ∷ []
 added_edits t told name read_only added.Unknown = []
 
 abbrev pub add_edits : Table → Told → BlockdevAdd (List ℕ) → List Change
@@ -208,7 +219,12 @@ abbrev pub goes_with_node : ℕ → NodeRecord → Bool
 goes_with_node id row = unwrap_or (option_map (λ other. other == id) row.made_with) false
 
 abbrev pub with_inline : Table → ℕ → List Change
-with_inline t id = elim (find (goes_with_node id) t.nodes) as (λ _. List Change) [ None ↦ [] | Some row ↦ RemoveNode row.id ∷ [] ]
+with_inline t id =
+    elim (find (goes_with_node id) t.nodes) as (λ _. List Change) [
+      | None ↦ []
+      | Some
+          row ↦ RemoveNode row.id ∷ []
+    ]
 
 -- the file is used before its node goes
 abbrev pub row_gone : Table → NodeRecord → List Change
@@ -237,7 +253,8 @@ device_uses row = if is_file row then uses row.filename else []
 
 abbrev pub device_add_edits : Table → DeviceAdd (List ℕ) → List Change
 device_add_edits t c =
-    of_row (λ row. device_uses row ++ AddDevice (new_device t c row) row.id ∷ []) (node_named t c.drive)
+    of_row (λ row. device_uses row ++ AddDevice (new_device t c row) row.id ∷ [])
+    (node_named t c.drive)
 
 abbrev pub device_del_edits : Table → List ℕ → List Change
 device_del_edits t id = elim (device_named t id) as (λ _. List Change) [
@@ -280,7 +297,8 @@ bitmap_clear_edits t c = ClearBitmap (id_or 0 t (Some c.node)) c.name ∷ []
 abbrev pub merges : Table → List ℕ → List ℕ → SeenSources → List Change
 merges t node target [] = []
 merges t node target (s ∷ sources) =
-    MergeBitmap (id_or 0 t (Some node)) target (id_or 0 t (Some (source_node node s))) (source_name s)
+    MergeBitmap (id_or 0 t (Some node)) target (id_or 0 t (Some (source_node node s)))
+    (source_name s)
     ∷ merges t node target sources
 
 abbrev pub merge_edits : Table → BitmapMerge (List ℕ) SeenSources → List Change
@@ -322,10 +340,12 @@ filter_name driver id = codes "#cbw:" ++ id
 
 -- as large as the node under it, and read-only where that is
 abbrev pub filter_row : Table → Kind → List ℕ → NodeRecord → NodeRecord
-filter_row t driver id row = format_row driver (free_id t) (filter_name driver id) row.size 0 row.read_only
+filter_row t driver id row =
+    format_row driver (free_id t) (filter_name driver id) row.size 0 row.read_only
 
 abbrev pub filter_edits : Table → Kind → JobRecord → List Change
-filter_edits t driver job = of_row (λ row. PutFilter (filter_row t driver job.id row) row.id ∷ []) (node_at t job.source)
+filter_edits t driver job =
+    of_row (λ row. PutFilter (filter_row t driver job.id row) row.id ∷ []) (node_at t job.source)
 
 -- a job on a file node uses its file
 abbrev pub file_used : Table → Option ℕ → List Change
@@ -337,18 +357,23 @@ abbrev pub uses_as : ℕ → JobUse → List ℕ → List Change
 uses_as slot what nodes = map (UseNode slot what) nodes
 
 abbrev pub stream_job : Table → StreamCommand (List ℕ) → JobRecord
-stream_job t c = record (new_job t None c.job_id job_kind.Stream (stream_nodes c)) { backing_file = c.backing_file }
+stream_job t c =
+    record (new_job t None c.job_id job_kind.Stream (stream_nodes c)) {
+      backing_file = c.backing_file;
+    }
 
 abbrev pub stream_edits : Table → StreamCommand (List ℕ) → List Change
 stream_edits t c =
     let job : JobRecord = stream_job t c in
-    file_used t job.target ++ StartJob job ∷ UseNode job.slot StreamTop job.source ∷ uses_as job.slot StreamBelow job.read
+    file_used t job.target ++ StartJob job ∷ UseNode job.slot StreamTop job.source
+    ∷ uses_as job.slot StreamBelow job.read
 
 -- ---- block-commit
 
 -- A base that is read-only may be written while the job runs, with the `file` node under it.
 abbrev pub reads_only : Table → Option ℕ → Bool
-reads_only t node = unwrap_or (option_map (λ row. row.read_only) (option_and_then (node_at t) node)) false
+reads_only t node =
+    unwrap_or (option_map (λ row. row.read_only) (option_and_then (node_at t) node)) false
 
 abbrev pub file_below : Table → Option ℕ → Option ℕ
 file_below t base = option_and_then (λ id. child t id File) base
@@ -362,7 +387,8 @@ writable_if _ _ = []
 
 abbrev pub base_edits : Table → JobRecord → List Change
 base_edits t job =
-    writable_if job.made_writable.file (file_below t job.target) ++ writable_if job.made_writable.base job.target
+    writable_if job.made_writable.file (file_below t job.target)
+    ++ writable_if job.made_writable.base job.target
 
 -- what a node reads one after another, as far as the top of the commit
 abbrev pub up_to : ℕ → List ℕ → List ℕ
@@ -371,7 +397,8 @@ up_to top (id ∷ ids) = if id == top then [] else id ∷ up_to top ids
 
 -- It reads one of the nodes that the commit writes, or may leave without their disks, and not through the top.
 abbrev pub reads_one_of : Table → ℕ → List ℕ → NodeRecord → Bool
-reads_one_of t top nodes row = list_any (λ id. has_id id nodes) (up_to top (chain t (disk_node t row.id)))
+reads_one_of t top nodes row =
+    list_any (λ id. has_id id nodes) (up_to top (chain t (disk_node t row.id)))
 
 -- the base, and the nodes strictly between it and the top
 abbrev pub under_top : JobRecord → List ℕ
@@ -388,17 +415,20 @@ is_base (Some base) id = base == id
 
 abbrev pub commit_uses : JobRecord → List Change
 commit_uses job =
-    map (λ id. UseNode job.slot (if is_base job.target id then CommitBase else CommitBetween) id) (under_top job)
+    map (λ id. UseNode job.slot (if is_base job.target id then CommitBase else CommitBetween) id)
+    (under_top job)
 
 abbrev pub commit_job : Table → CommitCommand (List ℕ) → JobRecord
 commit_job t c =
     let job : JobRecord = new_job t None c.job_id job_kind.Commit (commit_nodes c) in
-    filtered_job t (record job { made_writable = to_be_written t job.target; backing_file = c.backing_file })
+    filtered_job t
+    (record job { made_writable = to_be_written t job.target; backing_file = c.backing_file })
 
 abbrev pub commit_edits : Table → CommitCommand (List ℕ) → List Change
 commit_edits t c =
     let job : JobRecord = commit_job t c in
-    file_used t job.target ++ commit_unsettles t job ++ base_edits t job ++ filter_edits t kind.Commit job
+    file_used t job.target ++ commit_unsettles t job ++ base_edits t job
+    ++ filter_edits t kind.Commit job
     ++ StartJob job ∷ UseNode job.slot CommitTop job.source ∷ commit_uses job
 
 -- ---- blockdev-mirror and blockdev-backup: the target has no flat disk from then on
@@ -413,7 +443,8 @@ uses_target job (Some target) = UseNode job.slot CopyTarget target ∷ []
 
 abbrev pub copy_edits : Table → Kind → JobRecord → List Change
 copy_edits t driver job =
-    target_edits t job.target ++ filter_edits t driver job ++ StartJob job ∷ uses_target job job.target
+    target_edits t job.target ++ filter_edits t driver job ++ StartJob job
+    ∷ uses_target job job.target
 
 abbrev pub mirror_job : Table → Mirror (List ℕ) → JobRecord
 mirror_job t c = filtered_job t (new_job t None c.job_id job_kind.Mirror (Copy c.device c.target))
@@ -445,10 +476,16 @@ leaves_copy false true job_kind.Mirror = true
 leaves_copy force is_ready what = false
 
 abbrev pub asked_by_cancel : Bool → JobRecord → Asked
-asked_by_cancel force job = if leaves_copy force job.is_ready job.kind then asked.Leave else asked.Stop
+asked_by_cancel force job =
+    if leaves_copy force job.is_ready job.kind then asked.Leave else asked.Stop
 
 abbrev pub ask_edits : Table → List ℕ → (JobRecord → Asked) → List Change
-ask_edits t id ask = elim (job_named t id) as (λ _. List Change) [ None ↦ [] | Some job ↦ AskJob job.number (ask job) ∷ [] ]
+ask_edits t id ask =
+    elim (job_named t id) as (λ _. List Change) [
+      | None ↦ []
+      | Some job ↦ AskJob job.number (ask job)
+          ∷ []
+    ]
 
 abbrev pub cancel_edits : Table → List ℕ → Option Bool → List Change
 cancel_edits t id force = ask_edits t id (asked_by_cancel (flag_or_false force))

@@ -6,16 +6,16 @@ use Rattle.qmp_rules.specs.declared.change.Change.TheVariants.{AddDevice, UseNod
 use Rattle.qmp_rules.specs.Changes.{changed}
 use Rattle.qmp_rules.specs.Table.{Table}
 
-abbrev pub Fits : Table → Change → Type 0
-Fits t (AddDevice device node) = device.number < 80
-Fits t (UseNode slot what node) = slot < 16
-Fits t (PutFilter row node) = IsLone t.edges row.id
-Fits t _ = Unit {0}
+abbrev pub ChangeFits : Table → Change → Type 0
+ChangeFits t (AddDevice device node) = device.number < 80
+ChangeFits t (UseNode slot what node) = slot < 16
+ChangeFits t (PutFilter row node) = IsLone t.edges row.id
+ChangeFits t _ = Unit {0}
 
 -- each in the table as the ones before it leave it
 abbrev pub AllFit : Table → List Change → Type 0
 AllFit t [] = Unit {0}
-AllFit t (change ∷ changes) = Fits t change × AllFit (changed t change) changes
+AllFit t (change ∷ changes) = ChangeFits t change × AllFit (changed t change) changes
 
 -- it fits whatever the table is
 abbrev pub fits_always : Change → Bool

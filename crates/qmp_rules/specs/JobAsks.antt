@@ -52,7 +52,8 @@ stream_rest c =
 
 abbrev pub stream_asks : StreamCommand (List ℕ) → List Asking
 stream_asks c =
-    on_error_value (codes "on-error") c.on_error ∷ job_values c.options ++ stream_names c ++ stream_rest c
+    on_error_value (codes "on-error") c.on_error ∷ job_values c.options ++ stream_names c
+    ++ stream_rest c
 
 -- ---- block-commit
 
@@ -89,7 +90,8 @@ commit_rest c =
 
 abbrev pub commit_asks : CommitCommand (List ℕ) → List Asking
 commit_asks c =
-    on_error_value (codes "on-error") c.on_error ∷ job_values c.options ++ commit_names c ++ commit_rest c
+    on_error_value (codes "on-error") c.on_error ∷ job_values c.options ++ commit_names c
+    ++ commit_rest c
 
 -- ---- blockdev-mirror and blockdev-backup
 

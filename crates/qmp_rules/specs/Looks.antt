@@ -45,7 +45,13 @@ stop_at what None later = later
 stop_at what (Some cause) later = Some (record { look = what; refusal = cause })
 
 abbrev pub told_as : Option ℕ → Option ℕ → Option Stopped → Told
-told_as length size stopped = record { length = length; size = size; stopped = stopped; mapped = []; dirty = [] }
+told_as length size stopped = record {
+  length = length;
+  size = size;
+  stopped = stopped;
+  mapped = [];
+  dirty = [];
+}
 
 -- ---- files
 
@@ -57,7 +63,8 @@ absent filename = stop_at look.File (Some (refusal.File filename Absent)) None
 
 -- the file is not opened: a node stands for it, or its bytes are not known any more
 abbrev pub is_unopened : Table → List ℕ → Bool
-is_unopened t filename = list_any (stands_for filename) t.nodes || is_lost false (file_state t filename)
+is_unopened t filename =
+    list_any (stands_for filename) t.nodes || is_lost false (file_state t filename)
 
 -- a file is longer than a node may stand for
 abbrev pub file_stop : List ℕ → ℕ → Option Stopped
@@ -66,17 +73,21 @@ file_stop filename length = stop_at look.File (too_long filename (nat_lt most_le
 -- so it is, or a part begins or ends past it or is too long
 abbrev pub raw_stop : List ℕ → AddRaw (List ℕ) → ℕ → Option Stopped
 raw_stop filename raw length =
-    stop_at look.Begin (refused (not (begins_within raw.offset length)) (refusal.BadValue (codes "offset")))
-    (stop_at look.End (refused (not (ends_within raw.offset raw.size length)) (refusal.BadValue (codes "size")))
+    stop_at look.Begin
+    (refused (not (begins_within raw.offset length)) (refusal.BadValue (codes "offset")))
+    (stop_at look.End
+    (refused (not (ends_within raw.offset raw.size length)) (refusal.BadValue (codes "size")))
     (stop_at look.File
-    (too_long filename (nat_lt most_length length || not (part_fits raw.offset raw.size length))) None))
+    (too_long filename (nat_lt most_length length || not (part_fits raw.offset raw.size length)))
+    None))
 
 -- the image is refused, names a backing file and no member says what to do with that, or has another size than its
 -- backing node
 abbrev pub image_stop : Table → List ℕ → AddQcow2 (List ℕ) → ImageSight → Option Stopped
 image_stop t name c image =
     stop_at look.Image (option_map refusal.Image image.stop)
-    (stop_at look.Backing (refused (image.names_backing && is_none c.backing) (refusal.BackingNeeded name))
+    (stop_at look.Backing
+    (refused (image.names_backing && is_none c.backing) (refusal.BackingNeeded name))
     (stop_at look.Size
     (if_there (λ row. refused (not (row.size == image.size)) (refusal.SizeDiffers name row.name))
     (option_and_then (node_named t) (backing_name c.backing)))
@@ -106,7 +117,8 @@ raw_told filename raw length image = told_as (Some length) None (raw_stop filena
 
 abbrev pub qcow2_told : Table → List ℕ → List ℕ → AddQcow2 (List ℕ) → ℕ → ImageSight → Told
 qcow2_told t name filename c length image =
-    told_as (Some length) (Some image.size) (first_stop (file_stop filename length) (image_stop t name c image))
+    told_as (Some length) (Some image.size)
+    (first_stop (file_stop filename length) (image_stop t name c image))
 
 -- where the file node has a parent, its image is not opened
 abbrev pub is_free_file : Table → List ℕ → Bool
@@ -118,15 +130,18 @@ is_free_file t file = elim (file_node t file) as (λ _. Bool) [
 abbrev pub image_told : Table → List ℕ → List ℕ → AddQcow2 (List ℕ) → Option FileSight → Told
 image_told t name file c None = told_as None None None
 image_told t name file c (Some sight) =
-    if is_free_file t file then told_as None (Some sight.image.size) (image_stop t name c sight.image)
+    if is_free_file t file
+    then told_as None (Some sight.image.size) (image_stop t name c sight.image)
     else told_as None None None
 
 -- of the file that a `blockdev-add` opens, or under the file node that it names
 abbrev pub raw_told_of : Table → AddRaw (List ℕ) → FileRef (List ℕ) → Option FileSight → Told
 raw_told_of t raw (file_ref.Name file) sight = told_as None None None
-raw_told_of t raw (file_ref.Inline file) sight = told_of_file t file.filename (raw_told file.filename raw) sight
+raw_told_of t raw (file_ref.Inline file) sight =
+    told_of_file t file.filename (raw_told file.filename raw) sight
 
-abbrev pub qcow2_told_of : Table → List ℕ → AddQcow2 (List ℕ) → FileRef (List ℕ) → Option FileSight → Told
+abbrev pub qcow2_told_of : Table → List ℕ → AddQcow2 (List ℕ) → FileRef (List ℕ) → Option FileSight
+    → Told
 qcow2_told_of t name c (file_ref.Name file) sight = image_told t name file c sight
 qcow2_told_of t name c (file_ref.Inline file) sight =
     told_of_file t file.filename (qcow2_told t name file.filename c) sight
@@ -143,5 +158,6 @@ add_told t c sight = elim c.driver as (λ _. Told) [
 
 unfoldable pub create_told : Created (List ℕ) → ℕ → Told
 create_told (created.File c) room =
-    told_as None None (stop_at look.File (too_long c.filename (nat_lt room (amount_or 0 (Some c.size)))) None)
+    told_as None None
+    (stop_at look.File (too_long c.filename (nat_lt room (amount_or 0 (Some c.size)))) None)
 create_told _ room = told_as None None None

@@ -17,7 +17,8 @@ is_name text = begins_with_letter text && (nat_le (length text) 31 && list_all i
 
 -- a name of a file: 1 to 1,023 bytes and no zero byte; every text is UTF-8
 abbrev pub is_file_name : List ℕ → Bool
-is_file_name text = not (length text == 0) && (nat_le (length text) 1023 && not (list_any (λ c. c == 0) text))
+is_file_name text =
+    not (length text == 0) && (nat_le (length text) 1023 && not (list_any (λ c. c == 0) text))
 
 -- the name of a file node that is made with the node over it
 abbrev pub inline_name : List ℕ → Option (List ℕ) → List ℕ

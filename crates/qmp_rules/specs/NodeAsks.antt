@@ -86,12 +86,14 @@ option_values options = Good (codes "discard") (absent_or is_discard options.dis
 
 abbrev pub file_values : FileRef (List ℕ) → List Asking
 file_values (file_ref.Name name) = []
-file_values (file_ref.Inline file) = Good (codes "driver") (is_file_driver file.driver) ∷ option_values file.options
+file_values (file_ref.Inline file) =
+    Good (codes "driver") (is_file_driver file.driver) ∷ option_values file.options
 
 abbrev pub file_names : FileRef (List ℕ) → List Asking
 file_names (file_ref.Name name) = Named (codes "file") (Some name) ∷ []
 file_names (file_ref.Inline file) =
-    FileNamed (codes "filename") (Some file.filename) ∷ Named (codes "node-name") file.node_name ∷ []
+    FileNamed (codes "filename") (Some file.filename) ∷ Named (codes "node-name") file.node_name
+    ∷ []
 
 -- what is asked of a part, of a file node that is there or of the file that is opened
 abbrev pub begins_in : FileRef (List ℕ) → Option Amount → Asking
@@ -129,7 +131,8 @@ backing_name _ = None
 abbrev pub added_names : Added (List ℕ) → List Asking
 added_names (added.File name) = FileNamed (codes "filename") (Some name) ∷ []
 added_names (added.Raw raw) = file_names raw.file
-added_names (added.Qcow2 image) = file_names image.file ++ Named (codes "backing") (backing_name image.backing) ∷ []
+added_names (added.Qcow2 image) =
+    file_names image.file ++ Named (codes "backing") (backing_name image.backing) ∷ []
 added_names (added.CopyOnRead file) = Named (codes "file") (Some file) ∷ []
 added_names added.Unknown = []
 
@@ -139,7 +142,8 @@ openable filename is_raw = Closed filename ∷ Files look.File ∷ Known filenam
 
 -- a file node that is made with the node over it is read-only only where that node is
 abbrev pub writable_with : List ℕ → Bool → InlineFile (List ℕ) → Asking
-writable_with name read_only file = WritableWith name file.node_name (not (is_read_only file.options) || read_only)
+writable_with name read_only file =
+    WritableWith name file.node_name (not (is_read_only file.options) || read_only)
 
 abbrev pub file_rest : List ℕ → List Asking
 file_rest filename = openable filename false
@@ -210,14 +214,17 @@ copy_on_read_rest name file =
     ∷ []
 
 abbrev pub added_rest : List ℕ → Bool → Added (List ℕ) → List Asking
-added_rest name read_only (added.File filename) = FreshNode (Some name) ∷ RoomForNodes 1 ∷ file_rest filename
+added_rest name read_only (added.File filename) =
+    FreshNode (Some name) ∷ RoomForNodes 1 ∷ file_rest filename
 added_rest name read_only (added.Raw raw) = raw_rest name read_only raw raw.file
-added_rest name read_only (added.Qcow2 image) = qcow2_rest name read_only (backing_name image.backing) image.file
+added_rest name read_only (added.Qcow2 image) =
+    qcow2_rest name read_only (backing_name image.backing) image.file
 added_rest name read_only (added.CopyOnRead file) = copy_on_read_rest name file
 added_rest name read_only added.Unknown = []
 
 abbrev pub add_values : BlockdevAdd (List ℕ) → List Asking
-add_values c = Good (codes "driver") (is_added c.driver) ∷ option_values c.options ++ added_values c.driver
+add_values c =
+    Good (codes "driver") (is_added c.driver) ∷ option_values c.options ++ added_values c.driver
 
 abbrev pub add_names : BlockdevAdd (List ℕ) → List Asking
 add_names c = Named (codes "node-name") (Some c.node_name) ∷ added_names c.driver
@@ -228,7 +235,8 @@ add_asks c = add_values c ++ add_names c ++ added_rest c.node_name (is_read_only
 -- ---- blockdev-del
 
 abbrev pub del_asks : List ℕ → List Asking
-del_asks name = Named (codes "node-name") (Some name) ∷ Found (Some name) ∷ Unheld name ∷ Lone name ∷ []
+del_asks name =
+    Named (codes "node-name") (Some name) ∷ Found (Some name) ∷ Unheld name ∷ Lone name ∷ []
 
 -- ---- devices
 
@@ -253,7 +261,8 @@ abbrev pub snapshot_values : Snapshot (List ℕ) → List Asking
 snapshot_values c = Good (codes "overlay") (not (bytes_eq c.overlay c.node)) ∷ []
 
 abbrev pub snapshot_names : Snapshot (List ℕ) → List Asking
-snapshot_names c = Named (codes "node") (Some c.node) ∷ Named (codes "overlay") (Some c.overlay) ∷ []
+snapshot_names c =
+    Named (codes "node") (Some c.node) ∷ Named (codes "overlay") (Some c.overlay) ∷ []
 
 abbrev pub snapshot_rest : Snapshot (List ℕ) → List Asking
 snapshot_rest c =

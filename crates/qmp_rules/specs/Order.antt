@@ -28,4 +28,5 @@ IsOfTable asking = Unit {0}
 
 abbrev pub HasPlace : Table → Told → Asking → Type 0
 HasPlace t told asking =
-    IsOfTable asking → (cause : Refusal) → holds t told asking ≡ Some cause → place_of cause ≡ Some (place asking)
+    IsOfTable asking → (cause : Refusal) → holds t told asking ≡ Some cause
+    → place_of cause ≡ Some (place asking)

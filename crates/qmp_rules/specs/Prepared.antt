@@ -5,6 +5,6 @@ use Rattle.qmp_rules.specs.declared.judge.PrepareStop.TheVariants.{Refused, NoMe
 use Rattle.qmp_rules.specs.declared.refusal.Refusal.{Refusal}
 
 -- for this first refusal of the command, or for want of memory
-abbrev pub IsRefusedFor : Option Refusal → PrepareStop → Type 0
-IsRefusedFor first (Refused cause) = first ≡ Some cause
-IsRefusedFor first NoMemory = Unit {0}
+abbrev pub IsStoppedFor : Option Refusal → PrepareStop → Type 0
+IsStoppedFor first (Refused cause) = first ≡ Some cause
+IsStoppedFor first NoMemory = Unit {0}

@@ -69,7 +69,8 @@ bitmap_data row dirty =
 -- the bitmaps of a node, each with the bytes of its dirty granules
 abbrev pub bitmap_items : ℕ → List BitmapRow → List ℕ → Items
 bitmap_items node (row ∷ rows) (dirty ∷ counts) =
-    if row.node == node then item (bitmap_data row dirty) (bitmap_items node rows counts) else bitmap_items node rows counts
+    if row.node == node then item (bitmap_data row dirty) (bitmap_items node rows counts)
+    else bitmap_items node rows counts
 bitmap_items node _ _ = no_items
 
 -- a job's filter is as its child
@@ -82,7 +83,8 @@ is_job_filter _ = false
 abbrev pub shown_read_only : Table → NodeRecord → Bool
 shown_read_only t row =
     if is_job_filter row.kind
-    then unwrap_or (option_map (λ below. below.read_only) (node_at t (disk_node t row.id))) row.read_only
+    then unwrap_or (option_map (λ below. below.read_only) (node_at t (disk_node t row.id)))
+    row.read_only
     else row.read_only
 
 abbrev pub node_data : Table → List ℕ → NodeRecord → Data

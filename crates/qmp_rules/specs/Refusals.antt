@@ -89,7 +89,8 @@ io_text from.Sink count = codes "io sink " ++ decimal count
 -- one parent of a node asks what another doesn't share
 abbrev pub conflict_text : List ℕ → List ℕ → List ℕ → Perm → List ℕ
 conflict_text node asks denies perm =
-    codes "permission conflict on node " ++ node ++ codes ": " ++ asks ++ codes " asks " ++ perm_text perm
+    codes "permission conflict on node " ++ node ++ codes ": " ++ asks ++ codes " asks "
+    ++ perm_text perm
     ++ codes ", " ++ denies ++ codes " does not share it"
 
 -- the words of the answer
@@ -100,7 +101,8 @@ refusal_text (refusal.Negotiation again) = negotiation_text again
 refusal_text (refusal.Missing member) = codes "member " ++ member ++ codes " is missing"
 refusal_text (refusal.Unexpected member) = codes "member " ++ member ++ codes " is not accepted"
 refusal_text (refusal.BadType member) = codes "member " ++ member ++ codes " has the wrong type"
-refusal_text (refusal.BadValue member) = codes "member " ++ member ++ codes " has a value that is not accepted"
+refusal_text (refusal.BadValue member) =
+    codes "member " ++ member ++ codes " has a value that is not accepted"
 refusal_text (refusal.BadName member) = codes "member " ++ member ++ codes " is not a name"
 refusal_text (refusal.NotFound name is_device) = name ++ codes " is not found"
 refusal_text (refusal.NotActive job) = codes "no job " ++ job
@@ -113,7 +115,8 @@ refusal_text (refusal.Image stop) = codes "image refused: " ++ stop_text stop
 refusal_text (refusal.BackingNeeded node) = codes "node " ++ node ++ codes " needs a backing member"
 refusal_text (refusal.Unsettled node) = codes "node " ++ node ++ codes " is not settled"
 refusal_text (refusal.JobHolds node job) = codes "node " ++ node ++ codes " is held by job " ++ job
-refusal_text (refusal.BitmapBusy bitmap job) = codes "bitmap " ++ bitmap ++ codes " is in use by job " ++ job
+refusal_text (refusal.BitmapBusy bitmap job) =
+    codes "bitmap " ++ bitmap ++ codes " is in use by job " ++ job
 refusal_text (refusal.ReadOnly node) = codes "node " ++ node ++ codes " is read-only"
 refusal_text (refusal.NotInChain node) = codes "node " ++ node ++ codes " is not in the chain"
 refusal_text (refusal.SizeDiffers first second) =

@@ -66,7 +66,8 @@ is_just n amount = absent_or (passes (λ m. m == n)) amount
 
 -- a power of two from 512 bytes to 2 MiB
 abbrev pub is_granularity : Option Amount → Bool
-is_granularity amount = absent_or (passes (λ n. nat_le 512 n && (nat_le n 2097152 && is_power_of_two n))) amount
+is_granularity amount =
+    absent_or (passes (λ n. nat_le 512 n && (nat_le n 2097152 && is_power_of_two n))) amount
 
 -- ---- a part of a file of so many bytes
 
@@ -82,7 +83,8 @@ begins_within offset length = nat_le (part_offset offset) length
 
 -- where its size is said
 abbrev pub ends_within : Option Amount → Option Amount → ℕ → Bool
-ends_within offset size length = is_none size || nat_le (part_offset offset + part_size offset size length) length
+ends_within offset size length =
+    is_none size || nat_le (part_offset offset + part_size offset size length) length
 
 abbrev pub part_fits : Option Amount → Option Amount → ℕ → Bool
 part_fits offset size length = nat_le (part_size offset size length) most_size

@@ -3,7 +3,7 @@ ghost use Rattle.std.specs.Prelude.{◌≡◌, ◌<◌, ℕ, List, Option, lengt
 ghost use Rattle.qmp_codec.specs.declared.words.ImageFormat.{ImageFormat};
 ghost use Rattle.qmp_rules.specs.Changes.{all_changed, backed, changed};
 ghost use Rattle.blk_graph.specs.Edits.{IsLone};
-ghost use Rattle.qmp_rules.specs.Fitting.{AllFit, Fits};
+ghost use Rattle.qmp_rules.specs.Fitting.{AllFit, ChangeFits};
 ghost use Rattle.qmp_rules.specs.Room.{HasRoom, TakesLittle};
 
 use crate::change::{Change, Edits};
@@ -26,7 +26,8 @@ impl Names {
 
     /// Puts the edge to a backing node, where there is one.
     fn put_backing(&mut self, id: NodeId, backing: Option<NodeId>)
-        ensures table { self.new.table ≡ record self.old.table { edges = backed id backing self.old.table.edges } }
+        ensures table { self.new.table
+            ≡ record self.old.table { edges = backed id backing self.old.table.edges } }
         ensures spare { self.new.spare ≡ self.old.spare }
     {
         prove!(id.index() < MOST_NODES);
@@ -39,7 +40,8 @@ impl Names {
     #[tactic(auto, unfolding(crate::specs::Changes::changed))]
     fn add_format(&mut self, row: NodeRecord, file: NodeId, backing: Option<NodeId>)
         requires { HasRoom 1 self.old }
-        ensures table { self.new.table ≡ changed self.old.table (Change.AddFormat row file backing) }
+        ensures table { self.new.table
+            ≡ changed self.old.table (Change.AddFormat row file backing) }
         ensures little { TakesLittle self.old self.new }
     {
         let id = row.id;
@@ -162,8 +164,10 @@ impl Names {
     #[tactic(auto, unfolding(crate::specs::Changes::changed))]
     fn format_file(&mut self, node: NodeId, name: Name)
         requires { HasRoom 1 self.old }
-        ensures table { (size : ℕ) (backing_file : Option (List ℕ)) (backing_fmt : Option ImageFormat)
-            → self.new.table ≡ changed self.old.table (Change.FormatFile node name size backing_file backing_fmt) }
+        ensures table { (size : ℕ) (backing_file : Option (List ℕ))
+            (backing_fmt : Option ImageFormat)
+            → self.new.table
+            ≡ changed self.old.table (Change.FormatFile node name size backing_file backing_fmt) }
         ensures little { TakesLittle self.old self.new }
     {
         self.unsettle(node);
@@ -184,7 +188,7 @@ impl Names {
     #[tactic(auto, unfolding(crate::specs::Changes::changed))]
     fn change(&mut self, change: Change)
         requires room { HasRoom 1 self.old }
-        requires fits { Fits self.old.table change }
+        requires fits { ChangeFits self.old.table change }
         ensures table { self.new.table ≡ changed self.old.table change }
         ensures little { TakesLittle self.old self.new }
     {

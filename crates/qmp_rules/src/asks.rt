@@ -10,7 +10,8 @@ pub(crate) type Asks<'x> = Vec<Ask<&'x str>>;
 
 /// Puts asks behind those that are there.
 pub(crate) fn put<'x>(asks: &mut Asks<'x>, more: &[Ask<&'x str>]) -> Result<(), NoMemory>
-    ensures { OnOk result (seen_asks asks.new.items ≡ seen_asks asks.old.items ++ seen_asks more.now) }
+    ensures { OnOk result
+        (seen_asks asks.new.items ≡ seen_asks asks.old.items ++ seen_asks more.now) }
 {
     asks.extend_from_slice(more)?;
     Ok(())

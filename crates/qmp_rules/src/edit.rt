@@ -134,7 +134,8 @@ pub(crate) fn turn_bitmap(rows: &mut Vec<BitmapRow>, node: NodeId, name: &str, o
 }
 
 fn take_one(row: &mut BitmapRow, node: NodeId, name: &str, job: u32)
-    ensures { row.new ≡ bitmap_changed node name.now (λ row. record row { busy = Some job }) row.old }
+    ensures { row.new
+        ≡ bitmap_changed node name.now (λ row. record row { busy = Some job }) row.old }
 {
     if find::is_bitmap(row, node, name) {
         row.busy = Some(job);
@@ -144,7 +145,8 @@ fn take_one(row: &mut BitmapRow, node: NodeId, name: &str, job: u32)
 /// The bitmap is used by the job from now on.
 pub(crate) fn take_bitmap(rows: &mut Vec<BitmapRow>, node: NodeId, name: &str, job: u32)
     ensures items { rows.new.items
-        ≡ map (bitmap_changed node name.now (λ row. record row { busy = Some job })) rows.old.items }
+        ≡ map (bitmap_changed node name.now (λ row. record row { busy = Some job }))
+        rows.old.items }
     ensures count { vec_len rows.new ≡ vec_len rows.old }
     ensures capacity { vec_capacity rows.new ≡ vec_capacity rows.old }
 {

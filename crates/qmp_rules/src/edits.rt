@@ -1,44 +1,29 @@
 //! The changes that an accepted command makes.
-ghost use Rattle.std.specs.Prelude.{◌≡◌, ◌==◌, ◌++◌, ◌∷◌, [], IfOk, OnOk, find, option_and_then, option_map, string_bytes, unwrap_or, true};
+ghost use Rattle.std.specs.Prelude.{◌≡◌, ◌==◌, ◌++◌, ◌∷◌, [], IfOk, OnOk, find, option_map, string_bytes, true};
 ghost use Rattle.std.specs.List.{list_any};
 ghost use Rattle.blk_graph.specs.Ids.{lowest_free};
-ghost use Rattle.qmp_rules.specs.Table.{id_named};
 ghost use Rattle.std.specs.Option.{option_copied};
 ghost use Rattle.qmp_codec.specs.Commands.{seen_command};
-ghost use Rattle.qmp_codec.specs.Nodes.{seen_add_qcow2, seen_add_raw, seen_blockdev_add, seen_blockdev_create, seen_created, seen_device_add, seen_inline_file, seen_snapshot};
+ghost use Rattle.qmp_codec.specs.Nodes.{seen_blockdev_create, seen_created, seen_device_add, seen_snapshot};
 ghost use Rattle.qmp_rules.specs.CommandAsks.{is_built};
-ghost use Rattle.qmp_rules.specs.Edits.{add_edits, create_edits, created_change, del_edits, device_add_edits, device_del_edits, device_number, device_uses, edits_of, file_of_node, file_row, file_under, format_row, free_id, goes_with, goes_with_node, ids, image_row, inline_row, length_told, name_of_file_at, new_device, next_free_id, place_from, qcow2_edits, raw_edits, raw_row, row_gone, size_of, snapshot_edits, spoiled, unused_from, uses, with_inline};
-ghost use Rattle.qmp_rules.specs.NodeAsks.{backing_name};
+ghost use Rattle.qmp_rules.specs.Edits.{create_edits, created_change, del_edits, device_add_edits, device_del_edits, device_number, device_uses, edits_of, file_of_node, file_row, file_under, format_row, free_id, goes_with_node, ids, length_told, name_of_file_at, new_device, place_from, row_gone, size_of, snapshot_edits, spoiled, unused_from, uses, with_inline};
 ghost use Rattle.qmp_rules.specs.Seen.{seen_text};
 
 use crate::ask::Drivers;
-use crate::asks::maybe;
 use crate::change::Change;
 use crate::name::Name;
-use crate::naming::inline_name;
-use crate::node_asks::{backing_name, is_read_only};
 use crate::rows::{Device, NodeRecord};
 use crate::table::Names;
 use crate::told::Told;
 use crate::unmet::{name_of_file, takes};
-use crate::values::{amount_or, part_offset, part_size, shares};
+use crate::values::{amount_or, shares};
 use blk_base::NoMemory;
 use blk_graph::{Kind, MOST_NODES, NodeId, Role};
-use qmp_codec::{
-    AddQcow2, AddRaw, Added, BlockdevAdd, BlockdevCreate, Command, Created, DeviceAdd, FileRef,
-    InlineFile, Snapshot,
-};
+use qmp_codec::{BlockdevCreate, Command, Created, DeviceAdd, Snapshot};
 use std::alloc::Global;
 
-/// Two ids that no node has: the lowest, and the lowest but that one.
-#[derive(Clone, Copy)]
-struct FreeIds {
-    first: NodeId,
-    next: NodeId,
-}
-
 #[tactic(auto, using(crate::proofs::EditLemmas::lowest_free_is))]
-fn lowest(taken: &[NodeId]) -> Result<NodeId, NoMemory>
+pub(crate) fn lowest(taken: &[NodeId]) -> Result<NodeId, NoMemory>
     ensures { IfOk result (λ id. id ≡ lowest_free taken.now) }
 {
     match blk_graph::free_id(taken) {
@@ -59,7 +44,7 @@ fn maybe_name(alloc: Global, text: &Option<String>) -> Result<Option<Name>, NoMe
     }
 }
 
-fn file_row(
+pub(crate) fn file_row(
     alloc: Global,
     id: NodeId,
     name: Name,
@@ -83,7 +68,7 @@ fn file_row(
     })
 }
 
-fn format_row(
+pub(crate) fn format_row(
     kind: Kind,
     id: NodeId,
     name: Name,
@@ -106,29 +91,11 @@ fn format_row(
     }
 }
 
-fn length_told(told: &Told) -> u64
+pub(crate) fn length_told(told: &Told) -> u64
     ensures { result ≡ length_told told.now }
 {
     match told.length {
         Some(length) => length,
-        None => 0,
-    }
-}
-
-fn goes_with(id: NodeId, own: &Option<String>) -> Option<NodeId>
-    ensures { result ≡ goes_with id (option_map string_bytes own.now) }
-{
-    match own {
-        Some(_) => None,
-        None => Some(id),
-    }
-}
-
-fn image_size(told: &Told) -> u64
-    ensures { result ≡ unwrap_or told.now.size 0 }
-{
-    match told.size {
-        Some(size) => size,
         None => 0,
     }
 }
@@ -210,41 +177,6 @@ fn seen_name(name: &Option<Name>) -> Option<&str>
     }
 }
 
-fn raw_row(
-    alloc: Global,
-    id: NodeId,
-    name: &str,
-    length: u64,
-    read_only: bool,
-    raw: &AddRaw,
-) -> Result<NodeRecord, NoMemory>
-    ensures { IfOk result (λ row. row ≡ raw_row id name.now length read_only (seen_add_raw raw.now)) }
-{
-    let size = part_size(raw.offset, raw.size, length);
-    let name = Name::copied(alloc, name)?;
-    Ok(format_row(
-        Kind::Raw,
-        id,
-        name,
-        size,
-        part_offset(raw.offset),
-        read_only,
-    ))
-}
-
-fn image_row(
-    alloc: Global,
-    id: NodeId,
-    told: &Told,
-    name: &str,
-    read_only: bool,
-) -> Result<NodeRecord, NoMemory>
-    ensures { IfOk result (λ row. row ≡ image_row id told.now name.now read_only) }
-{
-    let name = Name::copied(alloc, name)?;
-    Ok(format_row(Kind::Qcow2, id, name, image_size(told), 0, read_only))
-}
-
 /// That a guest on a file node uses its file.
 fn put_device_uses(alloc: Global, edits: &mut Vec<Change>, row: &NodeRecord) -> Result<(), NoMemory>
     ensures { OnOk result (edits.new.items ≡ edits.old.items ++ device_uses row.now) }
@@ -268,18 +200,7 @@ impl Names {
         Ok(v)
     }
 
-    /// Ids for two nodes that are added together. Where no id is free, no memory is to be had.
-    fn free_ids(&self, alloc: Global) -> Result<FreeIds, NoMemory>
-        ensures { IfOk result (λ free. free ≡ record { first = free_id self.now.table; next = next_free_id self.now.table }) }
-    {
-        let mut taken = self.ids(alloc)?;
-        let first = lowest(taken.as_slice())?;
-        taken.push(first)?;
-        let next = lowest(taken.as_slice())?;
-        Ok(FreeIds { first, next })
-    }
-
-    fn free_id(&self, alloc: Global) -> Result<NodeId, NoMemory>
+    pub(crate) fn free_id(&self, alloc: Global) -> Result<NodeId, NoMemory>
         ensures { IfOk result (λ id. id ≡ free_id self.now.table) }
     {
         let taken = self.ids(alloc)?;
@@ -305,7 +226,7 @@ impl Names {
         }
     }
 
-    fn size_of(&self, name: &str) -> u64
+    pub(crate) fn size_of(&self, name: &str) -> u64
         ensures { result ≡ size_of self.now.table name.now }
     {
         match self.node_named(name) {
@@ -368,7 +289,9 @@ impl Names {
         edits: &mut Vec<Change>,
         options: &Created,
     ) -> Result<(), NoMemory>
-        ensures { OnOk result (edits.new.items ≡ edits.old.items ++ spoiled self.now.table (seen_created options.now)) }
+        ensures { OnOk result
+            (edits.new.items ≡ edits.old.items
+            ++ spoiled self.now.table (seen_created options.now)) }
     {
         match options {
             Created::File(c) => put(
@@ -385,172 +308,12 @@ impl Names {
 
     /// The same, alone.
     pub(crate) fn spoiled(&self, alloc: Global, options: &Created) -> Result<Vec<Change>, NoMemory>
-        ensures { IfOk result (λ edits. edits.items ≡ spoiled self.now.table (seen_created options.now)) }
+        ensures { IfOk result
+            (λ edits. edits.items ≡ spoiled self.now.table (seen_created options.now)) }
     {
         let mut edits = Vec::new(alloc);
         self.plan_spoiled(alloc, &mut edits, options)?;
         Ok(edits)
-    }
-
-    /// The file node that is made with the node over it, which comes next.
-    fn inline_row(
-        &self,
-        alloc: Global,
-        free: &FreeIds,
-        told: &Told,
-        name: &str,
-        file: &InlineFile,
-    ) -> Result<NodeRecord, NoMemory>
-        requires { free.now ≡ record { first = free_id self.now.table; next = next_free_id self.now.table } }
-        ensures { IfOk result (λ row. row ≡ inline_row self.now.table told.now name.now (seen_inline_file file.now)) }
-    {
-        file_row(
-            alloc,
-            free.first,
-            inline_name(alloc, name, maybe(&file.node_name))?,
-            length_told(told),
-            is_read_only(&file.options),
-            file.filename.as_str(),
-            goes_with(free.next, &file.node_name),
-        )
-    }
-
-    fn plan_raw(
-        &self,
-        alloc: Global,
-        edits: &mut Vec<Change>,
-        told: &Told,
-        name: &str,
-        read_only: bool,
-        raw: &AddRaw,
-    ) -> Result<(), NoMemory>
-        ensures { OnOk result (edits.new.items ≡ edits.old.items
-            ++ raw_edits self.now.table told.now name.now read_only (seen_add_raw raw.now) (seen_add_raw raw.now).file) }
-    {
-        let free = self.free_ids(alloc)?;
-        match &raw.file {
-            FileRef::Name(file) => {
-                let row = raw_row(
-                    alloc,
-                    free.first,
-                    name,
-                    self.size_of(file.as_str()),
-                    read_only,
-                    raw,
-                )?;
-                put(
-                    edits,
-                    Change::AddFormat {
-                        row,
-                        file: self.id_of(file.as_str()),
-                        backing: None,
-                    },
-                )
-            }
-            FileRef::Inline(file) => {
-                let under = self.inline_row(alloc, &free, told, name, file)?;
-                let row = raw_row(alloc, free.next, name, length_told(told), read_only, raw)?;
-                put(edits, Change::AddFile(under))?;
-                put(
-                    edits,
-                    Change::AddFormat {
-                        row,
-                        file: free.first,
-                        backing: None,
-                    },
-                )
-            }
-        }
-    }
-
-    fn plan_qcow2(
-        &self,
-        alloc: Global,
-        edits: &mut Vec<Change>,
-        told: &Told,
-        name: &str,
-        read_only: bool,
-        image: &AddQcow2,
-    ) -> Result<(), NoMemory>
-        ensures { OnOk result (edits.new.items ≡ edits.old.items
-            ++ qcow2_edits self.now.table told.now name.now read_only
-            (backing_name (seen_add_qcow2 image.now).backing) (seen_add_qcow2 image.now).file) }
-    {
-        let free = self.free_ids(alloc)?;
-        let backing = self.maybe_id(backing_name(&image.backing));
-        match &image.file {
-            FileRef::Name(file) => {
-                let row = image_row(alloc, free.first, told, name, read_only)?;
-                put(
-                    edits,
-                    Change::AddFormat {
-                        row,
-                        file: self.id_of(file.as_str()),
-                        backing,
-                    },
-                )
-            }
-            FileRef::Inline(file) => {
-                let under = self.inline_row(alloc, &free, told, name, file)?;
-                let row = image_row(alloc, free.next, told, name, read_only)?;
-                put(edits, Change::AddFile(under))?;
-                put(
-                    edits,
-                    Change::AddFormat {
-                        row,
-                        file: free.first,
-                        backing,
-                    },
-                )
-            }
-        }
-    }
-
-    /// The node of a name that may be absent.
-    fn maybe_id(&self, name: Option<&str>) -> Option<NodeId>
-        ensures { result ≡ option_and_then (id_named self.now.table) (seen_text name.entry) }
-    {
-        match name {
-            Some(name) => self.id_named(name),
-            None => None,
-        }
-    }
-
-    fn plan_add(
-        &self,
-        alloc: Global,
-        edits: &mut Vec<Change>,
-        told: &Told,
-        c: &BlockdevAdd,
-    ) -> Result<(), NoMemory>
-        ensures { OnOk result (edits.new.items
-            ≡ edits.old.items ++ add_edits self.now.table told.now (seen_blockdev_add c.now)) }
-    {
-        let name = c.node_name.as_str();
-        let read_only = is_read_only(&c.options);
-        match &c.driver {
-            Added::File(filename) => {
-                let (id, size) = (self.free_id(alloc)?, length_told(told));
-                let name = Name::copied(alloc, name)?;
-                let row = file_row(alloc, id, name, size, read_only, filename.as_str(), None)?;
-                put(edits, Change::AddFile(row))
-            }
-            Added::Raw(raw) => self.plan_raw(alloc, edits, told, name, read_only, raw),
-            Added::Qcow2(image) => self.plan_qcow2(alloc, edits, told, name, read_only, image),
-            Added::CopyOnRead(file) => {
-                let (id, size) = (self.free_id(alloc)?, self.size_of(file.as_str()));
-                let name = Name::copied(alloc, name)?;
-                let row = format_row(Kind::CopyOnRead, id, name, size, 0, read_only);
-                put(
-                    edits,
-                    Change::AddFilter {
-                        row,
-                        child: self.id_of(file.as_str()),
-                    },
-                )
-            }
-            Added::Unknown => Ok(()),
-        }
     }
 
     /// The file over which a node stands: its own, or that of the file node under it.
@@ -599,7 +362,8 @@ impl Names {
         edits: &mut Vec<Change>,
         row: &NodeRecord,
     ) -> Result<(), NoMemory>
-        ensures { OnOk result (edits.new.items ≡ edits.old.items ++ row_gone self.now.table row.now) }
+        ensures { OnOk result
+            (edits.new.items ≡ edits.old.items ++ row_gone self.now.table row.now) }
     {
         put_uses(alloc, edits, self.file_under(row))?;
         put(edits, Change::RemoveNode(row.id))?;
@@ -607,7 +371,8 @@ impl Names {
     }
 
     fn plan_del(&self, alloc: Global, edits: &mut Vec<Change>, name: &str) -> Result<(), NoMemory>
-        ensures { OnOk result (edits.new.items ≡ edits.old.items ++ del_edits self.now.table name.now) }
+        ensures { OnOk result
+            (edits.new.items ≡ edits.old.items ++ del_edits self.now.table name.now) }
     {
         match self.node_named(name) {
             Some(row) => self.plan_row_gone(alloc, edits, row),
@@ -616,7 +381,8 @@ impl Names {
     }
 
     fn new_device(&self, alloc: Global, c: &DeviceAdd, row: &NodeRecord) -> Result<Device, NoMemory>
-        ensures { IfOk result (λ device. device ≡ new_device self.now.table (seen_device_add c.now) row.now) }
+        ensures { IfOk result
+            (λ device. device ≡ new_device self.now.table (seen_device_add c.now) row.now) }
     {
         Ok(Device {
             id: Name::copied(alloc, c.id.as_str())?,
@@ -635,7 +401,8 @@ impl Names {
         row: &NodeRecord,
     ) -> Result<(), NoMemory>
         ensures { OnOk result (edits.new.items ≡ edits.old.items ++ (device_uses row.now
-            ++ Change.AddDevice (new_device self.now.table (seen_device_add c.now) row.now) row.now.id ∷ [])) }
+            ++ Change.AddDevice (new_device self.now.table (seen_device_add c.now) row.now)
+            row.now.id ∷ [])) }
     {
         put_device_uses(alloc, edits, row)?;
         let device = self.new_device(alloc, c, row)?;
@@ -664,7 +431,8 @@ impl Names {
     }
 
     fn plan_device_del(&self, edits: &mut Vec<Change>, id: &str) -> Result<(), NoMemory>
-        ensures { OnOk result (edits.new.items ≡ edits.old.items ++ device_del_edits self.now.table id.now) }
+        ensures { OnOk result
+            (edits.new.items ≡ edits.old.items ++ device_del_edits self.now.table id.now) }
     {
         match self.device_named(id) {
             Some(device) => put(edits, Change::RemoveDevice(device.number)),
@@ -734,7 +502,8 @@ impl Names {
         command: &Command,
     ) -> Result<Vec<Change>, NoMemory>
         requires { is_built (seen_command command.now) ≡ true }
-        ensures { IfOk result (λ edits. edits.items ≡ edits_of self.now.table told.now (seen_command command.now)) }
+        ensures { IfOk result
+            (λ edits. edits.items ≡ edits_of self.now.table told.now (seen_command command.now)) }
     {
         let mut edits = Vec::new(alloc);
         self.plan_edits(alloc, &mut edits, told, command)?;

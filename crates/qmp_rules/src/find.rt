@@ -75,7 +75,8 @@ pub(crate) fn has_name(names: &[Name], name: &str) -> bool
 }
 
 pub(crate) fn file_state(rows: &[FileRow], name: &str) -> Option<FileState>
-    ensures { result ≡ option_map (λ row. row.state) (find (λ row. bytes_eq row.name name.now) rows.now) }
+    ensures { result
+        ≡ option_map (λ row. row.state) (find (λ row. bytes_eq row.name name.now) rows.now) }
 {
     match rows.iter().find(|row| row.name.as_str() == name) {
         Some(row) => Some(row.state),

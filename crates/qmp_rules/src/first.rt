@@ -72,12 +72,13 @@ impl Names {
     /// The refusal of the first ask of a list that is not met.
     #[tactic(auto, using(crate::proofs::FirstLemmas::first_met, crate::proofs::FirstLemmas::first_unmet, crate::proofs::FirstLemmas::first_end))]
     pub(crate) fn first_unmet(&self, alloc: Global, told: &Told, asks: &[Ask<&str>]) -> Found
-        ensures { IfOk result (λ found. found ≡ first self.now.table told.now (seen_asks asks.now)) }
+        ensures { IfOk result
+            (λ found. found ≡ first self.now.table told.now (seen_asks asks.now)) }
     {
         for ask in asks {
-            let found = self.unmet(alloc, told, ask)?;
-            if found.is_some() {
-                return Ok(found);
+            match self.unmet(alloc, told, ask)? {
+                Some(refusal) => return Ok(Some(refusal)),
+                None => {}
             }
         }
         Ok(None)

@@ -23,7 +23,8 @@ fn on_error_value(member: &str, policy: Option<OnError>) -> Ask<&str>
 
 /// What every job takes.
 fn put_job_values<'x>(asks: &mut Asks<'x>, options: &JobOptions) -> Result<(), NoMemory>
-    ensures { OnOk result (seen_asks asks.new.items ≡ seen_asks asks.old.items ++ job_values options.now) }
+    ensures { OnOk result
+        (seen_asks asks.new.items ≡ seen_asks asks.old.items ++ job_values options.now) }
 {
     put(
         asks,
@@ -111,7 +112,8 @@ fn put_stream_rest<'x>(asks: &mut Asks<'x>, c: &'x Stream) -> Result<(), NoMemor
 /// What `block-stream` asks.
 #[tactic(auto, using(std::proofs::lemmas::List::append_assoc))]
 pub(crate) fn put_stream<'x>(asks: &mut Asks<'x>, c: &'x Stream) -> Result<(), NoMemory>
-    ensures { OnOk result (seen_asks asks.new.items ≡ seen_asks asks.old.items ++ stream_asks (seen_stream c.now)) }
+    ensures { OnOk result
+        (seen_asks asks.new.items ≡ seen_asks asks.old.items ++ stream_asks (seen_stream c.now)) }
 {
     put(asks, &[on_error_value("on-error", c.on_error)])?;
     put_job_values(asks, &c.options)?;
@@ -199,7 +201,8 @@ fn put_commit_rest<'x>(asks: &mut Asks<'x>, c: &'x Commit) -> Result<(), NoMemor
 /// What `block-commit` asks.
 #[tactic(auto, using(std::proofs::lemmas::List::append_assoc))]
 pub(crate) fn put_commit<'x>(asks: &mut Asks<'x>, c: &'x Commit) -> Result<(), NoMemory>
-    ensures { OnOk result (seen_asks asks.new.items ≡ seen_asks asks.old.items ++ commit_asks (seen_commit c.now)) }
+    ensures { OnOk result
+        (seen_asks asks.new.items ≡ seen_asks asks.old.items ++ commit_asks (seen_commit c.now)) }
 {
     put(asks, &[on_error_value("on-error", c.on_error)])?;
     put_job_values(asks, &c.options)?;
@@ -305,7 +308,8 @@ fn put_mirror_rest<'x>(asks: &mut Asks<'x>, c: &'x Mirror) -> Result<(), NoMemor
 /// What `blockdev-mirror` asks.
 #[tactic(auto, using(std::proofs::lemmas::List::append_assoc))]
 pub(crate) fn put_mirror<'x>(asks: &mut Asks<'x>, c: &'x Mirror) -> Result<(), NoMemory>
-    ensures { OnOk result (seen_asks asks.new.items ≡ seen_asks asks.old.items ++ mirror_asks (seen_mirror c.now)) }
+    ensures { OnOk result
+        (seen_asks asks.new.items ≡ seen_asks asks.old.items ++ mirror_asks (seen_mirror c.now)) }
 {
     put_mirror_values(asks, c)?;
     put_mirror_names(asks, c)?;
@@ -420,7 +424,8 @@ pub(crate) fn put_backup_rest<'x>(asks: &mut Asks<'x>, c: &'x Backup) -> Result<
 
 /// What `block-job-cancel` asks.
 pub(crate) fn put_cancel<'x>(asks: &mut Asks<'x>, job: &'x str) -> Result<(), NoMemory>
-    ensures { OnOk result (seen_asks asks.new.items ≡ seen_asks asks.old.items ++ cancel_asks job.now) }
+    ensures { OnOk result
+        (seen_asks asks.new.items ≡ seen_asks asks.old.items ++ cancel_asks job.now) }
 {
     put(
         asks,
@@ -436,7 +441,8 @@ pub(crate) fn put_cancel<'x>(asks: &mut Asks<'x>, job: &'x str) -> Result<(), No
 
 /// What `block-job-complete` asks.
 pub(crate) fn put_complete<'x>(asks: &mut Asks<'x>, job: &'x str) -> Result<(), NoMemory>
-    ensures { OnOk result (seen_asks asks.new.items ≡ seen_asks asks.old.items ++ complete_asks job.now) }
+    ensures { OnOk result
+        (seen_asks asks.new.items ≡ seen_asks asks.old.items ++ complete_asks job.now) }
 {
     put(
         asks,

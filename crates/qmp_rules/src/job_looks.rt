@@ -61,7 +61,9 @@ fn put_all(ids: &mut Vec<NodeId>, more: &[NodeId]) -> Result<(), NoMemory>
 
 /// Whether an edge is that of an overlay to this node.
 fn is_overlay_of(edge: &Edge, id: NodeId) -> bool
-    ensures { result ≡ ((edge.now.child == id) && (same_role edge.now.role Role.Backing && is_overlay edge.now.parent)) }
+    ensures { result
+        ≡ ((edge.now.child == id)
+        && (same_role edge.now.role Role.Backing && is_overlay edge.now.parent)) }
 {
     edge.child == id && edge.role == Role::Backing && matches!(edge.parent, Parent::Node(_))
 }
@@ -169,7 +171,8 @@ impl Names {
 
     /// Puts the nodes that a job would hold behind those that are there.
     fn put_held(&self, ids: &mut Vec<NodeId>, nodes: &JobNodes<&str>) -> Result<(), NoMemory>
-        ensures { OnOk result (ids.new.items ≡ ids.old.items ++ held_nodes self.now.table (seen_nodes nodes.now)) }
+        ensures { OnOk result
+            (ids.new.items ≡ ids.old.items ++ held_nodes self.now.table (seen_nodes nodes.now)) }
     {
         match nodes {
             JobNodes::Stream { .. } => put_all(ids, &[self.top_of(nodes)]),
@@ -184,7 +187,8 @@ impl Names {
     /// Puts those of a commit: from the top down to the base.
     fn put_committed(&self, ids: &mut Vec<NodeId>, nodes: &JobNodes<&str>) -> Result<(), NoMemory>
         ensures { OnOk result (ids.new.items ≡ ids.old.items
-            ++ down_to (base_of self.now.table (seen_nodes nodes.now)) (chain self.now.table (top_of self.now.table (seen_nodes nodes.now)))) }
+            ++ down_to (base_of self.now.table (seen_nodes nodes.now))
+            (chain self.now.table (top_of self.now.table (seen_nodes nodes.now)))) }
     {
         let mut chain = self.chain(*ids.allocator(), self.top_of(nodes))?;
         cut_below(self.base_of(nodes), &mut chain);
@@ -194,7 +198,8 @@ impl Names {
     /// Puts those below the top of a stream, down to its base.
     fn put_streamed(&self, ids: &mut Vec<NodeId>, nodes: &JobNodes<&str>) -> Result<(), NoMemory>
         ensures { OnOk result (ids.new.items ≡ ids.old.items
-            ++ down_to (base_of self.now.table (seen_nodes nodes.now)) (below self.now.table (top_of self.now.table (seen_nodes nodes.now)))) }
+            ++ down_to (base_of self.now.table (seen_nodes nodes.now))
+            (below self.now.table (top_of self.now.table (seen_nodes nodes.now)))) }
     {
         let mut below = self.below(*ids.allocator(), self.top_of(nodes))?;
         cut_below(self.base_of(nodes), &mut below);
@@ -203,7 +208,8 @@ impl Names {
 
     /// Puts the nodes that a job would hold for reading.
     fn put_read(&self, ids: &mut Vec<NodeId>, nodes: &JobNodes<&str>) -> Result<(), NoMemory>
-        ensures { OnOk result (ids.new.items ≡ ids.old.items ++ read_nodes self.now.table (seen_nodes nodes.now)) }
+        ensures { OnOk result
+            (ids.new.items ≡ ids.old.items ++ read_nodes self.now.table (seen_nodes nodes.now)) }
     {
         match nodes {
             JobNodes::Stream { .. } => self.put_streamed(ids, nodes),
@@ -213,7 +219,8 @@ impl Names {
     }
 
     fn put_named(&self, ids: &mut Vec<NodeId>, name: Option<&str>) -> Result<(), NoMemory>
-        ensures { OnOk result (ids.new.items ≡ ids.old.items ++ named_ids self.now.table (seen_text name.entry)) }
+        ensures { OnOk result
+            (ids.new.items ≡ ids.old.items ++ named_ids self.now.table (seen_text name.entry)) }
     {
         match name {
             Some(name) => put_all(ids, &[self.id_of(name)]),
@@ -224,7 +231,8 @@ impl Names {
     /// Puts the nodes that are looked at, in order: as the command names them, then from the top down.
     #[tactic(auto, using(std::proofs::lemmas::List::append_assoc))]
     fn put_looked_at(&self, ids: &mut Vec<NodeId>, nodes: &JobNodes<&str>) -> Result<(), NoMemory>
-        ensures { OnOk result (ids.new.items ≡ ids.old.items ++ looked_at self.now.table (seen_nodes nodes.now)) }
+        ensures { OnOk result
+            (ids.new.items ≡ ids.old.items ++ looked_at self.now.table (seen_nodes nodes.now)) }
     {
         match nodes {
             JobNodes::Stream { device, base } => {
@@ -257,12 +265,13 @@ impl Names {
     }
 
     fn first_clash(&self, alloc: Global, held: &[NodeId], read: &[NodeId], ids: &[NodeId]) -> Found
-        ensures { IfOk result (λ found. found ≡ first_clash self.now.table held.now read.now ids.now) }
+        ensures { IfOk result
+            (λ found. found ≡ first_clash self.now.table held.now read.now ids.now) }
     {
         for id in ids {
-            let found = self.clash(alloc, held, read, *id)?;
-            if found.is_some() {
-                return Ok(found);
+            match self.clash(alloc, held, read, *id)? {
+                Some(refusal) => return Ok(Some(refusal)),
+                None => {}
             }
         }
         Ok(None)
@@ -271,7 +280,8 @@ impl Names {
     /// Refuses what another job holds of what a job would hold.
     pub(crate) fn free(&self, alloc: Global, nodes: &JobNodes<&str>) -> Found
         ensures { IfOk result (λ found. found ≡ first_clash self.now.table
-            (held_nodes self.now.table (seen_nodes nodes.now)) (read_nodes self.now.table (seen_nodes nodes.now))
+            (held_nodes self.now.table (seen_nodes nodes.now))
+            (read_nodes self.now.table (seen_nodes nodes.now))
             (looked_at self.now.table (seen_nodes nodes.now))) }
     {
         let mut held = Vec::new(alloc);
@@ -298,7 +308,8 @@ impl Names {
     /// Refuses a top that isn't the device of a commit, and not below it.
     fn not_under(&self, alloc: Global, device: NodeId, top: NodeId) -> Found
         ensures { IfOk result (λ found. found ≡ refused
-            (not (has_id top (chain self.now.table device))) (Refusal.NotInChain (name_at self.now.table top))) }
+            (not (has_id top (chain self.now.table device)))
+            (Refusal.NotInChain (name_at self.now.table top))) }
     {
         let chain = self.chain(alloc, device)?;
         refuse::not_in_chain(alloc, !has_id(chain.as_slice(), top), self.name_at(top))
@@ -306,7 +317,8 @@ impl Names {
 
     /// Refuses a base that isn't below the top, and a top that is neither the device nor below it.
     pub(crate) fn in_chain(&self, alloc: Global, nodes: &JobNodes<&str>) -> Found
-        ensures { IfOk result (λ found. found ≡ not_in_chain self.now.table (seen_nodes nodes.now)) }
+        ensures { IfOk result
+            (λ found. found ≡ not_in_chain self.now.table (seen_nodes nodes.now)) }
     {
         match nodes {
             JobNodes::Stream { .. } => self.not_below(
@@ -316,11 +328,10 @@ impl Names {
             ),
             JobNodes::Commit { device, .. } => {
                 let top = self.top_of(nodes);
-                let found = self.not_below(alloc, top, self.base_of(nodes))?;
-                if found.is_some() {
-                    return Ok(found);
+                match self.not_below(alloc, top, self.base_of(nodes))? {
+                    None => self.not_under(alloc, self.id_of(device), top),
+                    found => Ok(found),
                 }
-                self.not_under(alloc, self.id_of(device), top)
             }
             JobNodes::Copy { .. } => Ok(None),
         }
@@ -386,7 +397,8 @@ impl Names {
     }
 
     fn reached_by(&self, alloc: Global, target: NodeId, job: &JobRecord) -> Found
-        ensures { IfOk result (λ found. found ≡ first_reached self.now.table target (mirrored (job.now ∷ []))) }
+        ensures { IfOk result
+            (λ found. found ≡ first_reached self.now.table target (mirrored (job.now ∷ []))) }
     {
         if is_mirror(job) {
             self.reached(alloc, target, job.source)
@@ -428,11 +440,10 @@ impl Names {
             JobNodes::Commit { device, top, .. } => self.clear_top(alloc, device, *top),
             JobNodes::Copy { device, target } => {
                 let target = self.id_of(target);
-                let found = self.reached(alloc, target, self.id_of(device))?;
-                if found.is_some() {
-                    return Ok(found);
+                match self.reached(alloc, target, self.id_of(device))? {
+                    None => self.reaches_mirrored(alloc, target),
+                    found => Ok(found),
                 }
-                self.reaches_mirrored(alloc, target)
             }
         }
     }

@@ -9,7 +9,7 @@ ghost use Rattle.qmp_rules.specs.Changes.{all_changed};
 ghost use Rattle.qmp_rules.specs.CommandAsks.{asks_of, command_name, is_built, negotiates};
 ghost use Rattle.qmp_rules.specs.Edits.{edits_of, spoiled};
 ghost use Rattle.qmp_rules.specs.Fitting.{AllFit, fits_always};
-ghost use Rattle.qmp_rules.specs.Prepared.{IsRefusedFor};
+ghost use Rattle.qmp_rules.specs.Prepared.{IsStoppedFor};
 ghost use Rattle.qmp_rules.specs.Refusals.{or_else};
 ghost use Rattle.qmp_rules.specs.Room.{HasRoom};
 
@@ -195,7 +195,8 @@ impl Names {
     /// Refuses changes after which the edges break the rule. They are made on a copy.
     #[tactic(auto, using(crate::proofs::FitLemmas::all_fit))]
     fn conflict_by(&self, alloc: Global, edits: Vec<Change>) -> Found
-        ensures { IfOk result (λ found. found ≡ conflict_in (all_changed self.now.table edits.items)) }
+        ensures { IfOk result
+            (λ found. found ≡ conflict_in (all_changed self.now.table edits.items)) }
     {
         if !all_fit(edits.as_slice()) {
             return Err(NoMemory);
@@ -206,36 +207,51 @@ impl Names {
         draft.conflict(alloc)
     }
 
+    /// What a command changes where nothing is told.
+    fn edits_untold(&self, alloc: Global, command: &Command) -> Result<Vec<Change>, NoMemory>
+        requires { is_built (seen_command command.now) ≡ true }
+        ensures { IfOk result
+            (λ edits. edits.items ≡ edits_of self.now.table untold (seen_command command.now)) }
+    {
+        self.edits_of(alloc, &Told::nothing(alloc), command)
+    }
+
     fn conflict_after(&self, alloc: Global, command: &Command) -> Found
         requires { is_built (seen_command command.now) ≡ true }
-        ensures { IfOk result (λ found. found ≡ conflict_after (rewires (seen_command command.now)) self.now.table
+        ensures { IfOk result
+            (λ found. found ≡ conflict_after (rewires (seen_command command.now)) self.now.table
             (edits_of self.now.table untold (seen_command command.now))) }
     {
         if rewires(command) {
-            let edits = self.edits_of(alloc, &Told::nothing(alloc), command)?;
-            self.conflict_by(alloc, edits)
+            self.conflict_by(alloc, self.edits_untold(alloc, command)?)
         } else {
             Ok(None)
         }
     }
 
-    /// The first refusal of what a command asks, or else of what its edges break.
-    #[tactic(auto, using(crate::proofs::JudgeLemmas::behind_built, crate::proofs::JudgeLemmas::else_some, crate::proofs::JudgeLemmas::else_none))]
+    /// The first refusal of what a command asks.
+    fn first_asked(&self, alloc: Global, told: &Told, command: &Command) -> Found
+        ensures { IfOk result (λ found. found
+            ≡ first self.now.table told.now (asks_of (seen_command command.now))) }
+    {
+        let asks = asks_of(alloc, command)?;
+        self.first_unmet(alloc, told, asks.as_slice())
+    }
+
+    /// The same, or else of what its edges break.
+    #[tactic(auto, using(crate::proofs::JudgeLemmas::behind_built))]
     fn unmet_or_broken(&self, alloc: Global, told: &Told, command: &Command) -> Found
         requires { is_built (seen_command command.now) ≡ true }
         ensures { IfOk result (λ found. found ≡ or_else
             (first self.now.table told.now (asks_of (seen_command command.now)))
             (refusal_behind self.now.table told.now (seen_command command.now))) }
     {
-        let asks = asks_of(alloc, command)?;
-        let found = self.first_unmet(alloc, told, asks.as_slice())?;
-        if found.is_some() {
-            return Ok(found);
+        match self.first_asked(alloc, told, command)? {
+            None => self.conflict_after(alloc, command),
+            found => Ok(found),
         }
-        self.conflict_after(alloc, command)
     }
 
-    #[tactic(auto, using(crate::proofs::JudgeLemmas::else_some, crate::proofs::JudgeLemmas::else_none))]
     fn refusal_in_turn(&self, alloc: Global, told: &Told, command: &Command) -> Found
         requires { is_built (seen_command command.now) ≡ true }
         ensures { IfOk result (λ found. found ≡ or_else
@@ -243,28 +259,27 @@ impl Names {
             (or_else (first self.now.table told.now (asks_of (seen_command command.now)))
             (refusal_behind self.now.table told.now (seen_command command.now)))) }
     {
-        let found = out_of_turn(negotiates(command), self.is_negotiated());
-        if found.is_some() {
-            return Ok(found);
+        match out_of_turn(negotiates(command), self.is_negotiated()) {
+            None => self.unmet_or_broken(alloc, told, command),
+            found => Ok(found),
         }
-        self.unmet_or_broken(alloc, told, command)
     }
 
     /// The first refusal of a command that holds, where the files tell this.
-    #[tactic(auto, using(crate::proofs::JudgeLemmas::built_by, crate::proofs::JudgeLemmas::else_some, crate::proofs::JudgeLemmas::else_none), unfolding(crate::specs::Answers::refusal_of))]
+    #[tactic(auto, using(crate::proofs::JudgeLemmas::built_none), unfolding(crate::specs::Answers::refusal_of))]
     pub fn refusal(
         &self,
         alloc: Global,
         told: &Told,
         command: &Command,
     ) -> Result<Option<Refusal>, NoMemory>
-        ensures { IfOk result (λ found. found ≡ refusal_of self.now.table told.now (seen_command command.now)) }
+        ensures { IfOk result
+            (λ found. found ≡ refusal_of self.now.table told.now (seen_command command.now)) }
     {
-        let found = unbuilt(alloc, command)?;
-        if found.is_some() {
-            return Ok(found);
+        match unbuilt(alloc, command)? {
+            None => self.refusal_in_turn(alloc, told, command),
+            found => Ok(found),
         }
-        self.refusal_in_turn(alloc, told, command)
     }
 
     /// The first refusal that the table decides.
@@ -273,51 +288,80 @@ impl Names {
         alloc: Global,
         command: &Command,
     ) -> Result<Option<Refusal>, NoMemory>
-        ensures { IfOk result (λ found. found ≡ refusal_of self.now.table untold (seen_command command.now)) }
+        ensures { IfOk result
+            (λ found. found ≡ refusal_of self.now.table untold (seen_command command.now)) }
     {
         self.refusal(alloc, &Told::nothing(alloc), command)
     }
 
+    /// What a command changes, where nothing refuses it.
+    #[tactic(auto, using(crate::proofs::JudgeLemmas::edits_built, crate::proofs::JudgeLemmas::built_unless))]
+    fn accepted_edits(
+        &self,
+        alloc: Global,
+        told: &Told,
+        command: &Command,
+    ) -> Result<Vec<Change>, PrepareStop>
+        ensures accepted { IfOk result
+            (λ _. refusal_of self.now.table told.now (seen_command command.now) ≡ None) }
+        ensures edits { IfOk result (λ edits. edits.items
+            ≡ command_edits self.now.table told.now (seen_command command.now)) }
+        ensures refused { IfErr result
+            (IsStoppedFor (refusal_of self.now.table told.now (seen_command command.now))) }
+    {
+        match self.refusal(alloc, told, command)? {
+            Some(refusal) => Err(PrepareStop::Refused(refusal)),
+            None => Ok(self.edits_of(alloc, told, command)?),
+        }
+    }
+
+    /// Takes the memory for changes. The table stays.
+    #[tactic(auto, using(crate::proofs::FitLemmas::all_fit))]
+    fn with_room(&mut self, edits: Vec<Change>) -> Result<Edits, NoMemory>
+        ensures edits { IfOk result (λ same. same ≡ edits.items) }
+        ensures room { IfOk result (λ same. HasRoom (length same) self.new) }
+        ensures fit { IfOk result (λ same. AllFit self.new.table same) }
+        ensures table { self.new.table ≡ self.old.table }
+    {
+        if !all_fit(edits.as_slice()) {
+            return Err(NoMemory);
+        }
+        self.reserve(edits.len())?;
+        Ok(Edits::new(edits))
+    }
+
     /// Looks at a command, and takes all the memory that its changes need. The table stays.
-    #[tactic(auto, using(crate::proofs::JudgeLemmas::edits_built, crate::proofs::JudgeLemmas::built_unless, crate::proofs::FitLemmas::all_fit))]
     pub fn prepare(
         &mut self,
         alloc: Global,
         command: &Command,
         told: &Told,
     ) -> Result<Edits, PrepareStop>
-        ensures accepted { IfOk result (λ _. refusal_of self.old.table told.now (seen_command command.now) ≡ None) }
-        ensures edits { IfOk result (λ edits. edits ≡ command_edits self.old.table told.now (seen_command command.now)) }
+        ensures accepted { IfOk result
+            (λ _. refusal_of self.old.table told.now (seen_command command.now) ≡ None) }
+        ensures edits { IfOk result
+            (λ edits. edits ≡ command_edits self.old.table told.now (seen_command command.now)) }
         ensures room { IfOk result (λ edits. HasRoom (length edits) self.new) }
         ensures fit { IfOk result (λ edits. AllFit self.new.table edits) }
         ensures refused { IfErr result
-            (IsRefusedFor (refusal_of self.old.table told.now (seen_command command.now))) }
+            (IsStoppedFor (refusal_of self.old.table told.now (seen_command command.now))) }
         ensures table { self.new.table ≡ self.old.table }
     {
-        if let Some(refusal) = self.refusal(alloc, told, command)? {
-            return Err(PrepareStop::Refused(refusal));
+        match self.accepted_edits(alloc, told, command) {
+            Ok(edits) => Ok(self.with_room(edits)?),
+            Err(stop) => Err(stop),
         }
-        let edits = self.edits_of(alloc, told, command)?;
-        if !all_fit(edits.as_slice()) {
-            return Err(PrepareStop::NoMemory);
-        }
-        self.reserve(edits.len())?;
-        Ok(Edits::new(edits))
     }
 
     /// Takes the memory for what a creation leaves of which a call failed. The table stays.
-    #[tactic(auto, using(crate::proofs::FitLemmas::all_fit))]
     pub fn prepare_spoiled(&mut self, alloc: Global, options: &Created) -> Result<Edits, NoMemory>
-        ensures edits { IfOk result (λ edits. edits ≡ spoiled self.old.table (seen_created options.now)) }
+        ensures edits { IfOk result
+            (λ edits. edits ≡ spoiled self.old.table (seen_created options.now)) }
         ensures room { IfOk result (λ edits. HasRoom (length edits) self.new) }
         ensures fit { IfOk result (λ edits. AllFit self.new.table edits) }
         ensures table { self.new.table ≡ self.old.table }
     {
         let edits = self.spoiled(alloc, options)?;
-        if !all_fit(edits.as_slice()) {
-            return Err(NoMemory);
-        }
-        self.reserve(edits.len())?;
-        Ok(Edits::new(edits))
+        self.with_room(edits)
     }
 }

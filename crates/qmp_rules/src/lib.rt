@@ -1,6 +1,7 @@
 //! The rules of commands: the table that they are judged by and change, the refusals in their order, and the answers.
 #![tactic(auto)]
 
+mod add_edits;
 mod apply;
 mod ask;
 mod asks;

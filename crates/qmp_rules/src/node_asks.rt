@@ -177,7 +177,8 @@ pub(crate) fn put_create<'x>(asks: &mut Asks<'x>, c: &'x BlockdevCreate) -> Resu
 }
 
 fn put_option_values<'x>(asks: &mut Asks<'x>, options: &NodeOptions) -> Result<(), NoMemory>
-    ensures { OnOk result (seen_asks asks.new.items ≡ seen_asks asks.old.items ++ option_values options.now) }
+    ensures { OnOk result
+        (seen_asks asks.new.items ≡ seen_asks asks.old.items ++ option_values options.now) }
 {
     put(
         asks,
@@ -403,7 +404,8 @@ fn put_raw_with<'x>(
     file: &'x InlineFile,
 ) -> Result<(), NoMemory>
     ensures { OnOk result (seen_asks asks.new.items ≡ seen_asks asks.old.items
-        ++ raw_rest name.now read_only (seen_add_raw raw.now) (FileRef.Inline (seen_inline_file file.now))) }
+        ++ raw_rest name.now read_only (seen_add_raw raw.now)
+        (FileRef.Inline (seen_inline_file file.now))) }
 {
     let _ = raw;
     put(
@@ -475,7 +477,8 @@ fn put_qcow2_with<'x>(
     file: &'x InlineFile,
 ) -> Result<(), NoMemory>
     ensures { OnOk result (seen_asks asks.new.items ≡ seen_asks asks.old.items
-        ++ qcow2_rest name.now read_only (seen_text backing.entry) (FileRef.Inline (seen_inline_file file.now))) }
+        ++ qcow2_rest name.now read_only (seen_text backing.entry)
+        (FileRef.Inline (seen_inline_file file.now))) }
 {
     put(
         asks,
@@ -548,7 +551,8 @@ fn put_qcow2<'x>(
     image: &'x AddQcow2,
 ) -> Result<(), NoMemory>
     ensures { OnOk result (seen_asks asks.new.items ≡ seen_asks asks.old.items
-        ++ qcow2_rest name.now read_only (backing_name (seen_add_qcow2 image.now).backing) (seen_add_qcow2 image.now).file) }
+        ++ qcow2_rest name.now read_only (backing_name (seen_add_qcow2 image.now).backing)
+        (seen_add_qcow2 image.now).file) }
 {
     let backing = backing_name(&image.backing);
     match &image.file {
@@ -630,7 +634,8 @@ pub(crate) fn put_add<'x>(asks: &mut Asks<'x>, c: &'x BlockdevAdd) -> Result<(),
 
 /// What `blockdev-del` asks.
 pub(crate) fn put_del<'x>(asks: &mut Asks<'x>, name: &'x str) -> Result<(), NoMemory>
-    ensures { OnOk result (seen_asks asks.new.items ≡ seen_asks asks.old.items ++ del_asks name.now) }
+    ensures { OnOk result
+        (seen_asks asks.new.items ≡ seen_asks asks.old.items ++ del_asks name.now) }
 {
     put(
         asks,
@@ -682,7 +687,8 @@ pub(crate) fn put_device_add<'x>(asks: &mut Asks<'x>, c: &'x DeviceAdd) -> Resul
 
 /// What `device_del` asks.
 pub(crate) fn put_device_del<'x>(asks: &mut Asks<'x>, id: &'x str) -> Result<(), NoMemory>
-    ensures { OnOk result (seen_asks asks.new.items ≡ seen_asks asks.old.items ++ device_del_asks id.now) }
+    ensures { OnOk result
+        (seen_asks asks.new.items ≡ seen_asks asks.old.items ++ device_del_asks id.now) }
 {
     put(
         asks,

@@ -119,7 +119,8 @@ impl Names {
     }
 
     fn job_values(&self, alloc: Global) -> Result<Vec<Value>, AllocError>
-        ensures { IfOk result (λ v. items_view v.items ≡ jobs_items self.now.table self.now.table.jobs) }
+        ensures { IfOk result
+            (λ v. items_view v.items ≡ jobs_items self.now.table self.now.table.jobs) }
     {
         let mut values = Vec::new(alloc);
         for job in self.jobs() {
@@ -158,7 +159,8 @@ impl Names {
     }
 
     fn node_values(&self, alloc: Global, counts: &[u64]) -> Result<Vec<Value>, AllocError>
-        ensures { IfOk result (λ v. items_view v.items ≡ nodes_items self.now.table counts.now self.now.table.nodes) }
+        ensures { IfOk result
+            (λ v. items_view v.items ≡ nodes_items self.now.table counts.now self.now.table.nodes) }
     {
         let mut values = Vec::new(alloc);
         for row in self.nodes() {
@@ -183,7 +185,8 @@ impl Names {
 
     /// What an accepted command gives: the queries their lists, every other one nothing.
     pub fn returned(&self, alloc: Global, told: &Told, command: &Command) -> Result<Value, NoMemory>
-        ensures { IfOk result (λ v. view v ≡ returned self.now.table told.now (seen_command command.now)) }
+        ensures { IfOk result
+            (λ v. view v ≡ returned self.now.table told.now (seen_command command.now)) }
     {
         match command {
             Command::QueryBlockJobs => Ok(self.jobs_value(alloc)?),

@@ -10,8 +10,10 @@ use blk_graph::{Edge, MOST_NODES, NodeId, Parent};
 fn mark_one(edge: &Edge, to: NodeId, before: &[bool], after: &mut [bool])
     requires before { length before.now ≡ 64 }
     requires after { length after.old ≡ 64 }
-    ensures { (steps : ℕ) (edges : List Use) (test : ℕ → Bool) → IsMarked (λ id. leads steps edges id to) before.now
-        → IsMarked test after.old → IsMarked (λ id. leads_by steps edges id to edge.now || test id) after.new }
+    ensures { (steps : ℕ) (edges : List Use) (test : ℕ → Bool)
+        → IsMarked (λ id. leads steps edges id to) before.now
+        → IsMarked test after.old
+        → IsMarked (λ id. leads_by steps edges id to edge.now || test id) after.new }
 {
     if let Parent::Node(from) = edge.parent {
         if edge.child == to || before[edge.child.index()] {

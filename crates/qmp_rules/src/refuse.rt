@@ -31,7 +31,8 @@ pub(crate) fn bad_name(alloc: Global, is_refused: bool, member: &str) -> Found
 }
 
 pub(crate) fn not_found(alloc: Global, is_refused: bool, name: &str, is_device: bool) -> Found
-    ensures { IfOk result (λ found. found ≡ refused is_refused (Refusal.NotFound name.now is_device)) }
+    ensures { IfOk result
+        (λ found. found ≡ refused is_refused (Refusal.NotFound name.now is_device)) }
 {
     if is_refused {
         Ok(Some(Refusal::NotFound {
@@ -155,7 +156,8 @@ pub(crate) fn not_in_chain(alloc: Global, is_refused: bool, node: &str) -> Found
 }
 
 pub(crate) fn size_differs(alloc: Global, is_refused: bool, first: &str, second: &str) -> Found
-    ensures { IfOk result (λ found. found ≡ refused is_refused (Refusal.SizeDiffers first.now second.now)) }
+    ensures { IfOk result
+        (λ found. found ≡ refused is_refused (Refusal.SizeDiffers first.now second.now)) }
 {
     if is_refused {
         Ok(Some(Refusal::SizeDiffers {
@@ -188,7 +190,8 @@ pub(crate) fn not_empty(alloc: Global, is_refused: bool, node: &str) -> Found
 }
 
 pub(crate) fn in_use(alloc: Global, is_refused: bool, node: &str, parent: &str) -> Found
-    ensures { IfOk result (λ found. found ≡ refused is_refused (Refusal.InUse node.now parent.now)) }
+    ensures { IfOk result
+        (λ found. found ≡ refused is_refused (Refusal.InUse node.now parent.now)) }
 {
     if is_refused {
         Ok(Some(Refusal::InUse {

@@ -289,7 +289,8 @@ impl Names {
 
     /// The id of the job in a slot.
     fn id_in(&self, slot: u32) -> &str
-        ensures { result.now ≡ unwrap_or (option_map (λ job. job.id) (job_in self.now.table slot)) [] }
+        ensures { result.now
+            ≡ unwrap_or (option_map (λ job. job.id) (job_in self.now.table slot)) [] }
     {
         match self.job_in(slot) {
             Some(job) => job.id.as_str(),

@@ -111,7 +111,8 @@ fn conflict_text(
     denies: &Name,
     perm: Perm,
 ) -> Result<String, NoMemory>
-    ensures { IfOk result (λ text. string_bytes text ≡ conflict_text node.now asks.now denies.now perm) }
+    ensures { IfOk result
+        (λ text. string_bytes text ≡ conflict_text node.now asks.now denies.now perm) }
 {
     let mut text = five(
         alloc,

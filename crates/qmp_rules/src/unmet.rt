@@ -55,7 +55,8 @@ pub(crate) fn name_of_file(row: &NodeRecord) -> &str
 
 pub(crate) fn named(alloc: Global, member: &str, text: Option<&str>) -> Found
     ensures { IfOk result (λ found. found
-        ≡ if_named (λ name. refused (not (is_name name)) (Refusal.BadName member.now)) (seen_text text.entry)) }
+        ≡ if_named (λ name. refused (not (is_name name)) (Refusal.BadName member.now))
+        (seen_text text.entry)) }
 {
     match text {
         Some(name) => refuse::bad_name(alloc, !is_name(name), member),
@@ -65,7 +66,8 @@ pub(crate) fn named(alloc: Global, member: &str, text: Option<&str>) -> Found
 
 pub(crate) fn file_named(alloc: Global, member: &str, text: Option<&str>) -> Found
     ensures { IfOk result (λ found. found
-        ≡ if_named (λ name. refused (not (is_file_name name)) (Refusal.BadName member.now)) (seen_text text.entry)) }
+        ≡ if_named (λ name. refused (not (is_file_name name)) (Refusal.BadName member.now))
+        (seen_text text.entry)) }
 {
     match text {
         Some(name) => refuse::bad_name(alloc, !is_file_name(name), member),
@@ -76,7 +78,8 @@ pub(crate) fn file_named(alloc: Global, member: &str, text: Option<&str>) -> Fou
 /// Refuses a second name that is the first one.
 pub(crate) fn apart(alloc: Global, first: &str, second: Option<&str>) -> Found
     ensures { IfOk result (λ found. found
-        ≡ if_named (λ other. refused (bytes_eq first.now other) (Refusal.NameTaken first.now)) (seen_text second.entry)) }
+        ≡ if_named (λ other. refused (bytes_eq first.now other) (Refusal.NameTaken first.now))
+        (seen_text second.entry)) }
 {
     match second {
         Some(other) => refuse::name_taken(alloc, first == other, first),
@@ -87,7 +90,8 @@ pub(crate) fn apart(alloc: Global, first: &str, second: Option<&str>) -> Found
 /// Refuses a backing node that is the file node.
 pub(crate) fn beside(alloc: Global, backing: Option<&str>, file: &str) -> Found
     ensures { IfOk result (λ found. found
-        ≡ if_named (λ other. refused (bytes_eq other file.now) (Refusal.Unsettled other)) (seen_text backing.entry)) }
+        ≡ if_named (λ other. refused (bytes_eq other file.now) (Refusal.Unsettled other))
+        (seen_text backing.entry)) }
 {
     match backing {
         Some(other) => refuse::unsettled(alloc, other == file, other),
@@ -111,7 +115,8 @@ pub(crate) fn differ(
     first: Option<&NodeRecord>,
     second: Option<&NodeRecord>,
 ) -> Found
-    ensures { IfOk result (λ found. found ≡ differ (option_copied first.entry) (option_copied second.entry)) }
+    ensures { IfOk result
+        (λ found. found ≡ differ (option_copied first.entry) (option_copied second.entry)) }
 {
     match (first, second) {
         (Some(first), Some(second)) => sizes_differ(alloc, first, second),
@@ -186,7 +191,8 @@ impl Names {
         size: Option<Amount>,
     ) -> Found
         ensures { IfOk result (λ found. found
-            ≡ if_there (part_too_long self.now.table offset size) (file_node self.now.table file.now)) }
+            ≡ if_there (part_too_long self.now.table offset size)
+            (file_node self.now.table file.now)) }
     {
         match self.file_node(file) {
             Some(row) => {
@@ -206,7 +212,8 @@ impl Names {
 
     pub(crate) fn known_under(&self, alloc: Global, is_raw: bool, file: &str) -> Found
         ensures { IfOk result (λ found. found
-            ≡ if_there (λ row. lost self.now.table is_raw (name_of_file row)) (file_node self.now.table file.now)) }
+            ≡ if_there (λ row. lost self.now.table is_raw (name_of_file row))
+            (file_node self.now.table file.now)) }
     {
         match self.file_node(file) {
             Some(row) => self.known(alloc, is_raw, name_of_file(row)),
@@ -216,7 +223,8 @@ impl Names {
 
     pub(crate) fn found(&self, alloc: Global, name: Option<&str>) -> Found
         ensures { IfOk result (λ found. found ≡ if_named
-            (λ other. refused (is_none (node_named self.now.table other)) (Refusal.NotFound other false))
+            (λ other. refused (is_none (node_named self.now.table other))
+            (Refusal.NotFound other false))
             (seen_text name.entry)) }
     {
         match name {
@@ -227,7 +235,8 @@ impl Names {
 
     pub(crate) fn bitmap_found(&self, alloc: Global, node: &str, name: Option<&str>) -> Found
         ensures { IfOk result (λ found. found ≡ if_named
-            (λ other. refused (is_none (bitmap_named self.now.table node.now other)) (Refusal.NotFound other false))
+            (λ other. refused (is_none (bitmap_named self.now.table node.now other))
+            (Refusal.NotFound other false))
             (seen_text name.entry)) }
     {
         match name {
@@ -260,7 +269,8 @@ impl Names {
 
     pub(crate) fn room_for_nodes(&self, count: u8) -> Found
         ensures { IfOk result (λ found. found
-            ≡ refused (nat_lt 64 (length self.now.table.nodes + count)) (Refusal.TooMany Crowd.Nodes)) }
+            ≡ refused (nat_lt 64 (length self.now.table.nodes + count))
+            (Refusal.TooMany Crowd.Nodes)) }
     {
         let there = self.nodes().len();
         refuse::too_many(there > 64 || there + usize::from(count) > 64, Crowd::Nodes)
@@ -300,7 +310,8 @@ impl Names {
 
     /// The node of a name that may be absent.
     fn maybe_named(&self, name: Option<&str>) -> Option<&NodeRecord>
-        ensures { option_copied result ≡ option_and_then (node_named self.now.table) (seen_text name.entry) }
+        ensures { option_copied result
+            ≡ option_and_then (node_named self.now.table) (seen_text name.entry) }
     {
         match name {
             Some(name) => self.node_named(name),
@@ -321,7 +332,8 @@ impl Names {
 
     /// Refuses a node that a job holds.
     pub(crate) fn held_by(&self, alloc: Global, id: NodeId, job: Option<&JobRecord>) -> Found
-        ensures { IfOk result (λ found. found ≡ held_by self.now.table id (option_copied job.entry)) }
+        ensures { IfOk result
+            (λ found. found ≡ held_by self.now.table id (option_copied job.entry)) }
     {
         match job {
             Some(job) => refuse::job_holds(alloc, self.name_at(id), job.id.as_str()),
@@ -331,7 +343,8 @@ impl Names {
 
     pub(crate) fn unheld(&self, alloc: Global, node: &str) -> Found
         ensures { IfOk result (λ found. found ≡ if_there
-            (λ id. held_by self.now.table id (holder self.now.table id)) (id_named self.now.table node.now)) }
+            (λ id. held_by self.now.table id (holder self.now.table id))
+            (id_named self.now.table node.now)) }
     {
         match self.id_named(node) {
             Some(id) => self.held_by(alloc, id, self.holder(id)),
@@ -363,7 +376,8 @@ impl Names {
 
     pub(crate) fn writable(&self, alloc: Global, node: &str) -> Found
         ensures { IfOk result (λ found. found ≡ if_there
-            (λ row. refused row.read_only (Refusal.ReadOnly row.name)) (node_named self.now.table node.now)) }
+            (λ row. refused row.read_only (Refusal.ReadOnly row.name))
+            (node_named self.now.table node.now)) }
     {
         match self.node_named(node) {
             Some(row) => refuse::read_only(alloc, row.read_only, row.name.as_str()),
@@ -384,7 +398,8 @@ impl Names {
 
     pub(crate) fn no_backing(&self, alloc: Global, node: &str) -> Found
         ensures { IfOk result (λ found. found ≡ if_there
-            (λ row. refused (is_some (child self.now.table row.id Backing)) (Refusal.HasBacking row.name))
+            (λ row. refused (is_some (child self.now.table row.id Backing))
+            (Refusal.HasBacking row.name))
             (node_named self.now.table node.now)) }
     {
         match self.node_named(node) {
@@ -398,7 +413,8 @@ impl Names {
 
     /// Refuses a node that an edge leads into.
     pub(crate) fn in_use(&self, alloc: Global, name: &str, edge: Option<&Edge>) -> Found
-        ensures { IfOk result (λ found. found ≡ in_use self.now.table name.now (option_copied edge.entry)) }
+        ensures { IfOk result
+            (λ found. found ≡ in_use self.now.table name.now (option_copied edge.entry)) }
     {
         match edge {
             Some(edge) => refuse::in_use(alloc, true, name, self.parent_name(edge.parent)),
@@ -418,7 +434,8 @@ impl Names {
 
     pub(crate) fn job_ready(&self, alloc: Global, id: &str) -> Found
         ensures { IfOk result (λ found. found ≡ if_there
-            (λ job. refused (not job.is_ready) (Refusal.NotReady id.now)) (job_named self.now.table id.now)) }
+            (λ job. refused (not job.is_ready) (Refusal.NotReady id.now))
+            (job_named self.now.table id.now)) }
     {
         match self.job_named(id) {
             Some(job) => refuse::not_ready(alloc, !job.is_ready, id),

@@ -15,14 +15,17 @@ use blk_graph::{Edge, NodeId, Parent, Perms};
 impl Names {
     pub(crate) fn put_node(&mut self, row: NodeRecord)
         requires { 0 < self.old.spare.nodes }
-        ensures table { self.new.table ≡ record self.old.table { nodes = self.old.table.nodes ++ row ∷ [] } }
-        ensures spare { self.new.spare ≡ record self.old.spare { nodes = self.old.spare.nodes - 1 } }
+        ensures table { self.new.table
+            ≡ record self.old.table { nodes = self.old.table.nodes ++ row ∷ [] } }
+        ensures spare { self.new.spare
+            ≡ record self.old.spare { nodes = self.old.spare.nodes - 1 } }
     {
         self.nodes.push_reserved(row);
     }
 
     pub(crate) fn unsettle(&mut self, id: NodeId)
-        ensures table { self.new.table ≡ record self.old.table { nodes = with_unsettled id self.old.table.nodes } }
+        ensures table { self.new.table
+            ≡ record self.old.table { nodes = with_unsettled id self.old.table.nodes } }
         ensures spare { self.new.spare ≡ self.old.spare }
     {
         edit::unsettle(&mut self.nodes, id);
@@ -38,14 +41,16 @@ impl Names {
     }
 
     pub(crate) fn make_writable(&mut self, id: NodeId)
-        ensures table { self.new.table ≡ record self.old.table { nodes = with_writable id self.old.table.nodes } }
+        ensures table { self.new.table
+            ≡ record self.old.table { nodes = with_writable id self.old.table.nodes } }
         ensures spare { self.new.spare ≡ self.old.spare }
     {
         edit::make_writable(&mut self.nodes, id);
     }
 
     pub(crate) fn drop_node(&mut self, id: NodeId)
-        ensures table { self.new.table ≡ record self.old.table { nodes = without_row id self.old.table.nodes } }
+        ensures table { self.new.table
+            ≡ record self.old.table { nodes = without_row id self.old.table.nodes } }
         ensures spare { KeepsSpare self.old self.new }
     {
         edit::drop_node(&mut self.nodes, id);
@@ -54,7 +59,8 @@ impl Names {
     pub(crate) fn put_edge(&mut self, edge: Edge)
         requires role { IsTrue (may_have edge.parent edge.role) }
         requires number { HasNumber edge.parent }
-        ensures table { self.new.table ≡ record self.old.table { edges = with_edge edge self.old.table.edges } }
+        ensures table { self.new.table
+            ≡ record self.old.table { edges = with_edge edge self.old.table.edges } }
         ensures spare { self.new.spare ≡ self.old.spare }
     {
         self.edges.put(edge);
@@ -63,7 +69,10 @@ impl Names {
     pub(crate) fn put_filter(&mut self, node: NodeId, filter: NodeId, perm: Perms, shared: Perms)
         requires { IsLone self.old.table.edges filter }
         ensures table { self.new.table
-            ≡ record self.old.table { edges = with_filter node filter perm shared self.old.table.edges } }
+            ≡ record self.old.table {
+              edges = with_filter node filter perm shared
+                  self.old.table.edges;
+            } }
         ensures spare { self.new.spare ≡ self.old.spare }
     {
         self.edges.put_filter(node, filter, perm, shared);
@@ -71,7 +80,10 @@ impl Names {
 
     pub(crate) fn replace_edges(&mut self, from: NodeId, to: NodeId, but: Parent)
         ensures table { self.new.table
-            ≡ record self.old.table { edges = with_replaced from to (Some but) self.old.table.edges } }
+            ≡ record self.old.table {
+              edges = with_replaced from to (Some but)
+                  self.old.table.edges;
+            } }
         ensures spare { self.new.spare ≡ self.old.spare }
     {
         self.edges.replace(from, to, Some(but));
@@ -87,7 +99,8 @@ impl Names {
 
     /// Derives what nodes' edges ask and share.
     pub(crate) fn refresh(&mut self)
-        ensures table { self.new.table ≡ rewired self.old.table.nodes self.old.table.edges self.old.table }
+        ensures table { self.new.table
+            ≡ rewired self.old.table.nodes self.old.table.edges self.old.table }
         ensures spare { self.new.spare ≡ self.old.spare }
     {
         let kinds = edit::kinds_of(self.nodes.as_slice());
@@ -96,14 +109,17 @@ impl Names {
 
     pub(crate) fn put_device(&mut self, device: Device)
         requires { 0 < self.old.spare.devices }
-        ensures table { self.new.table ≡ record self.old.table { devices = self.old.table.devices ++ device ∷ [] } }
-        ensures spare { self.new.spare ≡ record self.old.spare { devices = self.old.spare.devices - 1 } }
+        ensures table { self.new.table
+            ≡ record self.old.table { devices = self.old.table.devices ++ device ∷ [] } }
+        ensures spare { self.new.spare
+            ≡ record self.old.spare { devices = self.old.spare.devices - 1 } }
     {
         self.devices.push_reserved(device);
     }
 
     pub(crate) fn drop_device(&mut self, number: u32)
-        ensures table { self.new.table ≡ record self.old.table { devices = without_device number self.old.table.devices } }
+        ensures table { self.new.table
+            ≡ record self.old.table { devices = without_device number self.old.table.devices } }
         ensures spare { KeepsSpare self.old self.new }
     {
         edit::drop_device(&mut self.devices, number);
@@ -111,22 +127,28 @@ impl Names {
 
     pub(crate) fn put_bitmap(&mut self, row: BitmapRow)
         requires { 0 < self.old.spare.bitmaps }
-        ensures table { self.new.table ≡ record self.old.table { bitmaps = self.old.table.bitmaps ++ row ∷ [] } }
-        ensures spare { self.new.spare ≡ record self.old.spare { bitmaps = self.old.spare.bitmaps - 1 } }
+        ensures table { self.new.table
+            ≡ record self.old.table { bitmaps = self.old.table.bitmaps ++ row ∷ [] } }
+        ensures spare { self.new.spare
+            ≡ record self.old.spare { bitmaps = self.old.spare.bitmaps - 1 } }
     {
         self.bitmaps.push_reserved(row);
     }
 
     pub(crate) fn drop_bitmap(&mut self, node: NodeId, name: &str)
         ensures table { self.new.table
-            ≡ record self.old.table { bitmaps = without_bitmap node name.now self.old.table.bitmaps } }
+            ≡ record self.old.table {
+              bitmaps = without_bitmap node name.now
+                  self.old.table.bitmaps;
+            } }
         ensures spare { KeepsSpare self.old self.new }
     {
         edit::drop_bitmap(&mut self.bitmaps, node, name);
     }
 
     pub(crate) fn drop_bitmaps_of(&mut self, node: NodeId)
-        ensures table { self.new.table ≡ record self.old.table { bitmaps = bitmaps_but_of node self.old.table.bitmaps } }
+        ensures table { self.new.table
+            ≡ record self.old.table { bitmaps = bitmaps_but_of node self.old.table.bitmaps } }
         ensures spare { KeepsSpare self.old self.new }
     {
         edit::drop_bitmaps_of(&mut self.bitmaps, node);
@@ -134,7 +156,10 @@ impl Names {
 
     pub(crate) fn turn_bitmap(&mut self, node: NodeId, name: &str, on: bool)
         ensures table { self.new.table
-            ≡ record self.old.table { bitmaps = with_turned node name.now on self.old.table.bitmaps } }
+            ≡ record self.old.table {
+              bitmaps = with_turned node name.now on
+                  self.old.table.bitmaps;
+            } }
         ensures spare { self.new.spare ≡ self.old.spare }
     {
         edit::turn_bitmap(&mut self.bitmaps, node, name, on);
@@ -143,7 +168,10 @@ impl Names {
     /// The bitmap that a job copies by is used by it, where there is one.
     pub(crate) fn take_bitmap(&mut self, job: u32, used: &Option<UsedBitmap>, source: NodeId)
         ensures table { self.new.table
-            ≡ record self.old.table { bitmaps = busy_by job used.now source self.old.table.bitmaps } }
+            ≡ record self.old.table {
+              bitmaps = busy_by job used.now source
+                  self.old.table.bitmaps;
+            } }
         ensures spare { self.new.spare ≡ self.old.spare }
     {
         if let Some(used) = used {
@@ -165,7 +193,8 @@ impl Names {
     }
 
     pub(crate) fn ask_job(&mut self, number: u32, asked: Asked)
-        ensures table { self.new.table ≡ record self.old.table { jobs = map (asked_for number asked) self.old.table.jobs } }
+        ensures table { self.new.table
+            ≡ record self.old.table { jobs = map (asked_for number asked) self.old.table.jobs } }
         ensures spare { self.new.spare ≡ self.old.spare }
     {
         edit::ask_job(&mut self.jobs, number, asked);
@@ -173,7 +202,8 @@ impl Names {
 
     pub(crate) fn set_file(&mut self, name: Name, state: FileState)
         requires { 0 < self.old.spare.files }
-        ensures table { self.new.table ≡ record self.old.table { files = with_file name state self.old.table.files } }
+        ensures table { self.new.table
+            ≡ record self.old.table { files = with_file name state self.old.table.files } }
         ensures spare { self.old.spare.files ≤ self.new.spare.files + 1 }
         ensures others { self.new.spare ≡ record self.old.spare { files = self.new.spare.files } }
     {
@@ -182,14 +212,16 @@ impl Names {
 
     pub(crate) fn keep(&mut self, id: Name)
         requires { 0 < self.old.spare.kept }
-        ensures table { self.new.table ≡ record self.old.table { kept = self.old.table.kept ++ id ∷ [] } }
+        ensures table { self.new.table
+            ≡ record self.old.table { kept = self.old.table.kept ++ id ∷ [] } }
         ensures spare { self.new.spare ≡ record self.old.spare { kept = self.old.spare.kept - 1 } }
     {
         self.kept.push_reserved(id);
     }
 
     pub(crate) fn drop_kept(&mut self, id: &str)
-        ensures table { self.new.table ≡ record self.old.table { kept = without_name id.now self.old.table.kept } }
+        ensures table { self.new.table
+            ≡ record self.old.table { kept = without_name id.now self.old.table.kept } }
         ensures spare { KeepsSpare self.old self.new }
     {
         edit::drop_name(&mut self.kept, id);
