@@ -32,7 +32,7 @@ use Rattle.qmp_rules.specs.declared.told.Look.{Look}
 use Rattle.qmp_rules.specs.declared.told.Look.TheVariants as look
 use Rattle.qmp_rules.specs.declared.told.Stopped.{Stopped}
 use Rattle.qmp_rules.specs.declared.told.Told.{Told}
-use Rattle.world_parts.specs.Adding.{Adding, CountFits, HasFailed, IsAbsent, IsTakenOut, Looks, LooksBadly, LooksUnder, Opens, Taken, LooksAtFile, LooksInVain, Tells, TellsInside, TellsLength, look_in_vain, of_node, opened_sight, put_back, unopened}
+use Rattle.world_parts.specs.Adding.{Adding, CountFits, HasOpeningFailed, IsAbsent, IsTakenOut, Looks, LooksBadly, LooksUnder, Opens, Taken, LooksAtFile, LooksInVain, Tells, TellsInside, TellsLength, look_in_vain, of_node, opened_sight, put_back, unopened}
 use Rattle.world_commands.specs.Carrying.{IsCaused, is_failed}
 use Rattle.world_parts.specs.Coherent.{IsCoherent}
 use Rattle.world_commands.specs.Counting.{RunsOn, counts_within}
@@ -73,7 +73,7 @@ module _ (w v : Face) (c : Adding) (first_same : v.first_faults ≡ w.first_faul
 
   -- ---- the store failed
 
-  store-failed : (now : StoreInRun) (filename : List ℕ) (why : Refusal) → HasFailed (store_of w) now filename why → v.faults ≡ now.faults → IsCaused w v cmd why
+  store-failed : (now : StoreInRun) (filename : List ℕ) (why : Refusal) → HasOpeningFailed (store_of w) now filename why → v.faults ≡ now.faults → IsCaused w v cmd why
   store-failed now filename why failed same =
       let rose = failed.rose in
       let least = counted in
@@ -232,7 +232,7 @@ module _ (w v : Face) (c : Adding) (first_same : v.first_faults ≡ w.first_faul
         same : v.faults ≡ now.store.faults
         same = ap (λ (y : Site). y.store.faults) put ∙ ap (λ (o : Option Taken). (back_if c.driver o now.store).faults) none
 
-        by_why : IsAbsent (store_of w) now.store at.filename vain.why ⊎ HasFailed (store_of w) now.store at.filename vain.why → IsCaused w v cmd cause
+        by_why : IsAbsent (store_of w) now.store at.filename vain.why ⊎ HasOpeningFailed (store_of w) now.store at.filename vain.why → IsCaused w v cmd cause
         by_why (inl absent) = calm cause (ap is_failed (sym here ∙ absent.is))
         by_why (inr failed) = subst (IsCaused w v cmd) here (store-failed now.store at.filename vain.why failed same)
 

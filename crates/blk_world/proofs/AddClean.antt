@@ -22,7 +22,7 @@ use Rattle.qmp_rules.specs.declared.rows.NodeRecord.{NodeRecord}
 use Rattle.qmp_rules.specs.declared.told.Look.TheVariants as look
 use Rattle.qmp_rules.specs.declared.told.Stopped.{Stopped}
 use Rattle.qmp_rules.specs.declared.told.Told.{Told}
-use Rattle.world_parts.specs.Adding.{Adding, HasFailed, IsAbsent, Looks, LooksUnder, Opens, Taken, Tells, TellsInside, opened_sight, unopened}
+use Rattle.world_parts.specs.Adding.{Adding, HasOpeningFailed, IsAbsent, Looks, LooksUnder, Opens, Taken, Tells, TellsInside, opened_sight, unopened}
 use Rattle.world_commands.specs.Carrying.{IsOfFiles, StopsByFiles}
 use Rattle.world_parts.specs.Looking.{HasLooked, LooksAtImage, LooksAtPart, LooksBy, Site}
 use Rattle.world_parts.specs.Stores.{StoreInRun}
@@ -108,7 +108,7 @@ module _ (t : Table) (c : Adding) (told : Told) where
   clean-out at old now out image (inl away) = by-files None None None told away.0.is tt
   clean-out at old now None image (inr looks) = by-files _ _ _ told looks.0.is (by_cause looks.0.cause)
     where
-      by_cause : IsAbsent old now at.filename looks.0.why ⊎ HasFailed old now at.filename looks.0.why → IsOfFiles looks.0.why
+      by_cause : IsAbsent old now at.filename looks.0.why ⊎ HasOpeningFailed old now at.filename looks.0.why → IsOfFiles looks.0.why
       by_cause (inl absent) = subst IsOfFiles (sym absent.is) tt
       by_cause (inr failed) = subst IsOfFiles (sym failed.is) tt
   clean-out at old now (Some device) image (inr looks) = clean-tells t c.node_name at.filename looks.0.first device told c.driver image looks.0.tells

@@ -35,7 +35,7 @@ use Rattle.qmp_rules.specs.declared.told.Look.TheVariants as look
 use Rattle.qmp_rules.specs.declared.told.Stopped.{Stopped}
 use Rattle.qmp_rules.specs.declared.told.Told.{Told}
 use Rattle.flat_machine.specs.Licence.{fault_at}
-use Rattle.world_parts.specs.Adding.{Adding, HasFailed, IsAbsent, IsBack, IsLookReached, IsTakenOut, Looks, LooksAtFile, LooksBadly, LooksInVain, LooksUnder, Opens, Taken, Tells, TellsInside, TellsRefusal, look_in_vain, of_node, opened_sight, opening_of, opens, put_back, unopened}
+use Rattle.world_parts.specs.Adding.{Adding, HasOpeningFailed, IsAbsent, IsBack, IsLookReached, IsTakenOut, Looks, LooksAtFile, LooksBadly, LooksInVain, LooksUnder, Opens, Taken, Tells, TellsInside, TellsRefusal, look_in_vain, of_node, opened_sight, opening_of, opens, put_back, unopened}
 use Rattle.world_commands.specs.Carrying.{HasFailed as HasFailedIn, fault_named, is_failed}
 use Rattle.world_parts.specs.Coherent.{AreOut, IsWhole}
 use Rattle.world_commands.specs.Counting.{HidesNoFault, RunsOn}
@@ -142,7 +142,7 @@ module _ (w : Face) (whole : IsWhole w) (joined : IsJoined w.nodes) (c : Adding)
         (inr (record { first = first; is = is; taken = taken; inside = closed at.filename free; nodes = nodes }))
 
     -- the store failed to open it
-    store-failed : (why : Refusal) → HasFailed (store_of w) now.store at.filename why → out ≡ None
+    store-failed : (why : Refusal) → HasOpeningFailed (store_of w) now.store at.filename why → out ≡ None
         → told.stopped ≡ Some (record { look = look_in_vain at.what why; refusal = why }) → IsLookReached w.table cmd' at.what
         → IsLookedOver w c told now out
     store-failed why failed none stops reached =
@@ -166,7 +166,7 @@ module _ (w : Face) (whole : IsWhole w) (joined : IsJoined w.nodes) (c : Adding)
         stops : told.stopped ≡ Some (record { look = look_in_vain at.what vain.why; refusal = vain.why })
         stops = ap (λ (a : Told). a.stopped) vain.is
 
-        by_why : IsAbsent (store_of w) now.store at.filename vain.why ⊎ HasFailed (store_of w) now.store at.filename vain.why
+        by_why : IsAbsent (store_of w) now.store at.filename vain.why ⊎ HasOpeningFailed (store_of w) now.store at.filename vain.why
             → IsLookedOver w c told now out
         by_why (inl absent) =
             calm-as (Some (record { look = look_in_vain at.what vain.why; refusal = vain.why })) stops (ap is_failed absent.is)

@@ -25,7 +25,7 @@ use Rattle.flat_machine.proofs.Finds.{bytes_eq-same, same-bytes_eq}
 use Rattle.flat_machine.proofs.Fresh.{found-new}
 use Rattle.world_parts.specs.Adding.{Taken}
 use Rattle.world_parts.specs.Face.{Face, contents_of, node_over, told_bytes}
-use Rattle.world_parts.specs.Joining.{HasFile, HasOver}
+use Rattle.world_parts.specs.Joining.{IsFileAdded, HasOver}
 use Rattle.blk_world.proofs.AddClosed.{closed-rows}
 use Rattle.blk_world.proofs.AddPerformed.{performed-file, performed-filter, performed-image, performed-part}
 use Rattle.blk_world.proofs.AddQuiet.{over-added, over-filtered}
@@ -39,7 +39,7 @@ no-row nodes id joined absent = by_found (row_at nodes id) refl
 
 module _ (w v : Face) (joined : IsJoined w.nodes) (row : NodeRecord) (files : v.files ≡ w.files) (s : State) where
   -- over a file for which no node stands
-  pub did-file : (filename : List ℕ) (device : Taken) → v.table ≡ changed w.table (AddFile row) → HasFile row.name row.read_only device w.nodes v.nodes row.id
+  pub did-file : (filename : List ℕ) (device : Taken) → v.table ≡ changed w.table (AddFile row) → IsFileAdded row.name row.read_only device w.nodes v.nodes row.id
       → row.size ≡ device.size → row.filename ≡ Some filename → node_at w.table row.id ≡ None → is_unopened w.table filename ≡ false
       → device.content ≡ told_bytes w.files filename → Performed s (AddFile row) (contents_of w) (contents_of v)
   unfolding changed

@@ -19,7 +19,7 @@ use Rattle.world_parts.specs.Adding.{Adding}
 use Rattle.world_commands.specs.Carrying.{IsCarriedAs, IsCaused, fault_told}
 use Rattle.world_parts.specs.Coherent.{DevicesTell, IsCoherent}
 use Rattle.world_commands.specs.Comes.{Shows}
-use Rattle.world_parts.specs.Face.{Face, contents_of, seen_state}
+use Rattle.world_parts.specs.Face.{Face, contents_of}
 use Rattle.world_commands.specs.Counting.{HidesNoFault}
 use Rattle.world_commands.specs.Leaving.{clean_told}
 use Rattle.world_parts.specs.Looking.{AreIn, HasLooked, Site}
@@ -92,7 +92,7 @@ module _ (w : Face) (coherent : IsCoherent w.table w.nodes w.opened w.progress) 
           table = ends.table ∙ sym unchanged;
           progress = refl;
           drains = refl;
-          calm = λ is. All-nil (IsCalm (seen_state w));
+          calm = λ is. All-nil (IsCalm w.table w.progress.guests);
           runs = runs-back w v refl is.between c.driver is.out (so is) ends.is;
           hides = subst (λ (r : Option Refusal). HidesNoFault w v (fault_told r)) ends.staged.is account.hides;
           opens = opens-back w.table c (site_of w) is.between is.out is.image is.told is.looked x.store (ap (λ (y : Site). y.store) ends.is) (so is);
@@ -128,7 +128,7 @@ module _ (w : Face) (coherent : IsCoherent w.table w.nodes w.opened w.progress) 
           table = table;
           progress = refl;
           drains = refl;
-          calm = λ is. All-nil (IsCalm (seen_state w));
+          calm = λ is. All-nil (IsCalm w.table w.progress.guests);
           runs = runs;
           hides = subst (λ (r : Option Refusal). HidesNoFault w v (fault_told r)) ends.accepted.none account.hides;
           opens = opens-added w.table c (site_of w) is.between is.out is.image is.told is.looked x.store ends.store (so is);

@@ -13,7 +13,7 @@ use Rattle.qmp_rules.specs.Looks.{add_told, is_unopened}
 use Rattle.qmp_rules.specs.Table.{Table}
 use Rattle.qmp_rules.specs.declared.told.Stopped.{Stopped}
 use Rattle.qmp_rules.specs.declared.told.Told.{Told}
-use Rattle.flat_machine.specs.Final.{bytes_of}
+use Rattle.flat_machine.specs.Final.{bytes_named}
 use Rattle.flat_machine.specs.Performing.{AllPerformed}
 use Rattle.flat_machine.specs.Sights.{Fails, IsTold}
 use Rattle.flat_machine.specs.State.{State, Known, Content, Bytes, content_in}
@@ -71,7 +71,7 @@ exact-held w s c stopped same (inr fails) =
 -- ---- a look at the store
 
 module _ (o : Opening) (s : State) (w : Face) (shows : Shows o s w) (files : List File) (told_files : w.files ≡ Some files) (c : Adding) where
-  own : (name : List ℕ) → is_unopened s.table name ≡ false → held w name ≡ bytes_of files name
+  own : (name : List ℕ) → is_unopened s.table name ≡ false → held w name ≡ bytes_named files name
   own name closed =
       closed-held w name (subst (λ (t : Table). is_unopened t name ≡ false) shows.table.table_is closed)
       ∙ ap (λ (f : Option (List File)). told_bytes f name) told_files
@@ -82,10 +82,10 @@ module _ (o : Opening) (s : State) (w : Face) (shows : Shows o s w) (files : Lis
       where
         by_held : (found : Option (List ℕ)) → held w at.filename ≡ found → content_in (map (held_known w) s.files) at.filename ≡ content_in s.files at.filename
         by_held None e =
-            let none = known-absent (bytes_of o.files) s (contents_of w) shows.contents shows.stands.stands at.filename closed e in
+            let none = known-absent (bytes_named o.files) s (contents_of w) shows.contents shows.stands.stands at.filename closed e in
             held-none w s.files at.filename none ∙ sym none
         by_held (Some bytes) e =
-            let there = known-there (bytes_of o.files) s (contents_of w) shows.contents shows.stands.stands at.filename closed bytes e in
+            let there = known-there (bytes_named o.files) s (contents_of w) shows.contents shows.stands.stands at.filename closed bytes e in
             held-bytes w s.files at.filename bytes there ∙ sym there
 
     by-content : OpensAs c at → content_in (as_held w s).files at.filename ≡ content_in s.files at.filename → expects (as_held w s) c ≡ expects s c
@@ -104,7 +104,7 @@ module _ (o : Opening) (s : State) (w : Face) (shows : Shows o s w) (files : Lis
     pub seen-store : (now : StoreInRun) (old : StoreInRun) → old.files ≡ w.files → (out : Option Taken) (image : Option Image) (told : Told)
         → Looks w.table c at old now out image told → IsSeenAs s c told
     seen-store now old same out image told looks =
-        seen-looks (bytes_of o.files) s (contents_of w) shows.contents shows.stands.stands c at opener old now files (same ∙ told_files) (own at.filename) out image told
+        seen-looks (bytes_named o.files) s (contents_of w) shows.contents shows.stands.stands c at opener old now files (same ∙ told_files) (own at.filename) out image told
         (subst (λ (t : Table). Looks t c at old now out image told) (sym shows.table.table_is) looks)
 
 -- ---- where nothing is looked at

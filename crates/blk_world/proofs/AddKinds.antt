@@ -12,9 +12,9 @@ use Rattle.qmp_codec.specs.declared.nodes.FileRef.TheVariants as file_ref
 use Rattle.qmp_rules.specs.Table.{Table}
 use Rattle.qmp_rules.specs.declared.told.Look.TheVariants as look
 use Rattle.qmp_rules.specs.declared.told.Told.{Told}
-use Rattle.world_parts.specs.Adding.{Adding, HasFailed, IsAbsent, IsTakenOut, Looks, Opens, Taken, Tells, TellsInside, of_node}
+use Rattle.world_parts.specs.Adding.{Adding, HasOpeningFailed, IsAbsent, IsTakenOut, Looks, Opens, Taken, Tells, TellsInside, of_node}
 use Rattle.world_parts.specs.Joining.{HasAdded, HasAddedBy, HasAddedImage, HasAddedPart}
-use Rattle.world_parts.specs.Looking.{AreIn, HasCalled, HasLooked, IsRead, LooksAtImage, LooksAtPart, LooksBy, Site}
+use Rattle.world_parts.specs.Looking.{AreIn, HasCalled, HasLooked, IsSameButFaults, LooksAtImage, LooksAtPart, LooksBy, Site}
 use Rattle.world_parts.specs.Staging.{opened_name}
 use Rattle.world_parts.specs.Stores.{StoreInRun}
 use Rattle.world_parts.proofs.AddLooked.{called_itself}
@@ -32,7 +32,7 @@ pub record IsOpenedFor (name : List ℕ) (old now : Site) (out : Option Taken) :
   pub device : Taken
   pub is : out ≡ Some device
   pub taken : IsTakenOut old.store now.store name first
-  pub read : IsRead first device
+  pub read : IsSameButFaults first device
   pub inside : is_out name old.store.opened ≡ false
   pub nodes : now.nodes ≡ old.nodes
 
@@ -42,20 +42,20 @@ IsLookedSo name old now out = IsCalled old now out ⊎ IsOpenedFor name old now 
 -- ---- a device that was looked at
 
 pub read-inside : (t : Table) (node filename : List ℕ) (c : AddQcow2 (List ℕ)) (first now : Taken) (image : Option Known) (told : Told)
-    → TellsInside t node filename c first now image told → IsRead first now
+    → TellsInside t node filename c first now image told → IsSameButFaults first now
 read-inside t node filename c first now (Some image) told is =
-    subst (IsRead first) (sym is.on.kept) (record { same = refl; faults = omega arith })
+    subst (IsSameButFaults first) (sym is.on.kept) (record { same = refl; faults = omega arith })
 read-inside t node filename c first now None told (inl long) =
-    subst (IsRead first) (sym long.kept) (record { same = refl; faults = omega arith })
+    subst (IsSameButFaults first) (sym long.kept) (record { same = refl; faults = omega arith })
 read-inside t node filename c first now None told (inr why) = record { same = why.on.kept; faults = why.on.faults }
 
 pub read-tells : (t : Table) (node filename : List ℕ) (driver : Added (List ℕ)) (first now : Taken) (image : Option Known) (told : Told)
-    → Tells t node filename driver first now image told → IsRead first now
-read-tells t node filename (added.File own) first now image told is = subst (IsRead first) (sym is.kept) (record { same = refl; faults = omega arith })
-read-tells t node filename (added.Raw raw) first now image told is = subst (IsRead first) (sym is.kept) (record { same = refl; faults = omega arith })
+    → Tells t node filename driver first now image told → IsSameButFaults first now
+read-tells t node filename (added.File own) first now image told is = subst (IsSameButFaults first) (sym is.kept) (record { same = refl; faults = omega arith })
+read-tells t node filename (added.Raw raw) first now image told is = subst (IsSameButFaults first) (sym is.kept) (record { same = refl; faults = omega arith })
 read-tells t node filename (added.Qcow2 c) first now image told is = read-inside t node filename c first now image told is
-read-tells t node filename (added.CopyOnRead own) first now image told is = subst (IsRead first) (sym is.kept) (record { same = refl; faults = omega arith })
-read-tells t node filename added.Unknown first now image told is = subst (IsRead first) (sym is.kept) (record { same = refl; faults = omega arith })
+read-tells t node filename (added.CopyOnRead own) first now image told is = subst (IsSameButFaults first) (sym is.kept) (record { same = refl; faults = omega arith })
+read-tells t node filename added.Unknown first now image told is = subst (IsSameButFaults first) (sym is.kept) (record { same = refl; faults = omega arith })
 
 -- ---- looks
 
@@ -87,7 +87,7 @@ module _ (t : Table) (c : Adding) (old now : Site) (out : Option Taken) (image :
       (let same = ap (λ (s : StoreInRun). s.faults) away.0.kept in omega (arith, same)) nodes (is ∙ away.1))
   looked-out at None is nodes (inr looks) = inl (by_cause looks.0.cause)
     where
-      by_cause : IsAbsent old.store now.store at.filename looks.0.why ⊎ HasFailed old.store now.store at.filename looks.0.why → IsCalled old now out
+      by_cause : IsAbsent old.store now.store at.filename looks.0.why ⊎ HasOpeningFailed old.store now.store at.filename looks.0.why → IsCalled old now out
       by_cause (inl absent) =
           in-store (absent.kept ∙ ap (λ (n : ℕ). record old.store { faults = n }) (sym (ap (λ (s : StoreInRun). s.faults) absent.kept)))
           (let same = ap (λ (s : StoreInRun). s.faults) absent.kept in omega (arith, same)) nodes is

@@ -37,10 +37,10 @@ use Rattle.qmp_rules.specs.Values.{begins_within, ends_within, part_fits}
 use Rattle.qmp_rules.specs.Answers as rules
 use Rattle.flat_machine.specs.State.{State, Bytes, content_in}
 use Rattle.flat_machine.specs.Agreement.{Agrees, Contents}
-use Rattle.flat_machine.specs.Final.{bytes_of}
+use Rattle.flat_machine.specs.Final.{bytes_named}
 use Rattle.flat_machine.specs.Sights.{IsFailure, IsReached, calls_at, image_sight, is_opened, order_of, stop_for}
 use Rattle.flat_machine.specs.Standing.{Stands}
-use Rattle.world_parts.specs.Adding.{Adding, HasFailed, IsAbsent, IsTakenOut, Looks, LooksInVain, Opens, Taken, Tells, TellsImage, TellsInside, TellsLength, TellsLong, TellsRefusal, look_in_vain, opened_sight, probe, unopened}
+use Rattle.world_parts.specs.Adding.{Adding, HasOpeningFailed, IsAbsent, IsTakenOut, Looks, LooksInVain, Opens, Taken, Tells, TellsImage, TellsInside, TellsLength, TellsLong, TellsRefusal, look_in_vain, opened_sight, probe, unopened}
 use Rattle.world_parts.specs.Stores.{StoreInRun}
 use Rattle.world_parts.proofs.AddSights.{IsSeenAs, expects, fails, known-absent, known-there, seen-stopped, seen-unreached, seen-whole}
 use Rattle.world_parts.proofs.AddSeen.{AsFile, AsImage, AsPart, OpensAs, expects-absent, expects-closed, expects-file, expects-image, expects-part, has-at, looks-as}
@@ -199,7 +199,7 @@ reach-image c expected there behind = reach-from c look.Image expected there beh
 
 pub record HoldsFile (files : List File) (name : List ℕ) (device : Taken) : Type 0 where
   pub bytes : List ℕ
-  pub there : bytes_of files name ≡ Some bytes
+  pub there : bytes_named files name ≡ Some bytes
   pub content : device.content ≡ Some bytes
   pub size : device.size ≡ length bytes
 
@@ -237,7 +237,7 @@ told-open t node filename image bytes header size long fits is sight =
 
 module _ (opening : List ℕ → Option (List ℕ)) (s : State) (held : Contents) (agrees : Agrees opening s held) (stands : Stands s) (c : Adding) (at : Opens)
     (opener : OpensAs c at) (old new : StoreInRun) (files : List File) (told-files : old.files ≡ Some files)
-    (own : is_unopened s.table at.filename ≡ false → held.held at.filename ≡ bytes_of files at.filename) where
+    (own : is_unopened s.table at.filename ≡ false → held.held at.filename ≡ bytes_named files at.filename) where
   calls-file : OpensAs c at → is_unopened s.table at.filename ≡ false → calls_at s.table at.what (command.BlockdevAdd c) ≡ true
   calls-file (AsFile e what) free = rw (what, e, free) refl
   calls-file (AsPart raw file e f name what) free = rw (what, e, f, name, free) refl
@@ -278,7 +278,7 @@ module _ (opening : List ℕ → Option (List ℕ)) (s : State) (held : Contents
   in-vain : (told : Told) → is_unopened s.table at.filename ≡ false → LooksInVain at old new told → IsSeenAs s c told
   in-vain told free looks = by_cause looks.cause
     where
-      by_cause : (IsAbsent old new at.filename looks.why ⊎ HasFailed old new at.filename looks.why) → IsSeenAs s c told
+      by_cause : (IsAbsent old new at.filename looks.why ⊎ HasOpeningFailed old new at.filename looks.why) → IsSeenAs s c told
       by_cause (inl absent) =
           let lacks : file_at at.filename files ≡ None = rw told-files at absent.lacks in
           let none : held.held at.filename ≡ None = own free ∙ ap (option_map (λ (f : File). f.bytes)) lacks in

@@ -38,7 +38,7 @@ use Rattle.flat_machine.proofs.Asked.{room-left, takes-driver}
 use Rattle.world_parts.specs.Adding.{Adding, Taken}
 use Rattle.world_parts.specs.Coherent.{AreOut}
 use Rattle.world_parts.specs.Face.{Face, contents_of, told_bytes}
-use Rattle.world_parts.specs.Joining.{HasAddedImage, HasAddedPart, HasFile, HasInline, HasOver, backing_for, part_in}
+use Rattle.world_parts.specs.Joining.{HasAddedImage, HasAddedPart, IsFileAdded, HasInline, HasOver, backing_for, part_in}
 use Rattle.world_parts.specs.Stores.{StoreInRun}
 use Rattle.world_parts.proofs.AddAsked.{rest-asked, unopened-not}
 use Rattle.blk_world.proofs.AddClosed.{closed-in}
@@ -70,13 +70,13 @@ module _ (w v : Face) (told : Told) (c : Adding) (none : refusal_of w.table told
   middle table nodes = record w { table = table; nodes = nodes }
 
   pub shown-file : (filename : List ℕ) → c.driver ≡ added.File filename → (device : Taken) → IsFresh old now filename device told
-      → device.content ≡ told_bytes w.files filename → (id : ℕ) → HasFile c.node_name (is_read_only c.options) device w.nodes v.nodes id
+      → device.content ≡ told_bytes w.files filename → (id : ℕ) → IsFileAdded c.node_name (is_read_only c.options) device w.nodes v.nodes id
       → v.table ≡ changed t (AddFile (file_row (free_id t) c.node_name (length_told told) (is_read_only c.options) filename None))
       → AllPerformed s (AddFile (file_row (free_id t) c.node_name (length_told told) (is_read_only c.options) filename None) ∷ []) (contents_of w) (contents_of v)
   shown-file filename e device fresh content id has table =
       let rest = rw e at (rest-asked t told c none) in
       let room : length t.nodes + 1 ≤ 64 = room-left t told 1 rest.1.0 in
-      let has' = subst (HasFile c.node_name (is_read_only c.options) device w.nodes v.nodes)
+      let has' = subst (IsFileAdded c.node_name (is_read_only c.options) device w.nodes v.nodes)
       (id-is t told c none old now w.nodes w.nodes v.nodes w.progress was out_before rest_at.stands.apart joined room id has.lowest) has in
       let size : length_told told ≡ device.size = ap (λ (n : Option ℕ). unwrap_or n 0) fresh.length_is in
       let closed = unopened-not t told c none (record { filename = filename; what = look.File }) (AsFile e refl) in (

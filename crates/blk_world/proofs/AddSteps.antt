@@ -26,7 +26,7 @@ use Rattle.qmp_rules.specs.declared.rows.NodeRecord.{NodeRecord}
 use Rattle.flat_machine.specs.State.{filename_of}
 use Rattle.world_parts.specs.Adding.{Taken, opening_of}
 use Rattle.world_parts.specs.Coherent.{IsRowOf, IsSmall}
-use Rattle.world_parts.specs.Joining.{HasFile, HasOver}
+use Rattle.world_parts.specs.Joining.{IsFileAdded, HasOver}
 use Rattle.world_parts.specs.Progress.{Progress}
 use Rattle.world_parts.proofs.AddFacts.{alike-filed, alike-filtered, alike-formatted, filed-filename, held-other}
 use Rattle.blk_world.proofs.AddGrown.{Grows, filename-same}
@@ -84,7 +84,7 @@ module _ (t : Table) (nodes : Nodes) (opened : List Opened) (p : Progress) (was 
       by_test true = refl
       by_test false = refl
 
-  module _ (filename : List ℕ) (device : Taken) (now : Nodes) (has : HasFile row.name row.read_only device nodes now row.id) (kind : row.kind ≡ Protocol)
+  module _ (filename : List ℕ) (device : Taken) (now : Nodes) (has : IsFileAdded row.name row.read_only device nodes now row.id) (kind : row.kind ≡ Protocol)
       (size : row.size ≡ device.size) (offset : row.offset ≡ 0) (named : row.filename ≡ Some filename) (number : device.number ≡ record { 0 = length opened })
       (inside : is_out filename opened ≡ false) (short : device.size ≤ most_length) where
     abbrev own : Row

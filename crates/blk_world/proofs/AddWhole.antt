@@ -40,7 +40,7 @@ use Rattle.flat_machine.proofs.Asked.{lone-node, room-left}
 use Rattle.flat_machine.proofs.Tables.{refreshed-old}
 use Rattle.world_parts.specs.Adding.{Adding, IsTakenOut, Opens, Taken, opening_of}
 use Rattle.world_parts.specs.Coherent.{AreOut}
-use Rattle.world_parts.specs.Joining.{HasAddedImage, HasAddedPart, HasFile, HasInline, HasOver, backing_for, part_in}
+use Rattle.world_parts.specs.Joining.{HasAddedImage, HasAddedPart, IsFileAdded, HasInline, HasOver, backing_for, part_in}
 use Rattle.world_parts.specs.Progress.{Progress}
 use Rattle.world_parts.specs.Stores.{StoreInRun}
 use Rattle.world_parts.proofs.AddAlike.{id_of}
@@ -103,12 +103,12 @@ module _ (t : Table) (told : Told) (c : Adding) (none : refusal_of t told (comma
 
   -- a `file` node alone
   pub whole-file : (filename : List ℕ) → c.driver ≡ added.File filename → (device : Taken) → IsFresh old now filename device told
-      → (id : ℕ) → HasFile c.node_name (is_read_only c.options) device nodes new id
+      → (id : ℕ) → IsFileAdded c.node_name (is_read_only c.options) device nodes new id
       → Middle (changed t (AddFile (file_row (free_id t) c.node_name (length_told told) (is_read_only c.options) filename None))) new now.opened p
   whole-file filename e device fresh id has =
       let rest = rw e at (rest-asked t told c none) in
       let room : length t.nodes + 1 ≤ 64 = room-left t told 1 rest.1.0 in
-      let has' = subst (HasFile c.node_name (is_read_only c.options) device nodes new) (id-is room id has.lowest) has in
+      let has' = subst (IsFileAdded c.node_name (is_read_only c.options) device nodes new) (id-is room id has.lowest) has in
       let size : length_told told ≡ device.size = ap (λ (n : Option ℕ). unwrap_or n 0) fresh.length_is in
       subst (λ (o : List Opened). Middle (changed t (AddFile (file_row (free_id t) c.node_name (length_told told) (is_read_only c.options) filename None))) new o p)
       (sym fresh.opened)

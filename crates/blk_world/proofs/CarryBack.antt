@@ -12,13 +12,15 @@ use Rattle.flat_machine.specs.State.{State}
 use Rattle.flat_machine.specs.Machine.{replay}
 use Rattle.flat_machine.specs.Opening.{start}
 use Rattle.flat_machine.specs.Comes.{IsHistoryOf, guests_after}
-use Rattle.flat_machine.specs.Final.{bytes_of}
+use Rattle.flat_machine.specs.Final.{bytes_named}
+use Rattle.flat_machine.specs.Imaging.{ImagesAreSound}
 use Rattle.flat_machine.specs.Licence.{AreLicensed, IsBetween, faults_of}
 use Rattle.flat_machine.specs.declared.opening.Opening.{Opening}
 use Rattle.flat_machine.proofs.Kept.{changes_keep}
 use Rattle.flat_machine.proofs.ImagesChanged.{all_images_keep}
+use Rattle.flat_machine.proofs.ImagesKept.{sound_same}
 use Rattle.world_parts.specs.Progress.{Progress, ended_in}
-use Rattle.world_parts.specs.Face.{Face, first_counts, counts_now, contents_of, dirty_of}
+use Rattle.world_parts.specs.Face.{Face, first_counts, counts_now, contents_of, dirty_of, held}
 use Rattle.world_commands.specs.Comes.{Comes, Shows}
 use Rattle.world_commands.specs.Tabling.{IsTableAfter}
 use Rattle.world_commands.specs.Carrying.{IsPutBack, IsPutBackBy, IsPutBackIn}
@@ -29,7 +31,7 @@ use Rattle.world_commands.proofs.Placed.{put_back, put_back_by, put_back_in}
 module _ (w v : Face) (is : IsPutBack w v) (o : Opening) (comes : Comes o w) where
   still-shows : is_some w.files ≡ true → (s : State) → Shows o s w → Shows o s v
   still-shows told s shows =
-      let now = changes_keep (bytes_of o.files) [] s (contents_of w) (contents_of v) tt (quiet-called w v is.files is.table is.called) shows.contents in
+      let now = changes_keep (bytes_named o.files) [] s (contents_of w) (contents_of v) tt (quiet-called w v is.files is.table is.called) shows.contents in
       record {
         stands = shows.stands;
         dirty = shows.dirty ∙ sym (ap (map dirty_in) is.bitmaps);
@@ -43,7 +45,7 @@ module _ (w v : Face) (is : IsPutBack w v) (o : Opening) (comes : Comes o w) whe
           ended_are = shows.guests.ended_are ∙ ap (λ (p : Progress). ended_in p.log.events) (sym is.progress);
         };
         contents = now;
-        images = all_images_keep (bytes_of o.files) [] s (contents_of w) (contents_of v) tt tt tt shows.stands.stands shows.contents
+        images = all_images_keep (bytes_named o.files) [] s (contents_of w) (contents_of v) tt tt tt shows.stands.stands shows.contents
             (quiet-called w v is.files is.table is.called) shows.images;
       }
 
@@ -55,6 +57,11 @@ module _ (w v : Face) (is : IsPutBack w v) (o : Opening) (comes : Comes o w) whe
     rises = All-weaker (IsBetween (first_counts w) (counts_now w)) (IsBetween (first_counts v) (counts_now v)) (between-on w v is.runs) (faults_of w.progress.log.events) comes.history.licensed.rises;
     once = comes.history.licensed.once;
   }
+
+  still-sound : is_some v.files ≡ true → ImagesAreSound v.table (held v)
+  still-sound told =
+      let quiet = quiet-called w v is.files is.table is.called in
+      sound_same w.table v.table (held w) (held v) is.table (λ name. quiet.files name (λ never. never)) (comes.sound (sym is.runs.told ∙ told))
 
   pub put_back_comes : Comes o v
   put_back_comes = record {
@@ -73,6 +80,7 @@ module _ (w v : Face) (is : IsPutBack w v) (o : Opening) (comes : Comes o w) whe
     shows = λ told.
         let was = sym is.runs.told ∙ told in
         subst (λ (es : List Event). Shows o (replay (start o) es) v) (sym same-events) (still-shows was (replay (start o) w.progress.log.events) (comes.shows was));
+    sound = still-sound;
   }
 
 -- an error before anything was called

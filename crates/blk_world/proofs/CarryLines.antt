@@ -1,6 +1,7 @@
 -- Replies to lines: what they may name, and that the world still comes of its opening.
 use Rattle.std.proofs.Common.{◌≡◌, ℕ, Bool, true, false, List, [], refl, sym, ◌∙◌, ap, subst, Option, Some, None, Ok, Err}
-use Rattle.std.specs.Prelude.{Result, if◌then◌else◌}
+use Rattle.std.specs.Prelude.{Result, if◌then◌else◌, is_some}
+use Rattle.std.proofs.lemmas.List.Elements.{All-nil}
 use Rattle.blk_history.specs.declared.event.Event.{Event}
 use Rattle.blk_history.specs.declared.event.Event.TheVariants.{Reply}
 use Rattle.serde_json.specs.Data.{Data, object, no_members}
@@ -16,20 +17,21 @@ use Rattle.qmp_rules.specs.Changes.{all_changed}
 use Rattle.qmp_rules.specs.Answers.{Answer, answer, answer_by, answer_for, untold, accepted, refused_so, refusal_of, line_refusal, name_refusal, member_refusal, out_of_turn, line_answer, line_text}
 use Rattle.flat_machine.specs.State.{State}
 use Rattle.flat_machine.specs.Legal.{Fits, IsNotDone}
-use Rattle.flat_machine.specs.Marks.{after_later, after_reply, drained_by, marks_of, snapshot_marks}
+use Rattle.flat_machine.specs.Marks.{IsCalm, after_later, after_reply, drained_by, reply_marks, snapshot_marks}
 use Rattle.flat_machine.specs.Replies.{is_accepted, command_in, replied, edits_by}
 use Rattle.flat_machine.specs.Changed.{all_stepped}
+use Rattle.flat_machine.specs.Imaging.{ImagesAreSound}
 use Rattle.flat_machine.specs.Licence.{named_in, named_in_text}
 use Rattle.flat_machine.specs.EventLicence.{IsLicensedBy, IsCommandsFault, IsCommandsFull, RoseIn}
 use Rattle.flat_machine.specs.Performing.{AllPerformed}
 use Rattle.flat_machine.specs.Recording.{dirty_after}
 use Rattle.flat_machine.specs.declared.opening.Opening.{Opening}
 use Rattle.world_parts.specs.Progress.{Progress, with_entry}
-use Rattle.world_parts.specs.Face.{Face, counts_now, contents_of, dirty_of, seen_state}
+use Rattle.world_parts.specs.Face.{Face, counts_now, contents_of, dirty_of, held, seen_state}
 use Rattle.world_commands.specs.Counting.{sources_of, counts_within, RunsOn, HidesNoFault}
 use Rattle.world_commands.specs.Comes.{Comes, Shows}
 use Rattle.world_parts.specs.Saying.{Given, IsSaid}
-use Rattle.world_commands.specs.Carrying.{IsCarried, IsCarriedIn, IsCarriedAs, HasCause, HasFitted, IsReplied, counted, counts_of, reply_entry, would_pass, IsLate, IsPutOff, fault_named, fault_told}
+use Rattle.world_commands.specs.Carrying.{IsCarried, IsCarriedIn, IsCarriedAs, HasAnswerCause, HasFitted, IsReplied, counted, counts_of, reply_entry, would_pass, IsLate, IsPutOff, fault_named, fault_told}
 use Rattle.world_commands.specs.Leaving.{Leaves, LeavesBitmaps, clean_told}
 use Rattle.world_parts.specs.Staging.{site_of}
 use Rattle.world_parts.specs.Steps.{onward, lifted}
@@ -198,26 +200,27 @@ module _ (w : Face) (line : Given) (text : List ℕ) (why : Stop) (bad : command
   stays : (s : State) → replied s line.text text ≡ s
   stays s = ap (λ changes. all_stepped s changes) (ap (edits_by s text) bad)
 
-  unmarked : (s : State) → marks_of s entry ≡ []
-  unmarked s = at (is_accepted text)
+  unmarked : (t : Table) → reply_marks t line.text text ≡ []
+  unmarked t = at (is_accepted text)
     where
-      none : snapshot_marks s.table (command_at line.text) ≡ []
-      none = ap (snapshot_marks s.table) bad
+      none : snapshot_marks t (command_at line.text) ≡ []
+      none = ap (snapshot_marks t) bad
 
-      at : (b : Bool) → (if b then snapshot_marks s.table (command_at line.text) else []) ≡ []
+      at : (b : Bool) → (if b then snapshot_marks t (command_at line.text) else []) ≡ []
       at true = none
       at false = refl
 
   entry_comes : (o : Opening) → IsNotDone (seen_state w) 0 → Comes o w → Comes o (onward w (with_entry entry))
   entry_comes o not_done comes = quiet o w (with_entry entry w.progress) entry comes refl refl
       (record {
+        calm = rw (unmarked w.table) (All-nil (IsCalm w.table w.progress.guests));
         told = told-then;
         counts = refl;
         says = text_is w.table told-then line.text text said-then;
         changes = sym (ap (all_changed w.table) none-changed);
         dirty = sym (ap (dirty_after w.table (dirty_of w)) none-changed);
       })
-      (λ was. coherent-same w.table w.nodes w.opened w.progress was (with_entry entry w.progress) refl) names-none unmarked
+      (λ was. coherent-same w.table w.nodes w.opened w.progress was (with_entry entry w.progress) refl) names-none (λ s. unmarked s.table)
       (λ s shows. (
         fits o s not_done shows,
         subst (λ (now : State). Shows o now (onward w (with_entry entry))) (sym (stays s))
@@ -282,18 +285,18 @@ module _ (w u : Face) (c : Cmd) (refusal' : Option Refusal) (is : IsCarried w u 
   is-command : command_in (command_at line.text) ≡ Some c
   is-command = ap command_in good
 
-  called-by : (first : Option Refusal) → HasCause w u c first
+  called-by : (first : Option Refusal) → HasAnswerCause w u c first
       → IsCommandsFault w.table (sources_of w) (counts_now w) (fault_of (answer_by w.table is.told c first).reply) (Some c)
   called-by None caused = tt
   called-by (Some (refusal.Io source count)) caused = caused.called
   called-by (Some _) caused = tt
 
-  rose-by : (first : Option Refusal) → HasCause w u c first → RoseIn (counts_within w u) (counts_now u) (fault_of (answer_by w.table is.told c first).reply)
+  rose-by : (first : Option Refusal) → HasAnswerCause w u c first → RoseIn (counts_within w u) (counts_now u) (fault_of (answer_by w.table is.told c first).reply)
   rose-by None caused = tt
   rose-by (Some (refusal.Io source count)) caused = caused.reached.new
   rose-by (Some _) caused = tt
 
-  full-by : (first : Option Refusal) → HasCause w u c first
+  full-by : (first : Option Refusal) → HasAnswerCause w u c first
       → IsCommandsFull w.table (sources_of w) (counts_now w) (would_pass w (Some c)) (full_of (answer_by w.table is.told c first).reply) (Some c)
   full-by None caused = tt
   full-by (Some (refusal.NoSpace dev)) caused = (caused.called, caused.passes)
@@ -304,11 +307,11 @@ module _ (w u : Face) (c : Cmd) (refusal' : Option Refusal) (is : IsCarried w u 
   hides-by None hides = hides
   hides-by (Some cause) hides = hides
 
-  fits-by : (first : Option Refusal) → HasCause w u c first → HasFitted w (Some c) (answer_by w.table is.told c first).reply
+  fits-by : (first : Option Refusal) → HasAnswerCause w u c first → HasFitted w (Some c) (answer_by w.table is.told c first).reply
   fits-by None caused = caused
   fits-by (Some _) caused = tt
 
-  cause-first : HasCause w u c (refusal_of w.table is.told c)
+  cause-first : HasAnswerCause w u c (refusal_of w.table is.told c)
   cause-first = rw is.answered is.cause
 
   line-said : IsSaid line.text (line_answer w.table told-so line.text).reply text
@@ -349,9 +352,10 @@ module _ (w u : Face) (line : Given) (text : List ℕ) (c : Cmd) (good : command
   pub answered_replied : IsReplied w (lifted (onward u (with_entry (Reply line.number line.text (Some c) text)))) line
   answered_replied = command_replied w u c is.refusal is.carried line text good is.said is.dirty is.bitmaps
 
-  pub answered_comes : (o : Opening) → IsNotDone (seen_state w) 0 → Comes o w → Comes o (lifted (onward u (with_entry (Reply line.number line.text (Some c) text))))
-  answered_comes o not_done comes =
-      comes-drains o (onward u (with_entry (Reply line.number line.text (Some c) text))) (after_reply u.drains) (carried_comes w u c is.refusal is.carried line.text text good is.said is.dirty line.number o not_done comes)
+  pub answered_comes : (is_some u.files ≡ true → ImagesAreSound u.table (held u)) → (o : Opening) → IsNotDone (seen_state w) 0 → Comes o w
+      → Comes o (lifted (onward u (with_entry (Reply line.number line.text (Some c) text))))
+  answered_comes sound o not_done comes =
+      comes-drains o (onward u (with_entry (Reply line.number line.text (Some c) text))) (after_reply u.drains) (carried_comes w u c is.refusal is.carried line.text text good is.said is.dirty sound line.number o not_done comes)
 
 -- ---- what became of a line
 

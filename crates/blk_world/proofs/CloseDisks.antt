@@ -18,7 +18,7 @@ use Rattle.blk_graph.proofs.GraphLemmas.{PathsAreShort-from_IsSound}
 use Rattle.blk_graph.proofs.ChildLemmas.{HasEdge, child-edge}
 use Rattle.blk_graph.proofs.Members.{find-Some}
 use Rattle.blk_nodes.specs.Contents.{told, below, bytes_by, bytes_of as bytes_at, file_node_disk, disk_by, disk_in, disk_of, Unfolds}
-use Rattle.blk_nodes.specs.Joined.{IsJoined, IsFile, IsPart, IsOverlay, HasBelow, IsSized}
+use Rattle.blk_nodes.specs.Joined.{IsJoined, IsFile, IsPartOfFile, IsOverlay, HasBelow, IsSized}
 use Rattle.blk_nodes.specs.Nodes.{Nodes, DeviceState, row_at, device_in, kind_of, size_by, size_of, file_of, backing_of}
 use Rattle.blk_nodes.specs.declared.row.Driver.{Driver}
 use Rattle.blk_nodes.specs.declared.row.Driver.TheVariants as drivers
@@ -29,7 +29,7 @@ use Rattle.qmp_rules.specs.Chains.{filter_role, filtered, disk_from, disk_node, 
 use Rattle.qmp_rules.specs.Table.{Table, node_at, child}
 use Rattle.blk_history.specs.Fold.{With}
 use Rattle.flat_machine.specs.Agreement.{ReadAsDisks}
-use Rattle.flat_machine.specs.Final.{bytes_of, bytes_under, below_as, row_bytes, node_bytes_in, node_bytes, AreDisks}
+use Rattle.flat_machine.specs.Final.{bytes_named, bytes_under, below_as, row_bytes, node_bytes_in, node_bytes, AreDisks}
 use Rattle.flat_machine.specs.State.{State, filename_of, bytes_in}
 use Rattle.flat_machine.specs.Wiring.{IsDiskOf}
 use Rattle.world_parts.specs.Coherent.{IsCoherent, AreAlike, IsRowOf, offset_of}
@@ -71,7 +71,7 @@ none-long nodes n joined path to is =
     omega (arith, less, joined.sound.few_nodes)
 
 module _ (w : Face) (files : List File) (joined : IsJoined w.nodes) (unfolds : Unfolds w.nodes) (whole : IsCoherent w.table w.nodes w.opened w.progress)
-    (holds : (name : List ℕ) → bytes_of files name ≡ held w name) where
+    (holds : (name : List ℕ) → bytes_named files name ≡ held w name) where
   -- ---- `file` nodes
 
   node-over-is : (n : ℕ) (row : NodeRecord) (name : List ℕ) → Contains w.table.nodes row → row.id ≡ n → row.filename ≡ Some name
@@ -96,7 +96,7 @@ module _ (w : Face) (files : List File) (joined : IsJoined w.nodes) (unfolds : U
       by_name None is some there id = absurd (false≢true some)
       by_name (Some name) is some there id =
           let named : filename_of w.table n ≡ Some name = ap (option_and_then (λ (r : NodeRecord). r.filename)) found ∙ is in
-          ap (λ (f : Option (List ℕ)). unwrap_or (option_and_then (bytes_of files) f) []) named
+          ap (λ (f : Option (List ℕ)). unwrap_or (option_and_then (bytes_named files) f) []) named
           ∙ ap (λ (b : Option (List ℕ)). unwrap_or b []) (holds name ∙ node-over-is n row name there id is)
           ∙ bytes-same (device_in w.nodes.devices n)
 
@@ -130,7 +130,7 @@ module _ (w : Face) (files : List File) (joined : IsJoined w.nodes) (unfolds : U
       ap (λ (s : ℕ). file_disk s (bytes_under files w.table r.id)) size
       ∙ ap (file_disk (size_of w.nodes n)) (ap (bytes_under files w.table) id ∙ file-bytes n r found (is.kind ∙ ap kind_of driver))
   by-driver n turns r row found id there is next (drivers.Raw part) driver =
-      let has : IsPart w.nodes n part.offset part.size = subst (HasBelow w.nodes n row.size) driver (joined.below n row there) in
+      let has : IsPartOfFile w.nodes n part.offset part.size = subst (HasBelow w.nodes n row.size) driver (joined.below n row there) in
       let sized : IsSized row.size (drivers.Raw part) = subst (IsSized row.size) driver (joined.sized n row there) in
       let offset : r.offset ≡ part.offset = is.place ∙ ap offset_of driver in
       let size : r.size ≡ part.size = is.size ∙ sym sized.0 in

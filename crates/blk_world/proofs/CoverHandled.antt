@@ -60,7 +60,7 @@ module _ (w : Face) (whole : IsWhole w) (joined : IsJoined w.nodes) (given : Lis
       → y.table ≡ all_changed w.table (answer w.table told (command.BlockdevSnapshot c)).changes
       → (refusal : Option Refusal) → refusal_of w.table told (command.BlockdevSnapshot c) ≡ refusal
       → DoneIf refusal (IsCoveredBy w.table (command.BlockdevSnapshot c) w.nodes y.nodes) (y.nodes ≡ w.nodes)
-      → (refusal ≡ None → AreCalm (seen_state w) (drained_by w.table (command.BlockdevSnapshot c)))
+      → (refusal ≡ None → AreCalm w.table w.progress.guests (drained_by w.table (command.BlockdevSnapshot c)))
       → Answered (command.BlockdevSnapshot c) text (record v { drains = w.drains })
   by_refusal c text told tells said table None none done calm =
       let all = covering_done w c told tells (may c told tells) whole joined none y.nodes y.table table done (calm refl) in

@@ -1,5 +1,5 @@
 -- Why a creation failed: the store or the device that it calls failed in it, or the device had no space.
-use Rattle.std.proofs.Common.{◌≡◌, ℕ, ◌<◌, ◌≤◌, ◌^◌, List, refl, sym, ap, subst, arith, Option, Some, Err}
+use Rattle.std.proofs.Common.{◌≡◌, ℕ, ◌<◌, ◌≤◌, ◌^◌, List, refl, sym, ap, subst, arith, Option, Some, None, Err}
 use Rattle.std.specs.Prelude.{unwrap_or}
 use Rattle.blk_base.specs.Counts.{Rose}
 use Rattle.blk_base.specs.declared.fault.DevNo.{DevNo}
@@ -19,6 +19,8 @@ use Rattle.qmp_codec.specs.declared.nodes.CreateQcow2.{CreateQcow2}
 use Rattle.qmp_codec.specs.declared.nodes.Created.{Created}
 use Rattle.qmp_codec.specs.declared.nodes.Created.TheVariants as created
 use Rattle.qmp_rules.specs.Asks.{id_or}
+use Rattle.qmp_rules.specs.Answers.{refusal_of}
+use Rattle.qmp_rules.specs.Looks.{create_told}
 use Rattle.qmp_rules.specs.declared.refusal.Refusal.{Refusal}
 use Rattle.qmp_rules.specs.declared.refusal.Refusal.TheVariants as refusal
 use Rattle.flat_machine.specs.EventLicence.{IsOfCreation}
@@ -26,7 +28,7 @@ use Rattle.flat_machine.specs.Licence.{fault_at}
 use Rattle.world_commands.specs.Carrying.{IsCaused}
 use Rattle.world_parts.specs.Coherent.{AreOut}
 use Rattle.world_commands.specs.Counting.{IsNumbered, RunsOn, IsReached, sources_of}
-use Rattle.world_parts.specs.Creating.{CanCreate, CanFormat, HasFailed, HasStopped, IsFailed, creation_for}
+use Rattle.world_parts.specs.Creating.{CanCreate, CanFormat, HasMakingFailed, HasStopped, IsFailed, creation_for}
 use Rattle.world_parts.specs.Deleting.{ground_of}
 use Rattle.world_parts.specs.Face.{Face, counts_now}
 use Rattle.world_commands.proofs.CountLemmas.{numbered, reached-held}
@@ -42,9 +44,13 @@ module _ (w v : Face) (c : BlockdevCreate (List ℕ)) (runs : RunsOn w v) (count
   abbrev cmd : Created (List ℕ) → Cmd
   cmd options = command.BlockdevCreate (record c { options = options })
 
+  -- nothing refuses it before any call
+  abbrev IsUnrefused : Created (List ℕ) → Type 0
+  IsUnrefused options = refusal_of w.table (create_told options w.room) (cmd options) ≡ None
+
   -- ---- the store failed
 
-  store-failed : (f : CreateFile (List ℕ)) (cause : Refusal) → HasFailed f.filename (ground_of w).store (ground_of v).store cause → FitsSo cause
+  store-failed : (f : CreateFile (List ℕ)) (cause : Refusal) → HasMakingFailed f.filename (ground_of w).store (ground_of v).store cause → FitsSo cause
       → IsCaused w v (cmd (created.File f)) cause
   store-failed f cause failed fits =
       let rose = failed.rose in
@@ -65,7 +71,7 @@ module _ (w v : Face) (c : BlockdevCreate (List ℕ)) (runs : RunsOn w v) (count
 
   -- ---- a device
 
-  module _ (q : CreateQcow2 (List ℕ)) (can : CanFormat w.table q w.nodes) where
+  module _ (q : CreateQcow2 (List ℕ)) (taken : IsUnrefused (created.Qcow2 q)) (can : CanFormat w.table q w.nodes) where
     node_is : id_or 0 w.table (Some q.file) ≡ can.node
     node_is = ap (λ (o : Option ℕ). unwrap_or o 0) can.found
 
@@ -111,7 +117,7 @@ module _ (w v : Face) (c : BlockdevCreate (List ℕ)) (runs : RunsOn w v) (count
         (record {
           called = called-by made.before made.held;
           numbered = subst (λ (d : DevNo). IsNumbered (Dev d)) named small;
-          passes = rw found has.0;
+          passes = (taken, rw found has.0);
         })
 
     image-failed : (cause : Refusal) → HasStopped (id_or 0 w.table (Some q.file)) (ground_of w) (ground_of v) (creation_for q) cause → FitsSo cause
@@ -127,12 +133,12 @@ module _ (w v : Face) (c : BlockdevCreate (List ℕ)) (runs : RunsOn w v) (count
             full-so cause failed.why failed.formatted.format fits dev is (sym same)
         by_why stop.NoMemory is = absurd (let said = rw is at failed.is in let bad : ⊥ = cc said in bad)
 
-  by-options : (options : Created (List ℕ)) (cause : Refusal) → CanCreate w.table options (ground_of w)
+  by-options : (options : Created (List ℕ)) (cause : Refusal) → IsUnrefused options → CanCreate w.table options (ground_of w)
       → IsFailed w.table options (ground_of w) (ground_of v) cause → FitsSo cause → IsCaused w v (cmd options) cause
-  by-options (created.File f) cause can failed fits = store-failed f cause failed.1 fits
-  by-options (created.Qcow2 q) cause can failed fits = image-failed q can cause failed fits
-  by-options created.Unknown cause can failed fits = absurd failed
+  by-options (created.File f) cause taken can failed fits = store-failed f cause failed.1 fits
+  by-options (created.Qcow2 q) cause taken can failed fits = image-failed q taken can cause failed fits
+  by-options created.Unknown cause taken can failed fits = absurd failed
 
-  pub created_causes : (cause : Refusal) → CanCreate w.table c.options (ground_of w)
+  pub created_causes : (cause : Refusal) → IsUnrefused c.options → CanCreate w.table c.options (ground_of w)
       → IsFailed w.table c.options (ground_of w) (ground_of v) cause → FitsSo cause → IsCaused w v (command.BlockdevCreate c) cause
-  created_causes cause can failed fits = by-options c.options cause can failed fits
+  created_causes cause taken can failed fits = by-options c.options cause taken can failed fits

@@ -59,4 +59,4 @@ module _ (w : Face) (now : Ground) (once : AllPairs DifferInNumber w.nodes.devic
 
   pub created_fits : (c : BlockdevCreate (List ℕ)) → HasCreated w.table c.options (ground_of w) now → FitsAll w
       (command.BlockdevCreate c)
-  created_fits c made dev = fits-of c.options made dev
+  created_fits c made dev called passes = fits-of c.options made dev called passes.1

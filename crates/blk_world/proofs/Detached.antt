@@ -44,7 +44,7 @@ use Rattle.blk_nodes.specs.Joined.{IsJoined}
 use Rattle.blk_nodes.specs.Nodes.{Nodes, row_at}
 use Rattle.world_parts.specs.Coherent.{AreAlike, AreAllowed, AreHeld, AreNodesOf, AreOnDisks, AreOnWritable, AreWithin, AskToWrite, HaveDrives, IsCoherent, IsWhole, node_row}
 use Rattle.world_commands.specs.Detaching.{IsDetached}
-use Rattle.world_parts.specs.Face.{Face, contents_of, seen_state, held_by}
+use Rattle.world_parts.specs.Face.{Face, contents_of, held_by}
 use Rattle.world_parts.specs.Progress.{flight_at}
 use Rattle.world_commands.proofs.BitmapsLeft.{left-listed}
 use Rattle.world_commands.proofs.CarryPlain.{quiet-self}
@@ -72,7 +72,7 @@ unfolding changed
 without_it t number = record { rows = refl; edges = refl; devices = refl; guests = refl; jobs = refl }
 
 module _ (w : Face) (whole : IsWhole w) (joined : IsJoined w.nodes) (id : List ℕ) (none : refusal_of w.table untold (command.DeviceDel id) ≡ None)
-    (device : Device) (named : device_named w.table id ≡ Some device) (calm : AreCalm (seen_state w) (device_disk w.table id)) where
+    (device : Device) (named : device_named w.table id ≡ Some device) (calm : AreCalm w.table w.progress.guests (device_disk w.table id)) where
   was : IsCoherent w.table w.nodes w.opened w.progress
   was = whole.coherent
 
@@ -156,12 +156,12 @@ module _ (w : Face) (whole : IsWhole w) (joined : IsJoined w.nodes) (id : List �
       by_row None e bad = absurd cc
       by_row (Some row) e is = (row, e, is)
 
-  own_calm : (drive : ℕ) → drive_of w.table number ≡ Some drive → IsCalm (seen_state w) (disk_node w.table drive)
+  own_calm : (drive : ℕ) → drive_of w.table number ≡ Some drive → IsCalm w.table w.progress.guests (disk_node w.table drive)
   own_calm drive on =
       let disk : device_disk w.table id ≡ disk_node w.table drive ∷ [] =
       ap (λ (found : Option Device). ids_of (option_and_then (λ (d : Device). disk_of_guest w.table d.number) found)) named
       ∙ ap (λ (found : Option ℕ). ids_of (option_map (disk_node w.table) found)) on in
-      All-head (IsCalm (seen_state w)) (disk_node w.table drive) [] (subst (AreCalm (seen_state w)) disk calm)
+      All-head (IsCalm w.table w.progress.guests) (disk_node w.table drive) [] (subst (AreCalm w.table w.progress.guests) disk calm)
 
   -- a disk reads as itself
   itself : (drive : ℕ) → drive_of w.table number ≡ Some drive → disk_node w.table (disk_node w.table drive) ≡ disk_node w.table drive
@@ -315,7 +315,7 @@ module _ (w : Face) (whole : IsWhole w) (joined : IsJoined w.nodes) (id : List �
 
 -- as it was said to go
 pub detachment_done : (w : Face) (whole : IsWhole w) (joined : IsJoined w.nodes) (id : List ℕ) (none : refusal_of w.table untold (command.DeviceDel id) ≡ None)
-    (calm : AreCalm (seen_state w) (device_disk w.table id)) (now : Nodes) (x : Table) → IsDetached w.table id w.nodes now
+    (calm : AreCalm w.table w.progress.guests (device_disk w.table id)) (now : Nodes) (x : Table) → IsDetached w.table id w.nodes now
     → x ≡ all_changed w.table (answer w.table untold (command.DeviceDel id)).changes
     → CarriedUntold w (record w { nodes = now; table = x }) (command.DeviceDel id) None × IsWhole (record w { nodes = now; table = x })
 detachment_done w whole joined id none calm now x done table =

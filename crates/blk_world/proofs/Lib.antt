@@ -9,7 +9,7 @@ pub mod PieceWriters
 pub mod PieceReady
 pub mod PieceNodes
 pub mod ImageTold
-pub mod CloseImages
+pub mod SoundImages
 pub mod PieceTables
 pub mod PieceContents
 pub mod PieceTold

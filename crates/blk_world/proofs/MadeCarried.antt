@@ -30,7 +30,7 @@ use Rattle.blk_nodes.specs.Reading.{OnlyAt}
 use Rattle.blk_nodes.specs.declared.stop.FormatStop.{FormatStop}
 use Rattle.world_parts.specs.Coherent.{IsWhole}
 use Rattle.world_commands.specs.Counting.{AreSameDevices}
-use Rattle.world_parts.specs.Creating.{HasFailed, HasFormatted, with_made}
+use Rattle.world_parts.specs.Creating.{HasMakingFailed, HasFormatted, with_made}
 use Rattle.world_parts.specs.Deleting.{Ground, ground_of}
 use Rattle.world_parts.specs.Face.{Face}
 use Rattle.world_parts.specs.Steps.{StoreSeen}
@@ -88,7 +88,7 @@ module _ (w : Face) (whole : IsWhole w) (id : List ℕ) (c : CreateFile (List �
   failed_table = all_changed w.table (spoiled w.table (created.File c))
 
   pub moves_failed : (none : refusal_of w.table (create_told (created.File c) w.room) file_cmd ≡ None) (store : StoreSeen) (cause : Refusal)
-      → HasFailed c.filename (ground_of w).store store cause → w.faults ≤ store.faults
+      → HasMakingFailed c.filename (ground_of w).store store cause → w.faults ≤ store.faults
       → Moves w (placed w (record { store = store; nodes = w.nodes }) failed_table)
   moves_failed none store cause failed least =
       let asked = file_asked w.table (create_told (created.File c) w.room) id c none in

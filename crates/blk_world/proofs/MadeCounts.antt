@@ -15,7 +15,7 @@ use Rattle.blk_nodes.specs.declared.stop.FormatStop.TheVariants as stop
 use Rattle.world_commands.specs.Carrying.{fault_named}
 use Rattle.world_parts.specs.Coherent.{IsWhole}
 use Rattle.world_commands.specs.Counting.{AreSameDevices, HidesNoFault}
-use Rattle.world_parts.specs.Creating.{HasFailed, HasFormatted, unformatted}
+use Rattle.world_parts.specs.Creating.{HasMakingFailed, HasFormatted, unformatted}
 use Rattle.world_parts.specs.Deleting.{Ground, ground_of}
 use Rattle.world_parts.specs.Face.{Face, counts_from}
 use Rattle.world_parts.specs.Steps.{StoreSeen}
@@ -28,7 +28,7 @@ module _ (w : Face) (whole : IsWhole w) (joined : IsJoined w.nodes) (x : Ground)
   v = placed w x u
 
   -- the store failed to make a file
-  pub hides_failed : (name : List ℕ) (cause : Refusal) → x.nodes ≡ w.nodes → HasFailed name (ground_of w).store x.store cause
+  pub hides_failed : (name : List ℕ) (cause : Refusal) → x.nodes ≡ w.nodes → HasMakingFailed name (ground_of w).store x.store cause
       → HidesNoFault w v (fault_named cause)
   hides_failed name cause nodes failed =
       subst (λ (c : Refusal). HidesNoFault w v (fault_named c)) (sym failed.names)

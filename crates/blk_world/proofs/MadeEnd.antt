@@ -25,7 +25,7 @@ use Rattle.world_commands.specs.Carrying.{IsCarried, IsCarriedAs, IsCaused, Stop
 use Rattle.world_parts.specs.Coherent.{IsWhole}
 use Rattle.world_commands.specs.Counting.{HidesNoFault}
 use Rattle.world_parts.specs.Deleting.{Ground, ground_of}
-use Rattle.world_parts.specs.Face.{Face, contents_of, seen_state}
+use Rattle.world_parts.specs.Face.{Face, contents_of}
 use Rattle.world_parts.specs.Handling.{IsUntouched}
 use Rattle.world_commands.specs.Making.{IsMade, MadeSo, is_creation}
 use Rattle.world_parts.specs.Saying.{IsSaid}
@@ -65,7 +65,7 @@ refused_first w c cause some =
       table = sym (ap (all_changed w.table) changes);
       progress = refl;
       drains = refl;
-      calm = λ is. All-nil (IsCalm (seen_state w));
+      calm = λ is. All-nil (IsCalm w.table w.progress.guests);
       runs = runs-devices w w refl refl refl refl refl refl (same-devices w.nodes.devices);
       hides = subst (HidesNoFault w w) (sym (quiet_named cause quiet)) (hides-same w w refl refl refl);
       opens = refl;

@@ -31,7 +31,7 @@ use Rattle.world_parts.specs.Coherent.{IsWhole}
 use Rattle.world_commands.specs.Counting.{HidesNoFault}
 use Rattle.world_parts.specs.Creating.{HasCreated, HasFormatted, creation_for}
 use Rattle.world_parts.specs.Deleting.{Ground, ground_of}
-use Rattle.world_parts.specs.Face.{Face, contents_of, seen_state}
+use Rattle.world_parts.specs.Face.{Face, contents_of}
 use Rattle.world_commands.specs.Leaving.{clean_told}
 use Rattle.world_commands.specs.Making.{FitsWords, HasEndedSo, look_of, told_failed}
 use Rattle.world_commands.proofs.Belonging.{belong_of}
@@ -103,7 +103,7 @@ module _ (w : Face) (whole : IsWhole w) (c : BlockdevCreate (List ℕ)) (none : 
         hides = hides;
         opens = ap opened_names moves.opened;
         site = (clean_first c.options w.room, created_is);
-        calm = λ is. All-nil (IsCalm (seen_state w));
+        calm = λ is. All-nil (IsCalm w.table w.progress.guests);
         cause = created_fits w x whole.coherent.out.once c created_is;
         coherent = moved_coherent w v moves rest;
         shows = λ told_files o s shows. told_by_room o s w v c shows
@@ -151,9 +151,9 @@ module _ (w : Face) (whole : IsWhole w) (c : BlockdevCreate (List ℕ)) (none : 
         hides = hides;
         opens = ap opened_names moves.opened;
         site = inr (record { told_is = clean_failed c.job_id c.options w.room cause; accepted = none; ended = ended });
-        calm = λ is. All-nil (IsCalm (seen_state w));
+        calm = λ is. All-nil (IsCalm w.table w.progress.guests);
         cause = created_causes w failed_then c (moved_runs w failed_then moves) whole.counted moves.opened whole.coherent.out
-            (out-same w.table w.nodes x.nodes w.opened moves.nodes.devices whole.coherent.out) cause can ended.failed (FitsSo-of cause ended.fits);
+            (out-same w.table w.nodes x.nodes w.opened moves.nodes.devices whole.coherent.out) cause none can ended.failed (FitsSo-of cause ended.fits);
         coherent = moved_coherent w failed_then moves rest;
         shows = λ told_files o s shows. told_by_failure o s w failed_then c.job_id c.options (ground_of w) x cause shows none ended.failed
             (subst (λ (cs : List Change). AllPerformed s cs (contents_of w) (contents_of failed_then)) (sym changes) (performed s told_files shows.table.table_is));

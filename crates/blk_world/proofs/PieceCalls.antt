@@ -1,5 +1,5 @@
 -- The calls that make a piece: what each asks, and what they leave together.
-use Rattle.std.proofs.Common.{◌≡◌, ℕ, List, map, Option, Some, None, refl, sym, ◌∙◌, ap, subst}
+use Rattle.std.proofs.Common.{◌≡◌, ℕ, List, Option, Some, None, refl, sym, ◌∙◌, ap, subst}
 use Rattle.std.specs.Prelude.{IsSome}
 use Rattle.std.proofs.lemmas.Bool.{false≢true}
 use Rattle.blk_base.specs.declared.fault.Outcome.{Outcome}
@@ -9,18 +9,17 @@ use Rattle.blk_history.specs.Fold.{With}
 use Rattle.blk_history.specs.Machine.{Flight}
 use Rattle.qmp_rules.specs.Chains.{disk_node}
 use Rattle.qmp_rules.specs.Table.{Table, device_at}
-use Rattle.flat_machine.specs.Bitmaps.{AreBitmapsOf, dirty_in}
 use Rattle.flat_machine.specs.Legal.{IsForbidden}
-use Rattle.flat_machine.specs.Recording.{dirty_by}
 use Rattle.flat_machine.specs.State.{drive_of}
 use Rattle.flat_machine.specs.declared.opening.Opening.{Opening}
 use Rattle.blk_nodes.specs.Joined.{IsJoined}
 use Rattle.blk_nodes.specs.Nodes.{Nodes}
 use Rattle.world_parts.specs.Coherent.{IsCoherent, IsWhole}
 use Rattle.world_commands.specs.Comes.{Comes}
-use Rattle.world_parts.specs.Face.{Face, dirty_of}
-use Rattle.world_commands.specs.Piecing.{CanTransfer, IsMadeOn, IsPieceMade, HasPieceLicence, Transfers, part_of, table_after}
-use Rattle.world_parts.specs.Progress.{Progress, HasNext, flight_at}
+use Rattle.world_parts.specs.Face.{Face}
+use Rattle.world_commands.specs.Piecing.{CanTransfer, IsMadeOn, IsPieceMade, HasPieceLicence, Transfers, part_of, shown_by, table_after}
+use Rattle.world_commands.specs.Recorded.{noted_after, written_in}
+use Rattle.world_parts.specs.Progress.{Progress, HasNext, flight_at, with_piece}
 use Rattle.world_commands.proofs.CountLemmas.{IsThere, there}
 use Rattle.blk_world.proofs.PieceComes.{piece_comes, piece_licence, piece_whole}
 use Rattle.world_parts.proofs.InStep.{with-at}
@@ -59,9 +58,9 @@ drive_there t nodes p opened coherent g next none =
 pub made_of : (w : Face) (nodes : Nodes) (table : Table) (p : Progress) (bitmaps : List Bitmap) (g drive node : ℕ) (f : Flight) (outcome : Outcome) (op : Op)
     → drive_of w.table g ≡ Some drive → node ≡ disk_node w.table drive
     → f.op ≡ op → table ≡ table_after op node w.table → IsMadeOn w.nodes nodes w.progress p node g f outcome
-    → map dirty_in bitmaps ≡ dirty_by f.op outcome (part_of f) drive table (dirty_of w)
+    → bitmaps ≡ noted_after outcome (written_in f.op (part_of f)) drive table w.bitmaps
     → IsPieceMade w (record w { nodes = nodes; table = table; progress = p; bitmaps = bitmaps }) g f outcome
-made_of w nodes table p bitmaps g drive node f outcome op on is_node asks noted made dirty = record {
+made_of w nodes table p bitmaps g drive node f outcome op on is_node asks noted made recorded = record {
   drive = drive;
   buffer = made.buffer;
   on = on;
@@ -71,8 +70,15 @@ made_of w nodes table p bitmaps g drive node f outcome op on is_node asks noted 
   kept =
       ap (λ (t : Table). let v : Face = record w { nodes = nodes; table = t; progress = p; bitmaps = bitmaps } in v)
       (noted ∙ ap (λ (o : Op). table_after o node w.table) (sym asks) ∙ ap (λ (n : ℕ). table_after f.op n w.table) is_node)
-      ∙ ap (λ (q : Progress). let v : Face = record w { nodes = nodes; table = table_after f.op (disk_node w.table drive) w.table; progress = q; bitmaps = bitmaps } in v) made.noted;
-  dirty = dirty;
+      ∙ ap (λ (q : Progress). let v : Face = record w { nodes = nodes; table = table_after f.op (disk_node w.table drive) w.table; progress = q; bitmaps = bitmaps } in v) made.noted
+      ∙ ap
+      (λ (rows : List Bitmap). let v : Face = record w {
+        nodes = nodes;
+        table = table_after f.op (disk_node w.table drive) w.table;
+        progress = with_piece g f.next outcome (shown_by f outcome made.buffer) w.progress;
+        bitmaps = rows;
+      } in v)
+      recorded;
 }
 
 module _ (w v : Face) (g : ℕ) (outcome : Outcome) (next : With (flight_at w.progress.guests g) HasNext)
@@ -82,10 +88,10 @@ module _ (w v : Face) (g : ℕ) (outcome : Outcome) (next : With (flight_at w.pr
   flight = there (flight_at w.progress.guests g) HasNext next
 
   pub made_comes : IsJoined v.nodes → (o : Opening) → Comes o w → Comes o v
-  made_comes = piece_comes w v g flight.at outcome (made flight.at flight.is) flight.holds flight.is joined whole.coherent whole.tell
+  made_comes = piece_comes w v g flight.at outcome (made flight.at flight.is) flight.holds flight.is joined whole.coherent whole.tell whole.bitmaps
 
-  pub made_whole : AreBitmapsOf v.table.bitmaps v.bitmaps → IsJoined v.nodes → IsWhole v
-  made_whole = piece_whole w v g flight.at outcome (made flight.at flight.is) flight.holds flight.is joined whole.coherent whole.tell whole.counted
+  pub made_whole : IsJoined v.nodes → IsWhole v
+  made_whole = piece_whole w v g flight.at outcome (made flight.at flight.is) flight.holds flight.is joined whole.coherent whole.tell whole.counted whole.bitmaps
 
   pub made_licence : (f : Flight) (flies : flight_at w.progress.guests g ≡ Some f) → (m : IsPieceMade w v g f outcome) × HasPieceLicence w v g f outcome m
   made_licence f flies = (made f flies, piece_licence w v g f outcome (made f flies) (next_at (flight_at w.progress.guests g) f next flies) flies joined whole.coherent)

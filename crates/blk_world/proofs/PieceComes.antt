@@ -1,5 +1,5 @@
 -- A piece leaves a world that comes of the same opening.
-use Rattle.std.proofs.Common.{◌≡◌, ℕ, ◌≤◌, Bool, true, false, List, Option, Some, None, refl, sym, ◌∙◌, ap, subst}
+use Rattle.std.proofs.Common.{◌≡◌, ℕ, ◌<◌, ◌≤◌, ◌^◌, arith, Bool, true, false, List, Option, Some, None, refl, sym, ◌∙◌, ap, subst}
 use Rattle.std.specs.Prelude.{is_some}
 use Rattle.std.proofs.lemmas.List.Elements.{All-nil}
 use Rattle.blk_base.specs.Pieces.{Extent}
@@ -23,6 +23,7 @@ use Rattle.flat_machine.specs.Licence.{fault_at, named_by}
 use Rattle.flat_machine.specs.Machine.{after}
 use Rattle.flat_machine.specs.Marks.{IsCalm}
 use Rattle.flat_machine.specs.State.{State, Guest, drive_of}
+use Rattle.flat_machine.specs.Unique.{IsSmallOutcome}
 use Rattle.flat_machine.specs.Writing.{CanWrite, ReadsWritten, written_file}
 use Rattle.flat_machine.specs.Imaging.{KeepsMapping}
 use Rattle.flat_machine.specs.declared.opening.Opening.{Opening}
@@ -30,18 +31,21 @@ use Rattle.flat_machine.proofs.Resting.{guest_can}
 use Rattle.blk_nodes.specs.Joined.{IsJoined}
 use Rattle.blk_nodes.specs.Nodes.{DeviceState, AreTold, device_in, is_of}
 use Rattle.blk_nodes.specs.Reading.{StoppedAt, StoppedBy}
-use Rattle.blk_nodes.specs.Writing.{IsApart}
+use Rattle.blk_nodes.specs.Writing.{IsApart, own_file}
 use Rattle.blk_nodes.specs.declared.row.Row.{Row}
 use Rattle.world_parts.specs.Coherent.{IsCoherent, IsWhole, DevicesTell}
 use Rattle.world_commands.specs.Comes.{Comes, Shows}
 use Rattle.world_commands.specs.Counting.{RunsOn, IsReached, IsReachedBy, sources_of, counts_within, HidesNoFault}
-use Rattle.world_parts.specs.Face.{Face, dirty_of, held, counts_now, device_numbered, node_over, contents_of}
-use Rattle.world_commands.specs.Piecing.{Transfers, IsPieceMade, HasPieceLicence, CanTransfer, CountFits, PassesBy, table_after, part_of, piece_entry, piece_passes, shown_by}
+use Rattle.world_parts.specs.Face.{Face, dirty_of, held, counts_now, node_over, contents_of}
+use Rattle.world_commands.specs.Piecing.{Transfers, IsPieceMade, HasPieceLicence, CanTransfer, PassesBy, table_after, part_of, piece_entry, piece_passes, shown_by}
 use Rattle.world_parts.specs.Progress.{Progress, HasNext, flight_at, done_at, ended_in, with_piece}
 use Rattle.flat_machine.specs.Bitmaps.{AreBitmapsOf}
+use Rattle.flat_machine.specs.Recording.{dirty_by}
+use Rattle.world_commands.specs.Recorded.{noted_after, written_in}
 use Rattle.world_commands.specs.Tabling.{piece_table, piece_dirty}
+use Rattle.world_commands.proofs.BitmapsChanged.{noted-follow, noted-listed}
 use Rattle.world_commands.proofs.Coherence.{coherent-past}
-use Rattle.world_commands.proofs.CountLemmas.{runs-devices, reached-held, licensed-on, numbered, out-same}
+use Rattle.world_commands.proofs.CountLemmas.{runs-devices, reached-held, licensed-on, out-same}
 use Rattle.world_commands.proofs.CountsKept.{counts-same, hides-none, hides-stopped}
 use Rattle.world_commands.proofs.DeletedContents.{over-row}
 use Rattle.blk_world.proofs.ImageTold.{mapping_kept}
@@ -53,14 +57,14 @@ use Rattle.blk_world.proofs.PieceNodes.{AreAfter, nodes_after, StoppedOn, IsStop
 use Rattle.blk_world.proofs.PieceReady.{IsGuestDisk, disk_is, writer, can_transfer, is_apart}
 use Rattle.blk_world.proofs.PieceShows.{piece_done, piece_shows}
 use Rattle.blk_world.proofs.PieceTold.{told_after}
+use Rattle.blk_world.proofs.SoundImages.{images-sound}
 use Rattle.blk_world.proofs.PieceTables.{coherent_moved, eased_after, rests_after, disks_after}
 use Rattle.world_commands.proofs.Pushing.{comes-push}
 
--- ---- a device by its number
+-- ---- a device, by its number, and its count
 
-numbered_by : (w : Face) → IsCoherent w.table w.nodes w.opened w.progress → (file : ℕ) (x : DeviceState) → device_in w.nodes.devices file ≡ Some x
-    → device_numbered w.nodes.devices x.number.0 ≡ Some x
-numbered_by w was file x held = numbered w.nodes.devices x was.out.once (find-Some (is_of file) w.nodes.devices x held).0
+of_64 : (count : ℕ) → count < 2 ^ 64 → count ≤ 18446744073709551615
+of_64 count less = omega arith
 
 -- what stopped the piece is the device that it names
 stop_names : (before after : DeviceState) (outcome : Outcome) (dev : DevNo) → IsStop before after outcome dev → dev ≡ before.number
@@ -107,6 +111,9 @@ module _ (w v : Face) (g : ℕ) (f : Flight) (outcome : Outcome) (made : IsPiece
   table_kept : v.table ≡ table_after f.op node w.table
   table_kept = ap (λ (x : Face). x.table) made.kept
 
+  noted : v.bitmaps ≡ noted_after outcome (written_in f.op part) made.drive v.table w.bitmaps
+  noted = ap (λ (x : Face). x.bitmaps) made.kept
+
   pub piece_runs : RunsOn w v
   piece_runs =
       runs-devices w v (ap (λ (x : Face). is_some x.files) made.kept) (ap (λ (x : Face). x.room) made.kept) (ap (λ (x : Face). x.first_faults) made.kept)
@@ -122,13 +129,22 @@ module _ (w v : Face) (g : ℕ) (f : Flight) (outcome : Outcome) (made : IsPiece
       subst (λ (x : Face). IsCoherent x.table x.nodes x.opened x.progress) (sym made.kept) now
 
   -- and its devices tell their bytes where they did
-  pub piece_whole : DevicesTell w.files w.nodes.devices → w.first_faults ≤ w.faults → AreBitmapsOf v.table.bitmaps v.bitmaps → IsJoined v.nodes → IsWhole v
+  tell_then : DevicesTell w.files w.nodes.devices → IsJoined v.nodes → DevicesTell v.files v.nodes.devices
+  tell_then tell now = λ tells.
+      told_after f.op w.nodes v.nodes node part outcome made.buffer joined now made.transferred (tell (sym (ap (λ (x : Face). is_some x.files) made.kept) ∙ tells))
+
+  pub piece_whole : DevicesTell w.files w.nodes.devices → w.first_faults ≤ w.faults → AreBitmapsOf w.table.bitmaps w.bitmaps → IsJoined v.nodes → IsWhole v
   piece_whole tell counted bitmaps now = record {
     coherent = piece_coherent;
-    tell = λ tells. told_after f.op w.nodes v.nodes node part outcome made.buffer joined now made.transferred (tell (sym (ap (λ (x : Face). is_some x.files) made.kept) ∙ tells));
+    tell = tell_then tell now;
     counted = subst (λ (x : Face). x.first_faults ≤ x.faults) (sym made.kept) counted;
-    bitmaps = bitmaps;
+    bitmaps = noted-listed outcome made.drive w.bitmaps (written_in f.op part) v.bitmaps w.table v.table node f.op table_kept noted bitmaps;
   }
+
+  -- what is dirty then, by the table alone
+  dirty_then : AreBitmapsOf w.table.bitmaps w.bitmaps → dirty_of v ≡ dirty_by f.op outcome part made.drive v.table (dirty_of w)
+  dirty_then bitmaps =
+      noted-follow f.op part outcome made.drive w.bitmaps (written_in f.op part) v.bitmaps w.table v.table node f.op table_kept refl noted bitmaps
 
   -- ---- its fault
 
@@ -152,14 +168,14 @@ module _ (w v : Face) (g : ℕ) (f : Flight) (outcome : Outcome) (made : IsPiece
       subst (λ (d : DevNo). IsReached w v (fault_at (Dev d) count)) (sym by.named)
       (reached-held w v stop.before stop.after count piece_runs opened_kept was.out (out-same w.table w.nodes v.nodes w.opened moved.devices was.out) held held_now same.number own fits)
 
-  reached : (o : Outcome) → outcome ≡ o → CountFits o → IsReachedBy w v (named_by o)
+  reached : (o : Outcome) → outcome ≡ o → IsSmallOutcome o → IsReachedBy w v (named_by o)
   reached Good is fits = tt
   reached (Torn done dev count) is fits =
       let stop = stopped dev (ap device_named is) in
-      reached_by dev count stop (subst (λ (o : Outcome). IsStop stop.before stop.after o dev) is stop.stop) fits
+      reached_by dev count stop (subst (λ (o : Outcome). IsStop stop.before stop.after o dev) is stop.stop) (of_64 count fits.2)
   reached (Io dev count) is fits =
       let stop = stopped dev (ap device_named is) in
-      reached_by dev count stop (subst (λ (o : Outcome). IsStop stop.before stop.after o dev) is stop.stop) fits
+      reached_by dev count stop (subst (λ (o : Outcome). IsStop stop.before stop.after o dev) is stop.stop) (of_64 count fits.1)
   reached (NoSpace dev) is fits = tt
 
   pub piece_reached : IsReachedBy w v (named_by outcome)
@@ -177,10 +193,13 @@ module _ (w v : Face) (g : ℕ) (f : Flight) (outcome : Outcome) (made : IsPiece
       let did : Transfers f.op w.nodes v.nodes node part (NoSpace dev) made.buffer =
       subst (λ (o : Outcome). Transfers f.op w.nodes v.nodes node part o made.buffer) is made.transferred in
       let full = full_of w.nodes v.nodes node f.op part made.buffer dev (payload_length f.op part) can.may did in
-      let found : device_numbered w.nodes.devices dev.0 ≡ Some full.before =
-      ap (λ (d : DevNo). device_numbered w.nodes.devices d.0) full.named ∙ numbered_by w was full.file full.before full.held in
-      subst (λ (row : Option Row). With row (λ r. With (device_numbered w.nodes.devices dev.0) (λ device. PassesBy r.driver f.op part device.capacity))) (sym full.there)
-      (subst (λ (found' : Option DeviceState). With found' (λ device. PassesBy full.row.driver f.op part device.capacity)) (sym found) full.passes)
+      subst
+      (λ (row : Option Row). With row (λ r. With (own_file w.nodes node r.driver) (λ file. With (device_in w.nodes.devices file)
+      (λ device. (device.number.0 ≡ dev.0) × PassesBy r.driver f.op part device.capacity)))) (sym full.there)
+      (subst (λ (own : Option ℕ). With own (λ file. With (device_in w.nodes.devices file) (λ device. (device.number.0 ≡ dev.0) × PassesBy full.row.driver f.op part device.capacity)))
+      (sym full.own)
+      (subst (λ (found : Option DeviceState). With found (λ device. (device.number.0 ≡ dev.0) × PassesBy full.row.driver f.op part device.capacity)) (sym full.held)
+      (ap (λ (d : DevNo). d.0) (sym full.named), full.passes)))
 
   -- no other count rose
   store_kept : v.faults ≡ w.faults
@@ -225,7 +244,8 @@ module _ (w v : Face) (g : ℕ) (f : Flight) (outcome : Outcome) (made : IsPiece
   apart changes other none =
       is_apart w.table w.nodes joined was.alike was.table.stands node disk.row disk.at disk.held disk.id_is disk.has disk.own disk.own_at disk.alike other none
 
-  module _ (o : Opening) (s : State) (told : AreTold w.nodes.devices) (shows : Shows o s w) (joined_now : IsJoined v.nodes) where
+  module _ (o : Opening) (s : State) (told : AreTold w.nodes.devices) (bitmaps : AreBitmapsOf w.table.bitmaps w.bitmaps) (shows : Shows o s w)
+      (joined_now : IsJoined v.nodes) where
     on_then : drive_of s.table g ≡ Some made.drive
     on_then = ap (λ (t : Table). drive_of t g) shows.table.table_is ∙ made.on
 
@@ -239,7 +259,7 @@ module _ (w v : Face) (g : ℕ) (f : Flight) (outcome : Outcome) (made : IsPiece
         piece_shows o s w v g f.next made.drive f outcome entry (done_at w.progress.guests g) (shown_by f outcome made.buffer) refl shows on_then
         (ap (λ (guests : List Guest). flight_at guests g) shows.guests.guests_are ∙ flies)
         (ap (λ (x : Face). x.room) made.kept) table_kept (ap (λ (x : Face). x.progress.guests) made.kept)
-        (ap (λ (x : Face). ended_in x.progress.log.events) made.kept ∙ ended-push w.progress.log.events entry refl) made.dirty
+        (ap (λ (x : Face). ended_in x.progress.log.events) made.kept ∙ ended-push w.progress.log.events entry refl) (dirty_then bitmaps)
         can_write (piece_done s w.table w v made.drive f.op outcome part made.buffer shows.table.table_is made.transferred apart told held_else)
         (subst (λ (t : Table). KeepsMapping t (disk_node t made.drive) (contents_of w) (contents_of v)) (sym shows.table.table_is)
         (mapping_kept w v was.alike joined joined_now was.table.stands moved told over_kept node))
@@ -247,8 +267,8 @@ module _ (w v : Face) (g : ℕ) (f : Flight) (outcome : Outcome) (made : IsPiece
     pub fits_then : Fits s entry
     fits_then = piece_fits o s w v g made.drive f outcome made.buffer disk.row shows told made.on disk.at disk.has flies next made.transferred
 
-  pub piece_comes : DevicesTell w.files w.nodes.devices → IsJoined v.nodes → (o : Opening) → Comes o w → Comes o v
-  piece_comes told joined_now o comes =
+  pub piece_comes : DevicesTell w.files w.nodes.devices → AreBitmapsOf w.table.bitmaps w.bitmaps → IsJoined v.nodes → (o : Opening) → Comes o w → Comes o v
+  piece_comes told bitmaps joined_now o comes =
       comes-push o w v entry comes (record {
         events = ap (λ (x : Face). x.progress.log.events) made.kept;
         names = ap (λ (t : Table). t.guests) table_kept ∙ (eased_after f.op node w.table).guests;
@@ -259,11 +279,16 @@ module _ (w v : Face) (g : ℕ) (f : Flight) (outcome : Outcome) (made : IsPiece
               table_kept ∙ ap (λ (drive : Option ℕ). piece_table drive (Some f) w.table) (sym made.on)
               ∙ ap (λ (flight : Option Flight). piece_table (drive_of w.table g) flight w.table) (sym flies);
           dirty =
-              made.dirty ∙ ap (λ (drive : Option ℕ). piece_dirty drive (Some f) f.next outcome v.table (dirty_of w)) (sym made.on)
+              dirty_then bitmaps ∙ ap (λ (drive : Option ℕ). piece_dirty drive (Some f) f.next outcome v.table (dirty_of w)) (sym made.on)
               ∙ ap (λ (flight : Option Flight). piece_dirty (drive_of w.table g) flight f.next outcome v.table (dirty_of w)) (sym flies);
         };
         counted = λ least. subst (λ (x : Face). x.first_faults ≤ x.faults) (sym made.kept) least;
         coherent = λ coherent. piece_coherent;
         licensed = licensed-on w v piece_runs w.progress.log.events entry piece_reached;
-        fits = λ tells s shows. (fits_then o s (told tells) shows joined_now, All-nil (IsCalm s), shows_then o s (told tells) shows joined_now);
+        sound = λ tells. images-sound v joined_now piece_coherent (tell_then told joined_now tells);
+        fits = λ tells s shows. (
+          fits_then o s (told tells) bitmaps shows joined_now,
+          All-nil (IsCalm s.table s.guests),
+          shows_then o s (told tells) bitmaps shows joined_now,
+        );
       })

@@ -27,7 +27,7 @@ use Rattle.qmp_rules.specs.declared.rows.NodeRecord.{NodeRecord}
 use Rattle.flat_machine.specs.Agreement.{HasDisk}
 use Rattle.flat_machine.specs.EventLicence.{ReachesDevice}
 use Rattle.flat_machine.specs.Legal.{Fits, guest_disk}
-use Rattle.flat_machine.specs.State.{State, Guest, disk_of as flat_disk, disk_of_guest, drive_of, bytes_in}
+use Rattle.flat_machine.specs.State.{State, Guest, flat_disk_of as flat_disk, disk_of_guest, drive_of, bytes_in}
 use Rattle.flat_machine.specs.Wiring.{TableStands}
 use Rattle.flat_machine.specs.declared.opening.Opening.{Opening}
 use Rattle.flat_machine.proofs.Kept.{own_disk}

@@ -303,6 +303,7 @@ pub record IsFull (old : Nodes) (node : ℕ) (op : Op) (part : Extent) (dev : De
   pub row : Row
   pub there : row_at old node ≡ Some row
   pub file : ℕ
+  pub own : own_file old node row.driver ≡ Some file
   pub before : DeviceState
   pub held : device_in old.devices file ≡ Some before
   pub named : dev ≡ before.number
@@ -319,18 +320,21 @@ module _ (old new : Nodes) (node : ℕ) (part : Extent) (dev : DevNo) (row : Row
         row = row;
         there = there;
         file = wrote.file;
+        own = ap (λ (r : Row). own_file old node r.driver) (sym same) ∙ wrote.own;
         before = wrote.at.before;
         held = wrote.at.held;
         named = cause.1;
         passes = subst (λ (x : Driver). PassesBy x op part wrote.at.before.capacity) (sym driver) (is (omega (arith, cause.0, start, len)));
       }
 
-  image_full : (op : Op) (fits : ℕ → Type 0) (own : Option ℕ) (n : ℕ) (d : Driver) → row.driver ≡ d → (wrote : WritesImage fits own old new node n (NoSpace dev))
+  image_full : (op : Op) (fits : ℕ → Type 0) (own : Option ℕ) (n : ℕ) (d : Driver) → row.driver ≡ d → own_file old node d ≡ file_of old node
+      → (wrote : WritesImage fits own old new node n (NoSpace dev))
       → PassesBy d op part wrote.before.capacity → IsFull old node op part dev
-  image_full op fits own n d driver wrote passes = record {
+  image_full op fits own n d driver below wrote passes = record {
     row = row;
     there = there;
     file = wrote.file;
+    own = ap (own_file old node) driver ∙ below ∙ wrote.edge;
     before = wrote.before;
     held = wrote.held;
     named = wrote.cause.1;
@@ -341,13 +345,13 @@ module _ (old new : Nodes) (node : ℕ) (part : Extent) (dev : DevNo) (row : Row
       → WritesBy d old new node part bytes (NoSpace dev) → IsFull old node (Write span payload) part dev
   write_full span payload bytes len may drivers.File driver wrote = plain_full (Write span payload) bytes drivers.File driver len wrote (λ past. past)
   write_full span payload bytes len may (drivers.Raw p) driver wrote = plain_full (Write span payload) bytes (drivers.Raw p) driver len wrote (λ past. past)
-  write_full span payload bytes len may (drivers.Qcow2 image) driver wrote = image_full (Write span payload) _ _ _ (drivers.Qcow2 image) driver wrote wrote.cause.0
+  write_full span payload bytes len may (drivers.Qcow2 image) driver wrote = image_full (Write span payload) _ _ _ (drivers.Qcow2 image) driver refl wrote wrote.cause.0
   write_full span payload bytes len may drivers.CopyOnRead driver wrote = absurd (not_copying old new node row there driver may)
 
   zero_full : (span : Extent) → MayWrite old node → (d : Driver) → row.driver ≡ d → ZerosBy d old new node part (NoSpace dev) → IsFull old node (Zero span) part dev
   zero_full span may drivers.File driver wrote = plain_full (Zero span) (replicate part.len 0) drivers.File driver (length-replicate part.len 0) wrote (λ past. past)
   zero_full span may (drivers.Raw p) driver wrote = plain_full (Zero span) (replicate part.len 0) (drivers.Raw p) driver (length-replicate part.len 0) wrote (λ past. past)
-  zero_full span may (drivers.Qcow2 image) driver wrote = image_full (Zero span) _ _ _ (drivers.Qcow2 image) driver wrote wrote.cause.0
+  zero_full span may (drivers.Qcow2 image) driver wrote = image_full (Zero span) _ _ _ (drivers.Qcow2 image) driver refl wrote wrote.cause.0
   zero_full span may drivers.CopyOnRead driver wrote = absurd (not_copying old new node row there driver may)
 
 pub full_of : (old new : Nodes) (node : ℕ) (op : Op) (part : Extent) (buffer : List ℕ) (dev : DevNo) → (changes_disk op ≡ true → length (payload_in op part) ≡ part.len) → (changes_disk op ≡ true → MayWrite old node)

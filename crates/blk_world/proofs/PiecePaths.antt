@@ -23,7 +23,7 @@ use Rattle.blk_graph.proofs.RoleLemmas.{same_role-true, same_role-refl, head_pai
 use Rattle.qmp_rules.specs.Chains.{filter_role, filtered, disk_from, disk_node, chain_from, chain, below, has_id, is_over}
 use Rattle.qmp_rules.specs.Table.{Table, node_at, child}
 use Rattle.qmp_rules.specs.declared.rows.NodeRecord.{NodeRecord}
-use Rattle.flat_machine.specs.Wiring.{HasFile, TableStands}
+use Rattle.flat_machine.specs.Wiring.{LeadsToFile, TableStands}
 use Rattle.flat_machine.proofs.Kept.{own_disk}
 use Rattle.blk_nodes.specs.Joined.{IsJoined}
 use Rattle.blk_nodes.specs.Nodes.{Nodes}
@@ -243,7 +243,7 @@ module _ (t : Table) (nodes : Nodes) (joined : IsJoined nodes) (are : AreNodesOf
       → filter_role s.row.kind ≡ None → (under : NodeRecord) → Contains t.nodes under → e.child ≡ under.id → under.kind ≡ Protocol
   to_protocol a e s there from role none under held to = by_name under.filename refl
     where
-      file : HasFile t s.row under
+      file : LeadsToFile t s.row under
       file = record {
         over_there = s.held;
         under_there = held;
@@ -267,7 +267,7 @@ module _ (t : Table) (nodes : Nodes) (joined : IsJoined nodes) (are : AreNodesOf
 
   -- what is over a node by an edge to its file is a filter
   abbrev pub OnlyFilters : NodeRecord → Type 0
-  OnlyFilters row = (over : NodeRecord) → HasFile t over row → IsSome (filter_role over.kind)
+  OnlyFilters row = (over : NodeRecord) → LeadsToFile t over row → IsSome (filter_role over.kind)
 
   module _ (b : ℕ) (row : NodeRecord) (at : node_at t b ≡ Some row) (own : filter_role row.kind ≡ None) (filters : OnlyFilters row) where
     abbrev pub IsReadBy : ℕ → ℕ → Type 0
@@ -289,7 +289,7 @@ module _ (t : Table) (nodes : Nodes) (joined : IsJoined nodes) (are : AreNodesOf
         → filter_role s.row.kind ≡ None → IsPath t.edges e.child p b → ⊥
     dead_end a e s [] there from role none ends =
         let held = find-Some (λ (r : NodeRecord). r.id == b) t.nodes row at in
-        let file : HasFile t s.row row = record {
+        let file : LeadsToFile t s.row row = record {
           over_there = s.held;
           under_there = held.0;
           edge = e;

@@ -25,7 +25,7 @@ use Rattle.flat_machine.specs.EventLicence.{changes_disk}
 use Rattle.flat_machine.specs.Legal.{IsForbidden}
 use Rattle.flat_machine.specs.Machine.{copies_through}
 use Rattle.flat_machine.specs.State.{drive_of, disk_of_guest, size_of}
-use Rattle.flat_machine.specs.Wiring.{HasFile, IsTaken, IsDiskOf, TableStands}
+use Rattle.flat_machine.specs.Wiring.{LeadsToFile, IsTaken, IsDiskOf, TableStands}
 use Rattle.flat_machine.specs.Writing.{ReadsWritten}
 use Rattle.blk_nodes.specs.Joined.{IsJoined}
 use Rattle.blk_nodes.specs.Nodes.{Nodes, row_at, file_of, kind_of, size_by, size_of as size_in}
@@ -98,7 +98,7 @@ module _ (t : Table) (nodes : Nodes) (joined : IsJoined nodes) (are : AreNodesOf
   over_file file is =
       let e = role_edge (Node node) File t.edges file is in
       let under = row_there t file (subst (λ (n : ℕ). IsSome (node_at t n)) e.to (stands.edges e.edge e.there).child) in
-      let below : HasFile t row under.row = record {
+      let below : LeadsToFile t row under.row = record {
         over_there = held;
         under_there = under.held;
         edge = e.edge;
@@ -110,7 +110,7 @@ module _ (t : Table) (nodes : Nodes) (joined : IsJoined nodes) (are : AreNodesOf
       let named : IsSome under.row.filename = by_name under.row below under.row.filename refl in
       record { under = under.row; under_is = under.id_is; taken = stands.taken row under.row below named }
     where
-      by_name : (under : NodeRecord) → HasFile t row under → (name : Option (List ℕ)) → under.filename ≡ name → IsSome under.filename
+      by_name : (under : NodeRecord) → LeadsToFile t row under → (name : Option (List ℕ)) → under.filename ≡ name → IsSome under.filename
       by_name under below None is =
           let some : IsSome (filter_role row.kind) = stands.filtered row under below is in
           absurd (false≢true (subst IsSome has.own some))
@@ -180,7 +180,7 @@ module _ (t : Table) (nodes : Nodes) (joined : IsJoined nodes) (are : AreNodesOf
     none_in_it other has_image =
         let e = role_edge (Node other) File t.edges node (sym (in_table other) ∙ has_image.edge) in
         let over = row_there t other ((stands.edges e.edge e.there).parent other e.from) in
-        let file : HasFile t over.row row = record {
+        let file : LeadsToFile t over.row row = record {
           over_there = over.held;
           under_there = held;
           edge = e.edge;

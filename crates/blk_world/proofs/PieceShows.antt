@@ -14,7 +14,7 @@ use Rattle.qmp_rules.specs.Chains.{disk_node, written_under}
 use Rattle.qmp_rules.specs.Table.{Table}
 use Rattle.flat_machine.specs.Agreement.{Agrees}
 use Rattle.flat_machine.specs.EventLicence.{changes_disk}
-use Rattle.flat_machine.specs.Final.{bytes_of}
+use Rattle.flat_machine.specs.Final.{bytes_named}
 use Rattle.flat_machine.specs.Jobs.{unsure}
 use Rattle.flat_machine.specs.Machine.{after, with_guest, with_part, with_piece, with_disk, past_piece, flight_of, note, noted, is_noted, path, written, read_through, copies_through}
 use Rattle.flat_machine.specs.Performing.{IsQuiet}
@@ -163,8 +163,8 @@ module _ (o : Opening) (s : State) (w v : Face) (g k drive : ℕ) (f : Flight) (
     part : LeavesBeside s now (table_after f.op (disk_node s.table drive) s.table)
     part = part_is s drive f.op outcome (piece f.op k)
 
-    agrees : Agrees (bytes_of o.files) now (contents_of v)
-    agrees = piece_keeps (bytes_of o.files) s drive f.op outcome (piece f.op k) (contents_of w) (contents_of v) can done shows.contents
+    agrees : Agrees (bytes_named o.files) now (contents_of v)
+    agrees = piece_keeps (bytes_named o.files) s drive f.op outcome (piece f.op k) (contents_of w) (contents_of v) can done shows.contents
 
     images : ShowsImages now (contents_of v)
     images = piece_images_keep s g drive shows.stands.stands.table on f.op outcome (piece f.op k) (contents_of w) (contents_of v) done keeps shows.images

@@ -7,7 +7,8 @@ ghost use Rattle.q2_image.specs.Reading.{IsWithinCluster};
 ghost use Rattle.blk_history.specs.Disk.{span_of, piece};
 ghost use Rattle.blk_history.specs.Fold.{With};
 ghost use Rattle.blk_history.specs.Machine.{Flight};
-ghost use Rattle.world_commands.specs.Piecing.{IsPart, CanTransfer, CountFits, IsMadeOn, Transfers, part_of, shown_of};
+ghost use Rattle.flat_machine.specs.Unique.{IsSmallOutcome};
+ghost use Rattle.world_commands.specs.Piecing.{IsPartAsked, CanTransfer, IsMadeOn, Transfers, part_of, shown_of};
 ghost use Rattle.world_parts.specs.Progress.{HasNext, flight_at, shows_in};
 
 use blk_base::{Device, Outcome, Span, piece_at};
@@ -21,7 +22,7 @@ pub(crate) fn request_piece(op: &Op, k: u64) -> Span
     requires { k < pieces_of op.now }
     ensures cut { result ≡ piece op.now k }
     ensures small { result.len ≤ 65536 }
-    ensures part { IsPart op.now result }
+    ensures part { IsPartAsked op.now result }
     ensures block { IsWithinCluster 65536 result }
     ensures inside { end_of result ≤ end_of (span_of op.now) }
 {
@@ -88,12 +89,12 @@ pub(crate) fn transfer<D: Device>(
     buffer: &mut [u8],
 ) -> Outcome
     requires whole { length buffer.old ≡ part.len }
-    requires part { IsPart op.now part }
+    requires part { IsPartAsked op.now part }
     requires block { IsWithinCluster 65536 part }
     requires can { CanTransfer nodes.old node op.now part }
     ensures length { length buffer.new ≡ part.len }
     ensures done { Transfers op.now nodes.old nodes.new node part result buffer.new }
-    ensures fits { CountFits result }
+    ensures fits { IsSmallOutcome result }
 {
     match op {
         Op::Read(_) => nodes.read_piece(node, part, buffer),

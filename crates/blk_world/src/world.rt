@@ -46,7 +46,8 @@ impl<S: Store> Model for World<S> {
 
     ghost Value = { Face };
 
-    ghost view = { λ w. face_of w.store w.first_faults w.nodes w.names.table w.progress w.drained w.bitmaps };
+    ghost view = { λ w. face_of w.store w.first_faults w.nodes w.names.table w.progress w.drained
+        w.bitmaps };
 
     ghost invariant = { λ w. IsWhole
         (face_of w.store w.first_faults w.nodes w.names.table w.progress w.drained w.bitmaps) };
@@ -91,14 +92,15 @@ fn new_parts<D: Device>(alloc: Global, guests: &Names1, room: Room) -> Result<Pa
 
 impl<S: Store> World<S> {
     ghost use Rattle.blk_base.specs.Files.{is_out};
-    ghost use Rattle.std.specs.Prelude.{◌↔◌, false, None, IsTrue, IsNone, IfSome, Contains, is_none};
+    ghost use Rattle.std.specs.Prelude.{◌↔◌, true, false, None, IsTrue, IsNone, IfSome, Contains, is_none};
     ghost use Rattle.blk_history.specs.Fold.{With};
     ghost use Rattle.blk_history.specs.Legal.{IsOver};
     ghost use Rattle.trace_codec.specs.Awaits.{seen_await};
     ghost use Rattle.qmp_rules.specs.Table.{job_in};
     ghost use Rattle.flat_machine.specs.Legal.{IsMet, IsNotDone, AllDone};
     ghost use Rattle.flat_machine.specs.declared.opening.Opening.{Opening};
-    ghost use Rattle.world_parts.specs.Face.{seen_state};
+    ghost use Rattle.flat_machine.specs.Imaging.{ImagesAreSound};
+    ghost use Rattle.world_parts.specs.Face.{held, seen_state};
     ghost use Rattle.world_commands.specs.Comes.{Comes};
     ghost use Rattle.world_parts.specs.Progress.{IsFree, HasRoomFor, flight_at, answered_in, with_retirement};
     ghost use Rattle.world_parts.specs.Steps.{new_world, seen_store, IsOpeningOf, onward, after_admission, IsAnswered, after_wait, after_end, IsIdle};
@@ -107,7 +109,8 @@ impl<S: Store> World<S> {
     fn put_world(alloc: Global, store: S, guests: Names1, room: Room) -> Result<Self, (NoMemory, S)>
         requires none_out { (name : List ℕ) → is_out name (S.opened store) ≡ false }
         ensures ok { IfOk result (λ world. world ≡ new_world
-            (seen_store (S.files store) (S.opened store) (S.room store) (S.faults store)) guests room) }
+            (seen_store (S.files store) (S.opened store) (S.room store) (S.faults store)) guests
+            room) }
         ensures err { IfErr result (λ e. e.1 ≡ store) }
     {
         match new_parts(alloc, &guests, room) {
@@ -138,13 +141,22 @@ impl<S: Store> World<S> {
     pub fn new(alloc: Global, store: S, guests: Names1, room: Room) -> Result<Self, (NoMemory, S)>
         requires none_out { (name : List ℕ) → is_out name (S.opened store) ≡ false }
         ensures ok { IfOk result (λ world. world ≡ new_world
-            (seen_store (S.files store) (S.opened store) (S.room store) (S.faults store)) guests room) }
+            (seen_store (S.files store) (S.opened store) (S.room store) (S.faults store)) guests
+            room) }
         ensures comes { IfOk result (λ world. (o : Opening)
-            → IsOpeningOf (seen_store (S.files store) (S.opened store) (S.room store) (S.faults store)) guests o
+            → IsOpeningOf
+            (seen_store (S.files store) (S.opened store) (S.room store) (S.faults store)) guests o
             → Comes o world) }
         ensures err { IfErr result (λ e. e.1 ≡ store) }
     {
         Self::put_world(alloc, store, guests, room)
+    }
+
+    /// Nothing is done: that the images of qcow2 nodes are sound is so between calls.
+    fn images_are_sound(&self)
+        ensures { is_some self.now.files ≡ true → ImagesAreSound self.now.table (held self.now) }
+    {
+        let _ = self.nodes.edges();
     }
 
     /// Admits a guest's next request, or refuses it.

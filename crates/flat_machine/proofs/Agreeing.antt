@@ -12,7 +12,7 @@ use Rattle.blk_history.specs.Fold.{With}
 use Rattle.flat_machine.specs.State.{State, Content, Left, bytes_in, content_in}
 use Rattle.flat_machine.specs.Changed.{with_bytes_of}
 use Rattle.flat_machine.specs.Contents.{with_content}
-use Rattle.flat_machine.specs.Final.{read_as}
+use Rattle.flat_machine.specs.Final.{IsDiskIn}
 use Rattle.flat_machine.specs.Agreement.{Contents, HasDisk, ReadAsDisks, IsAsKnown, AreAsKnown, AreAbsent, IsLeftAs, AreUnchanged}
 use Rattle.flat_machine.specs.Performing.{ReadSame, HeldSame, Nothing}
 use Rattle.flat_machine.proofs.Finds.{find-push, find-map, find-filter, bytes_in-put, bytes_in-put_other, bytes_in-drop, cases_name, name_differs, content_in-with, content_in-with_other, has_name-push}
@@ -206,7 +206,7 @@ module _ (s now : State) (old new : Contents) where
 
   -- a left disk whose file stays
   as_before : (l : Left) → IsLeftAs old l → new.held l.file ≡ old.held l.file → IsLeftAs new l
-  as_before l h same = subst (λ bytes. With bytes (λ b. read_as l.kind l.offset (length l.bytes) b ≡ l.bytes)) (sym same) h
+  as_before l h same = subst (λ bytes. With bytes (IsDiskIn l.kind l.offset l.bytes)) (sym same) h
 
   pub left_kept : now.left ≡ s.left → HeldSame Nothing old new → All (IsLeftAs old) s.left → All (IsLeftAs new) now.left
   left_kept same held before = subst (λ left. All (IsLeftAs new) left) (sym same)

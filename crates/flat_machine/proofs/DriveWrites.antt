@@ -15,7 +15,7 @@ use Rattle.blk_history.specs.Fold.{With}
 use Rattle.flat_machine.specs.State.{State, Unknown, Left, content_in}
 use Rattle.flat_machine.specs.Agreement.{HasDisk}
 use Rattle.flat_machine.specs.Writing.{IsWritable}
-use Rattle.flat_machine.specs.Wiring.{StandsFor, HasFile, IsDiskOf, writes_through}
+use Rattle.flat_machine.specs.Wiring.{StandsFor, LeadsToFile, IsDiskOf, writes_through}
 use Rattle.flat_machine.specs.Standing.{IsUsedUp, MayWrite, Stands}
 use Rattle.flat_machine.proofs.Kept.{own_disk}
 use Rattle.flat_machine.proofs.WritingKept.{role_edge, WritesFile, writes_file}
@@ -56,7 +56,7 @@ drive_may s device row h there same settled known writes = by_disk (node_at s.ta
             cc
 
         -- the file under it
-        has_file : (under : NodeRecord) → Contains s.table.nodes under → child s.table disk File ≡ Some under.id → HasFile s.table d under
+        has_file : (under : NodeRecord) → Contains s.table.nodes under → child s.table disk File ≡ Some under.id → LeadsToFile s.table d under
         has_file under under_there is =
             let to = role_edge (Node disk) File s.table.edges under.id is in
             record {
@@ -82,7 +82,7 @@ drive_may s device row h there same settled known writes = by_disk (node_at s.ta
             let f = has_file r r_here.0 (is ∙ ap Some (sym (eqb-true r.id file r_here.1))) in
             by_name r f r.filename refl has
           where
-            by_name : (r : NodeRecord) → HasFile s.table d r → (name : Option (List ℕ)) → r.filename ≡ name → HasDisk r → ⊥
+            by_name : (r : NodeRecord) → LeadsToFile s.table d r → (name : Option (List ℕ)) → r.filename ≡ name → HasDisk r → ⊥
             by_name r f None k has = let filter = h.table.filtered d r f k in let own = of.own in let none = subst IsSome own filter in cc
             by_name r f (Some name) k has =
                 let gone = (h.table.taken d r f (subst IsSome (sym k) refl)).gone in

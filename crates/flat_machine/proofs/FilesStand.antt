@@ -17,7 +17,7 @@ use Rattle.qmp_rules.specs.Changes.{changed, node_changed, unsettled, lost_with}
 use Rattle.flat_machine.specs.State.{State, Content, Bytes, Unknown, Left, content_in}
 use Rattle.flat_machine.specs.Contents.{with_content, formatted}
 use Rattle.flat_machine.specs.Changed.{stepped, format_name}
-use Rattle.flat_machine.specs.Wiring.{AreApart, StandsFor, IsUnder, HasFile, TableStands}
+use Rattle.flat_machine.specs.Wiring.{AreApart, StandsFor, IsUnder, LeadsToFile, TableStands}
 use Rattle.flat_machine.specs.Standing.{IsLostBy, IsOfState, IsOpen, IsUsedUp, WritingStands, Stands}
 use Rattle.flat_machine.specs.Suiting.{IsThere, IsClosed, FormattingSuits}
 use Rattle.flat_machine.proofs.Finds.{content_in-with, content_in-with_other, cases_name, name_differs}
@@ -55,7 +55,7 @@ all-filter P p (x ∷ xs) h = by_test (p x) (all-filter P p xs (All-tail P x xs 
 
 -- no node that a guest may write has the file
 pub record IsSpared (t : Table) (name : List ℕ) : Type 0 where
-  pub taken : (over under : NodeRecord) → HasFile t over under → under.filename ≡ Some name → ⊥
+  pub taken : (over under : NodeRecord) → LeadsToFile t over under → under.filename ≡ Some name → ⊥
   pub written : (node : ℕ) → IsEntered t node → WritesFile t node name → ⊥
 
 -- the disks that were left stay, or those in the file are gone

@@ -2,6 +2,7 @@
 use Rattle.std.proofs.Common.{◌≡◌, ℕ, Bool, true, false, cond, List, [], ◌∷◌, ◌++◌, map, refl, sym, ap, subst, ◌∙◌, inl, inr, Option, Some, None, option_map}
 use Rattle.std.specs.Prelude.{◌==◌, not, is_some, option_and_then, unwrap_or}
 use Rattle.std.specs.List.{find, filter, Contains}
+use Rattle.q2_format.specs.Sound.{IsSound}
 use Rattle.blk_graph.specs.declared.edge.Edge.{Edge}
 use Rattle.blk_graph.specs.declared.edge.Parent.TheVariants.{Node}
 use Rattle.blk_graph.specs.declared.edge.Role.TheVariants.{File}
@@ -9,6 +10,7 @@ use Rattle.blk_graph.specs.declared.kind.Kind.{Kind}
 use Rattle.blk_graph.specs.declared.kind.Kind.TheVariants.{Protocol, Raw, Qcow2, CopyOnRead, BeforeWrite, Mirror, Commit}
 use Rattle.qmp_rules.specs.declared.rows.NodeRecord.{NodeRecord}
 use Rattle.qmp_rules.specs.Table.{Table, node_at, child}
+use Rattle.blk_history.specs.Fold.{With}
 use Rattle.flat_machine.specs.State.{State, Image, Mapped, Unsure, filename_of}
 use Rattle.flat_machine.specs.Changed.{file_of}
 use Rattle.flat_machine.specs.Sights.{AgreesWith, mapped_at}
@@ -16,7 +18,7 @@ use Rattle.flat_machine.specs.Agreement.{Contents}
 use Rattle.flat_machine.specs.Writing.{written_file}
 use Rattle.flat_machine.specs.Wiring.{AreApart, AreFileNodes, TableStands}
 use Rattle.flat_machine.specs.Standing.{IsOpen}
-use Rattle.flat_machine.specs.Imaging.{maps_some, image_at, is_qcow2, is_qcow2_at, ShowsImage, ShowsImages, StayInFiles}
+use Rattle.flat_machine.specs.Imaging.{maps_some, image_at, is_qcow2, is_qcow2_at, ImagesAreSound, ShowsImage, ShowsImages, StayInFiles}
 use Rattle.flat_machine.proofs.Finds.{find-map}
 use Rattle.flat_machine.proofs.WritingKept.{role_edge, writes_file}
 
@@ -285,3 +287,15 @@ images_still s now old new images over held h node =
       held = λ image name is. held node name image is;
     })
     (h node)
+
+-- ---- sound images
+
+-- they are in files that hold the same
+pub sound_same : (t now : Table) (old new : List ℕ → Option (List ℕ)) → now ≡ t → ((name : List ℕ) → new name ≡ old name)
+    → ImagesAreSound t old → ImagesAreSound now new
+sound_same t now old new table held sound =
+    subst (λ (x : Table). ImagesAreSound x new) (sym table) (λ node image. by_name (written_file t node) (sound node image))
+  where
+    by_name : (found : Option (List ℕ)) → With found (λ name. With (old name) IsSound) → With found (λ name. With (new name) IsSound)
+    by_name None never = never
+    by_name (Some name) is = subst (λ (bytes : Option (List ℕ)). With bytes IsSound) (sym (held name)) is

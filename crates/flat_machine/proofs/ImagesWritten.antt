@@ -23,7 +23,7 @@ use Rattle.flat_machine.specs.Sights.{AgreesWith, mapped_at}
 use Rattle.flat_machine.specs.Agreement.{Contents}
 use Rattle.flat_machine.specs.Performing.{HeldSame, Nothing}
 use Rattle.flat_machine.specs.Writing.{PieceDone, written_file}
-use Rattle.flat_machine.specs.Wiring.{HasFile, IsTaken, TableStands}
+use Rattle.flat_machine.specs.Wiring.{LeadsToFile, IsTaken, TableStands}
 use Rattle.flat_machine.specs.Imaging.{maps_some, image_at, is_qcow2_at, ShowsImage, ShowsImages, KeepsMapping}
 use Rattle.flat_machine.proofs.Finds.{find-map}
 use Rattle.flat_machine.proofs.WritingKept.{role_edge, IsEntered, drive-enters, disk-enters, WritesFile, writes_file}
@@ -78,7 +78,7 @@ module _ (s now : State) (node : ℕ) (old new : Contents) (images : now.images 
           let there = find-Some (λ (r : NodeRecord). r.id == n) s.table.nodes i.over i.found in
           (i.over, i.found, eqb-true i.over.id n there.1, there.0)
 
-      under : (y : NodeRecord) × HasFile s.table mine.0 y × (y.filename ≡ Some name)
+      under : (y : NodeRecord) × LeadsToFile s.table mine.0 y × (y.filename ≡ Some name)
       under =
           let i = image_in_file s.table stands.apart stands.drivers n name image is in (
             i.under,

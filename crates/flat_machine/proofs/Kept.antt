@@ -23,7 +23,7 @@ use Rattle.blk_history.specs.Fold.{With}
 use Rattle.flat_machine.specs.State.{State, Content, Bytes, Blank, Unknown, Left, Mapped, bytes_in, bytes_at_node, content_in, filename_of}
 use Rattle.flat_machine.specs.Contents.{file_bytes, image_bytes, formatted, length_in, mapped_in, with_content}
 use Rattle.flat_machine.specs.Changed.{put, make, name_file, name_if, stepped, all_stepped, filename_or, content_under, bytes_below, format_bytes, format_name, know_if, note_image, with_bytes_of, leave, left_in, left_disk, file_of, overlay_file}
-use Rattle.flat_machine.specs.Final.{read_as}
+use Rattle.flat_machine.specs.Final.{IsDiskIn}
 use Rattle.flat_machine.specs.Agreement.{Contents, HasDisk, ReadAsDisks, IsBlank, IsAsKnown, AreAsKnown, AreAbsent, IsLeftAs, Agrees}
 use Rattle.flat_machine.specs.Performing.{ReadSame, HeldSame, Nothing, IsQuiet, Puts, Removes, Makes, IsWholly, IsReadable, CanRead, IsBacking, CanAddFile, CanAddFormat, CanAddFilter, Can, Performed, AllCan, AllPerformed, held_bytes, backing_reads, format_as, IsFormatted}
 use Rattle.flat_machine.proofs.Finds.{find-map, bytes_eq-same}
@@ -284,9 +284,9 @@ module _ (opening : List ℕ → Option (List ℕ)) where
           let reads : old.reads node ≡ bytes_in s.disks row.id = subst (λ n. old.reads node ≡ bytes_in s.disks n) (sym row_id)
           (h.disks node row found disk) in
           subst (IsLeftAs new) made
-          (subst (λ held. With held (λ bytes. read_as row.kind row.offset (length (bytes_in s.disks row.id)) bytes ≡ bytes_in s.disks row.id))
+          (subst (λ held. With held (IsDiskIn row.kind row.offset (bytes_in s.disks row.id)))
           (sym (did.files name (λ never. never)))
-          (subst (λ b. With (old.held name) (λ bytes. read_as row.kind row.offset (length b) bytes ≡ b)) reads alone))
+          (subst (λ b. With (old.held name) (IsDiskIn row.kind row.offset b)) reads alone))
 
       -- a node that is over a file of its own is no filter
       own : (driver : Kind) (name : List ℕ) → file_of s.table row driver ≡ Some name → filter_role driver ≡ None

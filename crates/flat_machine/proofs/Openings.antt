@@ -10,10 +10,10 @@ use Rattle.qmp_rules.specs.declared.rows.NodeRecord.{NodeRecord}
 use Rattle.qmp_rules.specs.Table.{node_at, opening_table}
 use Rattle.qmp_rules.specs.Chains.{is_settled}
 use Rattle.flat_machine.specs.declared.opening.Opening.{Opening}
-use Rattle.flat_machine.specs.State.{State, Content, Bytes, Blank, Unknown, bytes_at_node, disk_of, content_in}
+use Rattle.flat_machine.specs.State.{State, Content, Bytes, Blank, Unknown, bytes_at_node, flat_disk_of, content_in}
 use Rattle.flat_machine.specs.Contents.{found}
 use Rattle.flat_machine.specs.Opening.{start}
-use Rattle.flat_machine.specs.Final.{bytes_of}
+use Rattle.flat_machine.specs.Final.{bytes_named}
 use Rattle.flat_machine.specs.Agreement.{Contents, HasDisk, IsAsKnown, IsLeftAs, Agrees}
 use Rattle.flat_machine.specs.Wiring.{TableStands, TableAtRest}
 use Rattle.flat_machine.specs.Standing.{Stands, StandsAtRest, IsUsedUp, IsOfState}
@@ -31,11 +31,11 @@ bytes_eq-turned a b = by_test (bytes_eq b a) refl
     by_test false e = bytes_eq-other a b (λ same. let yes : bytes_eq b a ≡ true = subst (λ n. bytes_eq n a ≡ true) same (bytes_eq-same a) in cc)
 
 -- what is known of files as they are found
-found_bytes : (files : List File) (name : List ℕ) → content_in (map found files) name ≡ option_map Bytes (bytes_of files name)
+found_bytes : (files : List File) (name : List ℕ) → content_in (map found files) name ≡ option_map Bytes (bytes_named files name)
 found_bytes [] name = refl
 found_bytes (f ∷ files) name = by_test (bytes_eq f.name name) (bytes_eq name f.name) (bytes_eq-turned name f.name) (found_bytes files name)
   where
-    by_test : (a b : Bool) → b ≡ a → content_in (map found files) name ≡ option_map Bytes (bytes_of files name)
+    by_test : (a b : Bool) → b ≡ a → content_in (map found files) name ≡ option_map Bytes (bytes_named files name)
         → option_map (λ known. known.content) (cond a (Some (found f)) (find (λ known. bytes_eq known.name name) (map found files)))
         ≡ option_map Bytes (option_map (λ g. g.bytes) (cond b (Some f) (file_at name files)))
     by_test true true e ih = refl
@@ -68,7 +68,7 @@ start_stands o = record {
   table = start_table o.guests;
   files = λ name row over. absurd (Contains-nil row over.there);
   lost = λ name row over gone. absurd (Contains-nil row over.there);
-  states = λ name content is is_open. is_whole content (bytes_of o.files name) (sym (found_bytes o.files name) ∙ is);
+  states = λ name content is is_open. is_whole content (bytes_named o.files name) (sym (found_bytes o.files name) ∙ is);
   formatted = λ name is. absurd cc;
   writing = record {
     named = λ name row over. absurd (Contains-nil row over.there);
@@ -89,11 +89,11 @@ pub start_rests : (o : Opening) → StandsAtRest (start o)
 start_rests o = record { stands = start_stands o; inline = (start_table_rests o.guests).inline }
 
 -- the files hold what the store tells
-pub start_agrees : (o : Opening) (c : Contents) → ((name : List ℕ) → c.held name ≡ bytes_of o.files name) → Agrees (bytes_of o.files) (start o) c
+pub start_agrees : (o : Opening) (c : Contents) → ((name : List ℕ) → c.held name ≡ bytes_named o.files name) → Agrees (bytes_named o.files) (start o) c
 start_agrees o c held = record {
   disks = λ node row is disk. absurd cc;
-  known = λ name content is. is_known content (bytes_of o.files name) (c.held name) (held name) (sym (found_bytes o.files name) ∙ is);
-  absent = λ name none. held name ∙ is_absent (bytes_of o.files name) (sym (found_bytes o.files name) ∙ none);
+  known = λ name content is. is_known content (bytes_named o.files name) (c.held name) (held name) (sym (found_bytes o.files name) ∙ is);
+  absent = λ name none. held name ∙ is_absent (bytes_named o.files name) (sym (found_bytes o.files name) ∙ none);
   left = All-nil (IsLeftAs c);
   unchanged = λ name not_named. held name;
 }
@@ -118,7 +118,7 @@ agrees_beside opening s now c nodes disks files left named h =
 
 -- what it reads as is its flat disk
 pub disk_read : (opening : List ℕ → Option (List ℕ)) (s : State) (c : Contents) (node : ℕ) (row : NodeRecord) → Agrees opening s c
-    → node_at s.table node ≡ Some row → HasDisk row → disk_of s node ≡ Some (c.reads node)
+    → node_at s.table node ≡ Some row → HasDisk row → flat_disk_of s node ≡ Some (c.reads node)
 disk_read opening s c node row h is disk =
     let here = own_disk s.table node row is disk.own in
     let settled : is_settled s.table node ≡ true = rw (here, is, disk.settled) refl in

@@ -21,7 +21,7 @@ use Rattle.blk_history.specs.Fold.{With}
 use Rattle.flat_machine.specs.State.{drive_of}
 use Rattle.flat_machine.specs.Machine.{copies_at, copies_through, path, path_from}
 use Rattle.flat_machine.specs.Agreement.{HasDisk}
-use Rattle.flat_machine.specs.Wiring.{HasEnds, StandsFor, HasFile, IsDiskOf, InlineAreUnder, TableStands, writes_through}
+use Rattle.flat_machine.specs.Wiring.{HasEnds, StandsFor, LeadsToFile, IsDiskOf, InlineAreUnder, TableStands, writes_through}
 use Rattle.flat_machine.proofs.Tables.{HasLike}
 use Rattle.flat_machine.proofs.Rows.{same_row, from-child, path-child, copies-at}
 use Rattle.flat_machine.proofs.Wired.{with_at}
@@ -128,7 +128,7 @@ module _ (t : Table) (es : List Edge) (node overlay : NodeRecord) (to : ℕ → 
     ]
   ]
 
-  pub was_under : (over_row under : NodeRecord) → HasFile led over_row under → IsSome under.filename → HasFile t over_row under
+  pub was_under : (over_row under : NodeRecord) → LeadsToFile led over_row under → IsSome under.filename → LeadsToFile t over_row under
   was_under over_row under f some = elim (r.old f.edge f.there) [
     | inl l ↦ record {
       over_there = f.over_there;
@@ -148,7 +148,7 @@ module _ (t : Table) (es : List Edge) (node overlay : NodeRecord) (to : ℕ → 
       settled-free t untold h node over.node_there over.disk.settled node node_found some
       (record { edge = e; there = there; over = role; child = is })
 
-  still_filtered : (over_row under : NodeRecord) → HasFile led over_row under → under.filename ≡ None → IsSome (filter_role over_row.kind)
+  still_filtered : (over_row under : NodeRecord) → LeadsToFile led over_row under → under.filename ≡ None → IsSome (filter_role over_row.kind)
   still_filtered over_row under f none = elim (r.old f.edge f.there) [
     | inr own ↦ absurd (let bad = own.role ∙ f.role in cc)
     | inl l ↦ elim l.leads [

@@ -50,7 +50,7 @@ use Rattle.flat_machine.specs.State.{State, Unknown, content_in}
 use Rattle.flat_machine.specs.Changed.{stepped}
 use Rattle.flat_machine.specs.Sights.{told_by, MayStop}
 use Rattle.flat_machine.specs.Performing.{IsWholly}
-use Rattle.flat_machine.specs.Wiring.{HasFile, IsNumberBy, IsInline, InlineAreUnder, TableStands}
+use Rattle.flat_machine.specs.Wiring.{LeadsToFile, IsNumberBy, IsInline, InlineAreUnder, TableStands}
 use Rattle.flat_machine.specs.Standing.{Stands, StandsAtRest}
 use Rattle.flat_machine.specs.Suiting.{IsAlone, AllTableSuit, RemovalSuits, FormattingSuits, AllSuit}
 use Rattle.flat_machine.proofs.Finds.{bytes_eq-same, same-bytes_eq, content_in-with}
@@ -472,7 +472,7 @@ file_by t row kind = elim kind as (λ _. Option (List ℕ)) [
 ]
 
 -- that of a format node is its `file` node's
-under-file : (t : Table) → TableStands t → (row file : NodeRecord) → HasFile t row file → IsSome file.filename → file_under t row ≡ file.filename
+under-file : (t : Table) → TableStands t → (row file : NodeRecord) → LeadsToFile t row file → IsSome file.filename → file_under t row ≡ file.filename
 under-file t h row file f some = by_kind row.kind refl
   where
     taken : filter_role row.kind ≡ None
@@ -518,7 +518,7 @@ module _ (s : State) (row : NodeRecord) (there : Contains s.table.nodes row) (al
         let driver = h.table.drivers name r over in
         used name (own-file s.table row (ap (λ x. x.kind) (sym same) ∙ driver) ∙ ap (λ x. x.filename) (sym same) ∙ over.filename);
     under = λ name r e over e_there parent role child.
-        let f : HasFile s.table row r = record {
+        let f : LeadsToFile s.table row r = record {
           over_there = there;
           under_there = over.there;
           edge = e;

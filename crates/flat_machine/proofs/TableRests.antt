@@ -38,7 +38,7 @@ use Rattle.qmp_rules.specs.Asks.{first, is_file}
 use Rattle.qmp_rules.specs.CommandAsks.{asks_of, negotiates}
 use Rattle.qmp_rules.specs.Answers.{unbuilt, out_of_turn, refusal_of, command_edits}
 use Rattle.qmp_rules.specs.Chains.{written_under, unsettled_over}
-use Rattle.flat_machine.specs.Wiring.{HasFile, IsInline, InlineAreUnder, TableStands, TableAtRest}
+use Rattle.flat_machine.specs.Wiring.{LeadsToFile, IsInline, InlineAreUnder, TableStands, TableAtRest}
 use Rattle.flat_machine.specs.Suiting.{IsThere, IsAlone, TableSuits, AllTableSuit}
 use Rattle.flat_machine.proofs.Fresh.{no-found}
 use Rattle.flat_machine.proofs.OwnNames.{goes-named}
@@ -343,7 +343,7 @@ module _ (t : Table) (row : NodeRecord) (row_there : Contains t.nodes row) (alon
   without_grow = removed_grow t without row.id alone refl kinds_left refl h
 
   -- a `file` node that was made with it is under it alone
-  pub inline-file : (file : NodeRecord) → Contains t.nodes file → file.made_with ≡ Some row.id → HasFile t row file
+  pub inline-file : (file : NodeRecord) → Contains t.nodes file → file.made_with ≡ Some row.id → LeadsToFile t row file
   inline-file file there is =
       let k = inline file row.id there is in
       record { over_there = row_there; under_there = there; edge = k.edge; there = k.there; parent = k.parent; role = k.role; child = k.child }

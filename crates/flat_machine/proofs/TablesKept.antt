@@ -27,7 +27,7 @@ use Rattle.qmp_rules.specs.Chains.{filter_role, filtered, disk_from, disk_node}
 use Rattle.qmp_rules.specs.Changes.{node_changed, unsettled, with_unsettled, without_row, backed, format_edges, device_edge}
 use Rattle.blk_history.specs.Fold.{With}
 use Rattle.flat_machine.specs.Machine.{copies_at, copies_through, is_copying, path, path_from}
-use Rattle.flat_machine.specs.Wiring.{AreApart, EdgesHaveEnds, StandsFor, IsFileOf, HasFile, HasOwnName, IsTaken, IsDiskOf, AreNumbered, HasNumber, TableStands, writes_through}
+use Rattle.flat_machine.specs.Wiring.{AreApart, EdgesHaveEnds, StandsFor, IsFileOf, LeadsToFile, HasOwnName, IsTaken, IsDiskOf, AreNumbered, HasNumber, TableStands, writes_through}
 use Rattle.flat_machine.specs.Suiting.{IsThere, IsAlone, SuitsFile, SuitsFormat, SuitsFilter, SuitsDevice}
 use Rattle.flat_machine.proofs.Finds.{find-filter}
 use Rattle.flat_machine.proofs.Fresh.{found-longer, found-new}
@@ -444,7 +444,7 @@ module _ (t now : Table) (row : NodeRecord) (file : ℕ) (backing : Option ℕ) 
     reads = λ r is. subst (λ x. With (node_at now (disk_node now x.id)) (IsDiskOf now x)) (sym is) (own_reads now row found_row suits.format);
   }
 
-  format_taken : (over under : NodeRecord) (f : HasFile now over under) → IsNewEdge f.edge → IsTaken now over under
+  format_taken : (over under : NodeRecord) (f : LeadsToFile now over under) → IsNewEdge f.edge → IsTaken now over under
   format_taken over under f is_new =
       let own = of_file f.edge is_new f.role in
       let over_is = is_row over f.over_there (id_of f.edge over.id is_new f.parent) in
@@ -458,7 +458,7 @@ module _ (t now : Table) (row : NodeRecord) (file : ℕ) (backing : Option ℕ) 
         writable = λ w. ap (λ r. r.read_only) under_is ∙ suits.writable (ap (λ r. r.read_only) (sym over_is) ∙ w);
       }
 
-  format_free : (e : Edge) (over under : NodeRecord) → IsNewEdge e → HasFile t over under → IsSome under.filename → e.child ≡ under.id → ⊥
+  format_free : (e : Edge) (over under : NodeRecord) → IsNewEdge e → LeadsToFile t over under → IsSome under.filename → e.child ≡ under.id → ⊥
   format_free e over under (inl file_edge) f some is = suits.alone f.edge f.there (f.child ∙ sym is ∙ sym file_edge.child)
   format_free e over under (inr backed) f some is =
       let same : backed.0 ≡ under.id = backed.1.1.child ∙ is in

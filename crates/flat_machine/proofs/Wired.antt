@@ -16,7 +16,7 @@ use Rattle.qmp_rules.specs.Table.{Table, node_at, child}
 use Rattle.qmp_rules.specs.Chains.{filter_role, filtered, disk_node}
 use Rattle.blk_history.specs.Fold.{With}
 use Rattle.flat_machine.specs.Machine.{copies_at, is_copying, copies_through}
-use Rattle.flat_machine.specs.Wiring.{AreApart, HasEnds, StandsFor, IsFileOf, HasFile, HasOwnName, IsTaken, IsDiskOf, AreNumbered, TableStands}
+use Rattle.flat_machine.specs.Wiring.{AreApart, HasEnds, StandsFor, IsFileOf, LeadsToFile, HasOwnName, IsTaken, IsDiskOf, AreNumbered, TableStands}
 use Rattle.flat_machine.proofs.Tables.{HasLike}
 use Rattle.flat_machine.proofs.Rows.{IsLike, BothAt, disk_node-same, disk_node-there, copies-at, copies-same}
 
@@ -60,10 +60,10 @@ pub record NewEdges (t now : Table) (IsNewEdge : Edge → Type 0) : Type 0 where
   pub ends : (e : Edge) → IsNewEdge e → HasEnds now e
   pub roles : (e : Edge) (row : NodeRecord) → IsNewEdge e → Contains now.nodes row → e.parent ≡ Node row.id → has_role row.kind e.role ≡ true
   pub single : (e : Edge) → IsNewEdge e → e.role ≡ File → (node : ℕ) × IsFileOf now e node
-  pub taken : (over under : NodeRecord) (f : HasFile now over under) → IsNewEdge f.edge → IsSome under.filename → IsTaken now over under
-  pub filtered : (over under : NodeRecord) (f : HasFile now over under) → IsNewEdge f.edge → under.filename ≡ None
+  pub taken : (over under : NodeRecord) (f : LeadsToFile now over under) → IsNewEdge f.edge → IsSome under.filename → IsTaken now over under
+  pub filtered : (over under : NodeRecord) (f : LeadsToFile now over under) → IsNewEdge f.edge → under.filename ≡ None
       → IsSome (filter_role over.kind)
-  pub free : (e : Edge) (over under : NodeRecord) → IsNewEdge e → HasFile t over under → IsSome under.filename → e.child ≡ under.id → ⊥
+  pub free : (e : Edge) (over under : NodeRecord) → IsNewEdge e → LeadsToFile t over under → IsSome under.filename → e.child ≡ under.id → ⊥
 
 -- nothing is new
 abbrev pub NoRow : NodeRecord → Type 0
@@ -170,9 +170,9 @@ module _ (t now : Table) (P : ℕ → Type 0) (IsNewRow : NodeRecord → Type 0)
   pub record WasFile (over under : NodeRecord) : Type 0 where
     pub over_row : OldRow t P over
     pub under_row : OldRow t P under
-    pub file : HasFile t over_row.row under_row.row
+    pub file : LeadsToFile t over_row.row under_row.row
 
-  pub was_file : (over under : NodeRecord) (f : HasFile now over under) → OldEdge t P f.edge → WasFile over under
+  pub was_file : (over under : NodeRecord) (f : LeadsToFile now over under) → OldEdge t P f.edge → WasFile over under
   was_file over under f old =
       let from = old.same.parent ∙ f.parent in
       let to = old.same.child ∙ f.child in

@@ -30,7 +30,7 @@ use Rattle.blk_history.specs.Fold.{With}
 use Rattle.flat_machine.specs.State.{State, Disk, Left, Unknown, content_in, filename_of, drive_of}
 use Rattle.flat_machine.specs.Contents.{with_content, mapped_in, file_bytes}
 use Rattle.flat_machine.specs.Changed.{stepped, put, name_file, add_file, filename_or, with_bytes_of, know_if, content_under, format_bytes, left_disk, left_in, leave, file_of}
-use Rattle.flat_machine.specs.Wiring.{StandsFor, IsUnder, HasFile, EdgesHaveEnds}
+use Rattle.flat_machine.specs.Wiring.{StandsFor, IsUnder, LeadsToFile, EdgesHaveEnds}
 use Rattle.flat_machine.specs.Standing.{HasBytes, IsUsedUp, MayWrite, WritingStands, Stands}
 use Rattle.flat_machine.specs.Suiting.{IsThere, FileSuits, FormatSuits, SuitsFilter, RemovalSuits, DeviceSuits}
 use Rattle.flat_machine.proofs.Finds.{find-filter, find-push, bytes_eq-same, cases_name, content_in-with, content_in-with_other}
@@ -391,7 +391,7 @@ remove_writing s node suits h =
 
     -- the edge by which it has the file under it
     file_edge : (row file : NodeRecord) → node_at s.table node ≡ Some row → Contains s.table.nodes file → child s.table node File ≡ Some file.id
-        → HasFile s.table row file
+        → LeadsToFile s.table row file
     file_edge row file found there is =
         let e = role_edge (Node node) File s.table.edges file.id is in
         let own = row_of row found in

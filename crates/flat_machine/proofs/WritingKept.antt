@@ -24,7 +24,7 @@ use Rattle.blk_history.specs.Fold.{With}
 use Rattle.flat_machine.specs.State.{State, Unknown, Left, content_in, filename_of, drive_of}
 use Rattle.flat_machine.specs.Changed.{file_of}
 use Rattle.flat_machine.specs.Writing.{IsWritable, written_file}
-use Rattle.flat_machine.specs.Wiring.{AreApart, StandsFor, HasFile, writes_through}
+use Rattle.flat_machine.specs.Wiring.{AreApart, StandsFor, LeadsToFile, writes_through}
 use Rattle.flat_machine.specs.Standing.{HasBytes, IsUsedUp, MayWrite, WritingStands}
 use Rattle.flat_machine.proofs.Rows.{BothAt, disk_node-there}
 use Rattle.flat_machine.proofs.Wired.{OldRow, Grows, was_file, stood_for, same_disk, disk_there, same_copies}
@@ -229,9 +229,9 @@ module _ (s now : State) (P : ℕ → Type 0) (IsNewRow : NodeRecord → Type 0)
     pub names_new : (name : List ℕ) (row : NodeRecord) → IsNewRow row → row.filename ≡ Some name → row.read_only ≡ false
         → has_name name now.named ≡ true
     -- of files under format nodes nothing is known
-    pub known : (name : List ℕ) (over under : NodeRecord) → HasFile s.table over under → under.filename ≡ Some name
+    pub known : (name : List ℕ) (over under : NodeRecord) → LeadsToFile s.table over under → under.filename ≡ Some name
         → content_in s.files name ≡ Some Unknown → content_in now.files name ≡ Some Unknown
-    pub known_new : (name : List ℕ) (over under : NodeRecord) (f : HasFile now.table over under) → IsNewEdge f.edge
+    pub known_new : (name : List ℕ) (over under : NodeRecord) (f : LeadsToFile now.table over under) → IsNewEdge f.edge
         → under.filename ≡ Some name → content_in now.files name ≡ Some Unknown
     -- nodes keep their bytes, and new ones have them
     pub bytes : (node : ℕ) → P node → HasBytes s node → HasBytes now node

@@ -18,7 +18,7 @@ use Rattle.blk_history.specs.Machine.{done_by}
 use Rattle.flat_machine.specs.State.{State, Content, Unknown, Left, Disk, bytes_in, content_in}
 use Rattle.flat_machine.specs.Machine.{disk_changed, with_disk, written, with_part, note, noted as noted_dirty, is_noted, read_through, copies_at, path}
 use Rattle.flat_machine.specs.Jobs.{unsure}
-use Rattle.flat_machine.specs.Final.{read_as}
+use Rattle.flat_machine.specs.Final.{IsDiskIn}
 use Rattle.flat_machine.specs.Agreement.{Contents, HasDisk, ReadAsDisks, IsAsKnown, IsLeftAs, Agrees}
 use Rattle.flat_machine.specs.Performing.{HeldSame, IsQuiet}
 use Rattle.flat_machine.specs.Writing.{IsWritable, ReadsWritten, Writes, Copies, PieceDone, CanWrite, written_file}
@@ -122,7 +122,7 @@ module _ (opening : List ℕ → Option (List ℕ)) (s now : State) (node : ℕ)
       kept_left : All (IsLeftAs new) s.left
       kept_left k d within =
           let l : Left = slice_index_or s.left k d in
-          subst (λ bytes. With bytes (λ b. read_as l.kind l.offset (length l.bytes) b ≡ l.bytes))
+          subst (λ bytes. With bytes (IsDiskIn l.kind l.offset l.bytes))
           (sym (did l.file (λ is. can.left l.file is k d within refl))) (h.left k d within)
 
   -- a read that copies

@@ -7,7 +7,7 @@ use Rattle.qmp_rules.specs.Table.{node_at, job_at, has_name}
 use Rattle.qmp_rules.specs.Chains.{filter_role}
 use Rattle.blk_history.specs.Fold.{With}
 use Rattle.flat_machine.specs.State.{State, Content, Bytes, Blank, Unknown, Left, bytes_in, bytes_at_node, content_in}
-use Rattle.flat_machine.specs.Final.{read_as}
+use Rattle.flat_machine.specs.Final.{IsDiskIn}
 
 -- what each node reads as, by its id, and what the file of each name holds, be it in the store or in a device that is out
 pub record Contents : Type 0 where
@@ -22,7 +22,9 @@ pub record HasDisk (row : NodeRecord) : Type 0 where
   pub own : filter_role row.kind ≡ None
 
 abbrev pub ReadAsDisks : State → Contents → Type 0
-ReadAsDisks s c = (node : ℕ) (row : NodeRecord) → node_at s.table node ≡ Some row → HasDisk row → c.reads node ≡ bytes_in s.disks node
+ReadAsDisks s c =
+    (node : ℕ) (row : NodeRecord) → node_at s.table node ≡ Some row → HasDisk row
+    → c.reads node ≡ bytes_in s.disks node
 
 -- ---- files
 
@@ -40,18 +42,21 @@ IsAsKnown Unknown held = Unit {0}
 
 -- what is known of a file is so, and one of which there is no word is absent
 abbrev pub AreAsKnown : State → Contents → Type 0
-AreAsKnown s c = (name : List ℕ) (content : Content) → content_in s.files name ≡ Some content → IsAsKnown content (c.held name)
+AreAsKnown s c =
+    (name : List ℕ) (content : Content) → content_in s.files name ≡ Some content
+    → IsAsKnown content (c.held name)
 
 abbrev pub AreAbsent : State → Contents → Type 0
 AreAbsent s c = (name : List ℕ) → content_in s.files name ≡ None → c.held name ≡ None
 
--- a left disk is what its driver reads from its file
+-- a left disk is what its driver reads from its file, of a sound image where it is one
 abbrev pub IsLeftAs : Contents → Left → Type 0
-IsLeftAs c left = With (c.held left.file) (λ bytes. read_as left.kind left.offset (length left.bytes) bytes ≡ left.bytes)
+IsLeftAs c left = With (c.held left.file) (IsDiskIn left.kind left.offset left.bytes)
 
 -- a file that no command named for writing is as it was at the opening
 abbrev pub AreUnchanged : (List ℕ → Option (List ℕ)) → State → Contents → Type 0
-AreUnchanged opening s c = (name : List ℕ) → has_name name s.named ≡ false → c.held name ≡ opening name
+AreUnchanged opening s c =
+    (name : List ℕ) → has_name name s.named ≡ false → c.held name ≡ opening name
 
 -- ---- all of it
 

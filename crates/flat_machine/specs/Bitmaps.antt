@@ -34,7 +34,8 @@ dirty_in row = record {
 -- a write is noted in each node of a path
 abbrev pub noted_rows : Extent → List Bitmap → List ℕ → List Bitmap
 noted_rows span rows [] = rows
-noted_rows span rows (node ∷ nodes) = noted_rows span (where_so (records node) (written span) rows) nodes
+noted_rows span rows (node ∷ nodes) =
+    noted_rows span (where_so (records node) (written span) rows) nodes
 
 -- no job uses it: no command that starts a job is carried out yet
 pub record IsFreeBitmap (row : Bitmap) : Type 0 where

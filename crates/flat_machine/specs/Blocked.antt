@@ -60,5 +60,6 @@ pub record IsStuck (s : State) (c : Course) (actor : ℕ) (waits : Waits (List �
   pub unfinished : IsUnfinished c actor
   pub waiting : ActorWaits s c actor waits
   pub first : (other : ℕ) → other < actor → IsUnfinished c other → ⊥
-  pub others : (other : ℕ) → IsUnfinished c other → (what : Waits (List ℕ)) × ActorWaits s c other what
+  pub others : (other : ℕ) → IsUnfinished c other → (what : Waits (List ℕ))
+      × ActorWaits s c other what
   pub slots : (slot : ℕ) → slot < 16 → SlotWaits s slot

@@ -27,7 +27,8 @@ use Rattle.flat_machine.specs.Marking.{clean, emptied, is_dirty_of, dirty_at, wh
 abbrev pub with_bytes_of : ℕ → List ℕ → List Disk → List Disk
 with_bytes_of node bytes [] = record { node = node; bytes = bytes } ∷ []
 with_bytes_of node bytes (d ∷ disks) =
-    if d.node == node then record { node = node; bytes = bytes } ∷ disks else d ∷ with_bytes_of node bytes disks
+    if d.node == node then record { node = node; bytes = bytes } ∷ disks
+    else d ∷ with_bytes_of node bytes disks
 
 abbrev pub put : ℕ → List ℕ → State → State
 put node bytes s = record s { disks = with_bytes_of node bytes s.disks }
@@ -77,7 +78,8 @@ format_bytes s row file backing Qcow2 = image_bytes (content_under s file) (byte
 format_bytes s row file backing kind = []
 
 abbrev pub note_image : Kind → ℕ → Mapped → State → State
-note_image Qcow2 node mapped s = record s { images = s.images ++ record { node = node; mapped = mapped } ∷ [] }
+note_image Qcow2 node mapped s =
+    record s { images = s.images ++ record { node = node; mapped = mapped } ∷ [] }
 note_image kind node mapped s = s
 
 -- what is known of a file, where there is one
@@ -89,7 +91,8 @@ know_if (Some name) content s = know name content s
 abbrev pub add_format : NodeRecord → ℕ → Option ℕ → State → State
 add_format row file backing s =
     know_if (filename_of s.table file) Unknown
-    (note_image row.kind row.id (mapped_in (content_under s file)) (put row.id (format_bytes s row file backing row.kind) s))
+    (note_image row.kind row.id (mapped_in (content_under s file))
+    (put row.id (format_bytes s row file backing row.kind) s))
 
 -- ---- nodes that go
 
@@ -102,7 +105,12 @@ file_of t row kind = None
 
 -- a settled node without a backing node leaves its disk in its file
 abbrev pub left_in : List Disk → NodeRecord → List ℕ → Left
-left_in disks row file = record { file = file; kind = row.kind; offset = row.offset; bytes = bytes_in disks row.id }
+left_in disks row file = record {
+  file = file;
+  kind = row.kind;
+  offset = row.offset;
+  bytes = bytes_in disks row.id;
+}
 
 abbrev pub leave : Option Left → State → State
 leave None s = s
@@ -151,7 +159,8 @@ format_name other = codes "qcow2"
 abbrev pub beside : State → Change → State
 beside s (change.MakeFile name size) = make name (Bytes (replicate size 0)) s
 beside s (change.FormatFile node name size backing_file backing_fmt) =
-    make name (formatted (creation_of size backing_file (option_map format_name backing_fmt)) (content_in s.files name)) s
+    make name (formatted (creation_of size backing_file (option_map format_name backing_fmt))
+    (content_in s.files name)) s
 beside s (change.SpoilFile name) = make name Unknown s
 beside s (change.UseFile name) = know name Unknown s
 beside s (change.AddFile row) = add_file row s
@@ -161,8 +170,10 @@ beside s (change.MakeWritable node) = name_if (filename_of s.table node) s
 beside s (change.StartJob row) = name_if (overlay_file s.table row row.kind) s
 beside s (change.Attach overlay node) = put overlay (bytes_at_node s node) s
 beside s (change.AddBitmap row) = add_bitmap row s
-beside s (change.RemoveBitmap node name) = record s { dirty = filter (λ d. not (is_dirty_of node name d)) s.dirty }
-beside s (change.ClearBitmap node name) = record s { dirty = where_so (is_dirty_of node name) emptied s.dirty }
+beside s (change.RemoveBitmap node name) =
+    record s { dirty = filter (λ d. not (is_dirty_of node name d)) s.dirty }
+beside s (change.ClearBitmap node name) =
+    record s { dirty = where_so (is_dirty_of node name) emptied s.dirty }
 beside s (change.MergeBitmap node name source_node source) =
     record s { dirty = merge_from (dirty_at s.dirty source_node source) node name s.dirty }
 beside s other = s

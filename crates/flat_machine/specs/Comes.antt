@@ -23,12 +23,17 @@ use Rattle.blk_history.specs.declared.event.Event.TheVariants.{Admit, Refuse, Pi
 -- the line of a job, by its row
 abbrev pub job_line_of : State → Option JobRecord → JobLine
 job_line_of s None = no_job
-job_line_of s (Some row) = record { id = row.id; kind = row.kind; size = size_of s.table row.source }
+job_line_of s (Some row) = record {
+  id = row.id;
+  kind = row.kind;
+  size = size_of s.table row.source;
+}
 
 -- the jobs that a history starts, in order
 abbrev pub jobs_from : State → List Event → List JobLine
 jobs_from s [] = []
-jobs_from s (Start job ∷ es) = job_line_of s (job_at s.table job) ∷ jobs_from (after s (Start job)) es
+jobs_from s (Start job ∷ es) =
+    job_line_of s (job_at s.table job) ∷ jobs_from (after s (Start job)) es
 jobs_from s (e ∷ es) = jobs_from (after s e) es
 
 abbrev pub names_of : Opening → List Event → RowNames
@@ -48,13 +53,15 @@ pub record IsHistoryOf (o : Opening) (h : List Event) : Type 0 where
 
 -- These guests are the opening's, and each fault that the history names is a rise that it names once. Where the store tells
 -- its files, the history is one of that opening.
-pub record ComesOf (o : Opening) (is_told : Bool) (guests : List (List ℕ)) (opened now : Counts) (h : List Event) : Type 0 where
+pub record ComesOf (o : Opening) (is_told : Bool) (guests : List (List ℕ)) (opened now : Counts)
+    (h : List Event) : Type 0 where
   pub guests_are : guests ≡ o.guests
   pub licensed : AreLicensed opened now h
   pub history : is_told ≡ true → IsHistoryOf o h
 
 -- Each guest's requests are its trace's, in order, and so it is with the script; no bytes are needed to say so.
-pub record IsInOrder (o : Opening) (script : List Order) (traces : List (List Wish)) (h : List Event) : Type 0 where
+pub record IsInOrder (o : Opening) (script : List Order) (traces : List (List Wish))
+    (h : List Event) : Type 0 where
   pub guests : length traces ≡ length o.guests
   pub order : KeepsOrder (course_of script traces) h
 
@@ -70,13 +77,15 @@ abbrev pub guests_after : Opening → List Event → List Guest
 guests_after o h = run guest_step (map (λ name. new_guest) o.guests) h
 
 -- A run that is done: script and traces are used up, each actor is done, and no request is in flight.
-pub record IsDone (o : Opening) (script : List Order) (traces : List (List Wish)) (h : List Event) : Type 0 where
+pub record IsDone (o : Opening) (script : List Order) (traces : List (List Wish))
+    (h : List Event) : Type 0 where
   pub guests : length traces ≡ length o.guests
   pub whole : IsWhole script traces h
   pub idle : All (λ row. row.flight ≡ None) (guests_after o h)
 
 -- Where the store tells its files, what was done is a history of that opening, after which no job is left.
-pub record HasEnded (o : Opening) (is_told : Bool) (script : List Order) (traces : List (List Wish)) (h : List Event) : Type 0 where
+pub record HasEnded (o : Opening) (is_told : Bool) (script : List Order) (traces : List (List Wish))
+    (h : List Event) : Type 0 where
   pub done : IsDone o script traces h
   pub history : is_told ≡ true → IsHistoryOf o h
   pub jobs : is_told ≡ true → (replay (start o) h).table.jobs ≡ []

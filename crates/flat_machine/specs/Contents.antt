@@ -45,7 +45,8 @@ is_unallocated entry = false
 -- no cluster of the image's disk has an entry
 abbrev pub maps_none : List ℕ → Header → Bool
 maps_none file h = let c = cluster_size h.cluster_bits in
-    list_all (λ cluster. is_unallocated (l2_entry (l2_word_of (active_tree file h) c cluster))) (range_with_len 0 (clusters_for c h.size))
+    list_all (λ cluster. is_unallocated (l2_entry (l2_word_of (active_tree file h) c cluster)))
+    (range_with_len 0 (clusters_for c h.size))
 
 abbrev pub mapped_in : Option Content → Mapped
 mapped_in (Some (Bytes file)) = if maps_none file (header_of file) then MapsNone else MapsSome

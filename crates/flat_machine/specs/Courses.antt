@@ -42,7 +42,8 @@ behind [] = []
 behind (wish ∷ wishes) = wishes
 
 abbrev pub asked : ℕ → Course → Course
-asked g c = record c { traces = change g (λ wishes. behind (past_waits c.answered wishes)) c.traces }
+asked g c =
+    record c { traces = change g (λ wishes. behind (past_waits c.answered wishes)) c.traces }
 
 abbrev pub Begins : Op → List Wish → Type 0
 Begins op (Ask other ∷ wishes) = other ≡ op
@@ -80,13 +81,13 @@ onward c (Done actor) = record c { ended = c.ended ++ actor ∷ [] }
 onward c e = c
 
 -- nothing of a trace is left, and each wait at its end is over
-abbrev pub IsUsedUp : Course → ℕ → Type 0
-IsUsedUp c g = With (rest_of c g) (λ wishes. past_waits c.answered wishes ≡ [])
+abbrev pub IsTraceUsedUp : Course → ℕ → Type 0
+IsTraceUsedUp c g = With (rest_of c g) (λ wishes. past_waits c.answered wishes ≡ [])
 
 -- an actor is done once nothing is left of its trace, or of the script
 abbrev pub CanBeDone : Course → ℕ → Type 0
 CanBeDone c zero = c.script ≡ []
-CanBeDone c (suc g) = IsUsedUp c g
+CanBeDone c (suc g) = IsTraceUsedUp c g
 
 -- the entry is the next of its actor
 abbrev pub IsOwn : Course → Event → Type 0
@@ -108,7 +109,7 @@ course_after = run onward
 -- script and traces are used up
 pub record UsesUp (c : Course) : Type 0 where
   pub script : c.script ≡ []
-  pub traces : (g : ℕ) → g < length c.traces → IsUsedUp c g
+  pub traces : (g : ℕ) → g < length c.traces → IsTraceUsedUp c g
 
 -- and each actor is done: the script, which is actor 0, and the guests behind it
 abbrev pub AreAllDone : Course → Type 0

@@ -16,7 +16,9 @@ new_jobs s given text = (replied s given text).table.started - s.table.started
 
 -- the starts of its jobs, in the order of its actions
 abbrev pub starts_of : State → List ℕ → List ℕ → List Event
-starts_of s given text = if is_accepted text then map Start (range_with_len s.table.started (new_jobs s given text)) else []
+starts_of s given text =
+    if is_accepted text then map Start (range_with_len s.table.started (new_jobs s given text))
+    else []
 
 abbrev pub ended_job : Event → Option ℕ
 ended_job (End job outcome offset) = Some job
@@ -24,8 +26,10 @@ ended_job e = None
 
 -- the ends of all members of a group, each once
 pub record AreEndsOf (t : Table) (group : ℕ) (es : List Event) : Type 0 where
-  pub ends : (e : Event) → Contains es e → With (ended_job e) (λ job. With (job_at t job) (λ row. row.group ≡ Some group))
-  pub all : (row : JobRecord) → Contains t.jobs row → row.group ≡ Some group → Contains (map ended_job es) (Some row.number)
+  pub ends : (e : Event) → Contains es e
+      → With (ended_job e) (λ job. With (job_at t job) (λ row. row.group ≡ Some group))
+  pub all : (row : JobRecord) → Contains t.jobs row → row.group ≡ Some group
+      → Contains (map ended_job es) (Some row.number)
   pub once : AllPairs (λ a b. a ≢ b) (map ended_job es)
 
 -- the end of a job without a group, or those of all members of its group side by side
@@ -39,7 +43,8 @@ AreEnds t (Some group) es = AreEndsOf t group es
 abbrev pub IsEvent : State → List Event → Type 0
 IsEvent s [] = Unit {0}
 IsEvent s (Reply line given command text ∷ es) = es ≡ starts_of s given text
-IsEvent s (End job outcome offset ∷ es) = With (job_at s.table job) (λ row. AreEnds s.table row.group (End job outcome offset ∷ es))
+IsEvent s (End job outcome offset ∷ es) =
+    With (job_at s.table job) (λ row. AreEnds s.table row.group (End job outcome offset ∷ es))
 IsEvent s (Start job ∷ es) = ⊥
 IsEvent s (e ∷ es) = es ≡ []
 

@@ -70,7 +70,8 @@ IsOnTheWay t sources drive (Some dev) = With drive (λ node. ReachesDevice t sou
 -- ---- commands: the store, the device of the node that it names, or that of the file that it opens
 
 abbrev pub IsDeviceOf : Table → Sources → Counts → ℕ → FileRef (List ℕ) → Type 0
-IsDeviceOf t sources before dev (file_ref.Name name) = With (id_named t name) (λ node. sources.device_of node ≡ Some dev)
+IsDeviceOf t sources before dev (file_ref.Name name) =
+    With (id_named t name) (λ node. sources.device_of node ≡ Some dev)
 IsDeviceOf t sources before dev (file_ref.Inline file) = dev ≡ length before.devices
 
 abbrev pub IsOfAddition : Table → Sources → Counts → ℕ → Added (List ℕ) → Type 0
@@ -78,12 +79,15 @@ IsOfAddition t sources before dev (added.Qcow2 image) = IsDeviceOf t sources bef
 IsOfAddition t sources before dev driver = ⊥
 
 abbrev pub IsOfCreation : Table → Sources → Counts → ℕ → Created (List ℕ) → Type 0
-IsOfCreation t sources before dev (created.Qcow2 c) = IsDeviceOf t sources before dev (file_ref.Name c.file)
+IsOfCreation t sources before dev (created.Qcow2 c) =
+    IsDeviceOf t sources before dev (file_ref.Name c.file)
 IsOfCreation t sources before dev options = ⊥
 
 abbrev pub IsCalledBy : Table → Sources → Counts → FaultFrom → Option Cmd → Type 0
-IsCalledBy t sources before (Dev dev) (Some (command.BlockdevAdd c)) = IsOfAddition t sources before dev.0 c.driver
-IsCalledBy t sources before (Dev dev) (Some (command.BlockdevCreate c)) = IsOfCreation t sources before dev.0 c.options
+IsCalledBy t sources before (Dev dev) (Some (command.BlockdevAdd c)) =
+    IsOfAddition t sources before dev.0 c.driver
+IsCalledBy t sources before (Dev dev) (Some (command.BlockdevCreate c)) =
+    IsOfCreation t sources before dev.0 c.options
 IsCalledBy t sources before Store (Some (command.BlockdevAdd c)) = Unit {0}
 IsCalledBy t sources before Store (Some (command.BlockdevCreate c)) = Unit {0}
 IsCalledBy t sources before source c = ⊥
@@ -108,23 +112,26 @@ IsDoneFor t (Turn slot) row = row.slot ≡ slot
 IsDoneFor t (Take slot) row = row.slot ≡ slot
 IsDoneFor t (Settle job) row = row.number ≡ job
 IsDoneFor t (PieceOn drive op) row =
-    (row.kind ≡ Backup) × (changes_disk op ≡ true) × With row.filter (λ filter. Contains (path t drive) filter)
+    (row.kind ≡ Backup) × (changes_disk op ≡ true)
+    × With row.filter (λ filter. Contains (path t drive) filter)
 
 -- Its count rose in the event to what is named, or a write of the event would have passed its capacity. The counts are
 -- those before the event, and of a device that it opened the one at the opening, and those after it.
-abbrev pub HasCause : Counts → Counts → (ℕ → Type 0) → Fault → Type 0
-HasCause opened now would_pass (faults.Io dev count) = IsBetween opened now (fault_at (Dev dev) count)
-HasCause opened now would_pass (faults.NoSpace dev) = would_pass dev.0
+abbrev pub HasFaultCause : Counts → Counts → (ℕ → Type 0) → Fault → Type 0
+HasFaultCause opened now would_pass (faults.Io dev count) =
+    IsBetween opened now (fault_at (Dev dev) count)
+HasFaultCause opened now would_pass (faults.NoSpace dev) = would_pass dev.0
 
 -- A job meets a fault once, in what is done for it, of a device that one of its nodes reaches.
-pub record MayMeet (t : Table) (sources : Sources) (deed : Deed) (opened now : Counts) (would_pass : ℕ → Type 0) (row : JobRecord)
+pub record MayMeet (t : Table) (sources : Sources) (deed : Deed) (opened now : Counts)
+    (would_pass : ℕ → Type 0) (row : JobRecord)
     (fault : Fault) : Type 0 where
   pub first : sources.met_by row.number ≡ None
   pub done_for : IsDoneFor t deed row
   pub node : ℕ
   pub own : Contains (row.held ++ row.read) node
   pub device : ReachesDevice t sources node (device_at_fault fault).0
-  pub cause : HasCause opened now would_pass fault
+  pub cause : HasFaultCause opened now would_pass fault
 
 -- A job that met a fault fails with it, or ends with its group; no other end hides a fault.
 abbrev pub EndsAsMet : Sources → ℕ → JobEnd → Type 0
@@ -157,7 +164,8 @@ full_in_words (verb ∷ source ∷ []) =
 full_in_words words = None
 
 abbrev pub full_in_text : List ℕ → Option ℕ
-full_in_text text = option_and_then (λ desc. full_in_words (slice_split (λ byte. byte == 32) desc)) (desc_of text)
+full_in_text text =
+    option_and_then (λ desc. full_in_words (slice_split (λ byte. byte == 32) desc)) (desc_of text)
 
 abbrev pub WouldPass : (ℕ → Type 0) → Option ℕ → Type 0
 WouldPass would_pass None = Unit {0}
@@ -169,14 +177,18 @@ IsCommandsFull t sources before would_pass None c = Unit {0}
 IsCommandsFull t sources before would_pass (Some dev) c =
     IsCalledBy t sources before (Dev (record { 0 = dev })) c × would_pass dev
 
-abbrev pub IsLicensedBy : State → Sources → (before opened now : Counts) → (ℕ → Type 0) → Event → Type 0
+abbrev pub IsLicensedBy : State → Sources → (before opened now : Counts) → (ℕ → Type 0) → Event
+    → Type 0
 IsLicensedBy s sources before opened now would_pass (Piece g r k outcome got) =
     IsOnTheWay s.table sources (drive_of s.table g) (device_in outcome)
     × RoseIn opened now (named_in (Piece g r k outcome got))
     × WouldPass would_pass (full_by outcome)
 IsLicensedBy s sources before opened now would_pass (Reply line given command text) =
-    IsCommandsFault s.table sources before (named_in (Reply line given command text)) (command_in (command_at given))
+    IsCommandsFault s.table sources before (named_in (Reply line given command text))
+    (command_in (command_at given))
     × RoseIn opened now (named_in (Reply line given command text))
-    × IsCommandsFull s.table sources before would_pass (full_in_text text) (command_in (command_at given))
-IsLicensedBy s sources before opened now would_pass (End job outcome offset) = EndsAsMet sources job outcome
+    × IsCommandsFull s.table sources before would_pass (full_in_text text)
+    (command_in (command_at given))
+IsLicensedBy s sources before opened now would_pass (End job outcome offset) =
+    EndsAsMet sources job outcome
 IsLicensedBy s sources before opened now would_pass e = Unit {0}

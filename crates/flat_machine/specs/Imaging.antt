@@ -1,6 +1,7 @@
 -- Which images map a cluster, and that the flat machine says so.
 use Rattle.std.specs.Prelude.{◌≡◌, ℕ, ◌==◌, Bool, true, false, not, List, [], ◌∷◌, find, Option, Some, is_some, option_map, unwrap_or}
 use Rattle.q2_format.specs.Header.{header_of}
+use Rattle.q2_format.specs.Sound.{IsSound}
 use Rattle.blk_graph.specs.declared.kind.Kind.{Kind}
 use Rattle.blk_graph.specs.declared.kind.Kind.TheVariants.{Qcow2}
 use Rattle.qmp_rules.specs.declared.change.Change.{Change}
@@ -31,6 +32,11 @@ is_qcow2 kind = false
 
 abbrev pub is_qcow2_at : Table → ℕ → Bool
 is_qcow2_at t node = unwrap_or (option_map (λ row. is_qcow2 row.kind) (node_at t node)) false
+
+-- the file of each qcow2 node is there, and the image in it is sound
+abbrev pub ImagesAreSound : Table → (List ℕ → Option (List ℕ)) → Type 0
+ImagesAreSound t held = (node : ℕ) → is_qcow2_at t node ≡ true
+    → With (written_file t node) (λ name. With (held name) IsSound)
 
 -- There is word of the image of a qcow2 node, and of no other node. What is said is so of the image
 -- in the file that the node writes.

@@ -86,7 +86,8 @@ begin s row = record {
 
 -- a job holds these nodes, be it for reading: whether their images map a cluster isn't known any more
 abbrev pub unsure : List ℕ → Image → Image
-unsure nodes image = if has_id image.node nodes then record image { mapped = blurred image.mapped } else image
+unsure nodes image =
+    if has_id image.node nodes then record image { mapped = blurred image.mapped } else image
   where
     blurred : Mapped → Mapped
     blurred MapsNone = Unsure
@@ -99,7 +100,8 @@ aside_by node (Some used) ds = where_so (is_dirty_of node used.name) put_aside d
 -- the bitmap that it copies by is put aside, and those of its target or base are wholly dirty
 abbrev pub dirty_at_start : State → JobRecord → Option ℕ → List Dirty
 dirty_at_start s row None = aside_by row.source row.bitmap s.dirty
-dirty_at_start s row (Some node) = where_recording s.table node filled (aside_by row.source row.bitmap s.dirty)
+dirty_at_start s row (Some node) =
+    where_recording s.table node filled (aside_by row.source row.bitmap s.dirty)
 
 -- the target of a backup or mirror
 abbrev pub copied_to : JobRecord → JobKind → Option ℕ
@@ -132,7 +134,8 @@ noted_start s row = record s {
 abbrev pub started : State → Option JobRecord → State
 started s None = s
 started s (Some row) =
-    unleft (target_file s.table (option_and_then (node_at s.table) (copied_to row row.kind))) (noted_start s row)
+    unleft (target_file s.table (option_and_then (node_at s.table) (copied_to row row.kind)))
+    (noted_start s row)
 
 -- ---- ends: the disks
 
@@ -163,7 +166,8 @@ put_target None bytes s = s
 put_target (Some node) bytes s = put node bytes s
 
 abbrev pub disks_at_end : State → JobRecord → JobEnd → State
-disks_at_end s row outcome = if is_success outcome then put_target (written_by row) (result_bytes s row row.kind) s else s
+disks_at_end s row outcome =
+    if is_success outcome then put_target (written_by row) (result_bytes s row row.kind) s else s
 
 -- the bitmap is given back: what stands aside is dropped after a success where that is its mode
 abbrev pub drops : JobEnd → BitmapMode → Bool
@@ -172,7 +176,8 @@ drops outcome mode = false
 
 abbrev pub dirty_at_end : List Dirty → JobRecord → JobEnd → Option UsedBitmap → List Dirty
 dirty_at_end ds row outcome None = ds
-dirty_at_end ds row outcome (Some used) = where_so (is_dirty_of row.source used.name) (taken_back (drops outcome used.mode)) ds
+dirty_at_end ds row outcome (Some used) =
+    where_so (is_dirty_of row.source used.name) (taken_back (drops outcome used.mode)) ds
 
 -- ---- ends: the table
 
@@ -184,7 +189,8 @@ parents_moved (Some target) source edges = with_replaced source target None edge
 -- the top of a stream has this backing node, or none
 abbrev pub rebased : Option ℕ → ℕ → List Edge → List Edge
 rebased None top edges = filter (λ edge. not (is_edge (Node top) BackingRole edge)) edges
-rebased (Some base) top edges = map (λ edge. if is_edge (Node top) BackingRole edge then with_child base edge else edge) edges
+rebased (Some base) top edges =
+    map (λ edge. if is_edge (Node top) BackingRole edge then with_child base edge else edge) edges
 
 -- the overlay over the top of a commit to an inner base has the base as backing node
 abbrev pub overlay_rebased : Option ℕ → List ℕ → List Edge → List Edge
@@ -196,7 +202,8 @@ moved_by row Stream edges = rebased row.target row.source edges
 moved_by row Backup edges = edges
 moved_by row Mirror edges = parents_moved row.target row.source edges
 moved_by row Commit edges =
-    if has_no_overlay row then parents_moved row.target row.source edges else overlay_rebased row.target row.read edges
+    if has_no_overlay row then parents_moved row.target row.source edges
+    else overlay_rebased row.target row.read edges
 
 -- the job's edges and its filter are gone
 abbrev pub unfiltered : Option ℕ → List Edge → List Edge
@@ -214,7 +221,8 @@ is_filter_of (Some id) row = row.id == id
 
 abbrev pub settle_if : Bool → Bool → Option ℕ → NodeRecord → NodeRecord
 settle_if so settled None row = row
-settle_if so settled (Some id) row = if so && row.id == id then record row { is_settled = settled } else row
+settle_if so settled (Some id) row =
+    if so && row.id == id then record row { is_settled = settled } else row
 
 -- a backup by bitmap onto a target that was unsettled leaves it so
 abbrev pub settles_target : Option UsedBitmap → Bool
@@ -244,13 +252,15 @@ abbrev pub writable_at_end : Table → JobRecord → JobEnd → NodeRecord → N
 writable_at_end t row outcome node =
     let again = not (is_pivot outcome) in
     read_only_if (again && row.made_writable.base) row.target
-    (read_only_if (again && row.made_writable.file) (option_and_then (λ base. child t base File) row.target) node)
+    (read_only_if (again && row.made_writable.file)
+    (option_and_then (λ base. child t base File) row.target) node)
 
 abbrev pub node_at_end : Table → JobRecord → JobEnd → NodeRecord → NodeRecord
 node_at_end t row outcome node = writable_at_end t row outcome (settled_at_end row outcome node)
 
 abbrev pub nodes_at_end : Table → JobRecord → JobEnd → List NodeRecord
-nodes_at_end t row outcome = map (node_at_end t row outcome) (filter (λ node. not (is_filter_of row.filter node)) t.nodes)
+nodes_at_end t row outcome =
+    map (node_at_end t row outcome) (filter (λ node. not (is_filter_of row.filter node)) t.nodes)
 
 abbrev pub is_number : ℕ → Option ℕ → Bool
 is_number n None = false
@@ -287,7 +297,11 @@ abbrev pub ending_after : State → ℕ → JobEnd → Option ℕ → Option End
 ending_after s job outcome None = None
 ending_after s job outcome (Some group) =
     if has_others s.table group job
-    then Some (record { group = group; is_completed = is_success outcome; has_cause = had_cause s.ending || is_cause outcome })
+    then Some (record {
+      group = group;
+      is_completed = is_success outcome;
+      has_cause = had_cause s.ending || is_cause outcome;
+    })
     else None
 
 abbrev pub noted_end : State → JobRecord → JobEnd → State

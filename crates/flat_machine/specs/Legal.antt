@@ -10,7 +10,7 @@ use Rattle.qmp_rules.specs.declared.rows.JobRecord.{JobRecord}
 use Rattle.qmp_rules.specs.Table.{device_at, job_at, job_named}
 use Rattle.blk_history.specs.Fold.{Each, With}
 use Rattle.blk_history.specs.Disk.{span_of, is_write}
-use Rattle.flat_machine.specs.State.{State, Guest, Ending, guest_at, disk_of, disk_of_guest, size_of}
+use Rattle.flat_machine.specs.State.{State, Guest, Ending, guest_at, flat_disk_of, disk_of_guest, size_of}
 use Rattle.blk_history.specs.Machine.{Flight}
 use Rattle.blk_history.specs.Legal.{IsNextPiece, IsOver}
 use Rattle.flat_machine.specs.Jobs.{can_be_ready, is_success, is_cause, has_others, had_cause}
@@ -55,10 +55,11 @@ IsNotDone s actor = Contains s.ended actor → ⊥
 -- the next request of a guest that is attached, which is judged by whether it is read-only and by its disk's size
 abbrev pub IsJudged : State → ℕ → ℕ → (Bool → ℕ → Type 0) → Type 0
 IsJudged s g r P = IsNotDone s (g + 1) × With (guest_at s g) (λ row. IsNext row r)
-    × With (device_at s.table g) (λ device. With (disk_of_guest s.table g) (λ node. P device.read_only (size_of s.table node)))
+    × With (device_at s.table g)
+    (λ device. With (disk_of_guest s.table g) (λ node. P device.read_only (size_of s.table node)))
 
 abbrev pub guest_disk : State → ℕ → Option (List ℕ)
-guest_disk s g = option_and_then (disk_of s) (disk_of_guest s.table g)
+guest_disk s g = option_and_then (flat_disk_of s) (disk_of_guest s.table g)
 
 -- that holds of the guest's request in flight, which has this number
 abbrev pub IsInFlight : State → ℕ → ℕ → (Flight → Type 0) → Type 0
@@ -80,7 +81,8 @@ AllDone s = (actor : ℕ) → actor ≤ length s.guests → Contains s.ended act
 
 abbrev pub MayEnd : State → JobRecord → JobEnd → Type 0
 MayEnd s row Completed = (can_be_ready row row.kind ≡ false) × (row.asked ≢ asked.Stop)
-MayEnd s row Pivoted = (can_be_ready row row.kind ≡ true) × (row.is_ready ≡ true) × (row.asked ≡ asked.Complete)
+MayEnd s row Pivoted =
+    (can_be_ready row row.kind ≡ true) × (row.is_ready ≡ true) × (row.asked ≡ asked.Complete)
 MayEnd s row Copied = (row.kind ≡ Mirror) × (row.is_ready ≡ true) × (row.asked ≡ asked.Leave)
 MayEnd s row (Failed fault) = Unit {0}
 MayEnd s row (Cancelled Command) = row.asked ≡ asked.Stop
@@ -89,7 +91,8 @@ MayEnd s row (Cancelled RunEnd) = AllDone s × (row.is_ready ≡ true) × (row.a
 
 -- the source's size once the job was ready and at an end without error, and else 0
 abbrev pub offset_at_end : State → JobRecord → JobEnd → ℕ
-offset_at_end s row outcome = if row.is_ready || is_success outcome then size_of s.table row.source else 0
+offset_at_end s row outcome =
+    if row.is_ready || is_success outcome then size_of s.table row.source else 0
 
 -- members of a group end without error side by side or not at all
 abbrev pub IsLike : Option Ending → JobEnd → Type 0
@@ -103,7 +106,8 @@ HasReason s group job outcome = has_others s.table group job ≡ false
 
 abbrev pub EndsBeside : State → JobRecord → JobEnd → Option ℕ → Type 0
 EndsBeside s row outcome None = Unit {0}
-EndsBeside s row outcome (Some group) = IsLike s.ending outcome × HasReason s group row.number outcome
+EndsBeside s row outcome (Some group) =
+    IsLike s.ending outcome × HasReason s group row.number outcome
 
 pub record CanEnd (s : State) (outcome : JobEnd) (offset : ℕ) (row : JobRecord) : Type 0 where
   pub cause : MayEnd s row outcome
@@ -136,13 +140,16 @@ InTurn s e = IsAtRest s
 
 abbrev pub MayStand : State → Event → Type 0
 MayStand s (Admit g r op) = IsJudged s g r (CanAdmit op)
-MayStand s (Refuse g r op why) = IsJudged s g r (λ read_only size. IsRefusedFor op read_only size why)
-MayStand s (Piece g r k outcome got) = IsInFlight s g r (λ f. IsNextPiece f k outcome (guest_disk s g) got)
+MayStand s (Refuse g r op why) =
+    IsJudged s g r (λ read_only size. IsRefusedFor op read_only size why)
+MayStand s (Piece g r k outcome got) =
+    IsInFlight s g r (λ f. IsNextPiece f k outcome (guest_disk s g) got)
 MayStand s (Retire g r) = IsInFlight s g r IsOver
 MayStand s (Reply line given command text) = IsNotDone s 0 × IsAnswer s given command text
 MayStand s (Reached line what) = IsNotDone s 0 × IsMet s what
 MayStand s (Start job) = IsSome (job_at s.table job)
-MayStand s (Ready job) = With (job_at s.table job) (λ row. (can_be_ready row row.kind ≡ true) × (row.is_ready ≡ false))
+MayStand s (Ready job) =
+    With (job_at s.table job) (λ row. (can_be_ready row row.kind ≡ true) × (row.is_ready ≡ false))
 MayStand s (End job outcome offset) = With (job_at s.table job) (CanEnd s outcome offset)
 MayStand s (Done zero) = IsNotDone s 0
 MayStand s (Done (suc g)) = IsNotDone s (g + 1) × With (guest_at s g) (λ row. row.flight ≡ None)

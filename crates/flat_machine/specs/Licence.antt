@@ -37,18 +37,22 @@ value_of digits = fold (λ n digit. n * 10 + (digit - 48)) 0 digits
 abbrev pub source_of : List ℕ → Option FaultFrom
 source_of word =
     if bytes_eq word (codes "store") then Some Store
-    else if starts_with nat_eq word (codes "dev") then Some (Dev (record { 0 = value_of (drop 3 word) }))
+    else if starts_with nat_eq word (codes "dev")
+    then Some (Dev (record { 0 = value_of (drop 3 word) }))
     else None
 
 -- `io store COUNT` and `io devN COUNT`
 abbrev pub named_in_words : List (List ℕ) → Option FaultAt
 named_in_words (verb ∷ source ∷ count ∷ []) =
-    if bytes_eq verb (codes "io") then option_and_then (λ from. Some (fault_at from (value_of count))) (source_of source) else None
+    if bytes_eq verb (codes "io")
+    then option_and_then (λ from. Some (fault_at from (value_of count))) (source_of source)
+    else None
 named_in_words words = None
 
 -- that of a refused command
 abbrev pub named_in_text : List ℕ → Option FaultAt
-named_in_text text = option_and_then (λ desc. named_in_words (slice_split (λ byte. byte == 32) desc)) (desc_of text)
+named_in_text text =
+    option_and_then (λ desc. named_in_words (slice_split (λ byte. byte == 32) desc)) (desc_of text)
 
 abbrev pub named_in : Event → Option FaultAt
 named_in (Piece g r k outcome got) = named_by outcome

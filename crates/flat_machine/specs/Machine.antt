@@ -46,7 +46,11 @@ with_disk node f s = record s { disks = map (disk_changed node f) s.disks }
 abbrev pub path_from : ℕ → Table → ℕ → List ℕ
 path_from zero t node = node ∷ []
 path_from (suc more) t node =
-    node ∷ (elim (filtered t node) as (λ _. List ℕ) [ None ↦ [] | Some below ↦ path_from more t below ])
+    node ∷ (elim (filtered t node) as (λ _. List ℕ) [
+      | None ↦ []
+      | Some below ↦ path_from more t
+          below
+    ])
 
 unfoldable pub path : Table → ℕ → List ℕ
 path t node = path_from 64 t node
@@ -61,11 +65,16 @@ abbrev pub noted : Table → Extent → List Dirty → List ℕ → List Dirty
 noted t part = run (λ ds node. where_recording t node (marked part) ds)
 
 abbrev pub note : Outcome → Extent → ℕ → State → State
-note outcome part drive s = if is_noted outcome then record s { dirty = noted s.table part s.dirty (path s.table drive) } else s
+note outcome part drive s =
+    if is_noted outcome then record s { dirty = noted s.table part s.dirty (path s.table drive) }
+    else s
 
 -- every other node that reaches the disk's node by backing edges is unsettled, and its image may map a cluster
 abbrev pub written : ℕ → State → State
-written node s = record s { table = written_under node s.table; images = map (unsure (node ∷ [])) s.images }
+written node s = record s {
+  table = written_under node s.table;
+  images = map (unsure (node ∷ [])) s.images;
+}
 
 -- a read through copy-on-read writes what it reads into the image below
 abbrev pub is_copying : Kind → Bool
@@ -73,7 +82,8 @@ is_copying CopyOnRead = true
 is_copying kind = false
 
 abbrev pub copies_at : Table → ℕ → Bool
-copies_at t node = elim (node_at t node) as (λ _. Bool) [ None ↦ false | Some row ↦ is_copying row.kind ]
+copies_at t node =
+    elim (node_at t node) as (λ _. Bool) [ None ↦ false | Some row ↦ is_copying row.kind ]
 
 abbrev pub copies_through : Table → ℕ → Bool
 copies_through t node = list_any (copies_at t) (path t node)
@@ -87,14 +97,17 @@ read_through drive s =
 -- beside the disk's bytes
 abbrev pub touched : Op → Outcome → Extent → ℕ → State → State
 touched (Read span) outcome part drive s = read_through drive s
-touched (Write span payload) outcome part drive s = note outcome part drive (written (disk_node s.table drive) s)
-touched (Zero span) outcome part drive s = note outcome part drive (written (disk_node s.table drive) s)
+touched (Write span payload) outcome part drive s =
+    note outcome part drive (written (disk_node s.table drive) s)
+touched (Zero span) outcome part drive s =
+    note outcome part drive (written (disk_node s.table drive) s)
 touched op outcome part drive s = s
 
 -- piece k of a request in flight, on the disk of the guest's device
 abbrev pub with_part : ℕ → Op → Outcome → Extent → State → State
 with_part drive op outcome part s =
-    touched op outcome part drive (with_disk (disk_node s.table drive) (done_in op part (done_by outcome part)) s)
+    touched op outcome part drive
+    (with_disk (disk_node s.table drive) (done_in op part (done_by outcome part)) s)
 
 abbrev pub with_piece : Option ℕ → Option Flight → ℕ → Outcome → State → State
 with_piece (Some drive) (Some f) k outcome s = with_part drive f.op outcome (piece f.op k) s
@@ -108,7 +121,8 @@ flight_of s g = option_and_then (λ row. row.flight) (guest_at s g)
 abbrev pub after : State → Event → State
 after s (Admit g r op) = with_guest g (admitted op) s
 after s (Refuse g r op why) = with_guest g finished s
-after s (Piece g r k outcome got) = with_guest g (past_piece outcome) (with_piece (drive_of s.table g) (flight_of s g) k outcome s)
+after s (Piece g r k outcome got) =
+    with_guest g (past_piece outcome) (with_piece (drive_of s.table g) (flight_of s g) k outcome s)
 after s (Retire g r) = with_guest g finished s
 after s (Reply line given command text) = replied s given text
 after s (Reached line what) = s

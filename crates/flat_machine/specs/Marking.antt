@@ -25,11 +25,19 @@ filled d = record d { set = replicate (length d.set) true }
 
 -- each granule with a byte of the span
 abbrev pub marked : Extent → Dirty → Dirty
-marked span d = record d { set = those_below (length d.set) (λ k. contains d.set k || touches d.granularity span k) }
+marked span d =
+    record d {
+      set = those_below (length d.set)
+          (λ k. contains d.set k || touches d.granularity span k);
+    }
 
 -- each granule that overlaps a dirty one of the source
 abbrev pub joined : Dirty → Dirty → Dirty
-joined source d = record d { set = merged (record { mine = d.granularity; theirs = source.granularity }) d.set source.set }
+joined source d =
+    record d {
+      set = merged (record { mine = d.granularity; theirs = source.granularity }) d.set
+          source.set;
+    }
 
 -- a job copies by it: what is dirty stands aside
 abbrev pub put_aside : Dirty → Dirty
@@ -37,7 +45,10 @@ put_aside d = record d { set = replicate (length d.set) false; aside = Some d.se
 
 -- the job is over: what stands aside is dropped, or is dirty again
 abbrev pub taken_back : Bool → Dirty → Dirty
-taken_back drops d = record d { set = if drops then d.set else with_frozen d.set d.aside; aside = None }
+taken_back drops d = record d {
+  set = if drops then d.set else with_frozen d.set d.aside;
+  aside = None;
+}
 
 -- all that is dirty, with what stands aside
 abbrev pub all_dirty : Dirty → List Bool

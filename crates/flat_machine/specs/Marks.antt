@@ -1,5 +1,5 @@
 -- Marks, and drained moments.
-use Rattle.std.specs.Prelude.{◌≡◌, ℕ, ◌<◌, ◌==◌, Bool, true, false, ◌&&◌, not, if◌then◌else◌, List, [], ◌∷◌, ◌++◌, filter, All, Option, Some, None, IsSome, option_and_then, Result, Ok}
+use Rattle.std.specs.Prelude.{◌≡◌, ℕ, ◌<◌, ◌==◌, Bool, true, false, ◌&&◌, not, if◌then◌else◌, List, [], ◌∷◌, ◌++◌, filter, slice_get, All, Option, Some, None, IsSome, option_and_then, Result, Ok}
 use Rattle.std.specs.List.{list_any}
 use Rattle.qmp_codec.specs.Commands.{Act, Cmd}
 use Rattle.qmp_codec.specs.Lines.{Stop, command_at}
@@ -56,37 +56,45 @@ abbrev pub of_job : Option JobRecord → (JobRecord → List ℕ) → List ℕ
 of_job None f = []
 of_job (Some row) f = f row
 
+-- an accepted line, what its command marks
+abbrev pub reply_marks : Table → (given text : List ℕ) → List ℕ
+reply_marks t given text = if is_accepted text then snapshot_marks t (command_at given) else []
+
 -- The start of a backup marks its source, an accepted snapshot its node, the end of a mirror that pivots or leaves a copy its
 -- source, and the end of a commit without error its top.
 abbrev pub marks_of : State → Event → List ℕ
-marks_of s (Reply line given command text) = if is_accepted text then snapshot_marks s.table (command_at given) else []
+marks_of s (Reply line given command text) = reply_marks s.table given text
 marks_of s (Start job) = of_job (job_at s.table job) (λ row. start_marks row row.kind)
-marks_of s (End job outcome offset) = of_job (job_at s.table job) (λ row. end_marks row row.kind outcome)
+marks_of s (End job outcome offset) =
+    of_job (job_at s.table job) (λ row. end_marks row row.kind outcome)
 marks_of s e = []
 
--- no guest on the node has a request in flight
-abbrev pub IsCalm : State → ℕ → Type 0
-IsCalm s node = (g : ℕ) (row : Guest) → guest_at s g ≡ Some row → disk_of_guest s.table g ≡ Some (disk_node s.table node) → row.flight ≡ None
+-- none of these guests that is on the node has a request in flight
+abbrev pub IsCalm : Table → List Guest → ℕ → Type 0
+IsCalm t guests node = (g : ℕ) (row : Guest) → slice_get guests g ≡ Some row
+    → disk_of_guest t g ≡ Some (disk_node t node) → row.flight ≡ None
 
 -- nor on any of these
-abbrev pub AreCalm : State → List ℕ → Type 0
-AreCalm s disks = All (IsCalm s) disks
+abbrev pub AreCalm : Table → List Guest → List ℕ → Type 0
+AreCalm t guests disks = All (IsCalm t guests) disks
 
 -- no mark splits a request
 abbrev pub NoneSplits : State → List Event → Type 0
-NoneSplits = Each after (λ s e. AreCalm s (marks_of s e))
+NoneSplits = Each after (λ s e. AreCalm s.table s.guests (marks_of s e))
 
 -- ---- what must be drained
 
 -- the sources of the backups of a transaction
 abbrev pub backup_sources : Table → List Act → List ℕ
 backup_sources t [] = []
-backup_sources t (action.Backup c ∷ actions) = ids_of (id_named t c.device) ++ backup_sources t actions
+backup_sources t (action.Backup c ∷ actions) =
+    ids_of (id_named t c.device) ++ backup_sources t actions
 backup_sources t (act ∷ actions) = backup_sources t actions
 
 -- the disk of the guest whose device goes
 abbrev pub device_disk : Table → List ℕ → List ℕ
-device_disk t id = ids_of (option_and_then (λ device. disk_of_guest t device.number) (device_named t id))
+device_disk t id =
+    ids_of (option_and_then (λ device. disk_of_guest t device.number) (device_named t id))
 
 -- a command must drain the disks of the marks that it makes, and `device_del` that of its guest
 abbrev pub drained_by : Table → Cmd → List ℕ
@@ -127,7 +135,8 @@ after_reply drains = record drains { command = [] }
 
 -- a turn of a job that is asked to end, and its end
 abbrev pub after_turn : ℕ → Drained → Drained
-after_turn job drains = if has_id job drains.jobs then drains else record drains { jobs = drains.jobs ++ job ∷ [] }
+after_turn job drains =
+    if has_id job drains.jobs then drains else record drains { jobs = drains.jobs ++ job ∷ [] }
 
 abbrev pub after_end : ℕ → Drained → Drained
 after_end job drains = record drains { jobs = filter (λ other. not (other == job)) drains.jobs }
@@ -141,12 +150,13 @@ job_disks t (job ∷ jobs) = of_job (job_at t job) (λ row. row.source ∷ []) +
 abbrev pub is_on : Table → ℕ → ℕ → Bool
 is_on t node disk = disk_node t disk == node
 
-abbrev pub holds : Table → Drained → Option ℕ → Bool
-holds t drains None = false
-holds t drains (Some node) = list_any (is_on t node) (drains.command ++ job_disks t drains.jobs)
+abbrev pub holds_disk : Table → Drained → Option ℕ → Bool
+holds_disk t drains None = false
+holds_disk t drains (Some node) =
+    list_any (is_on t node) (drains.command ++ job_disks t drains.jobs)
 
 abbrev pub is_held : State → Drained → ℕ → Bool
-is_held s drains g = holds s.table drains (disk_of_guest s.table g)
+is_held s drains g = holds_disk s.table drains (disk_of_guest s.table g)
 
 -- ---- what has to come again
 

@@ -13,7 +13,7 @@ use Rattle.qmp_rules.specs.Chains.{filter_role}
 use Rattle.blk_history.specs.Fold.{With}
 use Rattle.flat_machine.specs.State.{State, Content, Bytes, Blank, content_in, filename_of}
 use Rattle.flat_machine.specs.Changed.{content_under, file_of, filename_or, format_name, stepped}
-use Rattle.flat_machine.specs.Final.{read_as}
+use Rattle.flat_machine.specs.Final.{IsDiskIn}
 use Rattle.flat_machine.specs.Agreement.{Contents, HasDisk}
 
 -- ---- when a change can be made, by the state alone
@@ -48,10 +48,11 @@ CanRead s file Raw = With (node_at s.table file) HasDisk
 CanRead s file Qcow2 = With (content_under s file) IsReadable
 CanRead s file driver = ⊥
 
-pub record CanAddFormat (s : State) (row : NodeRecord) (file : ℕ) (backing : Option ℕ) : Type 0 where
-  pub fresh : IsFresh s row
-  pub readable : CanRead s file row.kind
-  pub backed : IsBacking s backing
+pub record CanAddFormat (s : State) (row : NodeRecord) (file : ℕ) (backing : Option ℕ) : Type 0
+  where
+    pub fresh : IsFresh s row
+    pub readable : CanRead s file row.kind
+    pub backed : IsBacking s backing
 
 pub record CanAddFilter (s : State) (row : NodeRecord) : Type 0 where
   pub fresh : IsFresh s row
@@ -92,9 +93,10 @@ pub record Puts (node : ℕ) (bytes : List ℕ) (old new : Contents) : Type 0 wh
 pub record Removes (s : State) (node : ℕ) (old new : Contents) : Type 0 where
   pub nodes : ReadSame (λ other. other ≡ node) old new
   pub files : HeldSame Nothing old new
-  pub alone : (row : NodeRecord) → node_at s.table node ≡ Some row → child s.table node Backing ≡ None
+  pub alone : (row : NodeRecord) → node_at s.table node ≡ Some row
+      → child s.table node Backing ≡ None
       → (name : List ℕ) → file_of s.table row row.kind ≡ Some name
-      → With (old.held name) (λ bytes. read_as row.kind row.offset (length (old.reads node)) bytes ≡ old.reads node)
+      → With (old.held name) (IsDiskIn row.kind row.offset (old.reads node))
 
 -- a file alone changes, and no node reads otherwise but these
 pub record Makes (but : ℕ → Type 0) (name : List ℕ) (old new : Contents) : Type 0 where
@@ -117,12 +119,15 @@ backing_reads c (Some node) = c.reads node
 -- what a format node reads as when it is added
 abbrev pub format_as : State → Contents → NodeRecord → ℕ → Option ℕ → Kind → List ℕ
 format_as s c row file backing Raw = raw_disk row.offset row.size (c.reads file)
-format_as s c row file backing Qcow2 = image_disk (held_bytes c (unwrap_or (filename_of s.table file) [])) (backing_reads c backing)
+format_as s c row file backing Qcow2 =
+    image_disk (held_bytes c (unwrap_or (filename_of s.table file) [])) (backing_reads c backing)
 format_as s c row file backing driver = []
 
 abbrev pub Performed : State → Change → Contents → Contents → Type 0
-Performed s (change.AddFile row) old new = Puts row.id (file_disk row.size (held_bytes old (filename_or row))) old new
-Performed s (change.AddFormat row file backing) old new = Puts row.id (format_as s old row file backing row.kind) old new
+Performed s (change.AddFile row) old new =
+    Puts row.id (file_disk row.size (held_bytes old (filename_or row))) old new
+Performed s (change.AddFormat row file backing) old new =
+    Puts row.id (format_as s old row file backing row.kind) old new
 Performed s (change.AddFilter row node) old new = Puts row.id (old.reads node) old new
 Performed s (change.PutFilter row node) old new = Puts row.id (old.reads node) old new
 Performed s (change.RemoveNode node) old new = Removes s node old new
@@ -130,8 +135,11 @@ Performed s (change.MakeFile name size) old new =
     Makes Nothing name old new × (new.held name ≡ Some (replicate size 0))
 Performed s (change.FormatFile node name size backing_file backing_fmt) old new =
     Makes (λ other. other ≡ node) name old new
-    × With (new.held name) (IsFormatted (creation_of size backing_file (option_map format_name backing_fmt)) (held_bytes old name))
-Performed s (change.SpoilFile name) old new = Makes (λ node. filename_of s.table node ≡ Some name) name old new
+    × With (new.held name)
+    (IsFormatted (creation_of size backing_file (option_map format_name backing_fmt))
+    (held_bytes old name))
+Performed s (change.SpoilFile name) old new =
+    Makes (λ node. filename_of s.table node ≡ Some name) name old new
 Performed s (change.Attach overlay node) old new = Puts overlay (old.reads node) old new
 Performed s c old new = IsQuiet old new
 
@@ -144,4 +152,5 @@ AllCan s (c ∷ changes) = Can s c × AllCan (stepped s c) changes
 abbrev pub AllPerformed : State → List Change → Contents → Contents → Type 0
 AllPerformed s [] old new = IsQuiet old new
 AllPerformed s (c ∷ changes) old new =
-    (between : Contents) × Performed s c old between × AllPerformed (stepped s c) changes between new
+    (between : Contents) × Performed s c old between
+    × AllPerformed (stepped s c) changes between new

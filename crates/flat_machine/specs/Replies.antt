@@ -24,13 +24,16 @@ is_accepted text = is_some (option_and_then (get (codes "return")) (read text))
 
 -- the words of a refusal
 abbrev pub desc_of : List ℕ → Option (List ℕ)
-desc_of text = option_and_then as_str (option_and_then (get (codes "desc")) (option_and_then (get (codes "error")) (read text)))
+desc_of text =
+    option_and_then as_str
+    (option_and_then (get (codes "desc")) (option_and_then (get (codes "error")) (read text)))
 
 -- the words of a failed call; no name holds a blank, so no other refusal begins so
 abbrev pub is_failed_call : List ℕ → Bool
 is_failed_call desc =
     starts_with nat_eq desc (codes "io dev")
-    || (starts_with nat_eq desc (codes "io store ") || starts_with nat_eq desc (codes "nospace dev"))
+    || (starts_with nat_eq desc (codes "io store ")
+    || starts_with nat_eq desc (codes "nospace dev"))
 
 abbrev pub is_failure : List ℕ → Bool
 is_failure text = option_map_or is_failed_call (desc_of text) false
@@ -65,8 +68,9 @@ IsToldOf s None told = Unit {0}
 IsToldOf s (Some c) told = IsTold s c told
 
 -- the text is the answer to the line, for something that the files may tell
-pub record IsAnswer (s : State) (given : List ℕ) (command : Option Cmd) (text : List ℕ) : Type 0 where
-  pub understood : command ≡ command_in (command_at given)
-  pub told : Told
-  pub is_told : IsToldOf s (command_in (command_at given)) told
-  pub answered : text ≡ line_text s.table told given
+pub record IsAnswer (s : State) (given : List ℕ) (command : Option Cmd) (text : List ℕ) : Type 0
+  where
+    pub understood : command ≡ command_in (command_at given)
+    pub told : Told
+    pub is_told : IsToldOf s (command_in (command_at given)) told
+    pub answered : text ≡ line_text s.table told given

@@ -57,7 +57,11 @@ image_sight (Bytes file) = record {
   size = (header_of file).size;
   names_backing = is_some (header_of file).name;
 }
-image_sight (Blank new len) = record { stop = blank_stop len; size = new.size; names_backing = is_some new.name }
+image_sight (Blank new len) = record {
+  stop = blank_stop len;
+  size = new.size;
+  names_backing = is_some new.name;
+}
 image_sight Unknown = record { stop = None; size = 0; names_backing = false }
 
 -- what a file of which no length is known would tell of it isn't asked: a node stands for it, or it was used
@@ -82,7 +86,8 @@ file_looked_at t (added.Qcow2 image) = file_of_ref t image.file
 file_looked_at t driver = None
 
 abbrev pub sight_for : State → Added (List ℕ) → Option FileSight
-sight_for s driver = option_map sight_of (option_and_then (content_in s.files) (file_looked_at s.table driver))
+sight_for s driver =
+    option_map sight_of (option_and_then (content_in s.files) (file_looked_at s.table driver))
 
 abbrev pub told_by : State → Cmd → Told
 told_by s (command.BlockdevAdd c) = add_told s.table c (sight_for s c.driver)
@@ -155,10 +160,11 @@ IsReached c what None = Unit {0}
 IsReached c what (Some expected) =
     (order_of what ≤ order_of expected.look) × (is_opened c expected.refusal ≡ true)
 
-pub record Fails (t : Table) (c : Cmd) (expected : Option Stopped) (stopped : Stopped) : Type 0 where
-  pub call : calls_at t stopped.look c ≡ true
-  pub failure : IsFailure stopped.look stopped.refusal
-  pub reached : IsReached c stopped.look expected
+pub record Fails (t : Table) (c : Cmd) (expected : Option Stopped) (stopped : Stopped) : Type 0
+  where
+    pub call : calls_at t stopped.look c ≡ true
+    pub failure : IsFailure stopped.look stopped.refusal
+    pub reached : IsReached c stopped.look expected
 
 -- the image of a formatted file whose length isn't known may be too large
 abbrev pub is_of_unknown_length : Option Content → Bool
@@ -173,10 +179,12 @@ may_be_large s c = false
 
 abbrev pub IsTooLarge : State → Cmd → Option Stopped → Type 0
 IsTooLarge s c stopped =
-    (may_be_large s c ≡ true) × (stopped ≡ Some (record { look = look.Image; refusal = refusal.Image too_large }))
+    (may_be_large s c ≡ true)
+    × (stopped ≡ Some (record { look = look.Image; refusal = refusal.Image too_large }))
 
 abbrev pub MayStop : State → Cmd → Option Stopped → Option Stopped → Type 0
-MayStop s c expected stopped = (stopped ≡ expected) ⊎ (With stopped (Fails s.table c expected) ⊎ IsTooLarge s c stopped)
+MayStop s c expected stopped =
+    (stopped ≡ expected) ⊎ (With stopped (Fails s.table c expected) ⊎ IsTooLarge s c stopped)
 
 -- ---- images that map a cluster
 
@@ -202,7 +210,8 @@ AgreesWith Unsure told = Unit {0}
 -- an overlay whose image is fresh maps none, one whose file was found with a mapped cluster does, and of every other one
 -- either may be told; of a name that no node has nothing is asked
 abbrev pub MayMap : State → List (List ℕ) → List (List ℕ) → Type 0
-MayMap s overlays mapped = (name : List ℕ) (node : ℕ) → Contains overlays name → id_named s.table name ≡ Some node
+MayMap s overlays mapped =
+    (name : List ℕ) (node : ℕ) → Contains overlays name → id_named s.table name ≡ Some node
     → AgreesWith (mapped_at s.images node) (has_name name mapped)
 
 -- ---- all that is told

@@ -8,26 +8,33 @@ use Rattle.qmp_rules.specs.Table.{Table, device_at, file_state, has_name}
 use Rattle.qmp_rules.specs.Chains.{filter_role, disk_node}
 use Rattle.blk_history.specs.Fold.{With}
 use Rattle.flat_machine.specs.State.{State, Content, Bytes, Blank, Unknown, Left, content_in, drive_of}
-use Rattle.flat_machine.specs.Wiring.{StandsFor, IsUnder, HasFile, TableStands, InlineAreUnder, writes_through}
+use Rattle.flat_machine.specs.Wiring.{StandsFor, IsUnder, LeadsToFile, TableStands, InlineAreUnder, writes_through}
 use Rattle.flat_machine.specs.Writing.{IsWritable}
 
 -- ---- `file` nodes
 
 -- there is some word of a file over which one stands
 abbrev pub HaveFiles : State → Type 0
-HaveFiles s = (name : List ℕ) (row : NodeRecord) → StandsFor s.table name row → IsSome (content_in s.files name)
+HaveFiles s =
+    (name : List ℕ) (row : NodeRecord) → StandsFor s.table name row
+    → IsSome (content_in s.files name)
 
 -- one that may be written names its file for that
 abbrev pub AreNamed : State → Type 0
-AreNamed s = (name : List ℕ) (row : NodeRecord) → StandsFor s.table name row → row.read_only ≡ false → has_name name s.named ≡ true
+AreNamed s =
+    (name : List ℕ) (row : NodeRecord) → StandsFor s.table name row → row.read_only ≡ false
+    → has_name name s.named ≡ true
 
 -- why a `file` node has no flat disk: its file was used or formatted, or a format node is over it
 abbrev pub IsLostBy : Table → List ℕ → NodeRecord → Type 0
 IsLostBy t name row =
-    (file_state t name ≡ Some Used) ⊎ ((file_state t name ≡ Some Formatted) ⊎ IsUnder t.edges row.id)
+    (file_state t name ≡ Some Used)
+    ⊎ ((file_state t name ≡ Some Formatted) ⊎ IsUnder t.edges row.id)
 
 abbrev pub LostHaveCause : Table → Type 0
-LostHaveCause t = (name : List ℕ) (row : NodeRecord) → StandsFor t name row → row.is_settled ≡ false → IsLostBy t name row
+LostHaveCause t =
+    (name : List ℕ) (row : NodeRecord) → StandsFor t name row → row.is_settled ≡ false
+    → IsLostBy t name row
 
 -- ---- files
 
@@ -51,17 +58,22 @@ abbrev pub IsOpen : Table → List ℕ → Type 0
 IsOpen t name = (row : NodeRecord) → StandsFor t name row → IsUnder t.edges row.id → ⊥
 
 abbrev pub FilesAreOfState : State → Type 0
-FilesAreOfState s = (name : List ℕ) (content : Content) → content_in s.files name ≡ Some content → IsOpen s.table name
+FilesAreOfState s =
+    (name : List ℕ) (content : Content) → content_in s.files name ≡ Some content
+    → IsOpen s.table name
     → IsOfState (file_state s.table name) content
 
 -- of one under a format node nothing is known
 abbrev pub TakenAreUnknown : State → Type 0
-TakenAreUnknown s = (name : List ℕ) (over under : NodeRecord) → HasFile s.table over under → under.filename ≡ Some name
+TakenAreUnknown s =
+    (name : List ℕ) (over under : NodeRecord) → LeadsToFile s.table over under
+    → under.filename ≡ Some name
     → content_in s.files name ≡ Some Unknown
 
 -- a formatted file has a node over it
 abbrev pub FormattedAreOpen : Table → Type 0
-FormattedAreOpen t = (name : List ℕ) → file_state t name ≡ Some Formatted → (row : NodeRecord) × StandsFor t name row
+FormattedAreOpen t =
+    (name : List ℕ) → file_state t name ≡ Some Formatted → (row : NodeRecord) × StandsFor t name row
 
 -- ---- disks
 
@@ -70,7 +82,9 @@ abbrev pub HasBytes : State → ℕ → Type 0
 HasBytes s node = IsSome (find (λ d. d.node == node) s.disks)
 
 abbrev pub HaveBytes : State → Type 0
-HaveBytes s = (row : NodeRecord) → Contains s.table.nodes row → filter_role row.kind ≡ None → HasBytes s row.id
+HaveBytes s =
+    (row : NodeRecord) → Contains s.table.nodes row → filter_role row.kind ≡ None
+    → HasBytes s row.id
 
 -- a file in which a disk was left was used: a node that stands for it has no flat disk, and none is over that
 pub record IsUsedUp (s : State) (left : Left) : Type 0 where
@@ -82,10 +96,13 @@ pub record IsUsedUp (s : State) (left : Left) : Type 0 where
 
 -- a device has a drive; where it may write its disk, or its reads do, that may be written
 abbrev pub MayWrite : State → Device → ℕ → Type 0
-MayWrite s device drive = writes_through s.table device.read_only drive ≡ true → IsWritable s (disk_node s.table drive)
+MayWrite s device drive =
+    writes_through s.table device.read_only drive ≡ true → IsWritable s (disk_node s.table drive)
 
 abbrev pub WritersStand : State → Type 0
-WritersStand s = (g : ℕ) (device : Device) → device_at s.table g ≡ Some device → With (drive_of s.table g) (MayWrite s device)
+WritersStand s =
+    (g : ℕ) (device : Device) → device_at s.table g ≡ Some device
+    → With (drive_of s.table g) (MayWrite s device)
 
 -- ---- all of it
 

@@ -114,13 +114,14 @@ abbrev pub bytes_at_node : State → ℕ → List ℕ
 bytes_at_node s node = bytes_in s.disks (disk_node s.table node)
 
 -- the flat disk of a node, while it is settled
-abbrev pub disk_of : State → ℕ → Option (List ℕ)
-disk_of s node = if is_settled s.table node then Some (bytes_at_node s node) else None
+abbrev pub flat_disk_of : State → ℕ → Option (List ℕ)
+flat_disk_of s node = if is_settled s.table node then Some (bytes_at_node s node) else None
 
 -- ---- files
 
 abbrev pub content_in : List Known → List ℕ → Option Content
-content_in files name = option_map (λ known. known.content) (find (λ known. bytes_eq known.name name) files)
+content_in files name =
+    option_map (λ known. known.content) (find (λ known. bytes_eq known.name name) files)
 
 -- the file of the store that a `file` node stands for
 abbrev pub filename_of : Table → ℕ → Option (List ℕ)

@@ -31,7 +31,8 @@ IsAlone t node = (edge : Edge) → Contains t.edges edge → edge.child ≡ node
 
 -- it is no `file` node that a format node is over
 abbrev pub IsFree : Table → ℕ → Type 0
-IsFree t node = (row : NodeRecord) → node_at t node ≡ Some row → IsSome row.filename → IsUnder t.edges node → ⊥
+IsFree t node =
+    (row : NodeRecord) → node_at t node ≡ Some row → IsSome row.filename → IsUnder t.edges node → ⊥
 
 -- ---- tables
 
@@ -129,8 +130,10 @@ pub record FormatSuits (s : State) (row : NodeRecord) (file : ℕ) (backing : Op
 -- a node without parents, whose file was used
 pub record RemovalSuits (t : Table) (node : ℕ) : Type 0 where
   pub alone : IsAlone t node
-  pub own : (name : List ℕ) (row : NodeRecord) → StandsFor t name row → row.id ≡ node → file_state t name ≡ Some Used
-  pub under : (name : List ℕ) (row : NodeRecord) (edge : Edge) → StandsFor t name row → Contains t.edges edge → edge.parent ≡ Node node
+  pub own : (name : List ℕ) (row : NodeRecord) → StandsFor t name row → row.id ≡ node
+      → file_state t name ≡ Some Used
+  pub under : (name : List ℕ) (row : NodeRecord) (edge : Edge) → StandsFor t name row
+      → Contains t.edges edge → edge.parent ≡ Node node
       → edge.role ≡ File → edge.child ≡ row.id → file_state t name ≡ Some Used
 
 -- the node stands for the file, and has no parent
@@ -151,7 +154,8 @@ Suits s change.Negotiate = Unit {0}
 Suits s (change.KeepId id) = Unit {0}
 Suits s (change.DropId id) = Unit {0}
 Suits s (change.MakeFile name size) = IsClosed s.table name
-Suits s (change.FormatFile node name size backing_file backing_fmt) = FormattingSuits s.table node name
+Suits s (change.FormatFile node name size backing_file backing_fmt) =
+    FormattingSuits s.table node name
 Suits s (change.SpoilFile name) = Unit {0}
 Suits s (change.UseFile name) = Unit {0}
 Suits s (change.AddFile row) = FileSuits s row

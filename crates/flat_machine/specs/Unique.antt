@@ -40,7 +40,8 @@ pub record AreGuests (guests : List (List ℕ)) : Type 0 where
   pub others : All (λ name. name ≢ codes "script") guests
 
 -- a legal history of that script and these traces, which prints so
-pub record IsPrinted (o : Opening) (script : List Order) (traces : List (List Wish)) (text : List ℕ) (h : List Event) : Type 0 where
+pub record IsPrinted (o : Opening) (script : List Order) (traces : List (List Wish)) (text : List ℕ)
+    (h : List Event) : Type 0 where
   pub legal : Legal (start o) h
   pub order : KeepsOrder (course_of script traces) h
   pub small : All IsSmall h

@@ -30,14 +30,16 @@ abbrev pub AreFileNodes : Table → Type 0
 AreFileNodes t = (name : List ℕ) (row : NodeRecord) → StandsFor t name row → row.kind ≡ Protocol
 
 abbrev pub StandAlone : Table → Type 0
-StandAlone t = (name : List ℕ) (a b : NodeRecord) → StandsFor t name a → StandsFor t name b → a.id ≡ b.id
+StandAlone t =
+    (name : List ℕ) (a b : NodeRecord) → StandsFor t name a → StandsFor t name b → a.id ≡ b.id
 
 abbrev pub HaveNames : Table → Type 0
 HaveNames t = (row : NodeRecord) → Contains t.nodes row → row.kind ≡ Protocol → IsSome row.filename
 
 -- a node that was made with no other one has no name that such a node gets by itself
 abbrev pub HasOwnName : NodeRecord → Type 0
-HasOwnName row = row.made_with ≡ None → (over : List ℕ) → is_name over ≡ true → row.name ≢ inline_name over None
+HasOwnName row =
+    row.made_with ≡ None → (over : List ℕ) → is_name over ≡ true → row.name ≢ inline_name over None
 
 abbrev pub HaveOwnNames : Table → Type 0
 HaveOwnNames t = (row : NodeRecord) → Contains t.nodes row → HasOwnName row
@@ -54,7 +56,9 @@ EdgesHaveEnds t = (edge : Edge) → Contains t.edges edge → HasEnds t edge
 
 -- it has a role of the node's kind
 abbrev pub HaveRoles : Table → Type 0
-HaveRoles t = (edge : Edge) (row : NodeRecord) → Contains t.edges edge → Contains t.nodes row → edge.parent ≡ Node row.id
+HaveRoles t =
+    (edge : Edge) (row : NodeRecord) → Contains t.edges edge → Contains t.nodes row
+    → edge.parent ≡ Node row.id
     → has_role row.kind edge.role ≡ true
 
 -- an edge to a file is that of a node, which has no other
@@ -62,7 +66,8 @@ abbrev pub IsFileOf : Table → Edge → ℕ → Type 0
 IsFileOf t edge node = (edge.parent ≡ Node node) × (child t node File ≡ Some edge.child)
 
 abbrev pub HaveOneFile : Table → Type 0
-HaveOneFile t = (edge : Edge) → Contains t.edges edge → edge.role ≡ File → (node : ℕ) × IsFileOf t edge node
+HaveOneFile t =
+    (edge : Edge) → Contains t.edges edge → edge.role ≡ File → (node : ℕ) × IsFileOf t edge node
 
 -- a format node is over the `file` node
 pub record IsUnder (edges : List Edge) (file : ℕ) : Type 0 where
@@ -72,7 +77,7 @@ pub record IsUnder (edges : List Edge) (file : ℕ) : Type 0 where
   pub child : edge.child ≡ file
 
 -- an edge to a file leads from one row to another
-pub record HasFile (t : Table) (over under : NodeRecord) : Type 0 where
+pub record LeadsToFile (t : Table) (over under : NodeRecord) : Type 0 where
   pub over_there : Contains t.nodes over
   pub under_there : Contains t.nodes under
   pub edge : Edge
@@ -86,15 +91,20 @@ pub record HasFile (t : Table) (over under : NodeRecord) : Type 0 where
 pub record IsTaken (t : Table) (over under : NodeRecord) : Type 0 where
   pub format : filter_role over.kind ≡ None
   pub gone : under.is_settled ≡ false
-  pub sole : (edge : Edge) → Contains t.edges edge → edge.child ≡ under.id → (edge.parent ≡ Node over.id) × (edge.role ≡ File)
+  pub sole : (edge : Edge) → Contains t.edges edge → edge.child ≡ under.id
+      → (edge.parent ≡ Node over.id) × (edge.role ≡ File)
   pub writable : over.read_only ≡ false → under.read_only ≡ false
 
 abbrev pub FilesAreTaken : Table → Type 0
-FilesAreTaken t = (over under : NodeRecord) → HasFile t over under → IsSome under.filename → IsTaken t over under
+FilesAreTaken t =
+    (over under : NodeRecord) → LeadsToFile t over under → IsSome under.filename
+    → IsTaken t over under
 
 -- what is over a node of another kind so is a filter
 abbrev pub OthersAreFiltered : Table → Type 0
-OthersAreFiltered t = (over under : NodeRecord) → HasFile t over under → under.filename ≡ None → IsSome (filter_role over.kind)
+OthersAreFiltered t =
+    (over under : NodeRecord) → LeadsToFile t over under → under.filename ≡ None
+    → IsSome (filter_role over.kind)
 
 -- ---- disks
 
@@ -110,7 +120,9 @@ pub record IsDiskOf (t : Table) (row disk : NodeRecord) : Type 0 where
   pub writable : writes_through t row.read_only row.id ≡ true → disk.read_only ≡ false
 
 abbrev pub ReadAsNodes : Table → Type 0
-ReadAsNodes t = (node : ℕ) (row : NodeRecord) → node_at t node ≡ Some row → With (node_at t (disk_node t node)) (IsDiskOf t row)
+ReadAsNodes t =
+    (node : ℕ) (row : NodeRecord) → node_at t node ≡ Some row
+    → With (node_at t (disk_node t node)) (IsDiskOf t row)
 
 -- ---- devices
 
@@ -153,7 +165,9 @@ pub record IsInline (t : Table) (row : NodeRecord) (over : ℕ) : Type 0 where
   pub named : With (node_at t over) (λ node. row.name ≡ inline_name node.name None)
 
 abbrev pub InlineAreUnder : Table → Type 0
-InlineAreUnder t = (row : NodeRecord) (over : ℕ) → Contains t.nodes row → row.made_with ≡ Some over → IsInline t row over
+InlineAreUnder t =
+    (row : NodeRecord) (over : ℕ) → Contains t.nodes row → row.made_with ≡ Some over
+    → IsInline t row over
 
 -- between events: what the changes of a command keep together
 pub record TableAtRest (t : Table) : Type 0 where

@@ -26,19 +26,24 @@ written_file t node = option_and_then (λ row. file_of t row row.kind) (node_at 
 -- disk is left in it, and a command named it.
 pub record IsWritable (s : State) (node : ℕ) : Type 0 where
   pub disk : IsSome (find (λ d. d.node == node) s.disks)
-  pub under : (file : ℕ) (row : NodeRecord) → child s.table node File ≡ Some file → node_at s.table file ≡ Some row → HasDisk row → ⊥
-  pub known : (name : List ℕ) → written_file s.table node ≡ Some name → content_in s.files name ≡ Some Unknown
-  pub left : (name : List ℕ) → written_file s.table node ≡ Some name → All (λ l. l.file ≢ name) s.left
+  pub under : (file : ℕ) (row : NodeRecord) → child s.table node File ≡ Some file
+      → node_at s.table file ≡ Some row → HasDisk row → ⊥
+  pub known : (name : List ℕ) → written_file s.table node ≡ Some name
+      → content_in s.files name ≡ Some Unknown
+  pub left : (name : List ℕ) → written_file s.table node ≡ Some name
+      → All (λ l. l.file ≢ name) s.left
   pub named : (name : List ℕ) → written_file s.table node ≡ Some name → has_name name s.named ≡ true
 
 -- ---- what is done
 
 -- a node reads otherwise: the written one, and a filter over it, the `file` node under it, and what reads it as a backing node
 abbrev pub ReadsWritten : Table → ℕ → ℕ → Type 0
-ReadsWritten t node other = (disk_node t other ≡ node) ⊎ ((child t node File ≡ Some other) ⊎ (is_over t node other ≡ true))
+ReadsWritten t node other =
+    (disk_node t other ≡ node) ⊎ ((child t node File ≡ Some other) ⊎ (is_over t node other ≡ true))
 
 -- so many bytes of a part of the request are done
-pub record Writes (s : State) (node : ℕ) (op : Op) (part : Extent) (done : ℕ) (old new : Contents) : Type 0 where
+pub record Writes (s : State) (node : ℕ) (op : Op) (part : Extent) (done : ℕ)
+    (old new : Contents) : Type 0 where
   pub written : new.reads node ≡ done_in op part done (old.reads node)
   pub nodes : ReadSame (ReadsWritten s.table node) old new
   pub files : HeldSame (λ name. written_file s.table node ≡ Some name) old new
@@ -50,18 +55,21 @@ pub record Copies (s : State) (node : ℕ) (old new : Contents) : Type 0 where
 
 abbrev pub ReadDone : State → ℕ → Contents → Contents → Type 0
 ReadDone s drive old new =
-    IsQuiet old new ⊎ ((copies_through s.table drive ≡ true) × Copies s (disk_node s.table drive) old new)
+    IsQuiet old new
+    ⊎ ((copies_through s.table drive ≡ true) × Copies s (disk_node s.table drive) old new)
 
 -- a piece on a guest's drive; one of a flush or a discard changes nothing
 abbrev pub PieceDone : State → ℕ → Op → Outcome → Extent → Contents → Contents → Type 0
 PieceDone s drive (Read span) outcome part old new = ReadDone s drive old new
 PieceDone s drive (Write span payload) outcome part old new =
     Writes s (disk_node s.table drive) (Write span payload) part (done_by outcome part) old new
-PieceDone s drive (Zero span) outcome part old new = Writes s (disk_node s.table drive) (Zero span) part (done_by outcome part) old new
+PieceDone s drive (Zero span) outcome part old new =
+    Writes s (disk_node s.table drive) (Zero span) part (done_by outcome part) old new
 PieceDone s drive op outcome part old new = IsQuiet old new
 
 abbrev pub CanWrite : State → ℕ → Op → Type 0
-CanWrite s drive (Read span) = copies_through s.table drive ≡ true → IsWritable s (disk_node s.table drive)
+CanWrite s drive (Read span) =
+    copies_through s.table drive ≡ true → IsWritable s (disk_node s.table drive)
 CanWrite s drive (Write span payload) = IsWritable s (disk_node s.table drive)
 CanWrite s drive (Zero span) = IsWritable s (disk_node s.table drive)
 CanWrite s drive op = Unit {0}

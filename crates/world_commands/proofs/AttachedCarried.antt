@@ -46,7 +46,7 @@ use Rattle.blk_nodes.specs.Contents.{disk_of}
 use Rattle.blk_nodes.specs.Joined.{IsJoined}
 use Rattle.blk_nodes.specs.Nodes.{Nodes, row_at}
 use Rattle.world_parts.specs.Coherent.{AreAlike, AreAllowed, AreHeld, AreNodesOf, AreOnDisks, AreOnWritable, AreWithin, AskToWrite, HaveDrives, IsCoherent, IsWhole, node_row}
-use Rattle.world_parts.specs.Face.{Face, contents_of, seen_state, held_by, node_over}
+use Rattle.world_parts.specs.Face.{Face, contents_of, held_by, node_over}
 use Rattle.world_parts.specs.Handling.{IsAttached}
 use Rattle.world_parts.specs.Progress.{flight_at}
 use Rattle.world_commands.proofs.Attached.{IsWithDevice, device as device_of_table, file as file_used, of, edits, table_then, table_is, is_with, fresh, named_is, found_is, own_device, at_row, nodes_then, drawn_same}
@@ -326,7 +326,7 @@ module _ (w : Face) (whole : IsWhole w) (joined : IsJoined w.nodes)
 
       attached_carried : CarriedUntold w v (command.DeviceAdd c) None
       attached_carried =
-          carried_by w v (command.DeviceAdd c) refl refl none table_so refl refl (All-nil (IsCalm (seen_state w))) refl
+          carried_by w v (command.DeviceAdd c) refl refl none table_so refl refl (All-nil (IsCalm w.table w.progress.guests)) refl
           (runs-devices w v refl refl refl refl refl refl (same-devices w.nodes.devices)) (hides-same w v refl refl refl)
           (refl, record { device = device; named = named_is w.table h c none; node = node; found = found_is w.table h c none; drawn = refl; disks = disks })
           (λ before. attached_coherent)

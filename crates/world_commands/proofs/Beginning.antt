@@ -1,6 +1,7 @@
 -- A new world comes of its store's files, its room and its guests.
 use Rattle.std.proofs.Common.{◌≡◌, ℕ, true, List, [], ◌∷◌, length, map, replicate, refl, sym, ◌∙◌, ap, arith}
 use Rattle.std.specs.Prelude.{IfOk, Result, Ok, Err, is_some}
+use Rattle.std.proofs.lemmas.Bool.{false≢true}
 use Rattle.std.proofs.lemmas.List.Elements.{All-nil}
 use Rattle.blk_base.specs.declared.memory.Room.{Room}
 use Rattle.qmp_rules.specs.Table.{opening_table}
@@ -46,6 +47,7 @@ module _ (store : StoreSeen) (guests : List (List ℕ)) (room : Room) (o : Openi
     table = (ap opening_table is.guests_are, refl);
     coherent = coherent-new guests room;
     shows = λ told. shows-start told;
+    sound = λ told node image. absurd (false≢true image);
   }
 
 pub ok-map : {A E : Type 0} (r : Result A E) (P Q : A → Type 0) → ((a : A) → P a → Q a) → IfOk r P → IfOk r Q

@@ -1,6 +1,6 @@
 -- The reply to a command that was carried out leaves a world that comes of the same opening.
 use Rattle.std.proofs.Common.{◌≡◌, ℕ, Bool, true, false, List, [], ◌∷◌, ◌++◌, refl, sym, ◌∙◌, ap, subst, arith, Option, Some, None, Ok, Err}
-use Rattle.std.specs.Prelude.{is_some, All}
+use Rattle.std.specs.Prelude.{is_some}
 use Rattle.std.specs.List.{list_all}
 use Rattle.std.proofs.lemmas.Bool.{false≢true}
 use Rattle.std.proofs.lemmas.List.Elements.{All-nil}
@@ -24,20 +24,20 @@ use Rattle.qmp_rules.specs.Changes.{all_changed}
 use Rattle.qmp_rules.specs.CommandAsks.{is_built}
 use Rattle.qmp_rules.specs.Edits.{spoiled}
 use Rattle.qmp_rules.specs.Answers.{Answer, answer, answer_by, refusal_of, unbuilt, left_by, returned, reply_data, line_text, line_answer, answer_for}
-use Rattle.flat_machine.specs.State.{State}
+use Rattle.flat_machine.specs.State.{State, Guest}
 use Rattle.flat_machine.specs.Machine.{after}
 use Rattle.flat_machine.specs.Changed.{all_stepped}
 use Rattle.flat_machine.specs.Legal.{Fits, IsNotDone}
-use Rattle.flat_machine.specs.Marks.{AreCalm, IsCalm, drained_by, marks_of}
+use Rattle.flat_machine.specs.Marks.{AreCalm, IsCalm, marks_of, reply_marks}
 use Rattle.flat_machine.specs.Replies.{IsAnswer, is_accepted, edits_by}
 use Rattle.flat_machine.specs.Sights.{IsTold}
 use Rattle.flat_machine.specs.Licence.{named_in}
-use Rattle.flat_machine.specs.Final.{bytes_of}
+use Rattle.flat_machine.specs.Final.{bytes_named}
 use Rattle.flat_machine.specs.Agreement.{Agrees}
 use Rattle.flat_machine.specs.Performing.{AllCan}
 use Rattle.flat_machine.specs.Standing.{Stands, StandsAtRest}
 use Rattle.flat_machine.specs.Suiting.{AllSuit}
-use Rattle.flat_machine.specs.Imaging.{ShowsImages, AllKeepImages}
+use Rattle.flat_machine.specs.Imaging.{ImagesAreSound, ShowsImages, AllKeepImages}
 use Rattle.flat_machine.specs.declared.opening.Opening.{Opening}
 use Rattle.flat_machine.proofs.Accepted.{accepted_can}
 use Rattle.flat_machine.proofs.Answered.{reads_refused}
@@ -48,11 +48,11 @@ use Rattle.flat_machine.proofs.Resting.{answer_rests}
 use Rattle.flat_machine.proofs.Recorded.{all_stepped-dirty}
 use Rattle.flat_machine.specs.Recording.{dirty_after}
 use Rattle.world_parts.specs.Progress.{Progress, with_entry, ended_in}
-use Rattle.world_parts.specs.Face.{Face, contents_of, dirty_of, seen_state}
+use Rattle.world_parts.specs.Face.{Face, contents_of, dirty_of, held, seen_state}
 use Rattle.world_commands.specs.Counting.{RunsOn, IsReachedBy}
 use Rattle.world_commands.specs.Comes.{Comes, Shows}
 use Rattle.world_parts.specs.Saying.{IsSaid}
-use Rattle.world_commands.specs.Carrying.{IsCarried, IsCarriedIn, IsCaused, HasCause, counted, counts_of}
+use Rattle.world_commands.specs.Carrying.{IsCarried, IsCarriedIn, IsCaused, HasAnswerCause, counted, counts_of}
 use Rattle.world_parts.specs.Steps.{onward}
 use Rattle.world_commands.specs.Tabling.{IsAnsweredBy}
 use Rattle.world_parts.proofs.InStep.{ended-push}
@@ -61,7 +61,7 @@ use Rattle.world_commands.proofs.Pushing.{comes-push}
 use Rattle.world_commands.proofs.Quiet.{undone}
 use Rattle.world_commands.proofs.Counted.{answer-counted}
 use Rattle.world_commands.proofs.CountLemmas.{licensed-on}
-use Rattle.world_commands.proofs.CarryCalm.{marked_calm, shown_calm}
+use Rattle.world_commands.proofs.CarryCalm.{marked_calm}
 use Rattle.world_commands.proofs.CarryWords.{IsTellable}
 use Rattle.world_commands.proofs.CarryNames.{not_found_word}
 use Rattle.world_commands.proofs.CarryImages.{answer_suits, answer_keeps_images}
@@ -143,7 +143,7 @@ module _ (w u : Face) (c : Cmd) (refusal' : Option Refusal) (is : IsCarried w u 
   tellable (refusal.NoSpace dev) first caused = caused.numbered
   tellable _ first caused = tt
 
-  can-by : (first : Option Refusal) → refusal_of w.table is.told c ≡ first → HasCause w u c first → CanBeTold (answer_by w.table is.told c first).reply
+  can-by : (first : Option Refusal) → refusal_of w.table is.told c ≡ first → HasAnswerCause w u c first → CanBeTold (answer_by w.table is.told c first).reply
   can-by None none caused = tt
   can-by (Some cause) some caused = tellable cause some caused
 
@@ -152,7 +152,7 @@ module _ (w u : Face) (c : Cmd) (refusal' : Option Refusal) (is : IsCarried w u 
   can_tell = can-by (refusal_of w.table is.told c) refl (rw is.answered is.cause)
 
   -- the fault that the reply names was reached
-  reached-by : (first : Option Refusal) → HasCause w u c first → IsReachedBy w u (fault_of (answer_by w.table is.told c first).reply)
+  reached-by : (first : Option Refusal) → HasAnswerCause w u c first → IsReachedBy w u (fault_of (answer_by w.table is.told c first).reply)
   reached-by None caused = tt
   reached-by (Some (refusal.Io source count)) caused = caused.reached
   reached-by (Some _) caused = tt
@@ -184,9 +184,20 @@ module _ (w u : Face) (c : Cmd) (refusal' : Option Refusal) (is : IsCarried w u 
         sym (answer-counted is.told (counts_of w) w.table c (λ prints. sym (is.counts prints)))
         ∙ sym (ap (answer_for w.table (counted is.told (counts_of w)) given) line)
 
-    answered-by : IsAnsweredBy w.table (dirty_of w) given text u.table (dirty_of u)
+    -- a line that is accepted found the disks calm that it marks
+    marked : AreCalm w.table w.progress.guests (reply_marks w.table given text)
+    marked = at (is_accepted text) refl
+      where
+        at : (b : Bool) → is_accepted text ≡ b → AreCalm w.table w.progress.guests (reply_marks w.table given text)
+        at false known = rw known (All-nil (IsCalm w.table w.progress.guests))
+        at true known =
+            let found = is.calm (accepted-none (refusal_of w.table is.told c) refl known) in
+            rw (known, line) (marked_calm w.table w.progress.guests c found)
+
+    answered-by : IsAnsweredBy w.progress.guests w.table (dirty_of w) given text u.table (dirty_of u)
     unfolding line_text
     answered-by = record {
+      calm = marked;
       told = counted is.told (counts_of w);
       counts = refl;
       says = said.prints ∙ ap (λ (a : Answer). compact_text (reply_data (id_at given) a.reply)) counted-own;
@@ -235,15 +246,10 @@ module _ (w u : Face) (c : Cmd) (refusal' : Option Refusal) (is : IsCarried w u 
         answered = text-said;
       }
 
-      calm : (number : ℕ) → All (IsCalm s) (marks_of s (reply number))
-      calm number = at (is_accepted text) refl
-        where
-          at : (b : Bool) → is_accepted text ≡ b → All (IsCalm s) (marks_of s (reply number))
-          at false known = rw known (All-nil (IsCalm s))
-          at true known =
-              let found = is.calm (accepted-none (refusal_of w.table is.told c) refl known) in
-              let drained : AreCalm s (drained_by s.table c) = subst (λ (t : Table). AreCalm s (drained_by t c)) (sym same-table) (shown_calm o s w (drained_by w.table c) shows found) in
-              rw (known, line) (marked_calm s s.table c drained)
+      calm : (number : ℕ) → AreCalm s.table s.guests (marks_of s (reply number))
+      calm number =
+          subst (λ (t : Table). AreCalm t s.guests (reply_marks t given text)) (sym same-table)
+          (subst (λ (rows : List Guest). AreCalm w.table rows (reply_marks w.table given text)) (sym shows.guests.guests_are) marked)
 
       -- ---- the state after it
 
@@ -261,8 +267,8 @@ module _ (w u : Face) (c : Cmd) (refusal' : Option Refusal) (is : IsCarried w u 
           subst (λ (t : Table). AllCan s (answer t is.told c).changes) same-table
           (can-change s c is.told in-it.seen shows.stands.stands in-it.is_told told-same)
 
-      agrees : Agrees (bytes_of o.files) now (contents_of u)
-      agrees = changes_keep (bytes_of o.files) changes s (contents_of w) (contents_of u) can-all in-it.performed shows.contents
+      agrees : Agrees (bytes_named o.files) now (contents_of u)
+      agrees = changes_keep (bytes_named o.files) changes s (contents_of w) (contents_of u) can-all in-it.performed shows.contents
 
       suit-all : AllSuit s changes
       suit-all =
@@ -276,7 +282,7 @@ module _ (w u : Face) (c : Cmd) (refusal' : Option Refusal) (is : IsCarried w u 
 
       images : ShowsImages now (contents_of u)
       images =
-          all_images_keep (bytes_of o.files) changes s (contents_of w) (contents_of u) suit-all can-all keep-all shows.stands.stands shows.contents
+          all_images_keep (bytes_named o.files) changes s (contents_of w) (contents_of u) suit-all can-all keep-all shows.stands.stands shows.contents
           in-it.performed shows.images
 
       shows-now : (number : ℕ) → StandsAtRest now → Shows o now (onward u (with_entry (reply number)))
@@ -312,7 +318,7 @@ module _ (w u : Face) (c : Cmd) (refusal' : Option Refusal) (is : IsCarried w u 
           }
 
     fits-now : (number : ℕ) (o : Opening) → IsNotDone (seen_state w) 0 → (s : State) (told : is_some w.files ≡ true) (shows : Shows o s w)
-        → Fits s (reply number) × All (IsCalm s) (marks_of s (reply number)) × Shows o (after s (reply number)) (onward u (with_entry (reply number)))
+        → Fits s (reply number) × AreCalm s.table s.guests (marks_of s (reply number)) × Shows o (after s (reply number)) (onward u (with_entry (reply number)))
     fits-now number o not_done s told shows =
         let means = stands-for o s told shows in
         let stays = subst (λ (cs : List Change). StandsAtRest (all_stepped s cs)) means (answer_rests s given (Some c) text shows.stands (answers o s told shows)) in
@@ -321,8 +327,9 @@ module _ (w u : Face) (c : Cmd) (refusal' : Option Refusal) (is : IsCarried w u 
 
     -- ---- the whole
 
-    pub carried_comes : (number : ℕ) (o : Opening) → IsNotDone (seen_state w) 0 → Comes o w → Comes o (onward u (with_entry (reply number)))
-    carried_comes number o not_done comes = comes-push o w (onward u (with_entry (reply number))) (reply number) comes (record {
+    pub carried_comes : (is_some u.files ≡ true → ImagesAreSound u.table (held u)) → (number : ℕ) (o : Opening) → IsNotDone (seen_state w) 0 → Comes o w
+        → Comes o (onward u (with_entry (reply number)))
+    carried_comes sound number o not_done comes = comes-push o w (onward u (with_entry (reply number))) (reply number) comes (record {
       events = ap (λ (p : Progress). p.log.events ++ reply number ∷ []) is.progress;
       names = ap (λ (t : Table). t.guests) is.table ∙ (all_tables_keep (answer w.table is.told c).changes w.table (answer-plain w.table is.told c)).guests;
       told = is.runs.told;
@@ -331,5 +338,6 @@ module _ (w u : Face) (c : Cmd) (refusal' : Option Refusal) (is : IsCarried w u 
       counted = λ was. (let first = is.runs.first in let now = is.runs.store in omega arith);
       coherent = λ was. coherent-same u.table u.nodes u.opened u.progress (is.coherent was) (with_entry (reply number) u.progress) refl;
       licensed = licensed-on w (onward u (with_entry (reply number))) (runs-onward w u (with_entry (reply number)) is.runs) w.progress.log.events (reply number) (reached-onward w u (with_entry (reply number)) (named_in (reply number)) (names-reached number));
+      sound = sound;
       fits = λ told s shows. fits-now number o not_done s told shows;
     })

@@ -8,7 +8,7 @@ use Rattle.qmp_codec.specs.declared.command.Command.TheVariants as command
 use Rattle.qmp_rules.specs.declared.refusal.Refusal.{Refusal}
 use Rattle.qmp_rules.specs.declared.judge.PrepareStop.{PrepareStop}
 use Rattle.qmp_rules.specs.declared.judge.PrepareStop.TheVariants.{Refused, NoMemory}
-use Rattle.qmp_rules.specs.Prepared.{IsRefusedFor}
+use Rattle.qmp_rules.specs.Prepared.{IsStoppedFor}
 use Rattle.qmp_rules.specs.Table.{Table}
 use Rattle.qmp_rules.specs.Changes.{all_changed}
 use Rattle.qmp_rules.specs.Answers.{Answer, answer, answer_by, accepted, refused_so, command_edits, returned, refusal_of, untold}
@@ -79,7 +79,7 @@ module _ (t : Table) (c : Cmd) where
         → IfOk r (λ text. IsSaid given (answer t untold c).reply (bytes text))
     accepted_said none said = rw (answer_accepted none) said
 
-    pub refused_said : (stop : PrepareStop) → stays_in_table c ≡ true → IsRefusedFor
+    pub refused_said : (stop : PrepareStop) → stays_in_table c ≡ true → IsStoppedFor
         (refusal_of t untold c) stop → IfOk r (λ text. SaysRefusal given stop (bytes text))
         → IfOk r (λ text. IsSaid given (answer t untold c).reply (bytes text))
     refused_said (Refused cause) alone some said = rw (answer_refused cause alone some) said
@@ -95,7 +95,7 @@ module _ (t : Table) (c : Cmd) where
 
   pub refused_unchanged : {A E : Type 0} (bytes : A → List ℕ) (given : List ℕ) (r : Result A E)
       (stop : PrepareStop) → stays_in_table c ≡ true
-      → IsRefusedFor (refusal_of t untold c) stop → IfOk r (λ text. SaysRefusal given stop (bytes text)) → OnOk r
+      → IsStoppedFor (refusal_of t untold c) stop → IfOk r (λ text. SaysRefusal given stop (bytes text)) → OnOk r
       (t ≡ all_changed t (answer t untold c).changes)
   refused_unchanged bytes given (Ok text) (Refused cause) alone some said = ap
       (λ (a : Answer). all_changed t a.changes) (sym (answer_refused cause alone some))
@@ -105,7 +105,7 @@ module _ (t : Table) (c : Cmd) where
   -- a refusal leaves bitmaps as they are
   pub refused_follows : {A E : Type 0} (bytes : A → List ℕ) (given : List ℕ) (r : Result A E)
       (stop : PrepareStop) (rows : List Bitmap) → AreBitmapsOf t.bitmaps rows → stays_in_table c ≡ true
-      → IsRefusedFor (refusal_of t untold c) stop → IfOk r (λ text. SaysRefusal given stop (bytes text)) → OnOk r
+      → IsStoppedFor (refusal_of t untold c) stop → IfOk r (λ text. SaysRefusal given stop (bytes text)) → OnOk r
       (FollowChanges t rows rows (answer t untold c).changes)
   refused_follows bytes given (Ok text) (Refused cause) rows was alone some said =
       subst (FollowChanges t rows rows) (sym (ap (λ (a : Answer). a.changes) (answer_refused cause alone some))) (follow-none t rows was)
@@ -126,7 +126,7 @@ module _ (t : Table) (c : Cmd) where
   accepted_bitmaps (Err e) old now is none after = after
 
   pub refused_bitmaps : {A E : Type 0} (bytes : A → List ℕ) (given : List ℕ) (r : Result A E)
-      (stop : PrepareStop) (rows : List Bitmap) → IsRefusedFor (refusal_of t untold c) stop
+      (stop : PrepareStop) (rows : List Bitmap) → IsStoppedFor (refusal_of t untold c) stop
       → IfOk r (λ text. SaysRefusal given stop (bytes text)) → OnOk r (LeavesBitmaps t c (refusal_of t untold c) rows rows)
   refused_bitmaps bytes given (Ok text) (Refused cause) rows some said =
       subst (λ (first : Option Refusal). LeavesBitmaps t c first rows rows) (sym some) refl
@@ -153,7 +153,7 @@ module _ (t : Table) (c : Cmd) where
           → IfOk r (λ text. IsSaid given (answer t (counted untold ds) c).reply (bytes text))
       counted_said none said = rw (counted_accepted none) said
 
-      pub counted_refused_said : (stop : PrepareStop) → stays_in_table c ≡ true → IsRefusedFor
+      pub counted_refused_said : (stop : PrepareStop) → stays_in_table c ≡ true → IsStoppedFor
           (refusal_of t untold c) stop → IfOk r (λ text. SaysRefusal given stop (bytes text))
           → IfOk r (λ text. IsSaid given (answer t (counted untold ds) c).reply (bytes text))
       counted_refused_said (Refused cause) alone some said = rw (counted_refused cause alone some) said

@@ -52,8 +52,8 @@ use Rattle.world_parts.specs.Coherent.{IsCoherent, AreAlike, node_row}
 use Rattle.world_commands.specs.Comes.{Shows}
 use Rattle.world_parts.specs.Saying.{IsSaid}
 use Rattle.world_commands.specs.Snapshots.{TellsMapped}
-use Rattle.world_commands.specs.Carrying.{IsCarried, IsCarriedIn, IsCarriedAs, IsCaused, HasCause, FitsAll, OpensFor, opened_names, IsPutBack, as_held, counted, counts_of, is_of_bitmaps, needs_table_alone, prints_counts, is_failed, IsLateIn, fault_named, fault_told}
-use Rattle.world_parts.specs.Face.{Face, contents_of, dirty_of, seen_state}
+use Rattle.world_commands.specs.Carrying.{IsCarried, IsCarriedIn, IsCarriedAs, IsCaused, HasAnswerCause, FitsAll, OpensFor, opened_names, IsPutBack, as_held, counted, counts_of, is_of_bitmaps, needs_table_alone, prints_counts, is_failed, IsLateIn, fault_named, fault_told}
+use Rattle.world_parts.specs.Face.{Face, contents_of, dirty_of}
 use Rattle.world_commands.specs.Leaving.{Leaves, LeavesBitmaps, clean_told}
 use Rattle.world_parts.specs.Looking.{Site}
 use Rattle.world_parts.specs.Staging.{site_of}
@@ -148,7 +148,7 @@ plain_opens (command.BlockdevAdd c) opens old new same = absurd cc
 plain_opens _ opens old new same = same
 
 pub quiet_cause : (w v : Face) (c : Cmd) (refusal' : Option Refusal) → opens_nothing c ≡ true
-    → ((cause : Refusal) → refusal' ≡ Some cause → is_failed cause ≡ false) → HasCause w v c refusal'
+    → ((cause : Refusal) → refusal' ≡ Some cause → is_failed cause ≡ false) → HasAnswerCause w v c refusal'
 quiet_cause w v c None opens quiet = fits_all w c opens
 quiet_cause w v c (Some cause) opens quiet = at cause (quiet cause refl)
   where
@@ -507,12 +507,12 @@ quiet-leaves t told (command.BlockdevCreate c) cause u x opens = absurd cc
 quiet-leaves t told _ cause u x opens = refl
 
 -- such a command drains no disk
-undrained : (w : Face) (c : Cmd) → stays_in_table c ≡ true → is_built c ≡ true → AreCalm (seen_state w) (drained_by w.table c)
+undrained : (w : Face) (c : Cmd) → stays_in_table c ≡ true → is_built c ≡ true → AreCalm w.table w.progress.guests (drained_by w.table c)
 undrained w (command.DeviceDel id) alone built = absurd cc
 undrained w (command.BlockdevSnapshot c) alone built = absurd cc
 undrained w (command.BlockdevBackup c) alone built = absurd cc
 undrained w (command.Transaction c) alone built = absurd cc
-undrained w _ alone built = All-nil (IsCalm (seen_state w))
+undrained w _ alone built = All-nil (IsCalm w.table w.progress.guests)
 
 module _ (w : Face) (u : Table) (b : List Bitmap) (c : Cmd) (alone : stays_in_table c ≡ true) where
   abbrev then : Face

@@ -39,7 +39,7 @@ use Rattle.world_commands.specs.Carrying.{IsCarried, IsCarriedIn, IsCaused, IsLa
 use Rattle.world_parts.specs.Coherent.{AreNodesOf, IsCoherent, IsWhole, node_row}
 use Rattle.world_commands.specs.Comes.{Shows}
 use Rattle.world_commands.specs.Counting.{HidesNoFault}
-use Rattle.world_parts.specs.Face.{Face, contents_of, held_by, node_over, seen_state}
+use Rattle.world_parts.specs.Face.{Face, contents_of, held_by, node_over}
 use Rattle.world_commands.specs.Snapshots.{CanCover, IsCovered, IsToldOf}
 use Rattle.world_commands.proofs.CarryPlain.{quiet-self, quiet_named, told_quiet}
 use Rattle.world_commands.proofs.Counted.{answer-counted}
@@ -251,7 +251,7 @@ module _ (w : Face) (c : Snapshot (List ℕ)) (told : Told) (tells : IsToldOf w.
     coherent = covered_coherent w.table pair.node pair.overlay pair.over pair.bare pair.lone pair.settled pair.size h w.nodes w.opened w.progress joined
         whole.coherent
 
-    covered_carried : AreCalm (seen_state w) (drained_by w.table (command.BlockdevSnapshot c)) → (IsClear w.nodes overlay → ReadCovered w.nodes nodes node overlay)
+    covered_carried : AreCalm w.table w.progress.guests (drained_by w.table (command.BlockdevSnapshot c)) → (IsClear w.nodes overlay → ReadCovered w.nodes nodes node overlay)
         → (carried : IsCarried w v (command.BlockdevSnapshot c) None) × (carried.told ≡ told)
     covered_carried calm reads =
         let carried : IsCarried w v (command.BlockdevSnapshot c) None = record {
@@ -278,7 +278,7 @@ module _ (w : Face) (c : Snapshot (List ℕ)) (told : Told) (tells : IsToldOf w.
 
     -- as it was said to be put there
     pub covering_done : (now : Nodes) (x : Table) → x ≡ all_changed w.table (answer w.table told (command.BlockdevSnapshot c)).changes
-        → IsCovered w.table c w.nodes now → AreCalm (seen_state w) (drained_by w.table (command.BlockdevSnapshot c))
+        → IsCovered w.table c w.nodes now → AreCalm w.table w.progress.guests (drained_by w.table (command.BlockdevSnapshot c))
         → ((carried : IsCarried w (record w { nodes = now; table = x }) (command.BlockdevSnapshot c) None) × (carried.told ≡ told))
         × IsWhole (record w { nodes = now; table = x })
     covering_done now x table put calm =

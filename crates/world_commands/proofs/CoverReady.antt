@@ -28,7 +28,7 @@ use Rattle.qmp_rules.specs.declared.rows.NodeRecord.{NodeRecord}
 use Rattle.qmp_rules.specs.Chains.{filter_role}
 use Rattle.qmp_rules.specs.Table.{Table, node_at, child}
 use Rattle.q2_image.specs.Image.{Known}
-use Rattle.flat_machine.specs.Wiring.{HasFile, TableStands}
+use Rattle.flat_machine.specs.Wiring.{LeadsToFile, TableStands}
 use Rattle.flat_machine.specs.Suiting.{IsAlone}
 use Rattle.flat_machine.proofs.WritingKept.{role_edge}
 use Rattle.flat_machine.proofs.Redirected.{LiesOver}
@@ -130,7 +130,7 @@ module _ (t : Table) (node overlay : NodeRecord) (over : LiesOver t node overlay
       by_row (Some under) is some =
           let here = find-Some (λ (r : NodeRecord). r.id == e.child) t.nodes under is in
           let to : e.child ≡ under.id = sym (eqb-true under.id e.child here.1) in
-          let of : HasFile t overlay under = record {
+          let of : LeadsToFile t overlay under = record {
             over_there = over.overlay_there;
             under_there = here.0;
             edge = e;
@@ -141,7 +141,7 @@ module _ (t : Table) (node overlay : NodeRecord) (over : LiesOver t node overlay
           } in
           by_name under here.0 to of under.filename refl
         where
-          by_name : (under : NodeRecord) → Contains t.nodes under → e.child ≡ under.id → HasFile t overlay under → (name : Option (List ℕ)) → under.filename ≡ name
+          by_name : (under : NodeRecord) → Contains t.nodes under → e.child ≡ under.id → LeadsToFile t overlay under → (name : Option (List ℕ)) → under.filename ≡ name
               → (row : NodeRecord) × Contains t.nodes row × (e.child ≡ row.id) × IsSome row.filename × (row.is_settled ≡ false)
           by_name under there to of None is =
               let filter = h.filtered overlay under of is in
@@ -221,7 +221,7 @@ module _ (t : Table) (node overlay : NodeRecord) (over : LiesOver t node overlay
         filtered : (r : NodeRecord) → Contains t.nodes r → r.id ≡ parent → IsSome (filter_role r.kind)
         filtered r r_there id = by_name node.filename refl
           where
-            edge : HasFile t r node
+            edge : LeadsToFile t r node
             edge =
                 let to = role_edge (Node parent) File t.edges node.id child_is in
                 record {

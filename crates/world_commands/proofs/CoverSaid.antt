@@ -11,7 +11,7 @@ use Rattle.qmp_rules.specs.declared.refusal.Refusal.{Refusal}
 use Rattle.qmp_rules.specs.declared.told.Told.{Told}
 use Rattle.qmp_rules.specs.Answers.{Answer, command_edits, left_by, refusal_of, returned, untold}
 use Rattle.qmp_rules.specs.Changes.{all_changed}
-use Rattle.qmp_rules.specs.Prepared.{IsRefusedFor}
+use Rattle.qmp_rules.specs.Prepared.{IsStoppedFor}
 use Rattle.qmp_rules.specs.Table.{Table, has_name, id_named}
 use Rattle.flat_machine.specs.Marks.{AreCalm, MustWait, after_later, drained_by}
 use Rattle.flat_machine.specs.State.{State}
@@ -66,7 +66,7 @@ leaves_nothing t c cause is = absurd (let bad : ⊥ = cc is in bad)
 
 module _ (s : State) (given : List ℕ) (c : Cmd) (is : is_snapshot c ≡ true) (x y : Scene) (told : Told) (tells : IsToldOf x.table x.nodes c told) where
   pub covered_so : (text : List ℕ) → refusal_of x.table told c ≡ None → y.table ≡ all_changed x.table (command_edits x.table told c)
-      → IsCoveredBy x.table c x.nodes y.nodes → IsSaid given (Ok (returned x.table told c)) text → AreCalm s (drained_by x.table c)
+      → IsCoveredBy x.table c x.nodes y.nodes → IsSaid given (Ok (returned x.table told c)) text → AreCalm s.table s.guests (drained_by x.table c)
       → y.drains ≡ x.drains → HasCovered s given c x y text
   covered_so text none table done said calm drains =
       let answer_is = answer-is x.table told c None none in
@@ -101,7 +101,7 @@ module _ (s : State) (given : List ℕ) (c : Cmd) (is : is_snapshot c ≡ true) 
       }
 
   -- it was not prepared
-  pub stop_so : (text : List ℕ) (stop : PrepareStop) → IsRefusedFor (refusal_of x.table told c) stop → y ≡ x → SaysRefusal given stop text
+  pub stop_so : (text : List ℕ) (stop : PrepareStop) → IsStoppedFor (refusal_of x.table told c) stop → y ≡ x → SaysRefusal given stop text
       → HasCovered s given c x y text
   stop_so text (Refused cause) some same said = refused_so text cause some same said
   stop_so text NoMemory some same said = absurd said
@@ -112,7 +112,7 @@ module _ (s : State) (given : List ℕ) (c : Cmd) (is : is_snapshot c ≡ true) 
   later_so g r none waits left = record { told = told; tells = tells; accepted = none; waits = waits; left = left }
 
   -- whichever a call of it says
-  pub stop_said : {A E : Type 0} (r : Result A E) (text : A → List ℕ) (stop : PrepareStop) → IsRefusedFor (refusal_of x.table told c) stop → y ≡ x
+  pub stop_said : {A E : Type 0} (r : Result A E) (text : A → List ℕ) (stop : PrepareStop) → IsStoppedFor (refusal_of x.table told c) stop → y ≡ x
       → IfOk r (λ a. SaysRefusal given stop (text a)) → IfOk r (λ a. HasCovered s given c x y (text a))
   stop_said (Ok a) text stop some same said = stop_so (text a) stop some same said
   stop_said (Err e) text stop some same said = said

@@ -30,8 +30,8 @@ use Rattle.blk_nodes.specs.Nodes.{DeviceState, device_in}
 use Rattle.world_parts.specs.Coherent.{IsWhole}
 use Rattle.world_commands.specs.Counting.{RunsOn}
 use Rattle.world_commands.specs.Carrying.{opened_names}
-use Rattle.world_parts.specs.Deleting.{name_under, with_back, Ground, ground_of, left, all_left, going, CanLeave, HasLeft, HaveLeft, without_node, made_with, with_made, Belong, IsDeleted}
-use Rattle.world_parts.specs.Face.{Face, contents_of, seen_state}
+use Rattle.world_parts.specs.Deleting.{name_under, with_back, Ground, ground_of, left, all_left, going, CanLeave, HasLeft, HaveLeft, without_node, made_with, with_node_below, Belong, IsDeleted}
+use Rattle.world_parts.specs.Face.{Face, contents_of}
 use Rattle.world_parts.specs.Handling.{bitmaps_but, bitmaps_left, bitmaps_named}
 use Rattle.world_commands.proofs.Belonging.{belong_of}
 use Rattle.world_commands.proofs.CarryPlain.{quiet-self}
@@ -244,15 +244,15 @@ module _ (w : Face) (whole : IsWhole w) (joined : IsJoined w.nodes) (unfolds : U
   last None = without_node node (then (file_under w.table row))
   last (Some file) = without_node file (without_node node (then (file_under w.table row)))
 
-  end_by : (made : Option ℕ) → made_with w.table node ≡ made → IsEnd (last made) (with_made node made)
+  end_by : (made : Option ℕ) → made_with w.table node ≡ made → IsEnd (last made) (with_node_below node made)
   end_by None is =
-      let each = subst (λ (m : Option ℕ). HaveLeft w.table (ground_of w) (with_made node m)) is deleted.each in
-      let all = deleted.left_are ∙ ap (λ (m : Option ℕ). all_left w.table (with_made node m) (ground_of w)) is in
+      let each = subst (λ (m : Option ℕ). HaveLeft w.table (ground_of w) (with_node_below node m)) is deleted.each in
+      let all = deleted.left_are ∙ ap (λ (m : Option ℕ). all_left w.table (with_node_below node m) (ground_of w)) is in
       let gone = one_gone (then (file_under w.table row)) w.table node (goes_then (file_under w.table row)) can each.0 (named (file_under w.table row) node) in
       ended (last None) (node ∷ []) (record { goes = gone.goes; runs = gone.runs; counts = gone.counts; ground_is = all ∙ gone.ground_is; performed = gone.performed })
   end_by (Some file) is =
-      let each = subst (λ (m : Option ℕ). HaveLeft w.table (ground_of w) (with_made node m)) is deleted.each in
-      let all = deleted.left_are ∙ ap (λ (m : Option ℕ). all_left w.table (with_made node m) (ground_of w)) is in
+      let each = subst (λ (m : Option ℕ). HaveLeft w.table (ground_of w) (with_node_below node m)) is deleted.each in
+      let all = deleted.left_are ∙ ap (λ (m : Option ℕ). all_left w.table (with_node_below node m) (ground_of w)) is in
       let differs = file_differs w.table (ground_of w) joined belong node can each.0 file is in
       let gone = two_gone (then (file_under w.table row)) w.table node file (goes_then (file_under w.table row)) can each.0 (named (file_under w.table row) node)
       (file_can w.table (ground_of w) joined belong node can each.0 file is) each.1.0
@@ -261,22 +261,22 @@ module _ (w : Face) (whole : IsWhole w) (joined : IsJoined w.nodes) (unfolds : U
 
   -- ---- the table
 
-  inline_is : removals (with_made node (made_with w.table node)) ≡ RemoveNode node ∷ with_inline w.table node
+  inline_is : removals (with_node_below node (made_with w.table node)) ≡ RemoveNode node ∷ with_inline w.table node
   inline_is = by_row (find (goes_with_node node) w.table.nodes)
     where
-      by_row : (found : Option NodeRecord) → removals (with_made node (option_map (λ (r : NodeRecord). r.id) found))
+      by_row : (found : Option NodeRecord) → removals (with_node_below node (option_map (λ (r : NodeRecord). r.id) found))
           ≡ RemoveNode node ∷ (elim found as (λ _. List Change) [ None ↦ [] | Some r ↦ RemoveNode r.id ∷ [] ])
       by_row None = refl
       by_row (Some r) = refl
 
-  edits : (answer w.table untold c).changes ≡ uses (file_under w.table row) ++ removals (with_made node (made_with w.table node))
+  edits : (answer w.table untold c).changes ≡ uses (file_under w.table row) ++ removals (with_node_below node (made_with w.table node))
   unfolding edits_of
   edits =
       ap (λ (a : Answer). a.changes) (answer-is w.table untold c None none)
       ∙ ap (of_row (row_gone w.table)) deleted.found
       ∙ ap (λ (more : List Change). uses (file_under w.table row) ++ more) (sym inline_is)
 
-  last_table : (made : Option ℕ) → (last made).table ≡ all_changed (used w.table (file_under w.table row)) (removals (with_made node made))
+  last_table : (made : Option ℕ) → (last made).table ≡ all_changed (used w.table (file_under w.table row)) (removals (with_node_below node made))
   last_table None = refl
   last_table (Some file) = refl
 
@@ -295,13 +295,13 @@ module _ (w : Face) (whole : IsWhole w) (joined : IsJoined w.nodes) (unfolds : U
   abbrev final : Face
   final = last (made_with w.table node)
 
-  end : IsEnd final (with_made node (made_with w.table node))
+  end : IsEnd final (with_node_below node (made_with w.table node))
   end = end_by (made_with w.table node) refl
 
   final_table : final.table ≡ all_changed w.table (answer w.table untold c).changes
   final_table =
       last_table (made_with w.table node)
-      ∙ sym (changed_used w.table (file_under w.table row) (removals (with_made node (made_with w.table node))))
+      ∙ sym (changed_used w.table (file_under w.table row) (removals (with_node_below node (made_with w.table node))))
       ∙ ap (all_changed w.table) (sym edits)
 
   rest : TableAtRest final.table
@@ -316,7 +316,7 @@ module _ (w : Face) (whole : IsWhole w) (joined : IsJoined w.nodes) (unfolds : U
   -- ---- the bitmaps
 
   abbrev bitmaps : List Bitmap
-  bitmaps = bitmaps_but (with_made node (made_with w.table node)) w.bitmaps
+  bitmaps = bitmaps_but (with_node_below node (made_with w.table node)) w.bitmaps
 
   gone_follow : (nodes : List ℕ) (t : Table) (rows : List Bitmap) → AreBitmapsOf t.bitmaps rows → FollowChanges t rows (bitmaps_but nodes rows) (removals nodes)
   gone_follow [] t rows was = follow-none t rows was
@@ -331,8 +331,8 @@ module _ (w : Face) (whole : IsWhole w) (joined : IsJoined w.nodes) (unfolds : U
   follow : FollowChanges w.table w.bitmaps bitmaps (answer w.table untold c).changes
   follow =
       subst (λ (changes : List Change). FollowChanges w.table w.bitmaps bitmaps changes) (sym edits)
-      (follow-left (uses (file_under w.table row)) w.table w.bitmaps bitmaps (removals (with_made node (made_with w.table node))) (used_leaves (file_under w.table row)) whole.bitmaps
-      (λ kept. gone_follow (with_made node (made_with w.table node)) (all_changed w.table (uses (file_under w.table row))) w.bitmaps kept))
+      (follow-left (uses (file_under w.table row)) w.table w.bitmaps bitmaps (removals (with_node_below node (made_with w.table node))) (used_leaves (file_under w.table row)) whole.bitmaps
+      (λ kept. gone_follow (with_node_below node (made_with w.table node)) (all_changed w.table (uses (file_under w.table row))) w.bitmaps kept))
 
   -- the world with these
   abbrev final_with : Face
@@ -354,7 +354,7 @@ module _ (w : Face) (whole : IsWhole w) (joined : IsJoined w.nodes) (unfolds : U
 
   final_carried : CarriedUntold w final_with c None
   final_carried =
-      carried_by w final_with c refl refl none final_table (last_progress (made_with w.table node)) (last_drains (made_with w.table node)) (All-nil (IsCalm (seen_state w))) final_names (runs_with end.runs)
+      carried_by w final_with c refl refl none final_table (last_progress (made_with w.table node)) (last_drains (made_with w.table node)) (All-nil (IsCalm w.table w.progress.guests)) final_names (runs_with end.runs)
       (hides-kept w final_with (counts_with end.counts)) (subst (IsDeleted w.table name (ground_of w)) end.ground_is deleted) (λ was. coherent_of final end.goes rest)
       (λ o s told shows. subst (λ (changes : List Change). AllPerformed s changes (contents_of w) (contents_of final)) (sym edits)
       (end.performed s told shows.table.table_is))

@@ -22,14 +22,14 @@ use Rattle.qmp_rules.specs.Changes.{without_row}
 use Rattle.qmp_rules.specs.Table.{Table, node_at, child}
 use Rattle.qmp_rules.specs.declared.rows.NodeRecord.{NodeRecord}
 use Rattle.flat_machine.specs.Changed.{file_of}
-use Rattle.flat_machine.specs.Final.{read_as}
+use Rattle.flat_machine.specs.Final.{IsDiskIn, read_as}
 use Rattle.flat_machine.specs.Performing.{Removes}
 use Rattle.flat_machine.specs.Wiring.{AreApart, AreFileNodes, StandAlone}
 use Rattle.flat_machine.specs.State.{State, filename_of}
 use Rattle.flat_machine.proofs.Finds.{bytes_eq-same, same-bytes_eq, bytes_eq-other}
 use Rattle.blk_nodes.specs.Contents.{told, below as below_of, disk_of, disk_in, disk_by, bytes_by, bytes_of, file_node_disk, Unfolds}
 use Rattle.blk_nodes.specs.Dropping.{without}
-use Rattle.blk_nodes.specs.Joined.{IsJoined, IsPart, IsOverlay}
+use Rattle.blk_nodes.specs.Joined.{IsJoined, IsPartOfFile, IsOverlay}
 use Rattle.blk_nodes.specs.Nodes.{Nodes, DeviceState, AreTold, is_of, row_at, device_in, kind_of, size_by, size_of, backing_of}
 use Rattle.blk_nodes.specs.declared.row.Driver.{Driver}
 use Rattle.blk_nodes.specs.declared.row.Driver.TheVariants.{File, Raw, Qcow2, CopyOnRead}
@@ -302,7 +302,7 @@ module _ (w : Face) (node : ℕ) (joined : IsJoined w.nodes) (unfolds : Unfolds 
 
   alone_by : (row : NodeRecord) (own : Row) (driver : Driver) → node_at t node ≡ Some row → row_at nodes node ≡ Some own → own.driver ≡ driver → IsRowOf row own
       → child t node Backing ≡ None → (name : List ℕ) → file_of t row row.kind ≡ Some name
-      → With (held w name) (λ bytes. read_as row.kind row.offset (length disk) bytes ≡ disk)
+      → With (held w name) (IsDiskIn row.kind row.offset disk)
   alone_by row own File at there is same none name under =
       let kind : row.kind ≡ kinds.Protocol = same.kind ∙ ap kind_of is in
       let named : filename_of t node ≡ Some name
@@ -311,13 +311,16 @@ module _ (w : Face) (node : ℕ) (joined : IsJoined w.nodes) (unfolds : Unfolds 
       let disk_is : disk ≡ file_disk own.size b
       = unfolds node own there ∙ ap (disk_by nodes (disk_of nodes) node) is ∙ ap (λ (n : ℕ). file_disk n b) (ap size_by there) in
       let len : length disk ≡ own.size = ap length disk_is ∙ length-bytes_at b 0 own.size in
-      subst (λ (h : Option (List ℕ)). With h (λ bytes. read_as row.kind row.offset (length disk) bytes ≡ disk))
+      subst (λ (h : Option (List ℕ)). With h (IsDiskIn row.kind row.offset disk))
       (sym (held_under name node named (file_device name node named)))
-      (ap (λ (k : Kind). read_as k row.offset (length disk) b) kind ∙ ap (λ (n : ℕ). file_disk n b) len ∙ sym disk_is)
+      (record {
+        reads = ap (λ (k : Kind). read_as k row.offset (length disk) b) kind ∙ ap (λ (n : ℕ). file_disk n b) len ∙ sym disk_is;
+        sound = λ image. let bad : kinds.Protocol ≡ kinds.Qcow2 = sym kind ∙ image in absurd (let e : ⊥ = cc bad in e);
+      })
   alone_by row own (Raw part) at there is same none name under =
       let kind : row.kind ≡ kinds.Raw = same.kind ∙ ap kind_of is in
       let id : row.id ≡ node = eqb-true row.id node (find-Some (λ (r : NodeRecord). r.id == node) t.nodes row at).1 in
-      let below : IsPart nodes node part.offset part.size = rw is at (joined.below node own there) in
+      let below : IsPartOfFile nodes node part.offset part.size = rw is at (joined.below node own there) in
       let edge : child t node FileRole ≡ Some below.file = ap (child_of (Node node) FileRole) (sym alike.edges) ∙ below.edge in
       let named : filename_of t below.file ≡ Some name
       = sym (ap (option_and_then (filename_of t)) (ap (λ (n : ℕ). child t n FileRole) id ∙ edge)) ∙ ap (file_of t row) (sym kind) ∙ under in
@@ -327,10 +330,13 @@ module _ (w : Face) (node : ℕ) (joined : IsJoined w.nodes) (unfolds : Unfolds 
       ∙ ap (λ (f : Option ℕ). raw_disk part.offset part.size (below_of (file_node_disk nodes) f)) below.edge in
       let len : length disk ≡ part.size = ap length disk_is ∙ length-bytes_at (file_node_disk nodes below.file) part.offset part.size in
       let from : row.offset ≡ part.offset = same.place ∙ ap offset_of is in
-      subst (λ (h : Option (List ℕ)). With h (λ bytes. read_as row.kind row.offset (length disk) bytes ≡ disk))
+      subst (λ (h : Option (List ℕ)). With h (IsDiskIn row.kind row.offset disk))
       (sym (held_under name below.file named (file_device name below.file named)))
-      (ap (λ (k : Kind). read_as k row.offset (length disk) b) kind ∙ ap (λ (n : ℕ). raw_disk n (length disk) b) from
-      ∙ ap (λ (n : ℕ). raw_disk part.offset n b) len ∙ part_of_file b part.offset part.size (size_of nodes below.file) below.within ∙ sym disk_is)
+      (record {
+        reads = ap (λ (k : Kind). read_as k row.offset (length disk) b) kind ∙ ap (λ (n : ℕ). raw_disk n (length disk) b) from
+            ∙ ap (λ (n : ℕ). raw_disk part.offset n b) len ∙ part_of_file b part.offset part.size (size_of nodes below.file) below.within ∙ sym disk_is;
+        sound = λ image. let bad : kinds.Raw ≡ kinds.Qcow2 = sym kind ∙ image in absurd (let e : ⊥ = cc bad in e);
+      })
   alone_by row own (Qcow2 image) at there is same none name under =
       let kind : row.kind ≡ kinds.Qcow2 = same.kind ∙ ap kind_of is in
       let id : row.id ≡ node = eqb-true row.id node (find-Some (λ (r : NodeRecord). r.id == node) t.nodes row at).1 in
@@ -344,9 +350,12 @@ module _ (w : Face) (node : ℕ) (joined : IsJoined w.nodes) (unfolds : Unfolds 
       = unfolds node own there ∙ ap (disk_by nodes (disk_of nodes) node) is
       ∙ ap (λ (f : Option ℕ). image_disk (below_of (bytes_of nodes) f) (below_of (disk_of nodes) (backing_of nodes node))) below.edge
       ∙ ap (λ (f : Option ℕ). image_disk b (below_of (disk_of nodes) f)) lone in
-      subst (λ (h : Option (List ℕ)). With h (λ bytes. read_as row.kind row.offset (length disk) bytes ≡ disk))
+      subst (λ (h : Option (List ℕ)). With h (IsDiskIn row.kind row.offset disk))
       (sym (held_under name below.file named (file_device name below.file named)))
-      (ap (λ (k : Kind). read_as k row.offset (length disk) b) kind ∙ sym disk_is)
+      (record {
+        reads = ap (λ (k : Kind). read_as k row.offset (length disk) b) kind ∙ sym disk_is;
+        sound = λ image'. let d = told_by below.file (file_device name below.file named) in (below.known d.0 b d.1 d.2).sound;
+      })
   alone_by row own CopyOnRead at there is same none name under =
       let kind : row.kind ≡ kinds.CopyOnRead = same.kind ∙ ap kind_of is in
       let bad : None ≡ Some name = ap (file_of t row) (sym kind) ∙ under in

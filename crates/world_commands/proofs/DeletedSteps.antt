@@ -28,7 +28,7 @@ use Rattle.blk_nodes.specs.Joined.{IsJoined}
 use Rattle.blk_nodes.specs.Nodes.{DeviceState, is_of, device_in, row_at}
 use Rattle.blk_nodes.specs.declared.row.Row.{Row}
 use Rattle.world_parts.specs.Coherent.{AreAlike, AreNodesOf, AreOut}
-use Rattle.world_parts.specs.Deleting.{name_under, with_back, Ground, left, CanLeave, HasLeft, made_with, Belong, IsFree, Deletes}
+use Rattle.world_parts.specs.Deleting.{name_under, with_back, Ground, left, CanLeave, HasLeft, made_with, Belong, IsLoneNode, Deletes}
 use Rattle.world_parts.proofs.DeletedLists.{find_none, kept-in, out_there}
 use Rattle.world_commands.proofs.DeletedParts.{row_stays, filename_stays, apart_left, nodes_of_left, out_left, out_same}
 use Rattle.world_commands.proofs.KeptDrives.{IsEntered, KeepsEntered}
@@ -136,7 +136,7 @@ module _ (t : Table) (x : Ground) (joined : IsJoined x.nodes) (belong : Belong t
       by_rows (Some own) same = refl
 
   -- one that no edge leads to can go
-  pub first_can : (node : ℕ) → IsFree t node → CanLeave t x node
+  pub first_can : (node : ℕ) → IsLoneNode t node → CanLeave t x node
   first_can node free = record {
     there = there_by node free.row free.there;
     lone = ap (option_map (λ (e : Edge). e.parent)) (ap (find (λ (e : Edge). e.child == node)) belong.alike.edges ∙ free.lone);
@@ -185,7 +185,7 @@ module _ (t : Table) (x : Ground) (joined : IsJoined x.nodes) (belong : Belong t
             (kept-in (λ (n : NodeRow). not (n.id == node)) x.nodes.graph.nodes r.0 r.1 other))
 
 -- the node of a name that a deletion names
-pub free_by : (t : Table) (x : Ground) → Belong t x → (name : List ℕ) → Deletes t name → (node : ℕ) → id_named t name ≡ Some node → IsFree t node
+pub free_by : (t : Table) (x : Ground) → Belong t x → (name : List ℕ) → Deletes t name → (node : ℕ) → id_named t name ≡ Some node → IsLoneNode t node
 free_by t x belong name deletes node is =
     let row : NodeRecord = deletes.row in
     let there = (find-Some (λ (r : NodeRecord). bytes_eq r.name name) t.nodes row deletes.found).0 in

@@ -8,7 +8,7 @@ use Rattle.qmp_rules.specs.Asks.{holds}
 use Rattle.qmp_rules.specs.CommandAsks.{asks_of}
 use Rattle.qmp_rules.specs.NodeAsks.{device_del_asks}
 use Rattle.qmp_rules.specs.Table.{Table, device_named}
-use Rattle.qmp_rules.specs.Prepared.{IsRefusedFor}
+use Rattle.qmp_rules.specs.Prepared.{IsStoppedFor}
 use Rattle.qmp_rules.specs.declared.judge.PrepareStop.{PrepareStop}
 use Rattle.qmp_rules.specs.declared.judge.PrepareStop.TheVariants.{Refused, NoMemory}
 use Rattle.qmp_rules.specs.declared.refusal.Refusal.{Refusal}
@@ -34,7 +34,7 @@ detachment_leaves t (command.BlockdevCreate c) cause is = absurd (let bad : ⊥ 
 detachment_leaves t c cause is = refl
 
 -- what is refused with a text isn't accepted
-pub not_accepted : (first : Option Refusal) (stop : PrepareStop) (given text : List ℕ) → IsRefusedFor first stop → SaysRefusal given stop text
+pub not_accepted : (first : Option Refusal) (stop : PrepareStop) (given text : List ℕ) → IsStoppedFor first stop → SaysRefusal given stop text
     → first ≡ None → ⊥
 not_accepted first (Refused cause) given text some says none = let bad : Some cause ≡ None = sym some ∙ none in let no : ⊥ = cc bad in no
 not_accepted first NoMemory given text some says none = says

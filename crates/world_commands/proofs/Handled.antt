@@ -7,7 +7,7 @@ use Rattle.qmp_codec.specs.declared.command.Command.TheVariants as command
 use Rattle.qmp_rules.specs.Answers.{Answer, answer, command_edits, left_by, refusal_of, returned, untold}
 use Rattle.qmp_rules.specs.Changes.{all_changed}
 use Rattle.qmp_rules.specs.Table.{Table}
-use Rattle.qmp_rules.specs.Prepared.{IsRefusedFor}
+use Rattle.qmp_rules.specs.Prepared.{IsStoppedFor}
 use Rattle.qmp_rules.specs.declared.judge.PrepareStop.{PrepareStop}
 use Rattle.qmp_rules.specs.declared.judge.PrepareStop.TheVariants.{Refused, NoMemory}
 use Rattle.qmp_rules.specs.declared.refusal.Refusal.{Refusal}
@@ -120,12 +120,12 @@ untouched_whole w x u whole kept =
 
 module _ {A E : Type 0} (r : Result A E) (text : A → List ℕ) where
   -- refused as it was not prepared
-  pub handled_stop : (given : List ℕ) (t : Table) (c : Cmd) (u : Table) (done undone : Type 0) (stop : PrepareStop) → IsRefusedFor (refusal_of t untold c) stop
+  pub handled_stop : (given : List ℕ) (t : Table) (c : Cmd) (u : Table) (done undone : Type 0) (stop : PrepareStop) → IsStoppedFor (refusal_of t untold c) stop
       → IfOk r (λ a. SaysRefusal given stop (text a)) → u ≡ t → undone → ((cause : Refusal) → left_by t c cause ≡ [])
       → IfOk r (λ a. IsHandled given t c u done undone (text a))
   handled_stop given t c u done undone stop for_this said table kept nothing = by_result r said
     where
-      by_stop : (a : A) (stop : PrepareStop) → IsRefusedFor (refusal_of t untold c) stop → SaysRefusal given stop (text a) → IsHandled given t c u done undone (text a)
+      by_stop : (a : A) (stop : PrepareStop) → IsStoppedFor (refusal_of t untold c) stop → SaysRefusal given stop (text a) → IsHandled given t c u done undone (text a)
       by_stop a (Refused cause) some said = handled_refused given t c u done undone (text a) cause some (nothing cause) table kept said
       by_stop a NoMemory some said = absurd said
 

@@ -6,7 +6,7 @@ use Rattle.qmp_codec.specs.declared.nodes.Created.{Created}
 use Rattle.qmp_rules.specs.Asks.{Asking, first, holds, place, same_look, told_at}
 use Rattle.qmp_rules.specs.CommandAsks.{asks_of}
 use Rattle.qmp_rules.specs.Looks.{create_told, stop_at, too_long}
-use Rattle.qmp_rules.specs.Prepared.{IsRefusedFor}
+use Rattle.qmp_rules.specs.Prepared.{IsStoppedFor}
 use Rattle.qmp_rules.specs.Refusals.{refused}
 use Rattle.qmp_rules.specs.Values.{amount_or}
 use Rattle.qmp_rules.specs.declared.ask.Ask.TheVariants as ask
@@ -165,7 +165,7 @@ module _ (given : List ℕ) (t : Table) (told : Told) (old now : Ground) (u : Ta
         said = subst (λ (a : Answer). IsSaid given a.reply text) (sym is) failed.said;
       }
 
-  refused-as : (c : BlockdevCreate (List ℕ)) → told ≡ create_told c.options old.store.room → (stop : PrepareStop) → IsRefusedFor (refusal_of t told (command.BlockdevCreate c)) stop
+  refused-as : (c : BlockdevCreate (List ℕ)) → told ≡ create_told c.options old.store.room → (stop : PrepareStop) → IsStoppedFor (refusal_of t told (command.BlockdevCreate c)) stop
       → SaysRefusal given stop text → u ≡ t → now ≡ old → IsMade given t (command.BlockdevCreate c) old now u text
   refused-as c first NoMemory for_this said table ground = absurd said
   refused-as c first (Refused cause) some said table ground =
@@ -199,7 +199,7 @@ module _ {A E : Type 0} (r : Result A E) (text : A → List ℕ) (given : List �
       by_result (Err e) ended = ended
   made_ok c edits left is first none edits_are left_are ended = absurd (let bad : ⊥ = cc is in bad)
 
-  pub made_stop : (c : Cmd) (stop : PrepareStop) → is_creation c ≡ true → told ≡ told_first c old.store.room → IsRefusedFor (refusal_of t told c) stop
+  pub made_stop : (c : Cmd) (stop : PrepareStop) → is_creation c ≡ true → told ≡ told_first c old.store.room → IsStoppedFor (refusal_of t told c) stop
       → IfOk r (λ a. SaysRefusal given stop (text a)) → u ≡ t → now ≡ old → IfOk r (λ a. IsMade given t c old now u (text a))
   made_stop (command.BlockdevCreate c) stop is first for_this said table ground = by_result r said
     where

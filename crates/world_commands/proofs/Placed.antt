@@ -36,7 +36,7 @@ use Rattle.world_parts.specs.Coherent.{HaveDrives, AreOnDisks, AskToWrite, AreOn
 use Rattle.world_commands.specs.Comes.{Shows}
 use Rattle.world_commands.specs.Counting.{HidesNoFault, RunsOn}
 use Rattle.world_parts.specs.Deleting.{Ground, ground_of}
-use Rattle.world_parts.specs.Face.{Face, contents_of, seen_state}
+use Rattle.world_parts.specs.Face.{Face, contents_of}
 use Rattle.world_commands.specs.Leaving.{Leaves, LeavesBack, clean_told}
 use Rattle.world_parts.specs.Looking.{Site, StoreIsBack}
 use Rattle.world_parts.specs.Staging.{site_of}
@@ -83,7 +83,7 @@ CarriedUntold w v c refusal = (carried : IsCarried w v c refusal) × (carried.to
 
 pub carried_by : (w v : Face) (c : Cmd) → opens_nothing c ≡ true → prints_counts c ≡ false → refusal_of w.table untold c ≡ None
     → v.table ≡ all_changed w.table (answer w.table untold c).changes → v.progress ≡ w.progress → v.drains ≡ w.drains
-    → AreCalm (seen_state w) (drained_by w.table c) → opened_names v.opened ≡ opened_names w.opened → RunsOn w v
+    → AreCalm w.table w.progress.guests (drained_by w.table c) → opened_names v.opened ≡ opened_names w.opened → RunsOn w v
     → HidesNoFault w v None → Leaves w.table (clean_told untold) c None v.table (site_of w) (site_of v)
     → (IsCoherent w.table w.nodes w.opened w.progress → IsCoherent v.table v.nodes v.opened v.progress)
     → ((o : Opening) (s : State) → is_some w.files ≡ true → Shows o s w → AllPerformed s (answer w.table untold c).changes (contents_of w) (contents_of v))

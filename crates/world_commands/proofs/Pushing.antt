@@ -1,6 +1,6 @@
 -- One more entry leaves a world that comes of the same opening.
 use Rattle.std.proofs.Common.{◌≡◌, ◌≤◌, true, List, [], ◌∷◌, ◌++◌, map, refl, sym, ◌∙◌, subst, None}
-use Rattle.std.specs.Prelude.{is_some, All}
+use Rattle.std.specs.Prelude.{is_some}
 use Rattle.std.proofs.lemmas.List.{append-nil}
 use Rattle.std.proofs.lemmas.List.Elements.{filter_map-append}
 use Rattle.blk_history.specs.Fold.{run}
@@ -10,13 +10,14 @@ use Rattle.flat_machine.specs.State.{State, Dirty, Guest}
 use Rattle.qmp_rules.specs.Table.{Table, opening_table}
 use Rattle.flat_machine.specs.Machine.{after, replay}
 use Rattle.flat_machine.specs.Legal.{Fits}
-use Rattle.flat_machine.specs.Marks.{Drained, IsCalm, marks_of}
+use Rattle.flat_machine.specs.Marks.{AreCalm, Drained, marks_of}
 use Rattle.flat_machine.specs.Licence.{Counts, AreLicensed, named_in, faults_of}
 use Rattle.flat_machine.specs.Opening.{start, new_guest}
 use Rattle.flat_machine.specs.Comes.{IsHistoryOf, guest_step}
+use Rattle.flat_machine.specs.Imaging.{ImagesAreSound}
 use Rattle.flat_machine.specs.declared.opening.Opening.{Opening}
 use Rattle.world_parts.specs.Coherent.{IsCoherent}
-use Rattle.world_parts.specs.Face.{Face, dirty_of, first_counts, counts_now}
+use Rattle.world_parts.specs.Face.{Face, dirty_of, first_counts, counts_now, held}
 use Rattle.world_commands.specs.Comes.{Comes, Shows}
 use Rattle.world_commands.specs.Tabling.{IsTableBy, AreTablesBy}
 
@@ -39,7 +40,8 @@ pub record Pushes (o : Opening) (w v : Face) (e : Event) : Type 0 where
   pub coherent : IsCoherent w.table w.nodes w.opened w.progress → IsCoherent v.table v.nodes v.opened v.progress
   pub licensed : AreLicensed (first_counts w) (counts_now w) w.progress.log.events
       → AreLicensed (first_counts v) (counts_now v) (w.progress.log.events ++ e ∷ [])
-  pub fits : is_some w.files ≡ true → (s : State) → Shows o s w → Fits s e × All (IsCalm s) (marks_of s e) × Shows o (after s e) v
+  pub sound : is_some v.files ≡ true → ImagesAreSound v.table (held v)
+  pub fits : is_some w.files ≡ true → (s : State) → Shows o s w → Fits s e × AreCalm s.table s.guests (marks_of s e) × Shows o (after s e) v
 
 pub comes-push : (o : Opening) (w v : Face) (e : Event) → Comes o w → Pushes o w v e → Comes o v
 comes-push o w v e comes pushes = record {
@@ -55,6 +57,7 @@ comes-push o w v e comes pushes = record {
       (subst (λ (guests : List Guest). IsTableBy guests w.table (dirty_of w) e v.table (dirty_of v)) comes.requests pushes.table));
   coherent = pushes.coherent comes.coherent;
   shows = λ told. shows (sym pushes.told ∙ told);
+  sound = pushes.sound;
 }
   where
     shows : is_some w.files ≡ true → Shows o (replay (start o) v.progress.log.events) v
@@ -70,7 +73,7 @@ comes-push o w v e comes pushes = record {
         record {
           legal = rw pushes.events (each-push after Fits (start o) w.progress.log.events e was.legal fits.0);
           rest = (shows told).table.rest;
-          marks = rw pushes.events (each-push after (λ s e. All (IsCalm s) (marks_of s e)) (start o) w.progress.log.events e was.marks fits.1);
+          marks = rw pushes.events (each-push after (λ s e. AreCalm s.table s.guests (marks_of s e)) (start o) w.progress.log.events e was.marks fits.1);
         }
 
 -- an entry that names no fault, where counts stay
@@ -99,4 +102,5 @@ comes-drains o w drains is = record {
   table = is.table;
   coherent = is.coherent;
   shows = λ told. shows-drains o (replay (start o) w.progress.log.events) w drains (is.shows told);
+  sound = is.sound;
 }

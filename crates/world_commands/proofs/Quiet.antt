@@ -69,9 +69,10 @@ quiet o w p e comes events guests table coherent names marks fits = comes-push o
   counted = λ was. was;
   coherent = coherent;
   licensed = licensed-quiet _ _ w.progress.log.events e names;
+  sound = comes.sound;
   fits = λ told s shows.
       let does = fits s shows in
-      (does.0, rw marks (All-nil (IsCalm s)), does.1);
+      (does.0, rw marks (All-nil (IsCalm s.table s.guests)), does.1);
 })
 
 -- the guests and the ends that the world shows are the replay's

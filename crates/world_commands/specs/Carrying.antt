@@ -22,6 +22,7 @@ use Rattle.qmp_rules.specs.declared.told.Told.{Told}
 use Rattle.qmp_rules.specs.Values.{amount_or}
 use Rattle.qmp_rules.specs.Changes.{all_changed}
 use Rattle.qmp_rules.specs.Answers.{answer, refusal_of, line_answer, line_text}
+use Rattle.qmp_rules.specs.Looks.{create_told}
 use Rattle.flat_machine.specs.State.{State, Known, Content, Bytes, Blank}
 use Rattle.flat_machine.specs.Sights.{IsTold, Fails, told_by}
 use Rattle.flat_machine.specs.Changed.{format_name}
@@ -106,8 +107,11 @@ creation_passes w (Qcow2 c) dev =
     (λ device. device.capacity < created_length (creation_in c))
 creation_passes w options dev = ⊥
 
+-- where nothing refuses the creation before
 abbrev pub would_pass : Face → Option Cmd → ℕ → Type 0
-would_pass w (Some (BlockdevCreate c)) dev = creation_passes w c.options dev
+would_pass w (Some (BlockdevCreate c)) dev =
+    (refusal_of w.table (create_told c.options w.room) (BlockdevCreate c) ≡ None)
+    × creation_passes w c.options dev
 would_pass w c dev = ⊥
 
 -- the store, or a device that the command calls, failed in it and has this count
@@ -133,9 +137,9 @@ FitsAll w c = (dev : DevNo) → IsCalledBy w.table (sources_of w) (counts_now w)
     → would_pass w (Some c) dev.0 → ⊥
 
 -- what is accepted has had its space
-abbrev pub HasCause : Face → Face → Cmd → Option Refusal → Type 0
-HasCause w v c None = FitsAll w c
-HasCause w v c (Some cause) = IsCaused w v c cause
+abbrev pub HasAnswerCause : Face → Face → Cmd → Option Refusal → Type 0
+HasAnswerCause w v c None = FitsAll w c
+HasAnswerCause w v c (Some cause) = IsCaused w v c cause
 
 -- the fault that a refusal names
 abbrev pub fault_named : Refusal → Option FaultAt
@@ -157,7 +161,8 @@ AreOpenedBy (Some at) old new = (new ≡ old) ⊎ (new ≡ old ++ at.filename �
 
 -- An addition opens at most the file that it names, behind the others; no other command opens any.
 abbrev pub OpensFor : Cmd → (old new : List Opened) → Type 0
-OpensFor (BlockdevAdd c) old new = AreOpenedBy (opens c.driver) (opened_names old) (opened_names new)
+OpensFor (BlockdevAdd c) old new =
+    AreOpenedBy (opens c.driver) (opened_names old) (opened_names new)
 OpensFor c old new = opened_names new ≡ opened_names old
 
 -- nor does a line that is no command
@@ -176,7 +181,8 @@ TellsMappedIn w (Err why) mapped = Unit {0}
 
 -- an accepted command found no request in flight on a disk that it must drain
 abbrev pub FoundCalm : State → Told → Result Cmd Stop → Type 0
-FoundCalm s told (Ok c) = refusal_of s.table told c ≡ None → AreCalm s (drained_by s.table c)
+FoundCalm s told (Ok c) =
+    refusal_of s.table told c ≡ None → AreCalm s.table s.guests (drained_by s.table c)
 FoundCalm s told (Err why) = Unit {0}
 
 -- the disks that a command must drain are held
@@ -212,8 +218,8 @@ pub record IsCarried (w v : Face) (c : Cmd) (refusal : Option Refusal) : Type 0 
   pub hides : HidesNoFault w v (fault_told refusal)
   pub opens : OpensFor c w.opened v.opened
   pub site : Leaves w.table (clean_told told) c refusal v.table (site_of w) (site_of v)
-  pub cause : HasCause w v c refusal
-  pub calm : refusal ≡ None → AreCalm (seen_state w) (drained_by w.table c)
+  pub cause : HasAnswerCause w v c refusal
+  pub calm : refusal ≡ None → AreCalm w.table w.progress.guests (drained_by w.table c)
   pub coherent : IsCoherent w.table w.nodes w.opened w.progress
       → IsCoherent v.table v.nodes v.opened v.progress
   pub shows : is_some w.files ≡ true → (o : Opening) (s : State) → Shows o s w
@@ -338,7 +344,8 @@ pub record IsReplied (w v : Face) (line : Given) : Type 0 where
   pub by_files : StopsByFiles told.stopped
   pub maps : TellsMappedIn w (command_at line.text) told.mapped
   pub table : v.table ≡ all_changed w.table (line_answer w.table told line.text).changes
-  pub dirty : dirty_of v ≡ dirty_after w.table (dirty_of w) (line_answer w.table told line.text).changes
+  pub dirty : dirty_of v
+      ≡ dirty_after w.table (dirty_of w) (line_answer w.table told line.text).changes
   pub bitmaps : LeavesBitmapsIn w.table told (command_at line.text) w.bitmaps v.bitmaps
   pub progress : v.progress ≡ with_entry (reply_entry w told line) w.progress
   pub drains : v.drains ≡ after_reply w.drains

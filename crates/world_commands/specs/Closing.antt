@@ -32,7 +32,8 @@ abbrev pub IsOutFor : Table → ℕ → List Opened → Type 0
 IsOutFor t node opened = With (filename_of t node) (λ name. is_out name opened ≡ true)
 
 -- A device is given back under the name of its node's file, once it was flushed. One that tells its bytes tells whether it is.
-pub record IsBack (t : Table) (device : DeviceState) (old new : StoreSeen) (fault : Option FaultAt) : Type 0 where
+pub record IsBack (t : Table) (device : DeviceState) (old new : StoreSeen)
+    (fault : Option FaultAt) : Type 0 where
   pub name : List ℕ
   pub count : ℕ
   pub named : filename_of t device.node ≡ Some name
@@ -102,7 +103,8 @@ AreNodesFlushed t files = (node : ℕ) (name : List ℕ) → filename_of t node 
 
 -- what a file holds while these devices are still to be given back: what the device of that file does, or what the store does
 abbrev pub is_file_of : Table → List ℕ → DeviceState → Bool
-is_file_of t name device = unwrap_or (option_map (λ filename. bytes_eq filename name) (filename_of t device.node)) false
+is_file_of t name device =
+    unwrap_or (option_map (λ filename. bytes_eq filename name) (filename_of t device.node)) false
 
 abbrev pub held_left : Table → Option (List File) → List DeviceState → List ℕ → Option (List ℕ)
 held_left t files [] name = told_bytes files name

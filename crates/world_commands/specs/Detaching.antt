@@ -41,11 +41,12 @@ abbrev pub scene : Table → Nodes → Drained → Scene
 scene table nodes drains = record { table = table; nodes = nodes; drains = drains }
 
 -- The device goes, or the command is refused. Where it goes no request was in flight on its guest's disk.
-pub record HasDetached (s : State) (given : List ℕ) (c : Cmd) (x y : Scene) (text : List ℕ) : Type 0 where
-  pub handled : IsHandled given x.table c y.table (IsDetachedBy x.table c x.nodes y.nodes)
-      (y.nodes ≡ x.nodes) text
-  pub calm : refusal_of x.table untold c ≡ None → AreCalm s (drained_by x.table c)
-  pub drains : y.drains ≡ x.drains
+pub record HasDetached (s : State) (given : List ℕ) (c : Cmd) (x y : Scene) (text : List ℕ) : Type 0
+  where
+    pub handled : IsHandled given x.table c y.table (IsDetachedBy x.table c x.nodes y.nodes)
+        (y.nodes ≡ x.nodes) text
+    pub calm : refusal_of x.table untold c ≡ None → AreCalm s.table s.guests (drained_by x.table c)
+    pub drains : y.drains ≡ x.drains
 
 -- nothing refuses it, and this request is in the way: its disks are held, and nothing else changes
 pub record HasToWaitFor (s : State) (c : Cmd) (x y : Scene) (g r : ℕ) : Type 0 where

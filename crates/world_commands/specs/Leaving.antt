@@ -23,7 +23,8 @@ use Rattle.world_parts.specs.Staging.{IsNotAdded, back_if}
 -- ---- additions
 
 -- Accepted, its nodes are there, over the device that was taken out for it. Refused, that device is back.
-abbrev pub EndsAddition : Table → Adding → Option Refusal → Option Taken → Option Known → Site → Site → Type 0
+abbrev pub EndsAddition : Table → Adding → Option Refusal → Option Taken → Option Known → Site
+    → Site → Type 0
 EndsAddition t c None out image between new =
     (new.store ≡ between.store) × HasAdded t c out image between.nodes new.nodes
 EndsAddition t c (Some cause) out image between new =

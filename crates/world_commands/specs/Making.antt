@@ -39,7 +39,10 @@ look_of options = look.Format
 -- and where a call failed
 abbrev pub told_failed : Cmd → ℕ → Refusal → Told
 told_failed (command.BlockdevCreate c) room cause =
-    record (create_told c.options room) { stopped = Some (record { look = look_of c.options; refusal = cause }) }
+    record (create_told c.options room) {
+      stopped = Some
+          (record { look = look_of c.options; refusal = cause });
+    }
 told_failed c room cause = untold
 
 -- ---- what was done
@@ -72,24 +75,28 @@ pub record HasEndedSo (t : Table) (c : Cmd) (old now : Ground) (cause : Refusal)
   pub fits : FitsWords cause
 
 -- it was made, or a call failed and this is the text of that
-pub record IsMadeNow (t : Table) (c : Cmd) (old now : Ground) (u : Table) (edits : List Change) (accepted text : List ℕ) : Type 0 where
+pub record IsMadeNow (t : Table) (c : Cmd) (old now : Ground) (u : Table) (edits : List Change)
+    (accepted text : List ℕ) : Type 0 where
   pub made : CreatesBy t c old now
   pub table : u ≡ all_changed t edits
   pub said : text ≡ accepted
 
-pub record IsSpoiledNow (t : Table) (c : Cmd) (old now : Ground) (u : Table) (edits : List Change) (back text : List ℕ) : Type 0 where
+pub record IsSpoiledNow (t : Table) (c : Cmd) (old now : Ground) (u : Table) (edits : List Change)
+    (back text : List ℕ) : Type 0 where
   pub cause : Refusal
   pub ended : HasEndedSo t c old now cause
   pub table : u ≡ all_changed t edits
   pub said : (given : List ℕ) → EndsRefusals given back → IsSaid given (Err cause) text
 
 -- with the text that answers a line
-pub record IsMadeSaying (given : List ℕ) (t : Table) (told : Told) (c : Cmd) (old now : Ground) (u : Table) (edits : List Change) (text : List ℕ) : Type 0 where
+pub record IsMadeSaying (given : List ℕ) (t : Table) (told : Told) (c : Cmd) (old now : Ground)
+    (u : Table) (edits : List Change) (text : List ℕ) : Type 0 where
   pub made : CreatesBy t c old now
   pub table : u ≡ all_changed t edits
   pub said : IsSaid given (Ok (returned t told c)) text
 
-pub record IsSpoiledSaying (given : List ℕ) (t : Table) (c : Cmd) (old now : Ground) (u : Table) (edits : List Change) (text : List ℕ) : Type 0 where
+pub record IsSpoiledSaying (given : List ℕ) (t : Table) (c : Cmd) (old now : Ground) (u : Table)
+    (edits : List Change) (text : List ℕ) : Type 0 where
   pub cause : Refusal
   pub ended : HasEndedSo t c old now cause
   pub table : u ≡ all_changed t edits
@@ -97,10 +104,11 @@ pub record IsSpoiledSaying (given : List ℕ) (t : Table) (c : Cmd) (old now : G
 
 -- ---- the answer
 
-pub record FailsSo (t : Table) (c : Cmd) (old now : Ground) (told : Told) (cause : Refusal) : Type 0 where
-  pub told_is : told ≡ told_failed c old.store.room cause
-  pub accepted : refusal_of t (told_first c old.store.room) c ≡ None
-  pub ended : HasEndedSo t c old now cause
+pub record FailsSo (t : Table) (c : Cmd) (old now : Ground) (told : Told) (cause : Refusal) : Type 0
+  where
+    pub told_is : told ≡ told_failed c old.store.room cause
+    pub accepted : refusal_of t (told_first c old.store.room) c ≡ None
+    pub ended : HasEndedSo t c old now cause
 
 -- made, refused before any call, or failed in one
 abbrev pub MadeSo : Table → Cmd → Ground → Ground → Told → Option Refusal → Type 0
@@ -108,7 +116,8 @@ MadeSo t c old now told None = (told ≡ told_first c old.store.room) × Creates
 MadeSo t c old now told (Some cause) =
     ((told ≡ told_first c old.store.room) × (now ≡ old)) ⊎ FailsSo t c old now told cause
 
-pub record IsMade (given : List ℕ) (t : Table) (c : Cmd) (old now : Ground) (u : Table) (text : List ℕ) : Type 0 where
+pub record IsMade (given : List ℕ) (t : Table) (c : Cmd) (old now : Ground) (u : Table)
+    (text : List ℕ) : Type 0 where
   pub told : Told
   pub refusal : Option Refusal
   pub judged : refusal_of t told c ≡ refusal

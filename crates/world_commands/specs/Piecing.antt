@@ -15,28 +15,29 @@ use Rattle.blk_history.specs.declared.event.Event.{Event}
 use Rattle.blk_history.specs.declared.event.Event.TheVariants.{Piece}
 use Rattle.blk_nodes.specs.Contents.{disk_of}
 use Rattle.blk_nodes.specs.Flushing.{base_of, IsFlushAt}
-use Rattle.blk_nodes.specs.Nodes.{Nodes, AreTold, row_at, size_of}
+use Rattle.blk_nodes.specs.Nodes.{Nodes, AreTold, device_in, row_at, size_of}
 use Rattle.blk_nodes.specs.Reading.{HaveRisen, IsReadBelow, ReadsDisk}
-use Rattle.blk_nodes.specs.Writing.{MayWrite, IsApart, LeavesNodes, WritesPiece, ZerosPiece, own_start, taken_by}
+use Rattle.blk_nodes.specs.Writing.{MayWrite, IsApart, LeavesNodes, WritesPiece, ZerosPiece, own_file, own_start, taken_by}
 use Rattle.blk_nodes.specs.declared.row.Driver.{Driver}
 use Rattle.blk_nodes.specs.declared.row.Driver.TheVariants as drivers
 use Rattle.qmp_rules.specs.Chains.{disk_node, written_under}
 use Rattle.qmp_rules.specs.Table.{Table}
 use Rattle.flat_machine.specs.EventLicence.{IsLicensedBy, changes_disk}
-use Rattle.flat_machine.specs.Recording.{dirty_by}
 use Rattle.flat_machine.specs.State.{drive_of}
+use Rattle.flat_machine.specs.Unique.{IsSmallOutcome}
 use Rattle.world_commands.specs.Counting.{RunsOn, sources_of, counts_within, HidesNoFault}
-use Rattle.world_parts.specs.Face.{Face, counts_now, device_numbered, dirty_of, seen_state}
+use Rattle.world_parts.specs.Face.{Face, counts_now, seen_state}
+use Rattle.world_commands.specs.Recorded.{noted_after, written_in}
 use Rattle.flat_machine.specs.Licence.{named_by}
 use Rattle.world_parts.specs.Progress.{Progress, with_piece, done_at, shows_in}
 
 -- ---- what a piece is
 
 -- a piece has bytes, of one block; that of a flush has none, and a discard has no piece
-abbrev pub IsPart : Op → Extent → Type 0
-IsPart Flush part = part.len ≡ 0
-IsPart (Discard span) part = ⊥
-IsPart op part = 0 < part.len
+abbrev pub IsPartAsked : Op → Extent → Type 0
+IsPartAsked Flush part = part.len ≡ 0
+IsPartAsked (Discard span) part = ⊥
+IsPartAsked op part = 0 < part.len
 
 -- a node can be asked for it
 pub record CanTransfer (nodes : Nodes) (node : ℕ) (op : Op) (part : Extent) : Type 0 where
@@ -94,18 +95,23 @@ Transfers (Discard span) old new node part outcome buffer = ⊥
 
 -- ---- when it would pass a device's capacity
 
--- to an image there is no room for it, or it would end above the capacity
+-- for a write to an image there is no room, or one to another file would end above the capacity; nothing else passes one
 abbrev pub PassesBy : Driver → Op → Extent → ℕ → Type 0
 PassesBy (drivers.Qcow2 image) (Write span payload) part capacity =
     WriteFits image part capacity → ⊥
 PassesBy (drivers.Qcow2 image) (Zero span) part capacity =
     ZerosFit image part capacity → ⊥
-PassesBy driver op part capacity = capacity < own_start driver part.start + part.len
+PassesBy driver (Write span payload) part capacity =
+    capacity < own_start driver part.start + part.len
+PassesBy driver (Zero span) part capacity = capacity < own_start driver part.start + part.len
+PassesBy driver op part capacity = ⊥
 
+-- that of this device, which is that of the file that the node writes
 abbrev pub piece_passes : Nodes → ℕ → Op → Extent → ℕ → Type 0
 piece_passes nodes node op part dev =
-    With (row_at nodes node) (λ row. With (device_numbered nodes.devices dev)
-    (λ device. PassesBy row.driver op part device.capacity))
+    With (row_at nodes node) (λ row. With (own_file nodes node row.driver)
+    (λ file. With (device_in nodes.devices file)
+    (λ device. (device.number.0 ≡ dev) × PassesBy row.driver op part device.capacity)))
 
 -- ---- what it leaves of the world
 
@@ -121,38 +127,31 @@ shown_by f outcome buffer = shown_of f.op outcome buffer
 abbrev pub part_of : Flight → Extent
 part_of f = piece f.op f.next
 
--- counts that it names are of 64 bits
-abbrev pub CountFits : Outcome → Type 0
-CountFits Good = Unit {0}
-CountFits (Torn done dev count) = count ≤ 18446744073709551615
-CountFits (Io dev count) = count ≤ 18446744073709551615
-CountFits (NoSpace dev) = Unit {0}
-
 -- The next piece of a guest's request in flight was made on a node, and noted.
 pub record IsMadeOn (nodes now : Nodes) (p q : Progress) (node g : ℕ) (f : Flight)
     (outcome : Outcome) : Type 0 where
   pub buffer : List ℕ
   pub transferred : Transfers f.op nodes now node (part_of f) outcome buffer
-  pub fits : CountFits outcome
+  pub fits : IsSmallOutcome outcome
   pub shown : length (shown_by f outcome buffer) ≤ shows_in f.op (part_of f).len
   pub noted : q ≡ with_piece g f.next outcome (shown_by f outcome buffer) p
 
--- So it was in the world, on the node that the guest's drive reads as.
+-- So it was in the world, on the node that the guest's drive reads as; what was written is noted in the bitmaps of each node
+-- from the drive down to that one.
 pub record IsPieceMade (w v : Face) (g : ℕ) (f : Flight) (outcome : Outcome) : Type 0 where
   pub drive : ℕ
   pub buffer : List ℕ
   pub on : drive_of w.table g ≡ Some drive
   pub transferred : Transfers f.op w.nodes v.nodes (disk_node w.table drive) (part_of f)
       outcome buffer
-  pub fits : CountFits outcome
+  pub fits : IsSmallOutcome outcome
   pub shown : length (shown_by f outcome buffer) ≤ shows_in f.op (part_of f).len
   pub kept : v ≡ record w {
     nodes = v.nodes;
     table = table_after f.op (disk_node w.table drive) w.table;
     progress = with_piece g f.next outcome (shown_by f outcome buffer) w.progress;
-    bitmaps = v.bitmaps;
+    bitmaps = noted_after outcome (written_in f.op (part_of f)) drive v.table w.bitmaps;
   }
-  pub dirty : dirty_of v ≡ dirty_by f.op outcome (part_of f) drive v.table (dirty_of w)
 
 -- its entry
 abbrev pub piece_entry : Face → ℕ → Flight → Outcome → List ℕ → Event

@@ -96,16 +96,17 @@ IsCoveredBy t c nodes now = ⊥
 -- ---- what a snapshot leaves, beside its answer
 
 -- The overlay is over the node, or the command is refused. Where it is no request was in flight on the node's disk.
-pub record HasCovered (s : State) (given : List ℕ) (c : Cmd) (x y : Scene) (text : List ℕ) : Type 0 where
-  pub told : Told
-  pub tells : IsToldOf x.table x.nodes c told
-  pub refusal : Option Refusal
-  pub judged : refusal_of x.table told c ≡ refusal
-  pub done_is : DoneIf refusal (IsCoveredBy x.table c x.nodes y.nodes) (y.nodes ≡ x.nodes)
-  pub table : y.table ≡ all_changed x.table (answer x.table told c).changes
-  pub said : IsSaid given (answer x.table told c).reply text
-  pub calm : refusal ≡ None → AreCalm s (drained_by x.table c)
-  pub drains : y.drains ≡ x.drains
+pub record HasCovered (s : State) (given : List ℕ) (c : Cmd) (x y : Scene) (text : List ℕ) : Type 0
+  where
+    pub told : Told
+    pub tells : IsToldOf x.table x.nodes c told
+    pub refusal : Option Refusal
+    pub judged : refusal_of x.table told c ≡ refusal
+    pub done_is : DoneIf refusal (IsCoveredBy x.table c x.nodes y.nodes) (y.nodes ≡ x.nodes)
+    pub table : y.table ≡ all_changed x.table (answer x.table told c).changes
+    pub said : IsSaid given (answer x.table told c).reply text
+    pub calm : refusal ≡ None → AreCalm s.table s.guests (drained_by x.table c)
+    pub drains : y.drains ≡ x.drains
 
 -- nothing refuses it, and this request is in the way: its disk is held, and nothing else changes
 pub record HasToBeLater (s : State) (c : Cmd) (x y : Scene) (g r : ℕ) : Type 0 where

@@ -12,6 +12,7 @@ use Rattle.qmp_rules.specs.Table.{Table, opening_table}
 use Rattle.qmp_rules.specs.declared.told.Told.{Told}
 use Rattle.flat_machine.specs.Comes.{guest_step}
 use Rattle.flat_machine.specs.Marking.{dirty_bytes}
+use Rattle.flat_machine.specs.Marks.{AreCalm, reply_marks}
 use Rattle.flat_machine.specs.Opening.{new_guest}
 use Rattle.flat_machine.specs.Recording.{dirty_after, dirty_by}
 use Rattle.flat_machine.specs.State.{Dirty, Guest, drive_of}
@@ -33,9 +34,11 @@ pub record IsPieceBy (drive : Option ℕ) (flight : Option Flight) (k : ℕ) (ou
   pub table : now ≡ piece_table drive flight t
   pub dirty : left ≡ piece_dirty drive flight k outcome now ds
 
--- This is what the rules answer to the line where files told something, and the changes of that answer were made.
-pub record IsAnsweredBy (t : Table) (ds : List Dirty) (given text : List ℕ)
+-- This is what the rules answer to the line where files told something, and the changes of that answer were made. On no disk
+-- that the line marks had a guest a request in flight.
+pub record IsAnsweredBy (guests : List Guest) (t : Table) (ds : List Dirty) (given text : List ℕ)
     (now : Table) (left : List Dirty) : Type 0 where
+  pub calm : AreCalm t guests (reply_marks t given text)
   pub told : Told
   pub counts : told.dirty ≡ map dirty_bytes ds
   pub says : text ≡ line_text t told given
@@ -47,7 +50,7 @@ abbrev pub IsTableBy : List Guest → Table → List Dirty → Event → Table �
 IsTableBy guests t ds (Piece g r k outcome got) now left =
     IsPieceBy (drive_of t g) (flight_at guests g) k outcome t ds now left
 IsTableBy guests t ds (Reply line given command text) now left =
-    IsAnsweredBy t ds given text now left
+    IsAnsweredBy guests t ds given text now left
 IsTableBy guests t ds e now left = (now ≡ t) × (left ≡ ds)
 
 abbrev pub AreTablesBy : List Guest → Table → List Dirty → List Event → Table → List Dirty → Type 0

@@ -56,7 +56,8 @@ pub fn attach<D: Device>(
         (seen_command command.now) names.new.table
         (IsAttachedBy names.new.table (seen_command command.now) nodes.old nodes.new)
         (nodes.new ≡ nodes.old) (string_bytes text)) }
-    ensures back { OnErr result (IsUntouched names.old.table names.new.table (nodes.new ≡ nodes.old)) }
+    ensures back { OnErr result
+        (IsUntouched names.old.table names.new.table (nodes.new ≡ nodes.old)) }
 {
     let _ = nodes.edges();
     let told = Told::nothing(alloc);

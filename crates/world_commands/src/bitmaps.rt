@@ -68,7 +68,8 @@ fn counts(alloc: Global, bitmaps: &Bitmaps) -> Result<Vec<u64>, NoMemory>
 
 fn told_counts(alloc: Global, bitmaps: &Bitmaps) -> Result<Told, NoMemory>
     requires { AreFree bitmaps.now }
-    ensures { IfOk result (λ told. told ≡ counted untold (map dirty_bytes (map dirty_in bitmaps.now))) }
+    ensures { IfOk result
+        (λ told. told ≡ counted untold (map dirty_bytes (map dirty_in bitmaps.now))) }
 {
     let counts = counts(alloc, bitmaps)?;
     let mut told = Told::nothing(alloc);
@@ -111,7 +112,8 @@ pub fn answer_counts(
     requires prints { prints_counts (seen_command command.now) ≡ true }
     requires free { AreFree bitmaps.now }
     ensures said { IfOk result (λ text. IsSaid given.now (answer names.old.table
-        (counted untold (map dirty_bytes (map dirty_in bitmaps.now))) (seen_command command.now)).reply
+        (counted untold (map dirty_bytes (map dirty_in bitmaps.now)))
+        (seen_command command.now)).reply
         (string_bytes text)) }
     ensures changed { OnOk result (names.new.table ≡ all_changed names.old.table
         (answer names.old.table untold (seen_command command.now)).changes) }
@@ -272,7 +274,8 @@ fn turn(bitmaps: &mut Bitmaps, names: &Names, on: bool, c: &BitmapName)
 fn change(bitmaps: &mut Bitmaps, names: &Names, command: &Command, new: Option<Bitmap>)
     requires free { AreFree bitmaps.old }
     requires room { IsSome new → length bitmaps.old < 64 }
-    ensures { bitmaps.new ≡ bitmaps_after names.now.table (seen_command command.now) new bitmaps.old }
+    ensures { bitmaps.new
+        ≡ bitmaps_after names.now.table (seen_command command.now) new bitmaps.old }
 {
     match command {
         Command::BitmapAdd(_) => {

@@ -164,11 +164,14 @@ fn cover_or_wait<D: Device>(
     requires room { HasRoom (length edits) names.old }
     requires fit { AllFit names.old.table edits }
     requires can { CanCoverBy names.old.table (seen_command command.now) nodes.old }
-    ensures ok { IfOk result (λ carried. (s : State) → s.table ≡ names.old.table → s.guests ≡ progress.now.guests
+    ensures ok { IfOk result
+        (λ carried. (s : State) → s.table ≡ names.old.table → s.guests ≡ progress.now.guests
         → IsSnapshot s given.now (seen_command command.now)
-        (scene names.old.table nodes.old drained.old) (scene names.new.table nodes.new drained.new) carried) }
+        (scene names.old.table nodes.old drained.old) (scene names.new.table nodes.new drained.new)
+        carried) }
     ensures back { OnErr result
-        (scene names.new.table nodes.new drained.new ≡ scene names.old.table nodes.old drained.old) }
+        (scene names.new.table nodes.new drained.new
+        ≡ scene names.old.table nodes.old drained.old) }
 {
     let found = drain(alloc, names, progress, drained, command)?;
     match found {
@@ -200,11 +203,14 @@ fn cover_told<D: Device>(
     requires stands { TableStands names.old.table }
     requires few { (g : ℕ) → IsSome (drive_of names.old.table g) → g < 80 }
     requires tells { IsToldOf names.old.table nodes.old (seen_command command.now) told.now }
-    ensures ok { IfOk result (λ carried. (s : State) → s.table ≡ names.old.table → s.guests ≡ progress.now.guests
+    ensures ok { IfOk result
+        (λ carried. (s : State) → s.table ≡ names.old.table → s.guests ≡ progress.now.guests
         → IsSnapshot s given.now (seen_command command.now)
-        (scene names.old.table nodes.old drained.old) (scene names.new.table nodes.new drained.new) carried) }
+        (scene names.old.table nodes.old drained.old) (scene names.new.table nodes.new drained.new)
+        carried) }
     ensures back { OnErr result
-        (scene names.new.table nodes.new drained.new ≡ scene names.old.table nodes.old drained.old) }
+        (scene names.new.table nodes.new drained.new
+        ≡ scene names.old.table nodes.old drained.old) }
 {
     match names.prepare(alloc, command, told) {
         Ok(edits) => cover_or_wait(
@@ -231,11 +237,14 @@ pub fn cover<D: Device>(
     requires alike { AreNodesOf names.old.table nodes.old }
     requires stands { TableStands names.old.table }
     requires few { (g : ℕ) → IsSome (drive_of names.old.table g) → g < 80 }
-    ensures ok { IfOk result (λ carried. (s : State) → s.table ≡ names.old.table → s.guests ≡ progress.now.guests
+    ensures ok { IfOk result
+        (λ carried. (s : State) → s.table ≡ names.old.table → s.guests ≡ progress.now.guests
         → IsSnapshot s given.now (seen_command command.now)
-        (scene names.old.table nodes.old drained.old) (scene names.new.table nodes.new drained.new) carried) }
+        (scene names.old.table nodes.old drained.old) (scene names.new.table nodes.new drained.new)
+        carried) }
     ensures back { OnErr result
-        (scene names.new.table nodes.new drained.new ≡ scene names.old.table nodes.old drained.old) }
+        (scene names.new.table nodes.new drained.new
+        ≡ scene names.old.table nodes.old drained.old) }
 {
     let _ = nodes.edges();
     let told = told_of(alloc, nodes, names, command)?;

@@ -9,7 +9,7 @@ ghost use Rattle.qmp_rules.specs.Answers.{refusal_of, untold};
 ghost use Rattle.qmp_rules.specs.Edits.{goes_with_node};
 ghost use Rattle.world_parts.specs.Handling.{IsDeletedBy, IsHandled, IsUntouched, bitmaps_but, bitmaps_deleted, bitmaps_left, is_deletion};
 ghost use Rattle.world_parts.specs.Steps.{seen_in_run};
-ghost use Rattle.world_parts.specs.Deleting.{ground_in, name_under, made_with, going, with_back, TellsFlush, CanLeave, HasLeft, HaveLeft, all_left, Belong, IsFree, Deletes, IsDeleted};
+ghost use Rattle.world_parts.specs.Deleting.{ground_in, name_under, made_with, going, with_back, TellsFlush, CanLeave, HasLeft, HaveLeft, all_left, Belong, IsLoneNode, Deletes, IsDeleted};
 
 use blk_base::{NoMemory, Store};
 use blk_bitmaps::Bitmaps;
@@ -103,7 +103,7 @@ fn drop_nodes<S: Store>(
     node: NodeId,
 )
     requires belong { Belong names.now.table (ground_in store.old nodes.old) }
-    requires free { IsFree names.now.table node }
+    requires free { IsLoneNode names.now.table node }
     ensures nodes { nodes.new ≡ (all_left names.now.table (going names.now.table node)
         (ground_in store.old nodes.old)).nodes }
     ensures store { seen_in_run store.new ≡ (all_left names.now.table (going names.now.table node)

@@ -58,7 +58,8 @@ fn detach_now<D: Device>(
         (seen_command command.now) names.new.table
         (IsDetachedBy names.old.table (seen_command command.now) nodes.old nodes.new)
         (nodes.new ≡ nodes.old) (string_bytes text)) }
-    ensures back { OnErr result (IsUntouched names.old.table names.new.table (nodes.new ≡ nodes.old)) }
+    ensures back { OnErr result
+        (IsUntouched names.old.table names.new.table (nodes.new ≡ nodes.old)) }
 {
     let text = accepted_alone(alloc, names, given, command)?;
     detach_by(nodes, names, command);
@@ -83,11 +84,14 @@ fn detach_or_wait<D: Device>(
     requires room { HasRoom (length edits) names.old }
     requires fit { AllFit names.old.table edits }
     requires few { (g : ℕ) → IsSome (drive_of names.old.table g) → g < 80 }
-    ensures ok { IfOk result (λ carried. (s : State) → s.table ≡ names.old.table → s.guests ≡ progress.now.guests
+    ensures ok { IfOk result
+        (λ carried. (s : State) → s.table ≡ names.old.table → s.guests ≡ progress.now.guests
         → IsDetachment s given.now (seen_command command.now)
-        (scene names.old.table nodes.old drained.old) (scene names.new.table nodes.new drained.new) carried) }
+        (scene names.old.table nodes.old drained.old) (scene names.new.table nodes.new drained.new)
+        carried) }
     ensures back { OnErr result
-        (scene names.new.table nodes.new drained.new ≡ scene names.old.table nodes.old drained.old) }
+        (scene names.new.table nodes.new drained.new
+        ≡ scene names.old.table nodes.old drained.old) }
 {
     let found = drain(alloc, names, progress, drained, command)?;
     match found {
@@ -114,11 +118,14 @@ pub fn detach<D: Device>(
 ) -> Result<Carried, NoMemory>
     requires detachment { is_detachment (seen_command command.now) ≡ true }
     requires few { (g : ℕ) → IsSome (drive_of names.old.table g) → g < 80 }
-    ensures ok { IfOk result (λ carried. (s : State) → s.table ≡ names.old.table → s.guests ≡ progress.now.guests
+    ensures ok { IfOk result
+        (λ carried. (s : State) → s.table ≡ names.old.table → s.guests ≡ progress.now.guests
         → IsDetachment s given.now (seen_command command.now)
-        (scene names.old.table nodes.old drained.old) (scene names.new.table nodes.new drained.new) carried) }
+        (scene names.old.table nodes.old drained.old) (scene names.new.table nodes.new drained.new)
+        carried) }
     ensures back { OnErr result
-        (scene names.new.table nodes.new drained.new ≡ scene names.old.table nodes.old drained.old) }
+        (scene names.new.table nodes.new drained.new
+        ≡ scene names.old.table nodes.old drained.old) }
 {
     match prepare(alloc, names, command) {
         Ok(edits) => detach_or_wait(

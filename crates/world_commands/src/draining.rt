@@ -16,7 +16,8 @@ use world_parts::{Drained, InTheWay, Progress, first_in_the_way};
 /// The disk of the guest of a device.
 fn device_disk(names: &Names, id: &str) -> Option<NodeId>
     ensures { result ≡ option_and_then
-        (λ device. disk_of_guest names.now.table device.number) (device_named names.now.table id.now) }
+        (λ device. disk_of_guest names.now.table device.number)
+        (device_named names.now.table id.now) }
 {
     let device = names.device_named(id)?;
     let drive = names.drive(device.number)?;
@@ -56,7 +57,8 @@ pub(crate) fn drain(
 ) -> Result<Option<InTheWay>, NoMemory>
     requires drains { is_drain (seen_command command.now) ≡ true }
     requires few { (g : ℕ) → IsSome (drive_of names.now.table g) → g < 80 }
-    ensures first { IfOk result (λ found. (s : State) → s.table ≡ names.now.table → s.guests ≡ progress.now.guests
+    ensures first { IfOk result
+        (λ found. (s : State) → s.table ≡ names.now.table → s.guests ≡ progress.now.guests
         → IsFirstOf s (drained_by names.now.table (seen_command command.now)) found) }
     ensures held { IfOk result (λ found. drained.new
         ≡ held_if found (drained_by names.now.table (seen_command command.now)) drained.old) }

@@ -4,7 +4,7 @@ ghost use Rattle.qmp_codec.specs.Commands.{seen_command};
 ghost use Rattle.qmp_rules.specs.Answers.{answer, command_edits, refusal_of, returned, untold};
 ghost use Rattle.qmp_rules.specs.Changes.{all_changed};
 ghost use Rattle.qmp_rules.specs.Fitting.{AllFit};
-ghost use Rattle.qmp_rules.specs.Prepared.{IsRefusedFor};
+ghost use Rattle.qmp_rules.specs.Prepared.{IsStoppedFor};
 ghost use Rattle.qmp_rules.specs.Room.{HasRoom};
 ghost use Rattle.world_commands.specs.Carrying.{needs_table_alone};
 ghost use Rattle.world_parts.specs.Saying.{IsSaid};
@@ -28,7 +28,7 @@ pub(crate) fn prepare(
     ensures room { IfOk result (λ edits. HasRoom (length edits) names.new) }
     ensures fit { IfOk result (λ edits. AllFit names.new.table edits) }
     ensures refused { IfErr result
-        (IsRefusedFor (refusal_of names.old.table untold (seen_command command.now))) }
+        (IsStoppedFor (refusal_of names.old.table untold (seen_command command.now))) }
     ensures table { names.new.table ≡ names.old.table }
 {
     names.prepare(alloc, command, &Told::nothing(alloc))

@@ -21,7 +21,8 @@ use world_parts::{RunStore, accepted_text, create, refused, told_by_room};
 /// The text of the reply to a command of which a call failed. Takes no memory.
 fn failed_reply(text: FailedText, cause: Refusal) -> String
     requires { is_failed cause ≡ true }
-    ensures said { (given : List ℕ) → EndsRefusals given text → IsSaid given (Err cause) (string_bytes result) }
+    ensures said { (given : List ℕ) → EndsRefusals given text
+        → IsSaid given (Err cause) (string_bytes result) }
     ensures fits { FitsWords cause }
 {
     match cause {
@@ -44,7 +45,8 @@ fn told_by(alloc: Global, command: &Command, room: u64) -> Result<Told, NoMemory
 /// Takes the memory for what a creation leaves of which a call fails.
 fn prepare_failure(alloc: Global, names: &mut Names, command: &Command) -> Result<Edits, NoMemory>
     requires { is_creation (seen_command command.now) ≡ true }
-    ensures edits { IfOk result (λ edits. edits ≡ spoiled_by names.old.table (seen_command command.now)) }
+    ensures edits { IfOk result
+        (λ edits. edits ≡ spoiled_by names.old.table (seen_command command.now)) }
     ensures room { IfOk result (λ edits. HasRoom (length edits) names.new) }
     ensures fit { IfOk result (λ edits. AllFit names.new.table edits) }
     ensures table { names.new.table ≡ names.old.table }
@@ -61,13 +63,16 @@ fn create_by<S: Store>(
     names: &Names,
     command: &Command,
 ) -> Result<(), PrepareStop>
-    requires { CanCreateBy names.now.table (seen_command command.now) (ground_in store.old nodes.old) }
+    requires { CanCreateBy names.now.table (seen_command command.now)
+        (ground_in store.old nodes.old) }
     ensures created { OnOk result (CreatesBy names.now.table (seen_command command.now)
         (ground_in store.old nodes.old) (ground_in store.new nodes.new)) }
     ensures refused { (cause : Refusal) → result ≡ Err (PrepareStop.Refused cause)
         → FailsBy names.now.table (seen_command command.now)
-        (ground_in store.old nodes.old) (ground_in store.new nodes.new) cause × (is_failed cause ≡ true) }
-    ensures back { result ≡ Err PrepareStop.NoMemory → ground_in store.new nodes.new ≡ ground_in store.old nodes.old }
+        (ground_in store.old nodes.old) (ground_in store.new nodes.new) cause
+        × (is_failed cause ≡ true) }
+    ensures back { result ≡ Err PrepareStop.NoMemory
+        → ground_in store.new nodes.new ≡ ground_in store.old nodes.old }
     ensures earlier { store.new.earlier ≡ store.old.earlier }
     ensures faults { store.old.faults ≤ store.new.faults }
 {
@@ -88,14 +93,16 @@ fn make_prepared<S: Store>(
     accepted: String,
     failed: FailedText,
 ) -> Result<String, NoMemory>
-    requires can { CanCreateBy names.old.table (seen_command command.now) (ground_in store.old nodes.old) }
+    requires can { CanCreateBy names.old.table (seen_command command.now)
+        (ground_in store.old nodes.old) }
     requires room { HasRoom (length edits) names.old }
     requires fit { AllFit names.old.table edits }
     requires spoiled_room { HasRoom (length spoiled) names.old }
     requires spoiled_fit { AllFit names.old.table spoiled }
     ensures ended { IfOk result (λ text.
         IsMadeNow names.old.table (seen_command command.now) (ground_in store.old nodes.old)
-        (ground_in store.new nodes.new) names.new.table edits (string_bytes accepted) (string_bytes text)
+        (ground_in store.new nodes.new) names.new.table edits (string_bytes accepted)
+        (string_bytes text)
         ⊎ IsSpoiledNow names.old.table (seen_command command.now) (ground_in store.old nodes.old)
         (ground_in store.new nodes.new) names.new.table spoiled failed (string_bytes text)) }
     ensures back { OnErr result (IsUntouched names.old.table names.new.table
@@ -144,16 +151,19 @@ fn make_edited<S: Store>(
     edits: Edits,
     spoiled: Edits,
 ) -> Result<String, NoMemory>
-    requires can { CanCreateBy names.old.table (seen_command command.now) (ground_in store.old nodes.old) }
+    requires can { CanCreateBy names.old.table (seen_command command.now)
+        (ground_in store.old nodes.old) }
     requires room { HasRoom (length edits) names.old }
     requires fit { AllFit names.old.table edits }
     requires spoiled_room { HasRoom (length spoiled) names.old }
     requires spoiled_fit { AllFit names.old.table spoiled }
     ensures ended { IfOk result (λ text.
         IsMadeSaying given.now names.old.table told.now (seen_command command.now)
-        (ground_in store.old nodes.old) (ground_in store.new nodes.new) names.new.table edits (string_bytes text)
+        (ground_in store.old nodes.old) (ground_in store.new nodes.new) names.new.table edits
+        (string_bytes text)
         ⊎ IsSpoiledSaying given.now names.old.table (seen_command command.now)
-        (ground_in store.old nodes.old) (ground_in store.new nodes.new) names.new.table spoiled (string_bytes text)) }
+        (ground_in store.old nodes.old) (ground_in store.new nodes.new) names.new.table spoiled
+        (string_bytes text)) }
     ensures back { OnErr result (IsUntouched names.old.table names.new.table
         (ground_in store.new nodes.new ≡ ground_in store.old nodes.old)) }
     ensures earlier { store.new.earlier ≡ store.old.earlier }
@@ -177,7 +187,8 @@ pub fn make<S: Store>(
     requires belong { Belong names.old.table (ground_in store.old nodes.old) }
     requires creation { is_creation (seen_command command.now) ≡ true }
     ensures made { IfOk result (λ text. IsMade given.now names.old.table (seen_command command.now)
-        (ground_in store.old nodes.old) (ground_in store.new nodes.new) names.new.table (string_bytes text)) }
+        (ground_in store.old nodes.old) (ground_in store.new nodes.new) names.new.table
+        (string_bytes text)) }
     ensures back { OnErr result (IsUntouched names.old.table names.new.table
         (ground_in store.new nodes.new ≡ ground_in store.old nodes.old)) }
     ensures earlier { store.new.earlier ≡ store.old.earlier }

@@ -84,10 +84,10 @@ disk-has s disks g r way = by_drive (drive_of s.table g) way.on_disk
     by_drive (Some drive) is = refl
 
 -- where no guest is in the way all is calm
-pub none_calm : (s : State) (disks : List ℕ) → ((g r : ℕ) → IsInTheWay s disks g r → ⊥) → AreCalm s disks
-none_calm s disks none = All-weaker (Contains disks) (IsCalm s) calm disks (All-contains_itself disks)
+pub none_calm : (s : State) (disks : List ℕ) → ((g r : ℕ) → IsInTheWay s disks g r → ⊥) → AreCalm s.table s.guests disks
+none_calm s disks none = All-weaker (Contains disks) (IsCalm s.table s.guests) calm disks (All-contains_itself disks)
   where
-    calm : (node : ℕ) → Contains disks node → IsCalm s node
+    calm : (node : ℕ) → Contains disks node → IsCalm s.table s.guests node
     calm node there g row at on = by_flight row.flight refl
       where
         by_flight : (flight : Option Flight) → row.flight ≡ flight → row.flight ≡ None

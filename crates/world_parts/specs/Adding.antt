@@ -86,7 +86,7 @@ pub record IsAbsent (old new : StoreInRun) (name : List ℕ) (why : Refusal) : T
   pub lacks : IfTold old.files (LacksFile name)
   pub kept : new ≡ old
 
-pub record HasFailed (old new : StoreInRun) (name : List ℕ) (why : Refusal) : Type 0 where
+pub record HasOpeningFailed (old new : StoreInRun) (name : List ℕ) (why : Refusal) : Type 0 where
   pub is : why ≡ Io Store new.faults
   pub there : IfTold old.files (HasFile name (λ _. Unit {0}))
   pub rose : Rose old.faults new.faults
@@ -95,7 +95,7 @@ pub record HasFailed (old new : StoreInRun) (name : List ℕ) (why : Refusal) : 
   pub kept : new ≡ record old { faults = new.faults }
 
 abbrev pub IsUnopened : StoreInRun → StoreInRun → List ℕ → Refusal → Type 0
-IsUnopened old new name why = IsAbsent old new name why ⊎ HasFailed old new name why
+IsUnopened old new name why = IsAbsent old new name why ⊎ HasOpeningFailed old new name why
 
 -- ---- images
 
@@ -158,7 +158,8 @@ pub record TellsRefusal (filename : List ℕ) (first now : Taken) (told : Told) 
   pub why : Refusal
   pub on : IsNotOpenOn first now why
   pub fits : file_stop filename first.size ≡ None
-  pub is : told ≡ told_as (Some first.size) None (Some (record { look = look.Image; refusal = why }))
+  pub is : told
+      ≡ told_as (Some first.size) None (Some (record { look = look.Image; refusal = why }))
 
 abbrev pub TellsInside : Table → List ℕ → List ℕ → AddQcow2 (List ℕ) → Taken → Taken
     → Option Known → Told → Type 0

@@ -86,12 +86,14 @@ AreAllowed t guests = (g : ℕ) (f : Flight) → flight_at guests g ≡ Some f
 
 -- the edge of a device that may write asks to write
 abbrev pub AskToWrite : Table → Type 0
-AskToWrite t = (g : ℕ) (device : Device) (edge : Edge) → device_at t g ≡ Some device → device.read_only ≡ false
+AskToWrite t =
+    (g : ℕ) (device : Device) (edge : Edge) → device_at t g ≡ Some device → device.read_only ≡ false
     → Contains t.edges edge → edge.parent ≡ GuestOf g → edge.perm.write ≡ true
 
 -- and the node that it is on isn't read-only
 abbrev pub AreOnWritable : Table → Type 0
-AreOnWritable t = (g node : ℕ) (device : Device) → device_at t g ≡ Some device → device.read_only ≡ false
+AreOnWritable t =
+    (g node : ℕ) (device : Device) → device_at t g ≡ Some device → device.read_only ≡ false
     → drive_of t g ≡ Some node → With (node_at t node) (λ row. row.read_only ≡ false)
 
 -- ---- openings
@@ -106,7 +108,8 @@ pub record IsOut (t : Table) (opened : List Opened) (device : DeviceState) : Typ
 
 -- no file is out twice
 abbrev pub NamesAreOutOnce : List Opened → Type 0
-NamesAreOutOnce opened = (a b : ℕ) (o p : Opened) → slice_get opened a ≡ Some o → slice_get opened b ≡ Some p
+NamesAreOutOnce opened =
+    (a b : ℕ) (o p : Opened) → slice_get opened a ≡ Some o → slice_get opened b ≡ Some p
     → o.returned ≡ None → p.returned ≡ None → o.name ≡ p.name → a ≡ b
 
 -- these devices are the openings that are not back yet, in the order in which they were opened

@@ -34,11 +34,17 @@ use Rattle.world_parts.specs.Steps.{StoreSeen}
 -- the store with a file of so many zeros
 abbrev pub with_made : List ℕ → ℕ → StoreSeen → StoreSeen
 with_made name size store = record store {
-  files = option_map (put_file (record { name = name; bytes = replicate size 0; capacity = store.room; is_flushed = true })) store.files;
+  files = option_map
+      (put_file (record {
+        name = name;
+        bytes = replicate size 0;
+        capacity = store.room;
+        is_flushed = true;
+      })) store.files;
 }
 
 -- the store failed and has this count: the file may hold anything
-pub record HasFailed (name : List ℕ) (old new : StoreSeen) (cause : Refusal) : Type 0 where
+pub record HasMakingFailed (name : List ℕ) (old new : StoreSeen) (cause : Refusal) : Type 0 where
   pub names : cause ≡ refusal.Io Store new.faults
   pub rose : Rose old.faults new.faults
   pub others : LeavesOthers name old.files new.files
@@ -46,14 +52,15 @@ pub record HasFailed (name : List ℕ) (old new : StoreSeen) (cause : Refusal) :
 
 -- why no file was made
 abbrev pub IsUnmade : List ℕ → StoreSeen → StoreSeen → PrepareStop → Type 0
-IsUnmade name old new (Refused cause) = HasFailed name old new cause
+IsUnmade name old new (Refused cause) = HasMakingFailed name old new cause
 IsUnmade name old new NoMemory = new ≡ old
 
 -- ---- images
 
 -- what an image is created from
 abbrev pub creation_for : CreateQcow2 (List ℕ) → Creation
-creation_for c = creation_of (amount_or 0 (Some c.size)) c.backing_file (option_map format_name c.backing_fmt)
+creation_for c =
+    creation_of (amount_or 0 (Some c.size)) c.backing_file (option_map format_name c.backing_fmt)
 
 -- why none was created, as a refusal
 abbrev pub unformatted : FormatStop → PrepareStop
@@ -83,7 +90,8 @@ CanCreate t (created.Qcow2 c) x = CanFormat t c x.nodes
 CanCreate t created.Unknown x = ⊥
 
 -- what creating an image in a node's file leaves, which went so
-pub record HasFormatted (node : ℕ) (old now : Ground) (image : Creation) (outcome : Result (Unit {0}) FormatStop) : Type 0 where
+pub record HasFormatted (node : ℕ) (old now : Ground) (image : Creation)
+    (outcome : Result (Unit {0}) FormatStop) : Type 0 where
   pub store : now.store ≡ old.store
   pub kept : now.nodes ≡ record old.nodes { devices = now.nodes.devices }
   pub format : IsFormatAt node old.nodes.devices now.nodes.devices image outcome
@@ -93,18 +101,22 @@ pub record HasFormatted (node : ℕ) (old now : Ground) (image : Creation) (outc
 abbrev pub HasCreated : Table → Created (List ℕ) → Ground → Ground → Type 0
 HasCreated t (created.File c) old now =
     now ≡ record old { store = with_made c.filename (amount_or 0 (Some c.size)) old.store }
-HasCreated t (created.Qcow2 c) old now = HasFormatted (id_or 0 t (Some c.file)) old now (creation_for c) (Ok tt)
+HasCreated t (created.Qcow2 c) old now =
+    HasFormatted (id_or 0 t (Some c.file)) old now (creation_for c) (Ok tt)
 HasCreated t created.Unknown old now = ⊥
 
 -- a call of it failed, for this
-pub record HasStopped (node : ℕ) (old now : Ground) (image : Creation) (cause : Refusal) : Type 0 where
-  pub why : FormatStop
-  pub formatted : HasFormatted node old now image (Err why)
-  pub is : unformatted why ≡ Refused cause
+pub record HasStopped (node : ℕ) (old now : Ground) (image : Creation) (cause : Refusal) : Type 0
+  where
+    pub why : FormatStop
+    pub formatted : HasFormatted node old now image (Err why)
+    pub is : unformatted why ≡ Refused cause
 
 abbrev pub IsFailed : Table → Created (List ℕ) → Ground → Ground → Refusal → Type 0
-IsFailed t (created.File c) old now cause = (now.nodes ≡ old.nodes) × HasFailed c.filename old.store now.store cause
-IsFailed t (created.Qcow2 c) old now cause = HasStopped (id_or 0 t (Some c.file)) old now (creation_for c) cause
+IsFailed t (created.File c) old now cause =
+    (now.nodes ≡ old.nodes) × HasMakingFailed c.filename old.store now.store cause
+IsFailed t (created.Qcow2 c) old now cause =
+    HasStopped (id_or 0 t (Some c.file)) old now (creation_for c) cause
 IsFailed t created.Unknown old now cause = ⊥
 
 -- why it was not carried out

@@ -48,7 +48,10 @@ pub record Ground : Type 0 where
   pub nodes : Nodes
 
 abbrev pub ground : Option (List File) → List Opened → ℕ → ℕ → Nodes → Ground
-ground files opened room faults nodes = record { store = seen_store files opened room faults; nodes = nodes }
+ground files opened room faults nodes = record {
+  store = seen_store files opened room faults;
+  nodes = nodes;
+}
 
 abbrev pub ground_in : StoreInRun → Nodes → Ground
 ground_in store nodes = record { store = seen_in_run store; nodes = nodes }
@@ -72,7 +75,8 @@ pub record HasLeft (x : Ground) (node : ℕ) : Type 0 where
   pub flush : TellsFlush (device_in x.nodes.devices node)
   pub joined : IsJoined (without node x.nodes)
   pub unfolds : Unfolds (without node x.nodes)
-  pub disks : (other : ℕ) → HasNode (without node x.nodes).graph other → disk_of (without node x.nodes) other ≡ disk_of x.nodes other
+  pub disks : (other : ℕ) → HasNode (without node x.nodes).graph other
+      → disk_of (without node x.nodes) other ≡ disk_of x.nodes other
 
 -- nodes that go one after another
 abbrev pub all_left : Table → List ℕ → Ground → Ground
@@ -102,12 +106,12 @@ abbrev pub made_with : Table → ℕ → Option ℕ
 made_with t id = option_map (λ row. row.id) (find (goes_with_node id) t.nodes)
 
 -- the nodes that go with a node, itself first
-abbrev pub with_made : ℕ → Option ℕ → List ℕ
-with_made node None = node ∷ []
-with_made node (Some file) = node ∷ file ∷ []
+abbrev pub with_node_below : ℕ → Option ℕ → List ℕ
+with_node_below node None = node ∷ []
+with_node_below node (Some file) = node ∷ file ∷ []
 
 abbrev pub going : Table → ℕ → List ℕ
-going t node = with_made node (made_with t node)
+going t node = with_node_below node (made_with t node)
 
 -- ---- deletions
 
@@ -116,13 +120,15 @@ pub record IsOnlyUnder (t : Table) (row : NodeRecord) (over : ℕ) : Type 0 wher
   pub edge : Edge
   pub there : Contains t.edges edge
   pub child : edge.child ≡ row.id
-  pub sole : (other : Edge) → Contains t.edges other → other.child ≡ row.id → other.parent ≡ Node over
+  pub sole : (other : Edge) → Contains t.edges other → other.child ≡ row.id
+      → other.parent ≡ Node over
 
 -- how the table, the nodes and the openings belong together
 pub record Belong (t : Table) (x : Ground) : Type 0 where
   pub alike : AreNodesOf t x.nodes
   pub apart : AreApart t
-  pub inline : (row : NodeRecord) (over : ℕ) → Contains t.nodes row → row.made_with ≡ Some over → IsOnlyUnder t row over
+  pub inline : (row : NodeRecord) (over : ℕ) → Contains t.nodes row → row.made_with ≡ Some over
+      → IsOnlyUnder t row over
   pub out : AreOut t x.nodes x.store.opened
 
 -- the node of that name is there, and no edge leads to it
@@ -132,7 +138,7 @@ pub record Deletes (t : Table) (name : List ℕ) : Type 0 where
   pub lone : first_into row.id t.edges ≡ None
 
 -- a node of the table that no edge leads to
-pub record IsFree (t : Table) (node : ℕ) : Type 0 where
+pub record IsLoneNode (t : Table) (node : ℕ) : Type 0 where
   pub row : NodeRecord
   pub there : node_at t node ≡ Some row
   pub lone : first_into node t.edges ≡ None

@@ -18,7 +18,7 @@ IsOneOf s disks g (Some r) = IsInTheWay s disks g r
 
 -- the first of all guests' requests that are, if any
 abbrev pub IsFirstOf : State → List ℕ → Option InTheWay → Type 0
-IsFirstOf s disks None = AreCalm s disks
+IsFirstOf s disks None = AreCalm s.table s.guests disks
 IsFirstOf s disks (Some found) = MustWait s disks found.guest found.request
 
 -- those disks are held where there is one

@@ -9,7 +9,7 @@ use Rattle.qmp_rules.specs.Asks.{stands_for}
 use Rattle.qmp_rules.specs.Table.{Table}
 use Rattle.flat_machine.specs.Agreement.{Contents}
 use Rattle.flat_machine.specs.Bitmaps.{dirty_in}
-use Rattle.flat_machine.specs.Final.{bytes_of}
+use Rattle.flat_machine.specs.Final.{bytes_named}
 use Rattle.flat_machine.specs.Licence.{Counts}
 use Rattle.flat_machine.specs.State.{State, Dirty}
 use Rattle.flat_machine.specs.Marks.{Drained}
@@ -80,7 +80,7 @@ node_over t name = option_map (λ row. row.id) (find (stands_for name) t.nodes)
 
 abbrev pub told_bytes : Option (List File) → List ℕ → Option (List ℕ)
 told_bytes None name = None
-told_bytes (Some files) name = bytes_of files name
+told_bytes (Some files) name = bytes_named files name
 
 -- what a file holds: in the device of the node over it, or else in the store
 abbrev pub held_by : Face → List ℕ → Option ℕ → Option (List ℕ)

@@ -26,7 +26,8 @@ DoneIf None done undone = done
 DoneIf (Some cause) done undone = undone
 
 -- The command is answered by the table alone. Its changes are made, and what they say was done to store and nodes.
-pub record IsHandled (given : List ℕ) (t : Table) (c : Cmd) (u : Table) (done undone : Type 0) (text : List ℕ) : Type 0 where
+pub record IsHandled (given : List ℕ) (t : Table) (c : Cmd) (u : Table) (done undone : Type 0)
+    (text : List ℕ) : Type 0 where
   pub refusal : Option Refusal
   pub judged : refusal_of t untold c ≡ refusal
   pub done_is : DoneIf refusal done undone

@@ -38,7 +38,7 @@ abbrev pub ReadOn : Nodes → Nodes → Type 0
 ReadOn old new = (other : ℕ) → HasNode old.graph other → disk_of new other ≡ disk_of old other
 
 -- a node over a device
-pub record HasFile (name : List ℕ) (read_only : Bool) (device : Taken)
+pub record IsFileAdded (name : List ℕ) (read_only : Bool) (device : Taken)
     (old new : Nodes) (id : ℕ) : Type 0 where
   pub lowest : IsLowestFree (ids old.graph) id
   pub is : new ≡ with_file old id name read_only device
@@ -79,7 +79,8 @@ pub record CanPutPart (nodes : Nodes) (name : List ℕ) (read_only : Bool) (file
   pub within : end_of part ≤ size_of nodes file
   pub fits : end_of part ≤ 9223372036854775808
   pub place : HasPlace nodes name
-  pub allowed : IsAllowed nodes (kind_with kinds.Raw read_only) (λ id. with_edge (file_edge id file))
+  pub allowed : IsAllowed nodes (kind_with kinds.Raw read_only)
+      (λ id. with_edge (file_edge id file))
 
 pub record CanPutImage (nodes : Nodes) (asked : Asked) (image : Known) : Type 0 where
   pub file : IsFile nodes asked.file
@@ -89,11 +90,12 @@ pub record CanPutImage (nodes : Nodes) (asked : Asked) (image : Known) : Type 0 
   pub place : HasPlace nodes asked.name
   pub allowed : IsAllowed nodes (kind_with kinds.Qcow2 asked.is_read_only) (edges_for asked)
 
-pub record CanPutFilter (nodes : Nodes) (name : List ℕ) (read_only : Bool) (child : ℕ) : Type 0 where
-  pub is_node : HasNode nodes.graph child
-  pub place : HasPlace nodes name
-  pub allowed : IsAllowed nodes (kind_with kinds.CopyOnRead read_only)
-      (λ id. with_edge (file_edge id child))
+pub record CanPutFilter (nodes : Nodes) (name : List ℕ) (read_only : Bool) (child : ℕ) : Type 0
+  where
+    pub is_node : HasNode nodes.graph child
+    pub place : HasPlace nodes name
+    pub allowed : IsAllowed nodes (kind_with kinds.CopyOnRead read_only)
+        (λ id. with_edge (file_edge id child))
 
 -- ---- what a command says of it
 
@@ -123,7 +125,8 @@ asked_for t c qcow2 file = record {
 -- a `file` node that is made with the node over it
 abbrev pub HasInline : Adding → InlineFile (List ℕ) → Taken → Nodes → Nodes → ℕ → Type 0
 HasInline c file device old new id =
-    HasFile (inline_name c.node_name file.node_name) (is_read_only file.options) device old new id
+    IsFileAdded (inline_name c.node_name file.node_name) (is_read_only file.options) device old new
+    id
 
 -- ---- when the nodes of a command can be made
 
@@ -211,7 +214,7 @@ HasAddedImage t c qcow2 file out image old new = ⊥
 abbrev pub HasAddedFile : Adding → Option Taken → Nodes → Nodes → Type 0
 HasAddedFile c None old new = ⊥
 HasAddedFile c (Some device) old new =
-    (id : ℕ) × HasFile c.node_name (is_read_only c.options) device old new id
+    (id : ℕ) × IsFileAdded c.node_name (is_read_only c.options) device old new id
 
 abbrev pub HasAddedBy : Table → Adding → Added (List ℕ) → Option Taken → Option Known
     → Nodes → Nodes → Type 0

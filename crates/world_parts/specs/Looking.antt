@@ -41,7 +41,8 @@ site store nodes = record { store = store; nodes = nodes }
 -- It isn't where a refusal stands before the look, a node stands for it, or it was used.
 abbrev pub MayOpen : Table → Cmd → Opens → Bool → Type 0
 MayOpen t c at true = (is_unopened t at.filename ≡ false) × IsLookReached t c at.what
-MayOpen t c at false = (refusal_of t (probe at.what) c ≢ Some Aborted) ⊎ (is_unopened t at.filename ≡ true)
+MayOpen t c at false =
+    (refusal_of t (probe at.what) c ≢ Some Aborted) ⊎ (is_unopened t at.filename ≡ true)
 
 -- a file for which no node stands, and that wasn't used, isn't out
 abbrev pub AreIn : Table → List Opened → Type 0
@@ -50,7 +51,7 @@ AreIn t opened = (name : List ℕ) → is_unopened t name ≡ false → is_out n
 -- ---- what is called
 
 -- a device but for its count
-pub record IsRead (old new : Taken) : Type 0 where
+pub record IsSameButFaults (old new : Taken) : Type 0 where
   pub same : new ≡ record old { faults = new.faults }
   pub faults : old.faults ≤ new.faults
 
@@ -62,7 +63,8 @@ pub record HasCalled (old new : Nodes) : Type 0 where
 
 -- a `file` node of the table is one over a device
 abbrev pub HaveFiles : Table → Nodes → Type 0
-HaveFiles t nodes = (name : List ℕ) (row : NodeRecord) → file_node t name ≡ Some row → IsFile nodes row.id
+HaveFiles t nodes =
+    (name : List ℕ) (row : NodeRecord) → file_node t name ≡ Some row → IsFile nodes row.id
 
 -- why the image in a `file` node isn't opened
 pub record IsUnopenedFor (old new : Nodes) (node : ℕ) (why : Refusal) : Type 0 where
@@ -78,7 +80,8 @@ pub record IsUnopenedFor (old new : Nodes) (node : ℕ) (why : Refusal) : Type 0
 -- ---- the looks of a command
 
 -- nothing is looked at
-pub record LooksNowhere (old new : Site) (out : Option Taken) (image : Option Known) (told : Told) : Type 0 where
+pub record LooksNowhere (old new : Site) (out : Option Taken) (image : Option Known)
+    (told : Told) : Type 0 where
   pub is : told ≡ untold
   pub none : out ≡ None
   pub unread : image ≡ None

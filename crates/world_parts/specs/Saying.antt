@@ -35,11 +35,11 @@ abbrev pub refusal_front : List ℕ
 refusal_front = codes "{\"error\":{\"class\":\"GenericError\",\"desc\":\""
 
 -- the text of such a refusal of a line, which reads back as it
-pub record IsRefusal (given desc text : List ℕ) : Type 0 where
+pub record IsRefusalText (given desc text : List ℕ) : Type 0 where
   pub prints : text ≡ compact_text (refused_data (id_at given) GenericError desc)
   pub reads : read text ≡ Some (refused_data (id_at given) GenericError desc)
 
 -- This ends each such refusal of a line whose words stand in JSON as they are.
 abbrev pub EndsRefusals : List ℕ → List ℕ → Type 0
 EndsRefusals given back = (desc : List ℕ) → escape desc ≡ desc
-    → IsRefusal given desc (refusal_front ++ desc ++ back)
+    → IsRefusalText given desc (refusal_front ++ desc ++ back)

@@ -56,14 +56,16 @@ back_if driver (Some device) store = put_back (opened_name driver) device store
 -- ---- the answer
 
 -- the command is refused for this
-pub record IsStagedNo (t : Table) (given : List ℕ) (told : Told) (c : Cmd) (text : List ℕ) : Type 0 where
-  pub cause : Refusal
-  pub is : refusal_of t told c ≡ Some cause
-  pub said : IsSaid given (Err cause) text
+pub record IsStagedNo (t : Table) (given : List ℕ) (told : Told) (c : Cmd) (text : List ℕ) : Type 0
+  where
+    pub cause : Refusal
+    pub is : refusal_of t told c ≡ Some cause
+    pub said : IsSaid given (Err cause) text
 
-pub record IsAccepted (t : Table) (given : List ℕ) (told : Told) (c : Cmd) (text : List ℕ) : Type 0 where
-  pub none : refusal_of t told c ≡ None
-  pub said : IsSaid given (Ok (returned t told c)) text
+pub record IsAccepted (t : Table) (given : List ℕ) (told : Told) (c : Cmd) (text : List ℕ) : Type 0
+  where
+    pub none : refusal_of t told c ≡ None
+    pub said : IsSaid given (Ok (returned t told c)) text
 
 -- or accepted, and there is memory for its changes
 abbrev pub IsStaged : Roomy → List ℕ → Told → Cmd → Staged → Type 0
@@ -71,7 +73,8 @@ IsStaged names given told c (staged.Refused text) =
     IsStagedNo names.table given told c (string_bytes text)
 IsStaged names given told c (staged.Accepted edits text) =
     IsAccepted names.table given told c (string_bytes text)
-    × (edits ≡ command_edits names.table told c) × HasRoom (length edits) names × AllFit names.table edits
+    × (edits ≡ command_edits names.table told c) × HasRoom (length edits) names
+    × AllFit names.table edits
 
 -- ---- the whole
 
@@ -131,7 +134,8 @@ is_addition (command.BlockdevAdd c) = true
 is_addition c = false
 
 abbrev pub IsAdditionBy : Table → List ℕ → Cmd → Site → Site → Table → List ℕ → Type 0
-IsAdditionBy t given (command.BlockdevAdd c) old new now text = IsAdditionOf t given c old new now text
+IsAdditionBy t given (command.BlockdevAdd c) old new now text =
+    IsAdditionOf t given c old new now text
 IsAdditionBy t given c old new now text = ⊥
 
 abbrev pub IsNotAddedBy : Table → Cmd → Site → Site → Type 0

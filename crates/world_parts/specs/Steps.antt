@@ -28,7 +28,12 @@ pub record StoreSeen : Type 0 where
   pub faults : ℕ
 
 abbrev pub seen_store : Option (List File) → List Opened → ℕ → ℕ → StoreSeen
-seen_store files opened room faults = record { files = files; opened = opened; room = room; faults = faults }
+seen_store files opened room faults = record {
+  files = files;
+  opened = opened;
+  room = room;
+  faults = faults;
+}
 
 -- the same of a store in a run, with the run's openings alone
 abbrev pub seen_in_run : StoreInRun → StoreSeen
@@ -83,7 +88,8 @@ abbrev pub IsAnswered : Face → ℕ → Op → Admission → Type 0
 IsAnswered w g op (Admitted r) =
     IsJudged (seen_state w) g r (CanAdmit op) × (is_held (seen_state w) w.drains g ≡ false)
 IsAnswered w g op (NotAdmitted why) =
-    IsJudged (seen_state w) g (done_at w.progress.guests g) (λ access size. IsRefusedFor op access size why)
+    IsJudged (seen_state w) g (done_at w.progress.guests g)
+    (λ access size. IsRefusedFor op access size why)
     × (is_held (seen_state w) w.drains g ≡ false)
 IsAnswered w g op (Held back) =
     IsSome (device_at w.table g) × (is_held (seen_state w) w.drains g ≡ true) × (back ≡ op)

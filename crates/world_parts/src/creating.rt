@@ -65,7 +65,10 @@ fn maybe_text(text: &Option<String>) -> Option<&str>
 /// That a file would be longer than the room.
 fn too_long(alloc: Global, filename: &str) -> Result<Told, NoMemory>
     ensures { IfOk result (λ told. told ≡ told_as None None
-        (Some (record { look = Look.File; refusal = Refusal.File filename.now FileFault.TooLong }))) }
+        (Some (record {
+          look = Look.File;
+          refusal = Refusal.File filename.now FileFault.TooLong;
+        }))) }
 {
     let refusal = Refusal::File {
         name: Name::copied(alloc, filename)?,
@@ -101,7 +104,8 @@ fn make_file<S: Store>(store: &mut RunStore<S>, name: &str, size: u64) -> Result
     requires room { size ≤ store.old.room }
     ensures made { OnOk result
         (seen_in_run store.new ≡ with_made name.now size (seen_in_run store.old)) }
-    ensures stop { IfErr result (IsUnmade name.now (seen_in_run store.old) (seen_in_run store.new)) }
+    ensures stop { IfErr result
+        (IsUnmade name.now (seen_in_run store.old) (seen_in_run store.new)) }
     ensures earlier { store.new.earlier ≡ store.old.earlier }
     ensures faults { store.old.faults ≤ store.new.faults }
 {
@@ -142,7 +146,8 @@ fn format_file<D: Device>(
     requires named { ForSome (seen_create_qcow2 c.now).backing_file IsNewName }
     ensures format { IsFormatAt node nodes.old.devices nodes.new.devices
         (creation_for (seen_create_qcow2 c.now)) result }
-    ensures others { (other : ℕ) → other ≢ node → disk_of nodes.new other ≡ disk_of nodes.old other }
+    ensures others { (other : ℕ) → other ≢ node
+        → disk_of nodes.new other ≡ disk_of nodes.old other }
     ensures kept { nodes.new ≡ record nodes.old { devices = nodes.new.devices } }
     ensures back { result ≡ Err FormatStop.NoMemory → nodes.new ≡ nodes.old }
 {
@@ -159,9 +164,11 @@ fn format_named<D: Device>(
     c: &CreateQcow2,
 ) -> Result<(), FormatStop>
     requires { CanFormat names.now.table (seen_create_qcow2 c.now) nodes.old }
-    ensures format { IsFormatAt (id_or 0 names.now.table (Some (seen_create_qcow2 c.now).file)) nodes.old.devices
+    ensures format { IsFormatAt (id_or 0 names.now.table (Some (seen_create_qcow2 c.now).file))
+        nodes.old.devices
         nodes.new.devices (creation_for (seen_create_qcow2 c.now)) result }
-    ensures others { (other : ℕ) → other ≢ id_or 0 names.now.table (Some (seen_create_qcow2 c.now).file)
+    ensures others { (other : ℕ)
+        → other ≢ id_or 0 names.now.table (Some (seen_create_qcow2 c.now).file)
         → disk_of nodes.new other ≡ disk_of nodes.old other }
     ensures kept { nodes.new ≡ record nodes.old { devices = nodes.new.devices } }
     ensures back { result ≡ Err FormatStop.NoMemory → nodes.new ≡ nodes.old }
@@ -179,7 +186,8 @@ pub fn create<S: Store>(
     names: &Names,
     options: &Created,
 ) -> Result<(), PrepareStop>
-    requires { CanCreate names.now.table (seen_created options.now) (ground_in store.old nodes.old) }
+    requires { CanCreate names.now.table (seen_created options.now)
+        (ground_in store.old nodes.old) }
     ensures created { OnOk result (HasCreated names.now.table (seen_created options.now)
         (ground_in store.old nodes.old) (ground_in store.new nodes.new)) }
     ensures stop { IfErr result (IsUncreated names.now.table (seen_created options.now)

@@ -1,6 +1,6 @@
 //! The disks that a command which has to come again must drain.
 ghost use Rattle.std.specs.Prelude.{◌≡◌, Some};
-ghost use Rattle.flat_machine.specs.Marks.{after_later, after_reply, holds, none_drained};
+ghost use Rattle.flat_machine.specs.Marks.{after_later, after_reply, holds_disk, none_drained};
 ghost use Rattle.flat_machine.specs.State.{disk_of_guest};
 
 use crate::in_the_way::is_on_one;
@@ -51,7 +51,7 @@ impl Drained {
 
     /// Whether the guests of a disk are held.
     fn holds(&self, names: &Names, node: NodeId) -> bool
-        ensures { result ≡ holds names.now.table self.now (Some node) }
+        ensures { result ≡ holds_disk names.now.table self.now (Some node) }
     {
         is_on_one(names, node, self.disks.as_slice())
     }
@@ -59,7 +59,8 @@ impl Drained {
 
 /// Whether a guest is held.
 pub fn is_held(names: &Names, drained: &Drained, guest: u32) -> bool
-    ensures { result ≡ holds names.now.table drained.now (disk_of_guest names.now.table guest) }
+    ensures { result
+        ≡ holds_disk names.now.table drained.now (disk_of_guest names.now.table guest) }
 {
     match names.drive(guest) {
         Some(drive) => drained.holds(names, names.disk_node(drive)),

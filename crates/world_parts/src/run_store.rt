@@ -80,11 +80,13 @@ impl<S: Store> RunStore<S> {
             }))
             self.old.files) }
         ensures others { OnErr result (LeavesOthers name.now self.old.files self.new.files) }
-        ensures refused { IfErr result (λ e. e ≢ StoreStop.Failed → self.new.files ≡ self.old.files) }
+        ensures refused { IfErr result
+            (λ e. e ≢ StoreStop.Failed → self.new.files ≡ self.old.files) }
         ensures cause { CreateAnswers name.now len self.old.room self.old.opened
             self.old.faults self.new.faults result }
         ensures quiet { StandsUnlessFailed self.old.faults self.new.faults result }
-        ensures kept { self.new ≡ record self.old { files = self.new.files; faults = self.new.faults } }
+        ensures kept { self.new
+            ≡ record self.old { files = self.new.files; faults = self.new.faults } }
         ensures faults { self.old.faults ≤ self.new.faults }
     {
         self.store.create_file(name, len)

@@ -2,9 +2,9 @@
 ghost use Rattle.std.specs.Prelude.{◌≡◌, ℕ, List, None, false, true, is_some};
 ghost use Rattle.blk_base.specs.Files.{is_out};
 ghost use Rattle.blk_history.specs.Fold.{With};
-ghost use Rattle.blk_world.specs.Images.{ImagesAreSound};
 ghost use Rattle.flat_machine.specs.Agreement.{ReadAsDisks};
-ghost use Rattle.flat_machine.specs.Final.{AreDisks};
+ghost use Rattle.flat_machine.specs.Final.{AreDisks, bytes_named};
+ghost use Rattle.flat_machine.specs.Imaging.{ImagesAreSound};
 ghost use Rattle.flat_machine.specs.State.{State};
 ghost use Rattle.world_commands.specs.Closing.{AreFlushed, AreNodesFlushed, IsClosed};
 ghost use Rattle.world_parts.specs.Face.{held, told_bytes, contents_of};
@@ -21,17 +21,20 @@ impl<S: Store> World<S> {
     pub fn close_world(self) -> (S, History, Option<FaultAt>)
         ensures history { result.1 ≡ self.progress.log }
         ensures closed { IsClosed self
-            (seen_store (S.files result.0) (S.opened result.0) (S.room result.0) (S.faults result.0)) result.2 }
+            (seen_store (S.files result.0) (S.opened result.0) (S.room result.0)
+            (S.faults result.0)) result.2 }
         ensures faults { S.faults result.0 ≡ self.faults }
         ensures room { S.room result.0 ≡ self.room }
         ensures none_out { (name : List ℕ) → is_out name (S.opened result.0) ≡ false }
-        ensures flushed { is_some self.files ≡ true → result.2 ≡ None → AreFlushed self (S.files result.0) }
+        ensures flushed { is_some self.files ≡ true → result.2 ≡ None
+            → AreFlushed self (S.files result.0) }
         ensures named { is_some self.files ≡ true → result.2 ≡ None
             → AreNodesFlushed self.table (S.files result.0) }
         ensures disks { is_some self.files ≡ true → (s : State) → s.table ≡ self.table
-            → ReadAsDisks s (contents_of self) → With (S.files result.0) (λ files. AreDisks files s) }
+            → ReadAsDisks s (contents_of self)
+            → With (S.files result.0) (λ files. AreDisks files s) }
         ensures sound { is_some self.files ≡ true
-            → With (S.files result.0) (ImagesAreSound self.table) }
+            → With (S.files result.0) (λ files. ImagesAreSound self.table (bytes_named files)) }
         ensures held { is_some self.files ≡ true
             → (name : List ℕ) → told_bytes (S.files result.0) name ≡ held self name }
     {

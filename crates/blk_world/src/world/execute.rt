@@ -98,6 +98,7 @@ impl<S: Store> World<S> {
     {
         let copy = copied(alloc, given)?;
         let carried = self.carry(alloc, given, &command)?;
+        self.images_are_sound();
         match carried {
             Carried::Said(text) => {
                 self.note_reply(line, copy, Some(command), text);

@@ -6,7 +6,7 @@ ghost use Rattle.blk_nodes.specs.Overlays.{HasPlace};
 ghost use Rattle.qmp_codec.specs.Nodes.{seen_add_qcow2, seen_add_raw, seen_backing, seen_blockdev_add, seen_file_ref, seen_inline_file};
 ghost use Rattle.qmp_rules.specs.Naming.{inline_name};
 ghost use Rattle.qmp_rules.specs.NodeAsks.{is_read_only};
-ghost use Rattle.world_parts.specs.Joining.{CanAdd, CanAddImage, CanAddPart, CanJoin, CanJoinAt, CanPutFilter, CanPutImage, CanPutPart, HasAdded, HasAddedFile, HasAddedImage, HasAddedPart, HasFile, HasFilter, HasImage, HasInline, HasJoined, HasJoinedAt, HasPart, asked_for, backing_for, part_in};
+ghost use Rattle.world_parts.specs.Joining.{CanAdd, CanAddImage, CanAddPart, CanJoin, CanJoinAt, CanPutFilter, CanPutImage, CanPutPart, HasAdded, HasAddedFile, HasAddedImage, HasAddedPart, IsFileAdded, HasFilter, HasImage, HasInline, HasJoined, HasJoinedAt, HasPart, asked_for, backing_for, part_in};
 
 use crate::adding::opening::Out;
 use crate::adding::telling::{part_offset, part_size};
@@ -30,7 +30,7 @@ fn put_file<D: Device>(
     read_only: bool,
 ) -> Result<NodeId, Out<D>>
     requires { HasPlace nodes.old name.bytes }
-    ensures ok { IfOk result (HasFile name.bytes read_only out nodes.old nodes.new) }
+    ensures ok { IfOk result (IsFileAdded name.bytes read_only out nodes.old nodes.new) }
     ensures back { IfErr result (λ back. back ≡ out) }
     ensures err { OnErr result (nodes.new ≡ nodes.old) }
 {
@@ -75,9 +75,11 @@ fn put_image<D: Device>(
     read_only: bool,
 ) -> NodeId
     requires { CanPutImage nodes.old
-        (record { name = name.bytes; file = file; backing = backing; is_read_only = read_only }) image }
+        (record { name = name.bytes; file = file; backing = backing; is_read_only = read_only })
+        image }
     ensures { HasImage
-        (record { name = name.bytes; file = file; backing = backing; is_read_only = read_only }) image
+        (record { name = name.bytes; file = file; backing = backing; is_read_only = read_only })
+        image
         nodes.old nodes.new result }
 {
     match nodes.add_image(name, file, image, backing, read_only) {
@@ -182,7 +184,8 @@ fn add_file<D: Device>(
     out: Out<D>,
 ) -> Result<(), Out<D>>
     requires { HasPlace nodes.old (seen_blockdev_add c.now).node_name }
-    ensures ok { OnOk result (HasAddedFile (seen_blockdev_add c.now) (Some out) nodes.old nodes.new) }
+    ensures ok { OnOk result
+        (HasAddedFile (seen_blockdev_add c.now) (Some out) nodes.old nodes.new) }
     ensures back { IfErr result (λ back. back ≡ out) }
     ensures err { OnErr result (nodes.new ≡ nodes.old) }
 {
@@ -304,7 +307,8 @@ fn add_image<D: Device>(
     image: Image,
 ) -> Result<(), NoMemory>
     requires { CanJoinAt names.now.table file.now (λ row. CanPutImage nodes.old
-        (asked_for names.now.table (seen_blockdev_add c.now) (seen_add_qcow2 added.now) row.id) image) }
+        (asked_for names.now.table (seen_blockdev_add c.now) (seen_add_qcow2 added.now) row.id)
+        image) }
     ensures ok { OnOk result (HasJoinedAt names.now.table file.now (λ row node. HasImage
         (asked_for names.now.table (seen_blockdev_add c.now) (seen_add_qcow2 added.now) row.id)
         image nodes.old nodes.new node)) }

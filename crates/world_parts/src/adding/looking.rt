@@ -80,7 +80,8 @@ fn image_seen(
 ) -> Result<Seen, NoMemory>
     ensures image { IfOk result (λ seen. seen.image ≡ Some image) }
     ensures told { IfOk result (λ seen. seen.told ≡ told_as length (Some image.header.size)
-        (image_stop names.now.table node.now (seen_add_qcow2 added.now) (opened_sight image.header))) }
+        (image_stop names.now.table node.now (seen_add_qcow2 added.now)
+        (opened_sight image.header))) }
 {
     let stopped = image_stop(alloc, names, node, added, &image)?;
     let told = told_as(alloc, length, Some(image.size()), stopped);

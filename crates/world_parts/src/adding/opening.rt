@@ -50,7 +50,8 @@ pub(crate) fn open_file<S: Store>(
 ) -> Result<Result<Out<S::Dev>, Refusal>, NoMemory>
     requires { is_out filename.now store.old.opened ≡ false }
     ensures answer { IfOk result (λ opened. MatchResult opened
-        (IsTakenOut store.old store.new filename.now) (IsUnopened store.old store.new filename.now)) }
+        (IsTakenOut store.old store.new filename.now)
+        (IsUnopened store.old store.new filename.now)) }
     ensures err { OnErr result (store.new ≡ store.old) }
 {
     match store.open_file(filename) {

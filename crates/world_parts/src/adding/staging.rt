@@ -39,7 +39,8 @@ fn stage(
     told: &Told,
 ) -> Result<Staged, NoMemory>
     ensures table { names.new.table ≡ names.old.table }
-    ensures staged { IfOk result (IsStaged names.new given.now told.now (seen_command command.now)) }
+    ensures staged { IfOk result
+        (IsStaged names.new given.now told.now (seen_command command.now)) }
 {
     match names.prepare(alloc, command, told) {
         Ok(edits) => {
@@ -103,7 +104,8 @@ fn add_accepted<S: Store>(
         nodes.old nodes.new) }
     ensures table { OnOk result (names.new.table ≡ all_changed names.old.table edits) }
     ensures kept { OnOk result (store.new ≡ store.old) }
-    ensures back { OnErr result (store.new ≡ back_if (seen_blockdev_add c.now).driver out store.old) }
+    ensures back { OnErr result
+        (store.new ≡ back_if (seen_blockdev_add c.now).driver out store.old) }
     ensures err { OnErr result (nodes.new ≡ nodes.old) }
     ensures same { OnErr result (names.new.table ≡ names.old.table) }
 {
@@ -133,7 +135,8 @@ fn end<S: Store>(
     staged: Staged,
 ) -> Result<String, NoMemory>
     requires out { IsOutFor (seen_blockdev_add c.now).driver out store.old }
-    requires ready { refusal_of names.old.table told.now (AddCommand (seen_blockdev_add c.now)) ≡ None
+    requires ready { refusal_of names.old.table told.now (AddCommand (seen_blockdev_add c.now))
+        ≡ None
         → CanAdd names.old.table (seen_blockdev_add c.now) out image nodes.old }
     requires staged { IsStaged names.old given.now told.now (AddCommand (seen_blockdev_add c.now))
         staged }
@@ -168,7 +171,8 @@ fn add<S: Store>(
 ) -> Result<String, NoMemory>
     requires command { seen_command command.now ≡ AddCommand (seen_blockdev_add c.now) }
     requires can { CanLook names.old.table (site store.old nodes.old) }
-    ensures ok { IfOk result (λ text. IsAdditionOf names.old.table given.now (seen_blockdev_add c.now)
+    ensures ok { IfOk result
+        (λ text. IsAdditionOf names.old.table given.now (seen_blockdev_add c.now)
         (site store.old nodes.old) (site store.new nodes.new) names.new.table (string_bytes text)) }
     ensures back { OnErr result (IsNotAdded names.old.table (seen_blockdev_add c.now)
         (site store.old nodes.old) (site store.new nodes.new)) }
@@ -199,7 +203,8 @@ pub fn add_by<S: Store>(
 ) -> Result<String, NoMemory>
     requires addition { is_addition (seen_command command.now) ≡ true }
     requires can { CanLook names.old.table (site store.old nodes.old) }
-    ensures ok { IfOk result (λ text. IsAdditionBy names.old.table given.now (seen_command command.now)
+    ensures ok { IfOk result
+        (λ text. IsAdditionBy names.old.table given.now (seen_command command.now)
         (site store.old nodes.old) (site store.new nodes.new) names.new.table (string_bytes text)) }
     ensures back { OnErr result (IsNotAddedBy names.old.table (seen_command command.now)
         (site store.old nodes.old) (site store.new nodes.new)) }

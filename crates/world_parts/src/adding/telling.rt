@@ -131,7 +131,8 @@ pub(crate) fn raw_stop(
     raw: &AddRaw,
     length: u64,
 ) -> Result<Option<Stopped>, NoMemory>
-    ensures { IfOk result (λ stopped. stopped ≡ raw_stop filename.now (seen_add_raw raw.now) length) }
+    ensures { IfOk result
+        (λ stopped. stopped ≡ raw_stop filename.now (seen_add_raw raw.now) length) }
 {
     let (offset, size) = (raw.offset, raw.size);
     if !begins_within(offset, length) {
@@ -167,7 +168,8 @@ fn backing_needed(
 
 /// The name of its backing node, where it has one.
 fn backing_name(added: &AddQcow2) -> Option<&str>
-    ensures { option_map (λ name. name.now) result ≡ backing_name (seen_add_qcow2 added.now).backing }
+    ensures { option_map (λ name. name.now) result
+        ≡ backing_name (seen_add_qcow2 added.now).backing }
 {
     match &added.backing {
         Some(Backing::Name(name)) => Some(name.as_str()),

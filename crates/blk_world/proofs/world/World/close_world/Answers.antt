@@ -11,7 +11,7 @@ use Rattle.world_commands.proofs.CloseLemmas.{closed-by, back-held, none-out, no
 use Rattle.world_commands.proofs.CloseCounts.{given-back, faults-kept, room-kept}
 use Rattle.blk_world.proofs.CloseFiles.{held-then, told-then, nodes-flushed}
 use Rattle.blk_world.proofs.CloseDisks.{all-disks}
-use Rattle.blk_world.proofs.CloseImages.{all-sound}
+use Rattle.blk_world.proofs.SoundImages.{all-sound, images-sound}
 use Rattle.blk_world.proofs.world.World.close_world.Goals as goal
 
 pub returns-clause-closed : goal.returns-clause-closed
@@ -81,6 +81,6 @@ returns-clause-sound g c = λ told.
     let whole : IsWhole c.args.self = subst IsWhole c.self.view_is c.self.invariant in
     let after : StoreSeen = seen_store (g.S.Store.files c.into_store.result) (g.S.Store.opened c.into_store.result) (g.S.Store.room c.into_store.result) (g.S.Store.faults c.into_store.result) in
     let closed : IsClosed c.args.self after c.give_all_back-fault.result = returns-clause-closed g c in
-    all-sound c.args.self (g.S.Store.files c.into_store.result) joined whole.coherent (whole.tell told)
+    all-sound c.args.self (g.S.Store.files c.into_store.result)
     (told-then c.args.self after c.give_all_back-fault.result closed whole.coherent told (whole.tell told))
-    (returns-clause-held g c told)
+    (returns-clause-held g c told) (images-sound c.args.self joined whole.coherent (whole.tell told))

@@ -21,7 +21,7 @@ pub returns-in-Said-clause-comes : goal.returns-in-Said-clause-comes
 returns-in-Said-clause-comes g c =
     let said = rw c.in-Said.is at c.in_ok-carried.ensures.carried in
     rw (c.note_reply.ensures, c.in_ok-copy.ensures) (λ o comes. answered_comes c.args.self.now c.carry.new.self
-    (given_line c.args.line c.args.given.now) (string_bytes c.in-Said.text) (seen_command c.args.command) c.requires.read said o c.requires.open comes)
+    (given_line c.args.line c.args.given.now) (string_bytes c.in-Said.text) (seen_command c.args.command) c.requires.read said c.images_are_sound.ensures o c.requires.open comes)
 
 pub returns-in-Later-clause-done : goal.returns-in-Later-clause-done
 returns-in-Later-clause-done g c =

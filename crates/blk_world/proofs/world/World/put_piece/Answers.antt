@@ -1,11 +1,11 @@
-use Rattle.std.proofs.Common.{◌≡◌, Some, None, sym, ◌∙◌}
+use Rattle.std.proofs.Common.{◌≡◌, Some, None, sym, ◌∙◌, ap}
 use Rattle.blk_history.specs.Machine.{Flight}
 use Rattle.flat_machine.specs.State.{drive_of}
 use Rattle.world_parts.specs.Face.{Face}
-use Rattle.world_commands.specs.Piecing.{IsPieceMade, part_of}
+use Rattle.world_commands.specs.Piecing.{IsPieceMade}
+use Rattle.world_commands.specs.Recorded.{noted_after}
 use Rattle.world_parts.specs.Progress.{flight_at}
 use Rattle.blk_world.proofs.PieceCalls.{can_next, drive_there, made_of, made_whole}
-use Rattle.world_commands.proofs.BitmapsChanged.{noted-follow, noted-listed}
 use Rattle.world_parts.proofs.InStep.{with-at}
 use Rattle.blk_world.proofs.world.World.put_piece.Goals as goal
 
@@ -44,8 +44,7 @@ returns-clause-made g c =
     made_of w c.make_next-outcome.new.nodes c.note_write.new.names.table c.make_next-outcome.new.progress c.note_written.new.bitmaps c.args.guest c.in-Some.drive c.disk_node-node.result f
     c.make_next-outcome.result c.flying.result.now on c.disk_node-node.ensures
     (with-at (flight_at w.progress.guests c.args.guest) f (λ h. h.op ≡ c.flying.result.now) flies c.flying.ensures) c.note_write.ensures (c.make_next-outcome.ensures f flies)
-    (noted-follow f.op (part_of f) c.make_next-outcome.result c.in-Some.drive w.bitmaps c.next_written-written.result c.note_written.new.bitmaps w.table c.note_write.new.names.table
-    c.disk_node-node.result c.flying.result.now c.note_write.ensures (c.next_written-written.ensures f flies) c.note_written.ensures c.self.invariant.bitmaps))
+    (c.note_written.ensures ∙ ap (λ written. noted_after c.make_next-outcome.result written c.in-Some.drive c.note_write.new.names.table w.bitmaps) (c.next_written-written.ensures f flies)))
 
 pub invariant_of-self : goal.invariant_of-self
 invariant_of-self g c =
@@ -71,7 +70,4 @@ invariant_of-self g c =
     let next = rw (sym c.self.view_is) at c.requires in
     let made : (f : Flight) → flight_at w.progress.guests c.args.guest ≡ Some f → IsPieceMade w v c.args.guest f c.make_next-outcome.result =
     rw (sym c.self.view_is) at (returns-clause-made g c) in
-    let listed =
-    noted-listed c.make_next-outcome.result c.in-Some.drive w.bitmaps c.next_written-written.result c.note_written.new.bitmaps w.table c.note_write.new.names.table
-    c.disk_node-node.result c.flying.result.now c.note_write.ensures c.note_written.ensures c.self.invariant.bitmaps in
-    made_whole w v c.args.guest c.make_next-outcome.result next made c.edges.ensures.joined c.self.invariant listed c.edges-2.ensures.joined
+    made_whole w v c.args.guest c.make_next-outcome.result next made c.edges.ensures.joined c.self.invariant c.edges-2.ensures.joined
