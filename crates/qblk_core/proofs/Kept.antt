@@ -15,11 +15,12 @@ use Rattle.blk_history.specs.declared.entry.Refused.{Refused}
 use Rattle.blk_history.specs.declared.event.Event.{Event}
 use Rattle.blk_history.specs.declared.event.Event.TheVariants.{Admit, Refuse, Piece, Retire}
 use Rattle.blk_history.proofs.Folds.{run-push, each-push}
-use Rattle.q2_image.specs.Image.{Known}
-use Rattle.qblk_core.specs.Images.{IsStepOf, HasImages}
-use Rattle.qblk_core.specs.Face.{Face, new_guest, state_of}
+use Rattle.blk_nodes.specs.Nodes.{Nodes, kind_in, size_of}
+use Rattle.qblk_core.specs.Along.{IsStepOf, HaveNodes, FitsUnread}
+use Rattle.qblk_core.specs.Face.{Face, new_guest, state_with, state_of, machine_on}
+use Rattle.qblk_core.specs.ImageNodes.{told_disk, faults_of, HaveShapeOf}
 use Rattle.qblk_core.specs.Steps.{after_admission, IsJudged, after_retirement, CanPiece, PutsPiece, HasCause}
-use Rattle.qblk_core.specs.Comes.{Opening, opening_state, AreLicensed, HasLine, HaveLines, Comes}
+use Rattle.qblk_core.specs.Comes.{AreLicensed, HasLine, HaveLines, Comes}
 
 -- a fault that an entry names is one of the only device, and rose; where none is named the count stands
 abbrev IsLicensed : ℕ → ℕ → Option Named → Type 0
@@ -41,96 +42,112 @@ rose-next counts before now None last licensed = tt
 rose-next counts before now (Some n) last licensed = rw (last, licensed.0) (omega arith, licensed.1)
 
 -- one entry more
-images-push : (capacity : ℕ) (s : State) (old mid new : Option Known) (es : List Event) (e : Event) → HasImages capacity s old es mid → IsStepOf capacity (replay s es) e mid new
-    → HasImages capacity s old (es ++ e ∷ []) new
-images-push capacity s old mid new [] e is step = let same : mid ≡ old = is in (new, subst (λ (m : Option Known). IsStepOf capacity s e m new) same step, refl)
-images-push capacity s old mid new (x ∷ es) e is step = (is.0, is.1, images-push capacity (after s x) is.0 mid new es e is.2 step)
+along-push : (s : State) (old mid new : Nodes) (es : List Event) (e : Event) → HaveNodes s old es mid → IsStepOf (replay s es) e mid new
+    → HaveNodes s old (es ++ e ∷ []) new
+along-push s old mid new [] e is step = (new, subst (λ (m : Nodes). IsStepOf s e m new) is step, refl)
+along-push s old mid new (x ∷ es) e is step = (is.0, is.1, along-push (after s x) is.0 mid new es e is.2 step)
+
+shape-same : (nodes : Nodes) → HaveShapeOf nodes nodes
+shape-same nodes = record { file = refl; image = refl; kind = refl; capacity = refl }
+
+pub shape-then : (a b c : Nodes) → HaveShapeOf a b → HaveShapeOf b c → HaveShapeOf a c
+shape-then a b c first next = record {
+  file = next.file ∙ first.file;
+  image = next.image ∙ first.image;
+  kind = next.kind ∙ first.kind;
+  capacity = next.capacity ∙ first.capacity;
+}
+
+-- it tells its disk still
+abbrev TellsStill : Nodes → Nodes → Type 0
+TellsStill old new = (disk : List ℕ) → told_disk old ≡ Some disk → (now : List ℕ) × (told_disk new ≡ Some now)
 
 -- what one entry more has to be
 record Adds (w v : Face) (e : Event) : Type 0 where
   events : v.log.events ≡ w.log.events ++ e ∷ []
   line : HasLine e
-  format : v.format ≡ w.format
-  size : v.size ≡ w.size
-  capacity : v.capacity ≡ w.capacity
+  shape : HaveShapeOf w.nodes v.nodes
   on_image : v.guest.node ≡ w.guest.node
   access : v.guest.is_read_only ≡ w.guest.is_read_only
-  faults : w.faults ≤ v.faults
-  licensed : IsLicensed w.faults v.faults (named_in e)
-  step : IsStepOf w.capacity (state_of w) e w.image v.image
+  faults : faults_of w.nodes ≤ faults_of v.nodes
+  licensed : IsLicensed (faults_of w.nodes) (faults_of v.nodes) (named_in e)
+  step : IsStepOf (state_of w) e w.nodes v.nodes
   state : after (state_of w) e ≡ state_of v
-  told : IsSome w.disk → IsSome v.disk
-  fits : IsSome w.disk → Fits (state_of w) e
+  told : TellsStill w.nodes v.nodes
+  turn : FitsUnread (state_of w) e
+  fits : (disk : List ℕ) → told_disk w.nodes ≡ Some disk → Fits (state_of w) e
 
-licensed-push : (o : Opening) (w v : Face) (e : Event) → Comes o w → Adds w v e → AreLicensed o v
-licensed-push o w v e comes adds =
+licensed-push : (first : Nodes) (w v : Face) (e : Event) → Comes first w → Adds w v e → AreLicensed first v
+licensed-push first w v e comes adds =
     let was = comes.licensed in
     let step : List ℕ → Event → List ℕ = λ counts x. last_named counts (named_in x) in
     record {
-      risen = rw adds.events (each-push step (λ counts x. RoseSince counts (named_in x)) (o.faults ∷ []) w.log.events e was.risen (rose-next _ w.faults v.faults (named_in e) was.last adds.licensed));
-      last = rw (adds.events, run-push step (o.faults ∷ []) w.log.events e) (last-next _ w.faults v.faults (named_in e) was.last adds.licensed);
+      risen = rw adds.events (each-push step (λ counts x. RoseSince counts (named_in x)) (faults_of first ∷ []) w.log.events e was.risen (rose-next _ (faults_of w.nodes) (faults_of v.nodes) (named_in e) was.last adds.licensed));
+      last = rw (adds.events, run-push step (faults_of first ∷ []) w.log.events e) (last-next _ (faults_of w.nodes) (faults_of v.nodes) (named_in e) was.last adds.licensed);
     }
 
 lines-push : (es : List Event) (e : Event) → HaveLines es → HasLine e → HaveLines (es ++ e ∷ [])
 lines-push [] e all one = (one, tt)
 lines-push (x ∷ es) e all one = (all.0, lines-push es e all.1 one)
 
-comes-push : (o : Opening) (w v : Face) (e : Event) → Comes o w → Adds w v e → Comes o v
-comes-push o w v e comes adds = record {
-  format = adds.format ∙ comes.format;
-  size = adds.size ∙ comes.size;
-  capacity = adds.capacity ∙ comes.capacity;
+comes-push : (first : Nodes) (w v : Face) (e : Event) → Comes first w → Adds w v e → Comes first v
+comes-push first w v e comes adds = record {
   faults = let before = comes.faults in let more = adds.faults in omega arith;
+  shape = shape-then first w.nodes v.nodes comes.shape adds.shape;
   on_image = adds.on_image ∙ comes.on_image;
   access = adds.access ∙ comes.access;
-  images = rw adds.events (images-push o.capacity (opening_state o) o.image w.image v.image w.log.events e comes.images (rw (comes.replay, ← comes.capacity) adds.step));
-  licensed = licensed-push o w v e comes adds;
+  licensed = licensed-push first w v e comes adds;
+  along = rw adds.events (along-push (machine_on first) first w.nodes v.nodes w.log.events e comes.along (rw comes.replay adds.step));
   lines = rw adds.events (lines-push w.log.events e comes.lines adds.line);
-  replay = rw (adds.events, run-push after (opening_state o) w.log.events e, comes.replay) adds.state;
-  told = λ bytes is. adds.told (comes.told bytes is);
-  legal = λ bytes is. rw adds.events (each-push after Fits (opening_state o) w.log.events e (comes.legal bytes is) (rw comes.replay (adds.fits (comes.told bytes is))));
+  replay = rw (adds.events, run-push after (machine_on first) w.log.events e, comes.replay) adds.state;
+  in_turn = rw adds.events (each-push after FitsUnread (machine_on first) w.log.events e comes.in_turn (rw comes.replay adds.turn));
+  told = λ disk is. let now = comes.told disk is in adds.told now.0 now.1;
+  legal = λ disk is.
+      let now = comes.told disk is in
+      rw adds.events (each-push after Fits (machine_on first) w.log.events e (comes.legal disk is) (rw comes.replay (adds.fits now.0 now.1)));
 }
 
-adds-admission : (o : Opening) (w : Face) (op : Op) → Comes o w → w.guest.flight ≡ None → IsJudged w op None → Adds w (after_admission w op None) (Admit 0 w.guest.done op)
-adds-admission o w op comes idle judged = record {
+adds-admission : (first : Nodes) (w : Face) (op : Op) → Comes first w → w.guest.flight ≡ None → IsJudged w op None → Adds w (after_admission w op None) (Admit 0 w.guest.done op)
+adds-admission first w op comes idle judged = record {
   events = refl;
   line = record { whose = refl; shown = omega arith };
-  format = refl;
-  size = refl;
-  capacity = refl;
+  shape = shape-same w.nodes;
   on_image = refl;
   access = refl;
   faults = omega arith;
   licensed = refl;
   step = refl;
   state = refl;
-  told = λ is. is;
-  fits = λ is. rw comes.on_image (
+  told = λ disk is. (disk, is);
+  turn = rw comes.on_image (
+    record { idle = idle; number = refl },
+    record { inside = judged.0; allowed = judged.1 },
+  );
+  fits = λ disk is. rw comes.on_image (
     record { idle = idle; number = refl },
     record { inside = judged.0; allowed = judged.1 },
   );
 }
 
-adds-refusal : (o : Opening) (w : Face) (op : Op) (why : Refused) → Comes o w → w.guest.flight ≡ None → IsJudged w op (Some why) → Adds w (after_admission w op (Some why)) (Refuse 0 w.guest.done op why)
-adds-refusal o w op why comes idle judged = record {
+adds-refusal : (first : Nodes) (w : Face) (op : Op) (why : Refused) → Comes first w → w.guest.flight ≡ None → IsJudged w op (Some why) → Adds w (after_admission w op (Some why)) (Refuse 0 w.guest.done op why)
+adds-refusal first w op why comes idle judged = record {
   events = refl;
   line = record { whose = refl; shown = omega arith };
-  format = refl;
-  size = refl;
-  capacity = refl;
+  shape = shape-same w.nodes;
   on_image = refl;
   access = refl;
   faults = omega arith;
   licensed = refl;
   step = refl;
   state = refl;
-  told = λ is. is;
-  fits = λ is. rw comes.on_image (record { idle = idle; number = refl }, judged);
+  told = λ disk is. (disk, is);
+  turn = rw comes.on_image (record { idle = idle; number = refl }, judged);
+  fits = λ disk is. rw comes.on_image (record { idle = idle; number = refl }, judged);
 }
 
-pub admission-kept : (w : Face) (op : Op) (why : Option Refused) → w.guest.flight ≡ None → IsJudged w op why → (o : Opening) → Comes o w → Comes o (after_admission w op why)
-admission-kept w op None idle judged o comes = comes-push o w _ _ comes (adds-admission o w op comes idle judged)
-admission-kept w op (Some why) idle judged o comes = comes-push o w _ _ comes (adds-refusal o w op why comes idle judged)
+pub admission-kept : (w : Face) (op : Op) (why : Option Refused) → w.guest.flight ≡ None → IsJudged w op why → (first : Nodes) → Comes first w → Comes first (after_admission w op why)
+admission-kept w op None idle judged first comes = comes-push first w _ _ comes (adds-admission first w op comes idle judged)
+admission-kept w op (Some why) idle judged first comes = comes-push first w _ _ comes (adds-refusal first w op why comes idle judged)
 
 -- the request in flight, where one is over
 over : (flight : Option Flight) → With flight IsOver → (f : Flight) × (flight ≡ Some f) × IsOver f
@@ -143,21 +160,20 @@ adds-retirement w is =
     record {
       events = refl;
       line = record { whose = refl; shown = omega arith };
-      format = refl;
-      size = refl;
-      capacity = refl;
+      shape = shape-same w.nodes;
       on_image = refl;
       access = refl;
       faults = omega arith;
       licensed = refl;
       step = refl;
       state = refl;
-      told = λ h. h;
-      fits = λ h. rw found.1 (refl, found.2);
+      told = λ disk is. (disk, is);
+      turn = rw found.1 (refl, found.2);
+      fits = λ disk is. rw found.1 (refl, found.2);
     }
 
-pub retirement-kept : (w : Face) → With w.guest.flight IsOver → (o : Opening) → Comes o w → Comes o (after_retirement w)
-retirement-kept w is o comes = comes-push o w _ _ comes (adds-retirement w is)
+pub retirement-kept : (w : Face) → With w.guest.flight IsOver → (first : Nodes) → Comes first w → Comes first (after_retirement w)
+retirement-kept w is first comes = comes-push first w _ _ comes (adds-retirement w is)
 
 licensed-piece : (before now : ℕ) (outcome : Outcome) → HasCause before now outcome → IsLicensed before now (named_by outcome)
 licensed-piece before now Good cause = cause
@@ -165,63 +181,62 @@ licensed-piece before now (Torn done dev count) cause = cause
 licensed-piece before now (Io dev count) cause = cause
 licensed-piece before now (NoSpace dev) cause = cause.1
 
-some-map : {A : Type 0} (f : A → A) (a : Option A) → IsSome a → IsSome (option_map f a)
-some-map f None is = is
-some-map f (Some a) is = is
+still-tells : (f : List ℕ → List ℕ) (old new : Nodes) → told_disk new ≡ option_map f (told_disk old) → TellsStill old new
+still-tells f old new is disk told = (f disk, is ∙ ap (option_map f) told)
 
-some-of : {A : Type 0} (a : Option A) → IsSome a → (x : A) × (a ≡ Some x)
-some-of None is = absurd (false≢true is)
-some-of (Some a) is = (a, refl)
+-- the state after a piece
+state-after : (w v : Face) (f : Flight) (outcome : Outcome) (got : List ℕ) → w.guest.node ≡ 1 → w.guest.flight ≡ Some f → PutsPiece w v f outcome got
+    → after (state_of w) (Piece 0 w.guest.done f.next outcome got) ≡ state_of v
+state-after w v f outcome got on_image is puts =
+    let shape = puts.made.shape in
+    rw (puts.guest, shape.file, shape.image, puts.made.disk, is, on_image) refl
 
-adds-piece : (o : Opening) (w v : Face) (f : Flight) (outcome : Outcome) (got : List ℕ) → Comes o w → w.guest.flight ≡ Some f → CanPiece w.log f → PutsPiece w v f outcome got → Adds w v (Piece 0 w.guest.done f.next outcome got)
-adds-piece o w v f outcome got comes is can puts = record {
+adds-piece : (first : Nodes) (w v : Face) (f : Flight) (outcome : Outcome) (got : List ℕ) → Comes first w → w.guest.flight ≡ Some f → CanPiece w.log f → PutsPiece w v f outcome got → Adds w v (Piece 0 w.guest.done f.next outcome got)
+adds-piece first w v f outcome got comes is can puts = record {
   events = ap (λ (l : Recorded). l.events) puts.made.log;
   line = record { whose = refl; shown = puts.made.small };
-  format = puts.format;
-  size = puts.size;
-  capacity = puts.made.capacity;
+  shape = puts.made.shape;
   on_image = ap (λ (g : Guest). g.node) puts.guest;
   access = ap (λ (g : Guest). g.is_read_only) puts.guest;
   faults = puts.made.faults;
-  licensed = licensed-piece w.faults v.faults outcome puts.made.cause;
-  step = rw is puts.made.image;
-  state = rw (puts.size, puts.guest, puts.made.disk, is, comes.on_image) refl;
-  told = λ h. rw puts.made.disk (some-map _ w.disk h);
-  fits = λ h. let d = some-of w.disk h in rw is (
+  licensed = licensed-piece (faults_of w.nodes) (faults_of v.nodes) outcome puts.made.cause;
+  step = rw (is, comes.on_image) puts.made.on;
+  state = state-after w v f outcome got comes.on_image is puts;
+  told = still-tells _ w.nodes v.nodes puts.made.disk;
+  turn = rw is (refl, record { running = can.running; next = refl; within = can.next; form = puts.made.form });
+  fits = λ disk told. rw is (
     refl,
     record {
       running = can.running;
       next = refl;
       within = can.next;
-      told = rw (comes.on_image, d.1) (puts.made.tells d.0 d.1);
+      told = rw (comes.on_image, told) (puts.made.tells disk told);
     },
   );
 }
 
-piece-kept : (w v : Face) (f : Flight) (outcome : Outcome) (got : List ℕ) → w.guest.flight ≡ Some f → CanPiece w.log f → PutsPiece w v f outcome got → (o : Opening) → Comes o w → Comes o v
-piece-kept w v f outcome got is can puts o comes = comes-push o w v _ comes (adds-piece o w v f outcome got comes is can puts)
+piece-kept : (w v : Face) (f : Flight) (outcome : Outcome) (got : List ℕ) → w.guest.flight ≡ Some f → CanPiece w.log f → PutsPiece w v f outcome got → (first : Nodes) → Comes first w → Comes first v
+piece-kept w v f outcome got is can puts first comes = comes-push first w v _ comes (adds-piece first w v f outcome got comes is can puts)
 
-piece-of : (w v : Face) (outcome : Outcome) (flight : Option Flight) → w.guest.flight ≡ flight → With flight (CanPiece w.log) → With flight (λ f. (got : List ℕ) × PutsPiece w v f outcome got) → (o : Opening) → Comes o w → Comes o v
+piece-of : (w v : Face) (outcome : Outcome) (flight : Option Flight) → w.guest.flight ≡ flight → With flight (CanPiece w.log) → With flight (λ f. (got : List ℕ) × PutsPiece w v f outcome got) → (first : Nodes) → Comes first w → Comes first v
 piece-of w v outcome None is can puts = absurd can
 piece-of w v outcome (Some f) is can puts = piece-kept w v f outcome puts.0 is can puts.1
 
-pub piece-made : (w v : Face) (outcome : Outcome) → With w.guest.flight (CanPiece w.log) → With w.guest.flight (λ f. (got : List ℕ) × PutsPiece w v f outcome got) → (o : Opening) → Comes o w → Comes o v
+pub piece-made : (w v : Face) (outcome : Outcome) → With w.guest.flight (CanPiece w.log) → With w.guest.flight (λ f. (got : List ℕ) × PutsPiece w v f outcome got) → (first : Nodes) → Comes first w → Comes first v
 piece-made w v outcome can puts = piece-of w v outcome w.guest.flight refl can puts
 
--- a run begins at its opening
-pub comes-start : (o : Opening) (is_flushed : Option Bool) (faults : ℕ) (log : Recorded) → faults ≡ o.faults → log.events ≡ []
-    → Comes o (record { format = o.format; image = o.image; disk = o.disk; is_flushed = is_flushed; faults = faults; capacity = o.capacity; size = o.size; guest = new_guest; log = log })
-comes-start o is_flushed faults log quiet empty = record {
-  format = refl;
-  size = refl;
-  capacity = refl;
+-- a run begins with its nodes
+pub comes-start : (first : Nodes) (log : Recorded) → log.events ≡ [] → Comes first (record { nodes = first; guest = new_guest; log = log })
+comes-start first log empty = record {
   faults = omega arith;
+  shape = shape-same first;
   on_image = refl;
   access = refl;
-  images = rw empty refl;
-  licensed = record { risen = rw empty tt; last = rw (empty, quiet) refl };
+  licensed = record { risen = rw empty tt; last = rw empty refl };
+  along = rw empty refl;
   lines = rw empty tt;
   replay = rw empty refl;
-  told = λ bytes is. rw is refl;
-  legal = λ bytes is. rw empty tt;
+  in_turn = rw empty tt;
+  told = λ disk is. (disk, is);
+  legal = λ disk is. rw empty tt;
 }

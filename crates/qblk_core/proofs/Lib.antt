@@ -1,4 +1,10 @@
-pub mod Transfers
+pub mod OneDevice
+pub mod Capacities
+pub mod OneImage
+pub mod Made
+pub mod Closed
+pub mod Handed
+pub mod Openings
 pub mod Flights
 pub mod Kept
 pub mod Progress
@@ -8,6 +14,3 @@ pub mod Whole
 pub mod Forms
 pub mod Returned
 pub mod Quiet
-pub mod Disks
-pub mod Outcomes
-pub mod ImageDisks

@@ -22,7 +22,8 @@ use Rattle.blk_history.specs.declared.entry.Refused.{Refused}
 use Rattle.blk_history.proofs.Folds.{asked-push}
 use Rattle.qblk_core.specs.Face.{Face}
 use Rattle.qblk_core.specs.Steps.{CanPiece, PutsPiece, shows_in, after_admission, after_retirement}
-use Rattle.qblk_core.specs.Comes.{Opening, Comes}
+use Rattle.blk_nodes.specs.Nodes.{Nodes}
+use Rattle.qblk_core.specs.Comes.{Comes}
 use Rattle.qblk_core.specs.Requests.{shown_before, CanRun, AtPiece, PiecesDone, HasRoom, RequestDone}
 
 -- a piece shows no more than lies between it and the next
@@ -84,7 +85,7 @@ over-with flight f is over = at-with flight f IsOver is over
 flight-after : (outcome : Outcome) (now v : Face) (f : Flight) → now.guest.flight ≡ Some f → v.guest ≡ past_piece outcome now.guest → v.guest.flight ≡ Some (one_further outcome f)
 flight-after outcome now v f is guest = ap (λ (g : Guest). g.flight) guest ∙ ap (option_map (one_further outcome)) is
 
-pub next-piece : (old now v : Face) (k : ℕ) (f : Flight) (outcome : Outcome) (got : List ℕ) → f.is_stopped ≡ false → k < pieces_of f.op → AtPiece old now k f → PutsPiece now v (record f { next = k }) outcome got → is_good outcome ≡ true → ((o : Opening) → Comes o now → Comes o v) → AtPiece old v (k + 1) f
+pub next-piece : (old now v : Face) (k : ℕ) (f : Flight) (outcome : Outcome) (got : List ℕ) → f.is_stopped ≡ false → k < pieces_of f.op → AtPiece old now k f → PutsPiece now v (record f { next = k }) outcome got → is_good outcome ≡ true → ((o : Nodes) → Comes o now → Comes o v) → AtPiece old v (k + 1) f
 next-piece old now v k f outcome got running below at puts good comes =
     let log = puts.made.log in
     let bound = puts.made.bound in
@@ -102,7 +103,7 @@ next-piece old now v k f outcome got running below at puts good comes =
       comes = λ o h. comes o (at.comes o h);
     }
 
-pub last-piece : (old now v : Face) (k : ℕ) (f : Flight) (outcome : Outcome) (got : List ℕ) → k < pieces_of f.op → AtPiece old now k f → PutsPiece now v (record f { next = k }) outcome got → is_good outcome ≡ false → ((o : Opening) → Comes o now → Comes o v) → PiecesDone old v f
+pub last-piece : (old now v : Face) (k : ℕ) (f : Flight) (outcome : Outcome) (got : List ℕ) → k < pieces_of f.op → AtPiece old now k f → PutsPiece now v (record f { next = k }) outcome got → is_good outcome ≡ false → ((o : Nodes) → Comes o now → Comes o v) → PiecesDone old v f
 last-piece old now v k f outcome got below at puts bad comes =
     let log = puts.made.log in
     let bound = puts.made.bound in
@@ -138,14 +139,14 @@ turn-can old now pieces k None can at below = absurd can
 turn-can old now pieces k (Some f) can at below = at-with now.guest.flight _ (CanPiece now.log) at.flight (can-piece old now pieces k f can at below)
 
 pub turn-next : (old now v : Face) (pieces k : ℕ) (outcome : Outcome) (flight : Option Flight) → With flight (CanRun old pieces) → With flight (AtPiece old now k) → k < pieces
-    → With now.guest.flight (λ f. (got : List ℕ) × PutsPiece now v f outcome got) → is_good outcome ≡ true → ((o : Opening) → Comes o now → Comes o v) → With flight (AtPiece old v (k + 1))
+    → With now.guest.flight (λ f. (got : List ℕ) × PutsPiece now v f outcome got) → is_good outcome ≡ true → ((o : Nodes) → Comes o now → Comes o v) → With flight (AtPiece old v (k + 1))
 turn-next old now v pieces k outcome None can at below puts good comes = absurd can
 turn-next old now v pieces k outcome (Some f) can at below puts good comes =
     let put = with-at now.guest.flight _ (λ f. (got : List ℕ) × PutsPiece now v f outcome got) at.flight puts in
     next-piece old now v k f outcome put.0 can.running (omega arith) at put.1 good comes
 
 pub turn-last : (old now v : Face) (pieces k : ℕ) (outcome : Outcome) (flight : Option Flight) → With flight (CanRun old pieces) → With flight (AtPiece old now k) → k < pieces
-    → With now.guest.flight (λ f. (got : List ℕ) × PutsPiece now v f outcome got) → is_good outcome ≡ false → ((o : Opening) → Comes o now → Comes o v) → With flight (PiecesDone old v)
+    → With now.guest.flight (λ f. (got : List ℕ) × PutsPiece now v f outcome got) → is_good outcome ≡ false → ((o : Nodes) → Comes o now → Comes o v) → With flight (PiecesDone old v)
 turn-last old now v pieces k outcome None can at below puts bad comes = absurd can
 turn-last old now v pieces k outcome (Some f) can at below puts bad comes =
     let put = with-at now.guest.flight _ (λ f. (got : List ℕ) × PutsPiece now v f outcome got) at.flight puts in
@@ -169,7 +170,7 @@ asked-refuse es r op why = asked-push 0 es (events.Refuse 0 r op why)
 asked-retire : (es : List Event) (r : ℕ) → asked_by 0 (es ++ events.Retire 0 r ∷ []) ≡ asked_by 0 es
 asked-retire es r = asked-push 0 es (events.Retire 0 r) ∙ append-nil (asked_by 0 es)
 
-refused-done : (w : Face) (op : Op) (why : Refused) → HasRoom w op → ((o : Opening) → Comes o w → Comes o (after_admission w op (Some why))) → RequestDone w (after_admission w op (Some why)) op
+refused-done : (w : Face) (op : Op) (why : Refused) → HasRoom w op → ((o : Nodes) → Comes o w → Comes o (after_admission w op (Some why))) → RequestDone w (after_admission w op (Some why)) op
 refused-done w op why has comes = record {
   idle = refl;
   done = refl;
@@ -179,15 +180,15 @@ refused-done w op why has comes = record {
   comes = comes;
 }
 
-pub request-refused : (w v : Face) (op : Op) (why : Option Refused) → HasRoom w op → is_some why ≡ true → v ≡ after_admission w op why → ((o : Opening) → Comes o w → Comes o v) → RequestDone w v op
+pub request-refused : (w v : Face) (op : Op) (why : Option Refused) → HasRoom w op → is_some why ≡ true → v ≡ after_admission w op why → ((o : Nodes) → Comes o w → Comes o v) → RequestDone w v op
 request-refused w v op None has is kept comes = absurd (false≢true is)
 request-refused w v op (Some why) has is kept comes =
     let P : Face → Type 0 = λ x. RequestDone w x op in
     subst P (sym kept) (refused-done w op why has (λ o h. let Q : Face → Type 0 = Comes o in subst Q kept (comes o h)))
 
 -- a request that was admitted, once its pieces are made and it is retired
-retired-done : (w u : Face) (op : Op) → HasRoom w op → ((o : Opening) → Comes o w → Comes o (after_admission w op None)) → PiecesDone (after_admission w op None) u (record { op = op; next = 0; is_stopped = false })
-    → ((o : Opening) → Comes o u → Comes o (after_retirement u)) → RequestDone w (after_retirement u) op
+retired-done : (w u : Face) (op : Op) → HasRoom w op → ((o : Nodes) → Comes o w → Comes o (after_admission w op None)) → PiecesDone (after_admission w op None) u (record { op = op; next = 0; is_stopped = false })
+    → ((o : Nodes) → Comes o u → Comes o (after_retirement u)) → RequestDone w (after_retirement u) op
 retired-done w u op has first pieces last = record {
   idle = refl;
   done = ap (λ n. n + 1) pieces.done;
@@ -197,8 +198,8 @@ retired-done w u op has first pieces last = record {
   comes = λ o h. last o (pieces.comes o (first o h));
 }
 
-pub request-retired : (w v u x : Face) (op : Op) (why : Option Refused) → HasRoom w op → is_some why ≡ false → v ≡ after_admission w op why → ((o : Opening) → Comes o w → Comes o v)
-    → With v.guest.flight (PiecesDone v u) → x ≡ after_retirement u → ((o : Opening) → Comes o u → Comes o x) → RequestDone w x op
+pub request-retired : (w v u x : Face) (op : Op) (why : Option Refused) → HasRoom w op → is_some why ≡ false → v ≡ after_admission w op why → ((o : Nodes) → Comes o w → Comes o v)
+    → With v.guest.flight (PiecesDone v u) → x ≡ after_retirement u → ((o : Nodes) → Comes o u → Comes o x) → RequestDone w x op
 request-retired w v u x op (Some why) has is kept first pieces ends last = absurd (false≢true (sym is))
 request-retired w v u x op None has is kept first pieces ends last =
     let P : Face → Type 0 = λ y. RequestDone w y op in

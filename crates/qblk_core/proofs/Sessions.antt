@@ -1,58 +1,89 @@
 -- The parts of a run put together.
-use Rattle.std.proofs.Common.{◌≡◌, ℕ, ◌≤◌, true, List, [], ◌++◌, sym, ◌∙◌, ap, subst, Option, Some, None, Ok}
-use Rattle.std.specs.Prelude.{IsUtf8, is_some, option_map, MatchOption}
-use Rattle.blk_base.specs.Counts.{Rose}
-use Rattle.blk_base.specs.declared.fault.FaultFrom.TheVariants.{Dev}
+use Rattle.std.proofs.Common.{◌≡◌, ℕ, true, List, [], ◌∷◌, ◌++◌, refl, sym, ◌∙◌, ap, subst, inl, inr, Option, Some, Ok}
+use Rattle.std.specs.Prelude.{IsUtf8, is_some, length}
 use Rattle.blk_base.specs.declared.fault.FaultAt.{FaultAt}
+use Rattle.blk_base.specs.declared.fault.Outcome.{Outcome}
 use Rattle.trace_codec.specs.Trace.{ops_of}
 use Rattle.trace_codec.specs.declared.op.Op.{Op}
 use Rattle.blk_history.specs.Owned.{asked_by}
 use Rattle.blk_history.specs.Recorded.{Recorded}
-use Rattle.q2_image.specs.Image.{Known}
-use Rattle.qblk_core.specs.Format.{disk_of, IsSoundAs}
-use Rattle.qblk_core.specs.Images.{IsKnownOf}
+use Rattle.blk_nodes.specs.Contents.{Unfolds}
+use Rattle.blk_nodes.specs.Nodes.{Nodes, DeviceState}
 use Rattle.qblk_core.specs.declared.words.Format.{Format}
 use Rattle.qblk_core.specs.Face.{Face, new_guest}
+use Rattle.qblk_core.specs.ImageNodes.{AreMadeOf, HaveOneImage}
 use Rattle.qblk_core.specs.Requests.{RequestsDone}
-use Rattle.qblk_core.specs.Session.{Seen, opening_of, IsGood, IsFlushed, IsMade}
+use Rattle.blk_base.specs.Counts.{Rose}
+use Rattle.qblk_core.specs.Closing.{IsOnlyDevice}
+use Rattle.qblk_core.specs.Opened.{IsStopped, IsImageStatus}
+use Rattle.qblk_core.specs.Session.{IsClosed, IsMade, IsTraceStop, IsRunStop, IsRefusedImage, IsUntouched}
+use Rattle.qblk_core.specs.declared.input.TraceRead.{TraceRead}
+use Rattle.qblk_core.specs.declared.opening.OpenStop.{OpenStop}
+use Rattle.qblk_core.specs.declared.opening.OpenStop.TheVariants.{Refused, Io, NoMemory as NoRoom}
+use Rattle.qblk_core.specs.declared.status.InputWhy.{InputWhy}
+use Rattle.qblk_core.specs.declared.status.Status.{Status}
+use Rattle.qblk_core.specs.declared.status.Status.TheVariants.{Done, Usage, Input, Fault, Stuck, NoMemory}
 use Rattle.qblk_core.proofs.Kept.{comes-start}
+use Rattle.qblk_core.proofs.Made.{made-good, made-devices}
+use Rattle.qblk_core.proofs.OneDevice.{head-same}
 
 -- what an engine shows before its first request
-abbrev pub begun : Format → Option Known → ℕ → ℕ → Seen → Recorded → Face
-begun format image size faults d log = record { format = format; image = image; disk = option_map (disk_of format) d.content; is_flushed = d.is_flushed; faults = faults; capacity = d.capacity; size = size; guest = new_guest; log = log }
+abbrev pub begun : Nodes → Recorded → Face
+begun first log = record { nodes = first; guest = new_guest; log = log }
 
 asked-all : (e w : Face) (ops : List Op) → e.log.events ≡ [] → RequestsDone e w ops → asked_by 0 w.log.events ≡ ops
 asked-all e w ops empty made = made.asked ∙ ap (λ es. asked_by 0 es ++ ops) empty
 
-pub made-run : (format : Format) (image : Option Known) (size faults : ℕ) (d n : Seen) (w : Face) (log : Recorded) (ops : List Op) (bytes : List ℕ) (fault : Option FaultAt)
-    → IsGood format size d.content → ((bytes : List ℕ) → d.content ≡ Some bytes → IsKnownOf format bytes image) → faults ≡ d.faults → IsUtf8 bytes → ops_of bytes ≡ Ok ops → log.events ≡ [] → RequestsDone (begun format image size faults d log) w ops
-    → option_map (disk_of w.format) n.content ≡ w.disk → ((bytes : List ℕ) → n.content ≡ Some bytes → IsSoundAs w.format bytes) → ((bytes : List ℕ) → n.content ≡ Some bytes → IsKnownOf w.format bytes w.image) → n.capacity ≡ w.capacity → w.faults ≤ n.faults → ((bytes : List ℕ) → n.content ≡ Some bytes → is_some n.is_flushed ≡ true) → IsFlushed n w.faults fault
+pub made-run : (format : Format) (first last : Nodes) (flush : Outcome) (d n : DeviceState) (w : Face) (log : Recorded) (ops : List Op) (bytes : List ℕ) (fault : Option FaultAt)
+    → AreMadeOf format d first → Unfolds first → ((b : List ℕ) → d.content ≡ Some b → d.size ≡ length b) → IsUtf8 bytes → ops_of bytes ≡ Ok ops → log.events ≡ [] → RequestsDone (begun first log) w ops
+    → HaveOneImage w.nodes → IsClosed w.nodes last flush n fault
+    → ((b : List ℕ) → n.content ≡ Some b → is_some n.is_flushed ≡ true) → ((b : List ℕ) → n.content ≡ Some b → n.size ≡ length b)
     → IsMade format bytes d n w fault
-made-run format image size start d n w log ops bytes fault good known quiet text is empty made content sound ended capacity faults tells flushed =
-    let comes = made.comes (opening_of format image size d) (comes-start (opening_of format image size d) d.is_flushed start log quiet empty) in
-    let C : Format → Type 0 = λ f. option_map (disk_of f) n.content ≡ w.disk in
-    let S : Format → Type 0 = λ f. (bytes : List ℕ) → n.content ≡ Some bytes → IsSoundAs f bytes in
-    let E : Format → Type 0 = λ f. (bytes : List ℕ) → n.content ≡ Some bytes → IsKnownOf f bytes w.image in
-    record {
-      image = image;
-      size = size;
-      good = good;
-      known = known;
-      text = text;
-      ops = is ∙ ap (λ asked. Ok asked) (sym (asked-all (begun format image size start d log) w ops empty made));
-      comes = comes;
-      idle = made.idle;
-      content = subst C comes.format content;
-      sound = subst S comes.format sound;
-      ended = subst E comes.format ended;
-      capacity = capacity;
-      faults = faults;
-      tells = tells;
-      flushed = flushed;
-    }
+made-run format first last flush d n w log ops bytes fault made disks d-sized text is empty done one closed tells n-sized = record {
+  first = first;
+  last = last;
+  flush = flush;
+  made = made;
+  good = λ b told. made-good format d first b made disks told (d-sized b told);
+  text = text;
+  ops = is ∙ ap (λ asked. Ok asked) (sym (asked-all (begun first log) w ops empty done));
+  comes = done.comes first (comes-start first log empty);
+  idle = done.idle;
+  one = one;
+  closed = closed;
+  tells = tells;
+  sized = n-sized;
+}
 
-pub flushed-as : (n : Seen) (faults : ℕ) (fault : Option FaultAt)
-    → MatchOption fault (((bytes : List ℕ) → n.content ≡ Some bytes → n.is_flushed ≡ Some true) × (n.faults ≡ faults)) (λ f. (f.from ≡ Dev (record { 0 = 0 })) × Rose faults f.count × (f.count ≡ n.faults))
-    → IsFlushed n faults fault
-flushed-as n faults None flushed = flushed
-flushed-as n faults (Some f) flushed = flushed
+-- the trace is refused, on nodes over a good image
+pub trace-stops : (format : Format) (image trace : List ℕ) (read : TraceRead) (first : Nodes) (d n : DeviceState) (status : Status) → AreMadeOf format d first → Unfolds first
+    → ((b : List ℕ) → d.content ≡ Some b → d.size ≡ length b) → IsTraceStop trace read status → IsRunStop format image trace read d n status
+trace-stops format image trace read first d n Done made disks sized stop = stop
+trace-stops format image trace read first d n Usage made disks sized stop = stop
+trace-stops format image trace read first d n (Input name line why) made disks sized stop =
+    inr ((λ bytes told. (made-good format d first bytes made disks told (sized bytes told)).0), stop.0, stop.1)
+trace-stops format image trace read first d n (Fault from count) made disks sized stop = absurd stop
+trace-stops format image trace read first d n (Stuck actor waits) made disks sized stop = stop
+trace-stops format image trace read first d n NoMemory made disks sized stop = tt
+
+-- the image is
+pub image-stops : (format : Format) (image trace : List ℕ) (read : TraceRead) (d n : DeviceState) (stop : OpenStop) (status : Status) → IsStopped format d n stop → IsImageStatus image stop status
+    → IsRunStop format image trace read d n status
+image-stops format image trace read d n (Refused why) (Input name line cause) stopped is =
+    inl (is.0, is.1, subst (λ (c : InputWhy). IsRefusedImage format c d.content) (sym is.2) stopped.cause)
+image-stops format image trace read d n (Refused why) NoMemory stopped is = tt
+image-stops format image trace read d n (Io count) (Fault from named) stopped is =
+    let cause = stopped.cause in
+    let rose : Rose d.faults named = subst (Rose d.faults) (sym is.1) cause.1 in
+    (cause.0, is.0, rose, is.1 ∙ cause.2)
+image-stops format image trace read d n NoRoom NoMemory stopped is = tt
+image-stops format image trace read d n stop status stopped is = absurd is
+
+-- nodes that are left as they were made have the device that they were made over
+pub left-untouched : (format : Format) (first : Nodes) (d n : DeviceState) → AreMadeOf format d first → first.devices ≡ n ∷ [] → IsUntouched d n
+left-untouched format first d n made given =
+    let same : d ≡ n = head-same d n [] (sym (made-devices format d first made) ∙ given) in
+    subst (IsUntouched d) same (record { content = refl; is_flushed = refl; capacity = refl })
+
+pub only-made : (format : Format) (first : Nodes) (d : DeviceState) → AreMadeOf format d first → IsOnlyDevice first.devices d
+only-made format first d made = record { only = made-devices format d first made; node = made.node; number = made.number }

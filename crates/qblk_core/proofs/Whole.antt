@@ -13,21 +13,25 @@ use Rattle.blk_base.specs.declared.fault.FaultFrom.{FaultFrom}
 use Rattle.blk_base.specs.declared.fault.FaultFrom.TheVariants.{Store, Dev, Sink}
 use Rattle.blk_base.proofs.Openings.{back-opened, put-same}
 use Rattle.trace_codec.specs.Trace.{ops_of}
-use Rattle.blk_history.specs.Machine.{State, Guest, replay}
+use Rattle.blk_history.specs.Machine.{State, Guest, disk_in, replay}
 use Rattle.blk_history.specs.Legal.{Legal}
 use Rattle.blk_history.specs.Owned.{asked_by}
 use Rattle.blk_history.specs.Licence.{RoseSince}
 use Rattle.blk_history.specs.Transcript.{transcript}
-use Rattle.qblk_core.proofs.Disks.{told_bytes}
 use Rattle.qblk_core.proofs.Quiet.{quiet}
+use Rattle.blk_nodes.specs.Contents.{disk_of as node_disk}
+use Rattle.blk_nodes.specs.Nodes.{DeviceState}
 use Rattle.qblk_core.specs.Format.{disk_of, IsGoodImage}
 use Rattle.qblk_core.specs.declared.words.Format.{Format}
-use Rattle.qblk_core.specs.Face.{Face, state_of}
-use Rattle.q2_image.specs.Image.{Known}
-use Rattle.qblk_core.specs.Images.{HasImages}
-use Rattle.qblk_core.specs.Comes.{opening_state}
-use Rattle.qblk_core.specs.Run.{Outside, machine_of, guest_names, TellsDisk, HasImage, HasTrace, IsBadTrace, IsBadBytes, IsBadImage, IsRefusedTrace, IsRefusedInput, WasRun, StoreStands, SinkStands, FailsToOpen, FailsToFlush, IsFaulty, Answers}
-use Rattle.qblk_core.specs.Session.{IsReadOf, IsStoreStop, IsOpenStop, Seen, opening_of, IsGood, IsFlushed, IsMade, IsRefusedRead, IsRefusedImage, IsRunStop, IsUntouched, EndsAs}
+use Rattle.qblk_core.specs.declared.words.Format.TheVariants as formats
+use Rattle.qblk_core.specs.Face.{Face, state_of, machine_on}
+use Rattle.qblk_core.specs.ImageNodes.{content_of, faults_of, told_disk}
+use Rattle.qblk_core.proofs.Closed.{IsFlushed, HasClosed, closed-facts}
+use Rattle.qblk_core.proofs.Made.{made-one, made-kind, made-devices, image-as, told-as-disk}
+use Rattle.qblk_core.proofs.OneDevice.{head-same, faults-is, capacity-is}
+use Rattle.qblk_core.proofs.OneImage.{told-is}
+use Rattle.qblk_core.specs.Run.{Outside, machine_of, guest_names, IsRunOn, TellsDisk, IsImageCause, IsTraceCause, SpeaksOfInput, HasImage, HasTrace, IsBadTrace, IsBadBytes, IsBadImage, IsRefusedTrace, IsRefusedInput, WasRun, StoreStands, SinkStands, FailsToOpen, FailsToFlush, IsFaulty, Answers}
+use Rattle.qblk_core.specs.Session.{IsReadOf, IsStoreStop, IsOpenStop, IsMade, IsRefusedRead, IsRefusedImage, IsRunStop, IsUntouched, EndsAs}
 use Rattle.qblk_core.specs.declared.input.TraceRead.{TraceRead}
 use Rattle.qblk_core.specs.declared.input.TraceRead.TheVariants as reads
 use Rattle.qblk_core.specs.declared.status.InputWhy.{InputWhy}
@@ -36,14 +40,14 @@ use Rattle.qblk_core.specs.declared.status.Status.{Status}
 use Rattle.qblk_core.specs.declared.status.Status.TheVariants.{Done, Usage, Input, Fault, Stuck, NoMemory}
 
 -- the device of a file that is told
-pub record IsToldAs (image : List ℕ) (d : Seen) (files : List File) (f : File) : Type 0 where
+pub record IsToldAs (image : List ℕ) (d : DeviceState) (files : List File) (f : File) : Type 0 where
   file : file_at image files ≡ Some f
   content : d.content ≡ Some f.bytes
   capacity : d.capacity ≡ f.capacity
   flushed : d.is_flushed ≡ Some f.is_flushed
   size : d.size ≡ length f.bytes
 
-told-as : (image : List ℕ) (d : Seen) (files : List File) → ((bytes : List ℕ) → d.content ≡ Some bytes → d.size ≡ length bytes)
+told-as : (image : List ℕ) (d : DeviceState) (files : List File) → ((bytes : List ℕ) → d.content ≡ Some bytes → d.size ≡ length bytes)
     → IsDeviceOf (Some files) image d.content d.capacity d.is_flushed → (f : File) × IsToldAs image d files f
 told-as image d files sized is = (is.0, record { file = is.1; content = is.2; capacity = is.3; flushed = is.4; size = sized is.0.bytes is.2 })
 
@@ -58,7 +62,7 @@ returned-told : (image : List ℕ) (content : Option (List ℕ)) (capacity : ℕ
     → files_with_returned image content capacity flushed (Some files) ≡ Some (put_file (record { name = image; bytes = bytes; capacity = room; is_flushed = flag }) files)
 returned-told image content capacity flushed files bytes room flag c k f = rw (c, k, f) refl
 
-pub untouched : (image : List ℕ) (d : Seen) (files : Option (List File)) → ((bytes : List ℕ) → d.content ≡ Some bytes → d.size ≡ length bytes)
+pub untouched : (image : List ℕ) (d : DeviceState) (files : Option (List File)) → ((bytes : List ℕ) → d.content ≡ Some bytes → d.size ≡ length bytes)
     → IsDeviceOf files image d.content d.capacity d.is_flushed → files_with_returned image d.content d.capacity d.is_flushed files ≡ files
 untouched image d None sized is = returned-untold image d.content d.capacity d.is_flushed
 untouched image d (Some files) sized is =
@@ -80,51 +84,68 @@ told-flag : (flag : Option Bool) → is_some flag ≡ true → (b : Bool) × (fl
 told-flag None is = absurd (false≢true is)
 told-flag (Some b) is = (b, refl)
 
-flag-good : (n : Seen) (faults : ℕ) (fault : Option FaultAt) (disk : List ℕ) (b : Bool) → IsFlushed n faults fault → n.content ≡ Some disk → n.is_flushed ≡ Some b → is_none fault ≡ true → b ≡ true
+flag-good : (n : DeviceState) (faults : ℕ) (fault : Option FaultAt) (disk : List ℕ) (b : Bool) → IsFlushed n faults fault → n.content ≡ Some disk → n.is_flushed ≡ Some b → is_none fault ≡ true → b ≡ true
 flag-good n faults None disk b flushed content is none = let good = flushed.0 disk content in cc
 flag-good n faults (Some fault) disk b flushed content is none = absurd (false≢true none)
 
--- the machine of the image's file is that of the opening
-same-machine : (format : Format) (image : List ℕ) (known : Option Known) (size : ℕ) (d : Seen) (files : List File) (f : File) → IsToldAs image d files f → IsGood format size d.content
-    → opening_state (opening_of format known size d) ≡ machine_of format f.bytes
-same-machine format image known size d files f told good = let sized = good.sized f.bytes told.content in let content = told.content in rw (sized, content) refl
+pub closed-of : (format : Format) (bytes : List ℕ) (d n : DeviceState) (w : Face) (fault : Option FaultAt) (made : IsMade format bytes d n w fault)
+    → HasClosed w.nodes made.last made.flush n fault
+closed-of format bytes d n w fault made = closed-facts w.nodes made.last made.flush n fault made.one made.closed made.tells
 
-tells-disk : (format : Format) (image : List ℕ) (bytes : List ℕ) (d n : Seen) (w : Face) (fault : Option FaultAt) (files : List File) (new : Option (List File)) (f : File)
-    → IsToldAs image d files f → IsMade format bytes d n w fault → new ≡ files_with_returned image n.content n.capacity n.is_flushed (Some files)
-    → TellsDisk format image w.log.events (is_none fault) files new f
+-- the run on its nodes
+runs-on : (format : Format) (bytes : List ℕ) (d n : DeviceState) (w : Face) (fault : Option FaultAt) (made : IsMade format bytes d n w fault)
+    → IsRunOn format w.log.events d made.first w.nodes made.last made.flush
+runs-on format bytes d n w fault made = record {
+  made = made.made;
+  in_turn = made.comes.in_turn;
+  retired = rw made.comes.replay (idle-all w.guest made.idle);
+  along = made.comes.along;
+  flushed = made.closed.flushed;
+}
+
+tells-disk : (format : Format) (image : List ℕ) (bytes : List ℕ) (d n : DeviceState) (w : Face) (fault : Option FaultAt) (files : List File) (new : Option (List File)) (f : File)
+    → IsToldAs image d files f → (made : IsMade format bytes d n w fault) → new ≡ files_with_returned image n.content n.capacity n.is_flushed (Some files)
+    → TellsDisk format image w.log.events (is_none fault) d made.first n files new f
 tells-disk format image bytes d n w fault files new f told made returned =
-    let machine = same-machine format image made.image made.size d files f told made.good in
-    let opened : option_map (disk_of format) d.content ≡ Some (disk_of format f.bytes) = ap (option_map (disk_of format)) told.content in
-    let disk = told-disk w.disk (made.comes.told (disk_of format f.bytes) opened) in
-    let held = told_bytes format n.content disk.0 (made.content ∙ disk.1) in
-    let content : n.content ≡ Some held.0 = held.1 in
-    let read : w.disk ≡ Some (disk_of format held.0) = disk.1 ∙ ap (λ (b : List ℕ). Some b) held.2 in
+    let machine : machine_on made.first ≡ machine_of format f.bytes = (made.good f.bytes told.content).1 in
+    let facts = closed-of format bytes d n w fault made in
+    let opened : told_disk made.first ≡ Some (disk_of format f.bytes) = ap (λ (s : State). disk_in s.disks 1) machine in
+    let disk = made.comes.told (disk_of format f.bytes) opened in
+    let held = told-is (content_of w.nodes) (node_disk w.nodes 1) disk.0 disk.1 in
+    let content : n.content ≡ Some held.0 = sym facts.content ∙ held.1 in
     let flag = told-flag n.is_flushed (made.tells held.0 content) in
-    let capacity : n.capacity ≡ f.capacity = made.capacity ∙ made.comes.capacity ∙ told.capacity in
+    let one = made.closed.one in
+    let is_n : one.device ≡ n = head-same one.device n [] (sym one.only ∙ made.closed.given) in
+    let kind = facts.shape.kind ∙ made.comes.shape.kind ∙ made-kind format d made.first made.made in
+    let same_content : one.device.content ≡ Some held.0 = ap (λ (x : DeviceState). x.content) is_n ∙ content in
+    let same_size : one.device.size ≡ length held.0 = ap (λ (x : DeviceState). x.size) is_n ∙ made.sized held.0 content in
+    let read : told_disk w.nodes ≡ Some (disk_of format held.0) =
+    sym facts.disk ∙ told-as-disk made.last made.closed.joined made.closed.disks one held.0 same_content same_size format kind in
+    let first = made-one format d made.first made.made in
+    let first_d : first.device ≡ d = head-same first.device d [] (sym first.only ∙ made-devices format d made.first made.made) in
+    let room : Some n.capacity ≡ Some d.capacity =
+    sym facts.capacity ∙ made.comes.shape.capacity ∙ capacity-is made.first first.device first.only first.node ∙ ap (λ (x : DeviceState). Some x.capacity) first_d in
+    let capacity : n.capacity ≡ f.capacity = (let same : n.capacity ≡ d.capacity = cc room in same ∙ told.capacity) in
     let L : State → Type 0 = λ s. Legal s w.log.events in
-    let N : State → Type 0 = λ s. HasImages d.capacity s made.image w.log.events w.image in
-    let C : ℕ → Type 0 = λ c. HasImages c (machine_of format f.bytes) made.image w.log.events w.image in
     let R : State → Type 0 = λ s. replay s w.log.events ≡ state_of w in
     let replayed : replay (machine_of format f.bytes) w.log.events ≡ state_of w = subst R machine made.comes.replay in
     record {
       file = told.file;
+      opened = record { content = told.content; is_flushed = told.flushed; size = told.size; capacity = told.capacity };
+      machine = machine;
       legal = subst L machine (made.comes.legal (disk_of format f.bytes) opened);
-      retired = rw replayed (idle-all w.guest made.idle);
       bytes = held.0;
       is_flushed = flag.0;
+      content = content;
+      flushed = flag.1;
+      kept = flag-good n (faults_of w.nodes) fault held.0 flag.0 facts.flushed content flag.1;
       disk = rw replayed read;
-      sound = made.sound held.0 content;
-      flushed = flag-good n w.faults fault held.0 flag.0 made.flushed content flag.1;
+      sound = (image-as made.last made.closed.joined made.closed.disks one held.0 same_content same_size format kind).2;
       files = returned ∙ returned-told image n.content n.capacity n.is_flushed files held.0 f.capacity flag.0 content capacity flag.1;
-      was = made.image;
-      now = w.image;
-      opened = made.known f.bytes told.content;
-      ended = made.ended held.0 content;
-      images = subst C told.capacity (subst N machine made.comes.images);
     }
 
 -- the inputs were as they have to be
-inputs : (format : Format) (image trace bytes : List ℕ) (read : TraceRead) (d n : Seen) (w : Face) (fault : Option FaultAt) (files : List File) (f : File)
+inputs : (format : Format) (image trace bytes : List ℕ) (read : TraceRead) (d n : DeviceState) (w : Face) (fault : Option FaultAt) (files : List File) (f : File)
     → IsToldAs image d files f → read ≡ reads.Whole bytes → IsReadOf trace read files → IsMade format bytes d n w fault → HasImage format image files × HasTrace trace (asked_by 0 w.log.events) files
 inputs format image trace bytes read d n w fault files f told is read-is made =
     let P : TraceRead → Type 0 = λ r. IsReadOf trace r files in
@@ -132,15 +153,15 @@ inputs format image trace bytes read d n w fault files f told is read-is made =
     let same : bytes ≡ whole.0.bytes = whole.2.1 in
     let U : List ℕ → Type 0 = λ b. IsUtf8 b × (ops_of b ≡ Ok (asked_by 0 w.log.events)) in
     let text = subst U same (made.text, made.ops) in
-    ((f, told.file, made.good.image f.bytes told.content), (whole.0, whole.1, (whole.2.0, text.0, text.1)))
+    ((f, told.file, (made.good f.bytes told.content).0), (whole.0, whole.1, (whole.2.0, text.0, text.1)))
 
 -- where the last flush was good, the count is as it was before it
-all-named : (n : Seen) (faults : ℕ) (fault : Option FaultAt) → IsFlushed n faults fault → is_none fault ≡ true → n.faults ≡ faults
+all-named : (n : DeviceState) (faults : ℕ) (fault : Option FaultAt) → IsFlushed n faults fault → is_none fault ≡ true → n.faults ≡ faults
 all-named n faults None flushed is = flushed.1
 all-named n faults (Some fault) flushed is = absurd (false≢true is)
 
 -- the run, whatever of its transcript went out
-pub was-run : (format : Format) (image trace bytes : List ℕ) (read : TraceRead) (d n : Seen) (w : Face) (fault : Option FaultAt) (flushed : Bool) (old new : Outside) (k : ℕ)
+pub was-run : (format : Format) (image trace bytes : List ℕ) (read : TraceRead) (d n : DeviceState) (w : Face) (fault : Option FaultAt) (flushed : Bool) (old new : Outside) (k : ℕ)
     → is_none fault ≡ flushed
     → ((b : List ℕ) → d.content ≡ Some b → d.size ≡ length b)
     → (is_out image old.opened ≡ true → ⊥)
@@ -152,14 +173,26 @@ pub was-run : (format : Format) (image trace bytes : List ℕ) (read : TraceRead
     → WasRun format image trace flushed old new (asked_by 0 w.log.events) w.log.events d.faults n.faults k
 was-run format image trace bytes read d n w fault flushed old new k flag sized none device read-is is made files opened sent =
     let last = made.comes.licensed.last in
+    let facts = closed-of format bytes d n w fault made in
+    let start = faults-is made.first d (made-devices format d made.first made.made) made.made.node in
     record {
       inputs = on-told old.files (λ told is-told read-told. inputs format image trace bytes read d n w fault told (told-as image d told sized is-told).0 (told-as image d told sized is-told).1 is read-told made) device read-is;
       run = record {
         asked = refl;
         opened = opened ∙ back-opened image old.opened d.faults n.faults none;
-        risen = made.comes.licensed.risen;
-        last = (w.faults, last, made.faults, λ good. all-named n w.faults fault made.flushed (flag ∙ good));
-        quiet = λ same below. quiet d.faults w.faults w.log.events made.comes.licensed.risen last (let more = made.faults in omega arith) below;
+        risen = rw start at made.comes.licensed.risen;
+        last = (faults_of w.nodes, rw start at last, facts.more, λ good. all-named n (faults_of w.nodes) fault facts.flushed (flag ∙ good));
+        quiet = λ same below. quiet d.faults (faults_of w.nodes) w.log.events (rw start at made.comes.licensed.risen) (rw start at last) (let more = facts.more in omega arith) below;
+        device = d;
+        back = n;
+        first = made.first;
+        left = w.nodes;
+        end = made.last;
+        flush = made.flush;
+        on = runs-on format bytes d n w fault made;
+        good = facts.good ∙ flag;
+        counts = (refl, refl);
+        given = made.closed.given;
         told = on-run old.files files device;
       };
       sent = sent;
@@ -171,11 +204,11 @@ was-run format image trace bytes read d n w fault flushed old new k flag sized n
     on-told (Some told) f device read-is = f told device read-is
 
     on-run : (fs : Option (List File)) → new.files ≡ files_with_returned image n.content n.capacity n.is_flushed fs → IsDeviceOf fs image d.content d.capacity d.is_flushed
-        → IfTold fs (λ told. (f : File) × TellsDisk format image w.log.events flushed told new.files f)
+        → IfTold fs (λ told. (f : File) × TellsDisk format image w.log.events flushed d made.first n told new.files f)
     on-run None files device = tt
     on-run (Some told) files device =
         let f = told-as image d told sized device in
-        let T : Bool → Type 0 = λ b. TellsDisk format image w.log.events b told new.files f.0 in
+        let T : Bool → Type 0 = λ b. TellsDisk format image w.log.events b d made.first n told new.files f.0 in
         (f.0, subst T flag (tells-disk format image bytes d n w fault told new.files f.0 f.1 made files))
 
 -- how it ended
@@ -195,10 +228,10 @@ all-of front rest whole before now is (inl none) =
 all-of front rest whole before now is (inr rose) = inr rose
 
 -- the fault of the last flush is the device's
-flush-fault : (n : Seen) (faults : ℕ) (fault : FaultAt) → IsFlushed n faults (Some fault) → (fault.from ≡ Dev (record { 0 = 0 })) × Rose faults fault.count × (fault.count ≡ n.faults)
+flush-fault : (n : DeviceState) (faults : ℕ) (fault : FaultAt) → IsFlushed n faults (Some fault) → (fault.from ≡ Dev (record { 0 = 0 })) × Rose faults fault.count × (fault.count ≡ n.faults)
 flush-fault n faults fault flushed = flushed
 
-pub ends : (format : Format) (image trace bytes : List ℕ) (read : TraceRead) (d n : Seen) (w : Face) (fault : Option FaultAt) (old new : Outside) (status : Status)
+pub ends : (format : Format) (image trace bytes : List ℕ) (read : TraceRead) (d n : DeviceState) (w : Face) (fault : Option FaultAt) (old new : Outside) (status : Status)
     → ((b : List ℕ) → d.content ≡ Some b → d.size ≡ length b)
     → (is_out image old.opened ≡ true → ⊥)
     → IsDeviceOf old.files image d.content d.capacity d.is_flushed
@@ -229,12 +262,13 @@ ends format image trace bytes read d n w None old new (Fault from count) sized n
     let F : FaultFrom → Type 0 = λ f. IsFaulty format image trace old new f count in
     subst F (sym end.0) faulty
 ends format image trace bytes read d n w (Some fault) old new (Fault from count) sized none device read-is is made files opened end =
-    let flushed = made.flushed in
+    let flushed = (closed-of format bytes d n w (Some fault) made).flushed in
+    let start = faults-is made.first d (made-devices format d made.first made.made) made.made.node in
     let F : FaultFrom → Type 0 = λ f. IsFaulty format image trace old new f count in
     let same : count ≡ n.faults = end.1 ∙ flushed.2 in
     let R : ℕ → Type 0 = λ c. WasRun format image trace false old new (asked_by 0 w.log.events) w.log.events d.faults c (length end.2) in
     let run = was-run format image trace bytes read d n w (Some fault) false old new (length end.2) refl sized none device read-is is made files opened (front-taken old.sent new.sent end.2 end.3 _ end.4 end.5) in
-    let last = made.comes.licensed.last in
+    let last = rw start at made.comes.licensed.last in
     let S : List ℕ → Type 0 = λ cs. RoseSince cs (Some (record { dev = 0; count = count })) in
     let failed : FailsToFlush format image trace old new count = (
       asked_by 0 w.log.events,
@@ -270,7 +304,7 @@ sink-stands before now (Input name line cause) is = is
 sink-stands before now (Stuck actor waits) is = is
 sink-stands before now NoMemory is = is
 
-pub ends-stands : (n : Seen) (faults : ℕ) (fault : Option FaultAt) (old new : Option (List ℕ)) (whole : List ℕ) (before now : ℕ) (status : Status)
+pub ends-stands : (n : DeviceState) (faults : ℕ) (fault : Option FaultAt) (old new : Option (List ℕ)) (whole : List ℕ) (before now : ℕ) (status : Status)
     → IsFlushed n faults fault → EndsAs fault old new whole before now status → SinkStands status before now
 ends-stands n faults None old new whole before now Done flushed end = end.1
 ends-stands n faults None old new whole before now (Fault from count) flushed end =
@@ -306,7 +340,30 @@ bad-image format image why.TooLarge files f there is bad = (f, is, bad)
 bad-image format image why.NeedsBacking files f there is bad = (f, is, bad)
 bad-image format image (why.Image stop) files f there is bad = (f, is, bad)
 
-refused-by : (format : Format) (image trace : List ℕ) (read : TraceRead) (d : Seen) (files : List File) (name : List ℕ) (line : ℕ) (cause : InputWhy)
+-- what a refusal says of itself
+trace-cause : (bytes : List ℕ) (line : ℕ) (cause : InputWhy) → IsBadTrace cause line bytes → IsTraceCause cause line
+trace-cause bytes line why.Absent is = absurd is
+trace-cause bytes line why.TooLarge is = absurd is
+trace-cause bytes line why.NeedsBacking is = absurd is
+trace-cause bytes line (why.Image stop) is = absurd is
+trace-cause bytes line why.TooLong is = is.0
+trace-cause bytes line why.NotUtf8 is = is.0
+trace-cause bytes line why.BadLine is = tt
+trace-cause bytes line why.TooMany is = tt
+
+read-cause : (read : TraceRead) (line : ℕ) (cause : InputWhy) → IsRefusedRead read cause line → IsTraceCause cause line
+read-cause (reads.Whole bytes) line cause is = trace-cause bytes line cause is
+read-cause reads.Absent line cause is = subst (λ (c : InputWhy). IsTraceCause c line) (sym is.1) is.0
+read-cause reads.TooLong line cause is = subst (λ (c : InputWhy). IsTraceCause c line) (sym is.1) is.0
+
+speaks-of : (format : Format) (image trace : List ℕ) (read : TraceRead) (d : DeviceState) (name : List ℕ) (line : ℕ) (cause : InputWhy)
+    → ((name ≡ image) × (line ≡ 0) × IsRefusedImage format cause d.content)
+    ⊎ (((bytes : List ℕ) → d.content ≡ Some bytes → IsGoodImage format bytes) × (name ≡ trace) × IsRefusedRead read cause line)
+    → SpeaksOfInput format image trace name line cause
+speaks-of format image trace read d name line cause (inl bad) = inl (bad.0, bad.1, bad.2.cause)
+speaks-of format image trace read d name line cause (inr good) = inr (good.1, read-cause read line cause good.2)
+
+refused-by : (format : Format) (image trace : List ℕ) (read : TraceRead) (d : DeviceState) (files : List File) (name : List ℕ) (line : ℕ) (cause : InputWhy)
     → ((f : File) × IsToldAs image d files f) → IsReadOf trace read files
     → ((name ≡ image) × (line ≡ 0) × IsRefusedImage format cause d.content)
     ⊎ (((bytes : List ℕ) → d.content ≡ Some bytes → IsGoodImage format bytes) × (name ≡ trace) × IsRefusedRead read cause line)
@@ -318,7 +375,7 @@ refused-by format image trace read d files name line cause told is (inr good) =
     inr (good.1, (told.0, told.1.file, good.0 told.0.bytes told.1.content), refused-read trace read files line cause is good.2)
 
 -- an image that is given back as it was leaves all files as they were
-pub left : (image : List ℕ) (d n : Seen) (files : Option (List File)) → ((bytes : List ℕ) → d.content ≡ Some bytes → d.size ≡ length bytes)
+pub left : (image : List ℕ) (d n : DeviceState) (files : Option (List File)) → ((bytes : List ℕ) → d.content ≡ Some bytes → d.size ≡ length bytes)
     → IsDeviceOf files image d.content d.capacity d.is_flushed → IsUntouched d n → files_with_returned image n.content n.capacity n.is_flushed files ≡ files
 left image d n files sized is same =
     let content = same.content in
@@ -327,7 +384,7 @@ left image d n files sized is same =
     rw (content, capacity, flushed) (untouched image d files sized is)
 
 -- why a run was stopped before its requests
-pub stops : (format : Format) (image trace : List ℕ) (read : TraceRead) (d n : Seen) (old new : Outside) (status : Status)
+pub stops : (format : Format) (image trace : List ℕ) (read : TraceRead) (d n : DeviceState) (old new : Outside) (status : Status)
     → ((b : List ℕ) → d.content ≡ Some b → d.size ≡ length b)
     → (is_out image old.opened ≡ true → ⊥)
     → IsDeviceOf old.files image d.content d.capacity d.is_flushed
@@ -338,7 +395,7 @@ pub stops : (format : Format) (image trace : List ℕ) (read : TraceRead) (d n :
     → Answers format image trace old new status
 stops format image trace read d n old new NoMemory sized none device read-is stop same files opened sent sink = record { files = files ∙ left image d n old.files sized device same; sent = sent }
 stops format image trace read d n old new (Input name line cause) sized none device read-is stop same files opened sent sink =
-    (record { files = files ∙ left image d n old.files sized device same; sent = sent }, why-of old.files device read-is)
+    (record { files = files ∙ left image d n old.files sized device same; sent = sent }, speaks-of format image trace read d name.bytes line cause stop, why-of old.files device read-is)
   where
     why-of : (fs : Option (List File)) → IsDeviceOf fs image d.content d.capacity d.is_flushed → IfTold fs (IsReadOf trace read) → IfTold fs (IsRefusedInput format image trace name.bytes line cause)
     why-of None device read-is = tt
@@ -368,8 +425,12 @@ store-stops format image trace old new status stop files sent = absurd stop
 pub open-stops : (format : Format) (image trace : List ℕ) (old new : Outside) (before : ℕ) (status : Status) → IsOpenStop image old.files before new.store_faults status → old.store_faults ≤ before → new.files ≡ old.files → new.sent ≡ old.sent → Answers format image trace old new status
 open-stops format image trace old new before NoMemory stop le files sent = record { files = files; sent = sent }
 open-stops format image trace old new before (Fault Store count) stop le files sent = (record { files = files; sent = sent }, (let rose = stop.0 in omega arith), stop.1)
-open-stops format image trace old new before (Input name line cause) stop le files sent = (record { files = files; sent = sent }, absent old.files stop.3)
+open-stops format image trace old new before (Input name line cause) stop le files sent = (record { files = files; sent = sent }, inl (stop.0, stop.1, absent-cause format cause stop.2), absent old.files stop.3)
   where
+    absent-cause : (f : Format) (c : InputWhy) → c ≡ why.Absent → IsImageCause f c
+    absent-cause formats.Raw c is = subst (IsImageCause formats.Raw) (sym is) tt
+    absent-cause formats.Qcow2 c is = subst (IsImageCause formats.Qcow2) (sym is) tt
+
     absent : (fs : Option (List File)) → IfTold fs (LacksFile image) → IfTold fs (IsRefusedInput format image trace name.bytes line cause)
     absent None lacks = tt
     absent (Some told) lacks = let P : InputWhy → Type 0 = λ c. IsBadImage format c image told in inl (stop.0, stop.1, subst P (sym stop.2) lacks)

@@ -1,32 +1,19 @@
 -- What a run of a trace keeps, from its opening on.
-use Rattle.std.specs.Prelude.{◌≡◌, ℕ, ◌≤◌, false, length, List, [], ◌∷◌, Option, Some, IsSome}
+use Rattle.std.specs.Prelude.{◌≡◌, ℕ, ◌≤◌, false, length, List, [], ◌∷◌, Some}
 use Rattle.blk_history.specs.Line.{IsOfGuest, shown_by}
-use Rattle.blk_history.specs.Machine.{State, replay}
+use Rattle.blk_history.specs.Machine.{replay}
 use Rattle.blk_history.specs.Legal.{Legal}
 use Rattle.blk_history.specs.Licence.{counted, HaveRisen}
 use Rattle.blk_history.specs.declared.event.Event.{Event}
-use Rattle.q2_image.specs.Image.{Known}
-use Rattle.qblk_core.specs.Images.{HasImages}
-use Rattle.qblk_core.specs.declared.words.Format.{Format}
-use Rattle.qblk_core.specs.Face.{Face, state_with, state_of, new_guest}
-
--- the image as it was opened
-pub record Opening : Type 0 where
-  pub format : Format
-  pub image : Option Known
-  pub disk : Option (List ℕ)
-  pub faults : ℕ
-  pub capacity : ℕ
-  pub size : ℕ
-
--- the machine before the first request
-abbrev pub opening_state : Opening → State
-opening_state o = state_with o.size new_guest o.disk
+use Rattle.blk_nodes.specs.Nodes.{Nodes}
+use Rattle.qblk_core.specs.Along.{HaveNodes, GoesInTurn}
+use Rattle.qblk_core.specs.Face.{Face, state_of, machine_on}
+use Rattle.qblk_core.specs.ImageNodes.{told_disk, faults_of, HaveShapeOf}
 
 -- the faults that the history names are rises of the device's count, each named once, and each rise is named
-pub record AreLicensed (o : Opening) (w : Face) : Type 0 where
-  pub risen : HaveRisen (o.faults ∷ []) w.log.events
-  pub last : counted (o.faults ∷ []) w.log.events ≡ w.faults ∷ []
+pub record AreLicensed (first : Nodes) (w : Face) : Type 0 where
+  pub risen : HaveRisen (faults_of first ∷ []) w.log.events
+  pub last : counted (faults_of first ∷ []) w.log.events ≡ faults_of w.nodes ∷ []
 
 -- an entry is the guest's, and shows at most one block
 pub record HasLine (e : Event) : Type 0 where
@@ -37,19 +24,20 @@ abbrev pub HaveLines : List Event → Type 0
 HaveLines [] = Unit {0}
 HaveLines (e ∷ es) = HasLine e × HaveLines es
 
--- the run so far is a history from this opening, and the machine after it is what is seen
-pub record Comes (o : Opening) (w : Face) : Type 0 where
-  pub format : w.format ≡ o.format
-  pub size : w.size ≡ o.size
-  pub capacity : w.capacity ≡ o.capacity
-  pub faults : o.faults ≤ w.faults
+-- The run so far is a history from these nodes on, and the machine after it is what is seen.
+pub record Comes (first : Nodes) (w : Face) : Type 0 where
+  pub faults : faults_of first ≤ faults_of w.nodes
+  pub shape : HaveShapeOf first w.nodes
   -- the guest is on the image's node, and may write
   pub on_image : w.guest.node ≡ 1
   pub access : w.guest.is_read_only ≡ false
-  pub licensed : AreLicensed o w
-  pub images : HasImages o.capacity (opening_state o) o.image w.log.events w.image
+  pub licensed : AreLicensed first w
+  pub along : HaveNodes (machine_on first) first w.log.events w.nodes
   pub lines : HaveLines w.log.events
-  pub replay : replay (opening_state o) w.log.events ≡ state_of w
+  pub replay : replay (machine_on first) w.log.events ≡ state_of w
+  pub in_turn : GoesInTurn (machine_on first) w.log.events
   -- where the device tells its bytes
-  pub told : (bytes : List ℕ) → o.disk ≡ Some bytes → IsSome w.disk
-  pub legal : (bytes : List ℕ) → o.disk ≡ Some bytes → Legal (opening_state o) w.log.events
+  pub told : (disk : List ℕ) → told_disk first ≡ Some disk
+      → (now : List ℕ) × (told_disk w.nodes ≡ Some now)
+  pub legal : (disk : List ℕ) → told_disk first ≡ Some disk
+      → Legal (machine_on first) w.log.events

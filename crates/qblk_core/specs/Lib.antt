@@ -1,7 +1,7 @@
 pub mod Format
-pub mod Space
-pub mod Images
-pub mod Medium
+pub mod ImageNodes
+pub mod Pieces
+pub mod Along
 pub mod Face
 pub mod Steps
 pub mod Running
@@ -12,6 +12,7 @@ pub mod Inputs
 pub mod Ready
 pub mod Output
 pub mod Session
+pub mod Closing
 pub mod Opened
 pub mod Words
 pub mod Exit

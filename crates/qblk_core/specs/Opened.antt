@@ -1,46 +1,69 @@
--- Opening the image of a run.
-use Rattle.std.specs.Prelude.{◌≡◌, ℕ, Bool, List, Option, Some}
+-- The nodes of a run that are made, and why they aren't.
+use Rattle.std.specs.Prelude.{◌≡◌, ℕ, List, [], ◌∷◌, length, Option, Some}
 use Rattle.blk_base.specs.Counts.{Rose}
 use Rattle.blk_base.specs.declared.fault.FaultFrom.TheVariants.{Dev}
+use Rattle.blk_nodes.specs.Contents.{Unfolds}
+use Rattle.blk_nodes.specs.Nodes.{Nodes, DeviceState}
 use Rattle.q2_image.specs.declared.stop.ImageStop.{ImageStop}
 use Rattle.q2_image.specs.declared.stop.ImageStop.TheVariants as stops
-use Rattle.qblk_core.specs.Medium.{Medium}
-use Rattle.qblk_core.specs.Images.{IsKnownOf}
-use Rattle.qblk_core.specs.Session.{IsGood, IsRefusedImage}
+use Rattle.qblk_core.specs.Closing.{IsOnlyDevice}
+use Rattle.qblk_core.specs.ImageNodes.{AreMadeOf, HaveOneImage, only_device, with_file}
+use Rattle.qblk_core.specs.Session.{IsRefusedImage, IsUntouched}
 use Rattle.qblk_core.specs.declared.words.Format.{Format}
 use Rattle.qblk_core.specs.declared.words.Format.TheVariants.{Qcow2}
-use Rattle.qblk_core.specs.declared.opening.MediumStop.{MediumStop}
-use Rattle.qblk_core.specs.declared.opening.MediumStop.TheVariants.{Refused, Io, NoMemory}
+use Rattle.qblk_core.specs.declared.opening.OpenStop.{OpenStop}
+use Rattle.qblk_core.specs.declared.opening.OpenStop.TheVariants.{Refused, Io, NoMemory}
 use Rattle.qblk_core.specs.declared.status.InputWhy.TheVariants.{Image}
 use Rattle.qblk_core.specs.declared.status.Status.{Status}
 use Rattle.qblk_core.specs.declared.status.Status.TheVariants as status
 
--- a device's bytes are read as a disk
-pub record OpensAs (format : Format) (content : Option (List ℕ)) (is_flushed : Option Bool) (faults capacity : ℕ) (medium : Medium) : Type 0 where
-  pub read : medium.format ≡ format
-  pub bytes : medium.content ≡ content
-  pub known : (file : List ℕ) → content ≡ Some file → IsKnownOf format file medium.image
-  pub flush : medium.is_flushed ≡ is_flushed
-  pub quiet : medium.faults ≡ faults
-  pub room : medium.capacity ≡ capacity
-  pub good : IsGood format medium.size content
+-- there is the `file` node over a device
+pub record IsFileOver (device : DeviceState) (nodes : Nodes) : Type 0 where
+  pub node : device.node ≡ 0
+  pub number : device.number ≡ only_device
+  pub sized : (bytes : List ℕ) → device.content ≡ Some bytes → device.size ≡ length bytes
+  pub is : nodes ≡ with_file device
+
+-- the nodes over a device are made, and the image's is number 1
+pub record IsOpenedAs (format : Format) (device : DeviceState) (nodes : Nodes) (image : ℕ) : Type 0
+  where
+    pub number : image ≡ 1
+    pub made : AreMadeOf format device nodes
+    pub disks : Unfolds nodes
+    pub one : HaveOneImage nodes
 
 -- or why they aren't
-abbrev pub StopsAs : Format → Option (List ℕ) → ℕ → ℕ → MediumStop → Type 0
-StopsAs format content before now (Refused why) = IsRefusedImage format why content
-StopsAs format content before now (Io count) = (format ≡ Qcow2) × Rose before count × (count ≡ now)
-StopsAs format content before now NoMemory = Unit {0}
+abbrev pub StopsAs : Format → DeviceState → DeviceState → OpenStop → Type 0
+StopsAs format before now (Refused why) = IsRefusedImage format why before.content
+StopsAs format before now (Io count) =
+    (format ≡ Qcow2) × Rose before.faults count × (count ≡ now.faults)
+StopsAs format before now NoMemory = Unit {0}
+
+-- the image's node isn't added: of the nodes at most the count of their device has changed
+pub record IsOverStop (format : Format) (old new : Nodes) (stop : OpenStop) : Type 0 where
+  pub before : DeviceState
+  pub now : DeviceState
+  pub was : old.devices ≡ before ∷ []
+  pub is : IsOnlyDevice new.devices now
+  pub cause : StopsAs format before now stop
+  pub untouched : IsUntouched before now
+
+pub record IsStopped (format : Format) (before now : DeviceState) (stop : OpenStop) : Type 0 where
+  pub cause : StopsAs format before now stop
+  pub untouched : IsUntouched before now
 
 -- the stop that an image's is
-abbrev pub stop_by : ImageStop → MediumStop
+abbrev pub stop_by : ImageStop → OpenStop
 stop_by (stops.Io count) = Io count
 stop_by stops.NoMemory = NoMemory
 stop_by stop = Refused (Image stop)
 
 -- the status of an image that isn't opened
-abbrev pub IsImageStatus : List ℕ → MediumStop → Status → Type 0
-IsImageStatus image (Refused why) (status.Input name line cause) = (name.bytes ≡ image) × (line ≡ 0) × (cause ≡ why)
+abbrev pub IsImageStatus : List ℕ → OpenStop → Status → Type 0
+IsImageStatus image (Refused why) (status.Input name line cause) =
+    (name.bytes ≡ image) × (line ≡ 0) × (cause ≡ why)
 IsImageStatus image (Refused why) status.NoMemory = Unit {0}
-IsImageStatus image (Io count) (status.Fault from named) = (from ≡ Dev (record { 0 = 0 })) × (named ≡ count)
+IsImageStatus image (Io count) (status.Fault from named) =
+    (from ≡ Dev only_device) × (named ≡ count)
 IsImageStatus image NoMemory status.NoMemory = Unit {0}
-IsImageStatus image stop other = ⊥
+IsImageStatus image stop status = ⊥

@@ -21,11 +21,14 @@ pub record IsBuffer (memory : ℕ) (line : Written) : Type 0 where
   pub room : memory ≤ memory_of line
 
 -- a part of these bytes went out, and the rest stands in the text
-pub record SendsPart (memory : ℕ) (old new : Option (List ℕ)) (whole : List ℕ) (line : Written) : Type 0 where
-  pub part : (front : List ℕ) × (front ++ line.bytes ≡ whole) × (new ≡ option_map (λ s. s ++ front) old)
+pub record SendsPart (memory : ℕ) (old new : Option (List ℕ)) (whole : List ℕ)
+    (line : Written) : Type 0 where
+  pub part : (front : List ℕ) × (front ++ line.bytes ≡ whole)
+      × (new ≡ option_map (λ s. s ++ front) old)
   pub buffer : IsBuffer memory line
 
 -- a part of these bytes went out, and a put failed
 pub record SendsFront (old new : Option (List ℕ)) (whole : List ℕ) (before now : ℕ) : Type 0 where
-  pub part : (front : List ℕ) × (rest : List ℕ) × (front ++ rest ≡ whole) × (new ≡ option_map (λ s. s ++ front) old)
+  pub part : (front : List ℕ) × (rest : List ℕ) × (front ++ rest ≡ whole)
+      × (new ≡ option_map (λ s. s ++ front) old)
   pub rose : Rose before now

@@ -10,11 +10,13 @@ use Rattle.blk_history.specs.Machine.{Flight}
 use Rattle.blk_history.specs.Legal.{IsOver}
 use Rattle.blk_history.specs.Owned.{asked_by}
 use Rattle.qblk_core.specs.Face.{Face}
-use Rattle.qblk_core.specs.Comes.{Opening, Comes}
+use Rattle.blk_nodes.specs.Nodes.{Nodes}
+use Rattle.qblk_core.specs.Comes.{Comes}
 
 -- how many bytes the first k pieces of a read show
 abbrev pub shown_before : Op → ℕ → ℕ
-shown_before (Read span) k = min (max span.start ((span.start / 65536 + k) * 65536)) (end_of span) - span.start
+shown_before (Read span) k =
+    min (max span.start ((span.start / 65536 + k) * 65536)) (end_of span) - span.start
 shown_before (Write span payload) k = 0
 shown_before (Zero span) k = 0
 shown_before Flush k = 0
@@ -36,7 +38,7 @@ pub record AtPiece (old now : Face) (k : ℕ) (f : Flight) : Type 0 where
   pub asked : asked_by 0 now.log.events ≡ asked_by 0 old.log.events
   pub room : old.log.room ≤ now.log.room + k
   pub byte_room : old.log.byte_room ≤ now.log.byte_room + shown_before f.op k
-  pub comes : (o : Opening) → Comes o old → Comes o now
+  pub comes : (first : Nodes) → Comes first old → Comes first now
 
 -- all its pieces are done, or the last wasn't good
 pub record PiecesDone (old new : Face) (f : Flight) : Type 0 where
@@ -45,7 +47,7 @@ pub record PiecesDone (old new : Face) (f : Flight) : Type 0 where
   pub asked : asked_by 0 new.log.events ≡ asked_by 0 old.log.events
   pub room : old.log.room ≤ new.log.room + pieces_of f.op
   pub byte_room : old.log.byte_room ≤ new.log.byte_room + read_bytes_of f.op
-  pub comes : (o : Opening) → Comes o old → Comes o new
+  pub comes : (first : Nodes) → Comes first old → Comes first new
 
 -- room for a request
 pub record HasRoom (w : Face) (op : Op) : Type 0 where
@@ -62,7 +64,7 @@ pub record RequestDone (old new : Face) (op : Op) : Type 0 where
   pub asked : asked_by 0 new.log.events ≡ asked_by 0 old.log.events ++ op ∷ []
   pub room : old.log.room ≤ new.log.room + (pieces_of op + 2)
   pub byte_room : old.log.byte_room ≤ new.log.byte_room + read_bytes_of op
-  pub comes : (o : Opening) → Comes o old → Comes o new
+  pub comes : (first : Nodes) → Comes first old → Comes first new
 
 -- the entries and the bytes that some requests may add
 abbrev pub entries_for : List Op → ℕ
@@ -90,13 +92,13 @@ pub record HasRoomFor (w : Face) (ops : List Op) : Type 0 where
 pub record RequestsDone (old new : Face) (ops : List Op) : Type 0 where
   pub idle : new.guest.flight ≡ None
   pub asked : asked_by 0 new.log.events ≡ asked_by 0 old.log.events ++ ops
-  pub comes : (o : Opening) → Comes o old → Comes o new
+  pub comes : (first : Nodes) → Comes first old → Comes first new
 
 -- all but some of them were made
 pub record AtRequests (old now : Face) (ops rest : List Op) : Type 0 where
   pub has : HasRoomFor now rest
   pub asked : asked_by 0 now.log.events ++ rest ≡ asked_by 0 old.log.events ++ ops
-  pub comes : (o : Opening) → Comes o old → Comes o now
+  pub comes : (first : Nodes) → Comes first old → Comes first now
 
 -- the room that some requests need
 pub record IsRoomFor (ops : List Op) (room : Room) : Type 0 where

@@ -1,5 +1,5 @@
 -- What a run of a trace on one image is, seen from outside.
-use Rattle.std.specs.Prelude.{◌≡◌, ◌⊎◌, ℕ, ◌<◌, ◌≤◌, Bool, true, false, List, [], ◌∷◌, ◌++◌, length, take, IsUtf8, IsSome, Option, Some, option_map, Ok, Err}
+use Rattle.std.specs.Prelude.{◌≡◌, ◌⊎◌, ℕ, ◌<◌, ◌≤◌, Bool, true, false, ⊤, List, [], ◌∷◌, ◌++◌, length, take, IsUtf8, IsSome, Option, Some, option_map, Ok, Err}
 use Rattle.blk_base.specs.Counts.{Rose}
 use Rattle.blk_base.specs.Files.{file_at, put_file, IfTold}
 use Rattle.blk_base.specs.Answers.{HasFile, LacksFile}
@@ -24,9 +24,13 @@ use Rattle.q2_image.specs.Opening.{refusal_of}
 use Rattle.qblk_core.specs.Format.{disk_of, IsGoodImage, IsSoundAs}
 use Rattle.qblk_core.specs.declared.words.Format.{Format}
 use Rattle.qblk_core.specs.declared.words.Format.TheVariants.{Raw, Qcow2}
-use Rattle.qblk_core.specs.Face.{state_with, new_guest}
-use Rattle.q2_image.specs.Image.{Known}
-use Rattle.qblk_core.specs.Images.{IsKnownOf, HasImages}
+use Rattle.blk_base.specs.declared.fault.Outcome.{Outcome}
+use Rattle.blk_base.specs.Outcomes.{is_good}
+use Rattle.blk_nodes.specs.Nodes.{Nodes, DeviceState}
+use Rattle.qblk_core.specs.Along.{HaveNodes, GoesInTurn}
+use Rattle.qblk_core.specs.Face.{state_with, new_guest, machine_on}
+use Rattle.qblk_core.specs.ImageNodes.{AreMadeOf}
+use Rattle.qblk_core.specs.Pieces.{FlushesPart}
 use Rattle.qblk_core.specs.declared.status.InputWhy.{InputWhy}
 use Rattle.qblk_core.specs.declared.status.InputWhy.TheVariants.{Absent, NotUtf8, TooLong, BadLine, TooMany, TooLarge, NeedsBacking, Image}
 use Rattle.qblk_core.specs.declared.status.Status.{Status}
@@ -42,41 +46,77 @@ pub record Outside : Type 0 where
 
 -- the machine of an image whose file holds these bytes, before the first request
 abbrev pub machine_of : Format → List ℕ → State
-machine_of format bytes = let disk = disk_of format bytes in state_with (length disk) new_guest (Some disk)
+machine_of format bytes =
+    let disk = disk_of format bytes in state_with (length bytes) (length disk) new_guest (Some disk)
 
 -- the one guest is called `disk`
 abbrev pub guest_names : RowNames
 guest_names = record { guests = (100 ∷ 105 ∷ 115 ∷ 107 ∷ []) ∷ []; jobs = [] }
 
+-- The run on the nodes: they are made over the device, the history leaves them so, and at last what is under them is flushed.
+pub record IsRunOn (format : Format) (h : List Event) (device : DeviceState)
+    (first left last : Nodes) (flush : Outcome) : Type 0 where
+  pub made : AreMadeOf format device first
+  pub in_turn : GoesInTurn (machine_on first) h
+  pub retired : IsIdle (replay (machine_on first) h)
+  pub along : HaveNodes (machine_on first) first h left
+  pub flushed : FlushesPart left last 1 flush
+
+-- the device has what the file has
+pub record IsOverFile (device : DeviceState) (f : File) : Type 0 where
+  pub content : device.content ≡ Some f.bytes
+  pub is_flushed : device.is_flushed ≡ Some f.is_flushed
+  pub size : device.size ≡ length f.bytes
+  pub capacity : device.capacity ≡ f.capacity
+
 -- the image's file at the end reads as the flat disk of a legal history, and all else is as it was
-pub record TellsDisk (format : Format) (image : List ℕ) (h : List Event) (kept : Bool) (old : List File) (new : Option (List File)) (f : File) : Type 0 where
+pub record TellsDisk (format : Format) (image : List ℕ) (h : List Event) (good : Bool)
+    (device : DeviceState) (first : Nodes) (back : DeviceState) (old : List File)
+    (new : Option (List File)) (f : File) : Type 0 where
   pub file : file_at image old ≡ Some f
+  pub opened : IsOverFile device f
+  pub machine : machine_on first ≡ machine_of format f.bytes
   pub legal : Legal (machine_of format f.bytes) h
-  pub retired : IsIdle (replay (machine_of format f.bytes) h)
   -- the file's bytes at the end, and whether they are flushed
   pub bytes : List ℕ
   pub is_flushed : Bool
+  pub content : back.content ≡ Some bytes
+  pub flushed : back.is_flushed ≡ Some is_flushed
+  pub kept : good ≡ true → is_flushed ≡ true
   pub disk : disk_in (replay (machine_of format f.bytes) h).disks 1 ≡ Some (disk_of format bytes)
   pub sound : IsSoundAs format bytes
-  pub flushed : kept ≡ true → is_flushed ≡ true
-  pub files : new ≡ Some (put_file (record { name = image; bytes = bytes; capacity = f.capacity; is_flushed = is_flushed }) old)
-  -- what was known of the image, from the file as it was opened to the file at the end
-  pub was : Option Known
-  pub now : Option Known
-  pub opened : IsKnownOf format f.bytes was
-  pub ended : IsKnownOf format bytes now
-  pub images : HasImages f.capacity (machine_of format f.bytes) was h now
+  pub files : new ≡ Some (put_file (record {
+    name = image;
+    bytes = bytes;
+    capacity = f.capacity;
+    is_flushed = is_flushed;
+  }) old)
 
 -- A history of these requests on that image: each stands once, in order, and the faults it names are rises of the
 -- device's count, each named once; and where the last flush was good, each rise is named.
-pub record IsRun (format : Format) (image : List ℕ) (ops : List Op) (flushed : Bool) (old new : Outside) (h : List Event) (before now : ℕ) : Type 0 where
+pub record IsRun (format : Format) (image : List ℕ) (ops : List Op) (flushed : Bool)
+    (old new : Outside) (h : List Event) (before now : ℕ) : Type 0 where
   pub asked : asked_by 0 h ≡ ops
-  pub opened : new.opened ≡ old.opened ++ record { name = image; faults = before; returned = Some now } ∷ []
+  pub opened : new.opened
+      ≡ old.opened ++ record { name = image; faults = before; returned = Some now } ∷ []
   pub risen : HaveRisen (before ∷ []) h
-  pub last : (count : ℕ) × (counted (before ∷ []) h ≡ count ∷ []) × (count ≤ now) × (flushed ≡ true → now ≡ count)
+  pub last : (count : ℕ) × (counted (before ∷ []) h ≡ count ∷ []) × (count ≤ now)
+      × (flushed ≡ true → now ≡ count)
   -- where the count has not risen, no piece was stopped by a fault
   pub quiet : now ≡ before → before < 18446744073709551615 → NameNone h
-  pub told : IfTold old.files (λ files. (f : File) × TellsDisk format image h flushed files new.files f)
+  -- the device as it was opened and as it is given back, and the nodes over it
+  pub device : DeviceState
+  pub back : DeviceState
+  pub first : Nodes
+  pub left : Nodes
+  pub end : Nodes
+  pub flush : Outcome
+  pub on : IsRunOn format h device first left end flush
+  pub good : is_good flush ≡ flushed
+  pub counts : (device.faults ≡ before) × (back.faults ≡ now)
+  pub given : end.devices ≡ back ∷ []
+  pub told : IfTold old.files (λ files. (f : File)
+      × TellsDisk format image h flushed device first back files new.files f)
 
 -- the image is there and can be opened
 abbrev pub HasImage : Format → List ℕ → List File → Type 0
@@ -84,7 +124,9 @@ HasImage format image files = HasFile image (λ f. IsGoodImage format f.bytes) f
 
 -- the trace is there, and asks for this
 abbrev pub HasTrace : List ℕ → List Op → List File → Type 0
-HasTrace trace ops files = HasFile trace (λ f. (length f.bytes ≤ 67108864) × IsUtf8 f.bytes × (ops_of f.bytes ≡ Ok ops)) files
+HasTrace trace ops files =
+    HasFile trace
+    (λ f. (length f.bytes ≤ 67108864) × IsUtf8 f.bytes × (ops_of f.bytes ≡ Ok ops)) files
 
 -- why a trace's bytes are refused, and at which line
 abbrev pub IsBadTrace : InputWhy → ℕ → List ℕ → Type 0
@@ -94,14 +136,17 @@ IsBadTrace NeedsBacking line bytes = ⊥
 IsBadTrace (Image stop) line bytes = ⊥
 IsBadTrace TooLong line bytes = (line ≡ 0) × (67108864 < length bytes)
 IsBadTrace NotUtf8 line bytes = (line ≡ 0) × (length bytes ≤ 67108864) × (IsUtf8 bytes → ⊥)
-IsBadTrace BadLine line bytes = (length bytes ≤ 67108864) × IsUtf8 bytes × (ops_of bytes ≡ Err (stops.BadLine line))
-IsBadTrace TooMany line bytes = (length bytes ≤ 67108864) × IsUtf8 bytes × (ops_of bytes ≡ Err (stops.TooMany line))
+IsBadTrace BadLine line bytes =
+    (length bytes ≤ 67108864) × IsUtf8 bytes × (ops_of bytes ≡ Err (stops.BadLine line))
+IsBadTrace TooMany line bytes =
+    (length bytes ≤ 67108864) × IsUtf8 bytes × (ops_of bytes ≡ Err (stops.TooMany line))
 
 -- why an image's bytes are refused: a qcow2 image by its first refusal, and then for its backing name
 abbrev pub IsBadBytes : Format → InputWhy → List ℕ → Type 0
 IsBadBytes Raw TooLarge bytes = 274877906944 < length bytes
 IsBadBytes Qcow2 NeedsBacking bytes = IsSound bytes × IsSome (header_of bytes).name
-IsBadBytes Qcow2 (Image stop) bytes = With (refusal_of stop) (λ refusal. image_refusal bytes ≡ Some refusal)
+IsBadBytes Qcow2 (Image stop) bytes =
+    With (refusal_of stop) (λ refusal. image_refusal bytes ≡ Some refusal)
 IsBadBytes format why bytes = ⊥
 
 abbrev pub IsBadImage : Format → InputWhy → List ℕ → List File → Type 0
@@ -118,43 +163,76 @@ IsRefusedInput format image trace name line why files =
     ((name ≡ image) × (line ≡ 0) × IsBadImage format why image files)
     ⊎ ((name ≡ trace) × HasImage format image files × IsRefusedTrace why line trace files)
 
+-- what a refusal says where files aren't told: it speaks of the image or of the trace, with a cause of that
+abbrev pub IsImageCause : Format → InputWhy → Type 0
+IsImageCause format Absent = ⊤
+IsImageCause Raw TooLarge = ⊤
+IsImageCause Qcow2 NeedsBacking = ⊤
+IsImageCause Qcow2 (Image stop) = IsSome (refusal_of stop)
+IsImageCause format why = ⊥
+
+abbrev pub IsTraceCause : InputWhy → ℕ → Type 0
+IsTraceCause Absent line = line ≡ 0
+IsTraceCause NotUtf8 line = line ≡ 0
+IsTraceCause TooLong line = line ≡ 0
+IsTraceCause BadLine line = ⊤
+IsTraceCause TooMany line = ⊤
+IsTraceCause why line = ⊥
+
+abbrev pub SpeaksOfInput : Format → List ℕ → List ℕ → List ℕ → ℕ → InputWhy → Type 0
+SpeaksOfInput format image trace name line why =
+    ((name ≡ image) × (line ≡ 0) × IsImageCause format why)
+    ⊎ ((name ≡ trace) × IsTraceCause why line)
+
 -- nothing was written: neither to a file nor to the sink
 pub record NothingWritten (old new : Outside) : Type 0 where
   pub files : new.files ≡ old.files
   pub sent : new.sent ≡ old.sent
 
 -- the requests were made, and of the transcript the first n bytes went out
-pub record WasRun (format : Format) (image trace : List ℕ) (flushed : Bool) (old new : Outside) (ops : List Op) (h : List Event) (before now n : ℕ) : Type 0 where
+pub record WasRun (format : Format) (image trace : List ℕ) (flushed : Bool) (old new : Outside)
+    (ops : List Op) (h : List Event) (before now n : ℕ) : Type 0 where
   pub inputs : IfTold old.files (λ files. HasImage format image files × HasTrace trace ops files)
   pub run : IsRun format image ops flushed old new h before now
   pub sent : new.sent ≡ option_map (λ s. s ++ take n (transcript guest_names h)) old.sent
 
 -- all of it went out
 abbrev pub IsDone : Format → List ℕ → List ℕ → Outside → Outside → Type 0
-IsDone format image trace old new = (ops : List Op) × (h : List Event) × (before : ℕ) × (now : ℕ) × WasRun format image trace true old new ops h before now (length (transcript guest_names h))
+IsDone format image trace old new =
+    (ops : List Op) × (h : List Event) × (before : ℕ) × (now : ℕ)
+    × WasRun format image trace true old new ops h before now (length (transcript guest_names h))
 
 -- the device failed while a qcow2 image was opened
-pub record FailsToOpen (format : Format) (image : List ℕ) (old new : Outside) (count : ℕ) : Type 0 where
-  pub reads : format ≡ Qcow2
-  pub nothing : NothingWritten old new
-  pub before : ℕ
-  pub opened : new.opened ≡ old.opened ++ record { name = image; faults = before; returned = Some count } ∷ []
-  pub rose : Rose before count
-  pub sink : new.sink_faults ≡ old.sink_faults
+pub record FailsToOpen (format : Format) (image : List ℕ) (old new : Outside) (count : ℕ) : Type 0
+  where
+    pub reads : format ≡ Qcow2
+    pub nothing : NothingWritten old new
+    pub before : ℕ
+    pub opened : new.opened ≡ old.opened
+        ++ record { name = image; faults = before; returned = Some count } ∷ []
+    pub rose : Rose before count
+    pub sink : new.sink_faults ≡ old.sink_faults
 
 -- the device failed in the last flush, after which the transcript goes out nevertheless: a rise that no entry names
 abbrev pub FailsToFlush : Format → List ℕ → List ℕ → Outside → Outside → ℕ → Type 0
-FailsToFlush format image trace old new count = (ops : List Op) × (h : List Event) × (before : ℕ) × (n : ℕ)
+FailsToFlush format image trace old new count =
+    (ops : List Op) × (h : List Event) × (before : ℕ) × (n : ℕ)
     × WasRun format image trace false old new ops h before count n
     × RoseSince (counted (before ∷ []) h) (Some (record { dev = 0; count = count }))
-    × (((n ≡ length (transcript guest_names h)) × (new.sink_faults ≡ old.sink_faults)) ⊎ Rose old.sink_faults new.sink_faults)
+    × (((n ≡ length (transcript guest_names h)) × (new.sink_faults ≡ old.sink_faults))
+    ⊎ Rose old.sink_faults new.sink_faults)
 
 -- the first fault: while the inputs were read, while the image was opened, in the last flush, or while the transcript went out
 abbrev pub IsFaulty : Format → List ℕ → List ℕ → Outside → Outside → FaultFrom → ℕ → Type 0
-IsFaulty format image trace old new Store count = NothingWritten old new × Rose old.store_faults count × (count ≡ new.store_faults)
-IsFaulty format image trace old new (Dev dev) count = (dev.0 ≡ 0) × (FailsToOpen format image old new count ⊎ FailsToFlush format image trace old new count)
-IsFaulty format image trace old new Sink count = (ops : List Op) × (h : List Event) × (before : ℕ) × (now : ℕ) × (n : ℕ)
-    × WasRun format image trace true old new ops h before now n × Rose old.sink_faults count × (count ≡ new.sink_faults)
+IsFaulty format image trace old new Store count =
+    NothingWritten old new × Rose old.store_faults count × (count ≡ new.store_faults)
+IsFaulty format image trace old new (Dev dev) count =
+    (dev.0 ≡ 0) × (FailsToOpen format image old new count
+    ⊎ FailsToFlush format image trace old new count)
+IsFaulty format image trace old new Sink count =
+    (ops : List Op) × (h : List Event) × (before : ℕ) × (now : ℕ) × (n : ℕ)
+    × WasRun format image trace true old new ops h before now n × Rose old.sink_faults count
+    × (count ≡ new.sink_faults)
 
 -- The store's count of faults stands, but where the status names the store; the sink's, but where it names the sink, or a last
 -- flush that failed, behind which a put may have failed too.
@@ -176,7 +254,10 @@ pub record TellsFaults (old new : Outside) (status : Status) : Type 0 where
 abbrev pub Answers : Format → List ℕ → List ℕ → Outside → Outside → Status → Type 0
 Answers format image trace old new Done = IsDone format image trace old new
 Answers format image trace old new Usage = ⊥
-Answers format image trace old new (Input name line why) = NothingWritten old new × IfTold old.files (IsRefusedInput format image trace name.bytes line why)
-Answers format image trace old new (Fault from count) = IsFaulty format image trace old new from count
+Answers format image trace old new (Input name line why) =
+    NothingWritten old new × SpeaksOfInput format image trace name.bytes line why
+    × IfTold old.files (IsRefusedInput format image trace name.bytes line why)
+Answers format image trace old new (Fault from count) =
+    IsFaulty format image trace old new from count
 Answers format image trace old new (Stuck actor waits) = ⊥
 Answers format image trace old new NoMemory = NothingWritten old new

@@ -26,8 +26,10 @@ from_text Sink = codes "sink"
 
 abbrev pub status_text : Status → List ℕ
 status_text Done = []
-status_text Usage = codes "usage: qblk io FORMAT IMAGE TRACE | run WORKERS SCRIPT GUEST=TRACE .. | load NUMBER WORKERS"
-status_text (Input name line why) = codes "input " ++ name.bytes ++ codes " line " ++ decimal line ++ codes ": " ++ why_text why
+status_text Usage =
+    codes "usage: qblk io FORMAT IMAGE TRACE | run WORKERS SCRIPT GUEST=TRACE .. | load NUMBER WORKERS"
+status_text (Input name line why) =
+    codes "input " ++ name.bytes ++ codes " line " ++ decimal line ++ codes ": " ++ why_text why
 status_text (Fault from count) = codes "fault " ++ from_text from ++ codes " " ++ decimal count
 status_text (Stuck actor waits) = codes "stuck: actor " ++ decimal actor ++ codes " waits"
 status_text NoMemory = codes "out of memory"

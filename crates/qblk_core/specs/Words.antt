@@ -7,7 +7,9 @@ use Rattle.qblk_core.specs.declared.words.Format.TheVariants.{Raw, Qcow2}
 
 -- a file name has 1 to 1,023 bytes, none of them zero; no word begins with `-`
 abbrev pub is_file_name : List ℕ → Bool
-is_file_name word = nat_lt 0 (length word) && nat_lt (length word) 1024 && not (slice_index word 0 == 45) && not (list_any (λ b. b == 0) word)
+is_file_name word =
+    nat_lt 0 (length word) && nat_lt (length word) 1024 && not (slice_index word 0 == 45)
+    && not (list_any (λ b. b == 0) word)
 
 -- the format that a word names
 abbrev pub format_of : List ℕ → Option Format

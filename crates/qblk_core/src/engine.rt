@@ -2,27 +2,30 @@
 ghost use Rattle.std.specs.Prelude.{◌≡◌, ◌<◌, ◌≤◌, length, List, ℕ, Some};
 ghost use Rattle.qblk_core.specs.Steps.{log_of, log_with, CanPiece, MakesPiece};
 ghost use Rattle.qblk_core.specs.Face.{request_at, flight_of, WasAdmitted};
-ghost use Rattle.qblk_core.specs.Running.{side_in};
+ghost use Rattle.qblk_core.specs.ImageNodes.{HaveOneImage};
+ghost use Rattle.blk_nodes.specs.Nodes.{size_of};
 ghost use Rattle.trace_codec.specs.declared.op.Op.{Op};
 ghost use Rattle.blk_history.specs.Fold.{With};
 ghost use Rattle.blk_history.specs.declared.event.Event.{Event};
 
+use crate::closing::close;
 use crate::flight::InFlight;
-use crate::medium::Medium;
-use crate::transfer::{request_piece, request_span, shown_part};
+use crate::transfer::{request_piece, request_span, shown_part, transfer};
 use blk_base::{Device, FaultAt, Outcome};
+use blk_graph::NodeId;
 use blk_history::{Asked, Entry, History, Refused};
+use blk_nodes::Nodes;
 use std::marker::Model;
 use trace_codec::Op;
 
 /// How many bytes the buffer of a piece has.
 pub(crate) const BLOCK: usize = 65536;
 
-/// A device, the guest on it, and the history so far. The buffer of the pieces is taken once.
+/// The nodes of an image, the guest on it, and the history so far. The buffer of the pieces is taken once.
 pub(crate) struct Engine<D: Device> {
-    medium: Medium<D>,
-    /// The bytes of the disk, as it was opened.
-    size: u64,
+    nodes: Nodes<D>,
+    /// The image's node.
+    image: NodeId,
     done: u32,
     flight: Option<InFlight>,
     history: History,
@@ -31,24 +34,17 @@ pub(crate) struct Engine<D: Device> {
 
 impl<D: Device> Model for Engine<D> {
     ghost use Rattle.qblk_core.specs.Face.{Face, row_of};
-    ghost use Rattle.qblk_core.specs.Medium.{disk_in};
     ghost use Rattle.qblk_core.specs.Running.{IsRunning};
 
     ghost Value = { Face };
 
     ghost view = { λ a. record {
-      format = a.medium.format;
-      image = a.medium.image;
-      disk = disk_in a.medium;
-      is_flushed = a.medium.is_flushed;
-      faults = a.medium.faults;
-      capacity = a.medium.capacity;
-      size = a.size;
+      nodes = a.nodes;
       guest = row_of a.history.events a.done a.flight;
       log = a.history;
     } };
 
-    ghost invariant = { λ a. IsRunning a.medium a.size a.history.events a.flight a.buffer.items };
+    ghost invariant = { λ a. IsRunning a.nodes a.image a.history.events a.flight a.buffer.items };
 }
 
 /// Adds the entry of an admitted request, and says where it stands.
@@ -83,7 +79,8 @@ fn note_refusal(history: &mut History, request: u32, op: Op, why: Refused)
 fn note_piece(history: &mut History, request: u32, k: u32, outcome: Outcome, shown: &[u8])
     requires room { 0 < history.old.room }
     requires byte_room { length shown.now ≤ history.old.byte_room }
-    ensures { history.new ≡ log_with history.old (Event.Piece 0 request k outcome shown.now) shown.now }
+    ensures { history.new
+        ≡ log_with history.old (Event.Piece 0 request k outcome shown.now) shown.now }
 {
     let got = history.push_read(shown);
     history.push(Entry::Piece {
@@ -113,64 +110,54 @@ fn flying<'a>(history: &'a History, flight: &InFlight) -> &'a Op
 
 /// Makes the next piece of the request in flight, and adds its entry.
 fn make_piece<D: Device>(
-    medium: &mut Medium<D>,
+    nodes: &mut Nodes<D>,
+    image: NodeId,
     history: &mut History,
     buffer: &mut [u8],
     request: u32,
     flight: &InFlight,
 ) -> Outcome
+    requires image { image ≡ 1 }
+    requires one { HaveOneImage nodes.old }
     requires block { length buffer.old ≡ 65536 }
     requires can { With (flight_of history.old.events flight.now) (CanPiece history.old) }
-    requires admitted { WasAdmitted medium.old.size history.old.events (Some flight.now) }
+    requires admitted { WasAdmitted (size_of nodes.old 1) history.old.events (Some flight.now) }
     ensures made { With (flight_of history.old.events flight.now) (λ f. (got : List ℕ)
-        × MakesPiece (side_in medium.old) (side_in medium.new) history.old history.new request f result got) }
-    ensures format { medium.new.format ≡ medium.old.format }
-    ensures size { medium.old.size ≤ medium.new.size }
+        × MakesPiece nodes.old nodes.new history.old history.new request f result got) }
+    ensures one { HaveOneImage nodes.new }
 {
     let op = flying(history, flight);
     let part = request_piece(op, u64::from(flight.next));
     let bytes = &mut buffer[..part.len as usize];
-    let outcome = medium.transfer(op, part, bytes);
+    let outcome = transfer(nodes, image, op, part, bytes);
     let shown = shown_part(op, outcome, bytes);
     note_piece(history, request, flight.next, outcome, shown);
     outcome
 }
 
 impl<D: Device> Engine<D> {
-    ghost use Rattle.std.specs.Prelude.{true, is_some, Some, MatchOption};
-    ghost use Rattle.blk_base.specs.Counts.{Rose};
-    ghost use Rattle.blk_base.specs.declared.fault.FaultFrom.{FaultFrom};
-    ghost use Rattle.std.specs.Prelude.{option_map};
+    ghost use Rattle.blk_base.specs.declared.fault.Outcome.{Outcome};
+    ghost use Rattle.blk_nodes.specs.Nodes.{Nodes as SeenNodes};
     ghost use Rattle.qblk_core.specs.Face.{new_guest};
-    ghost use Rattle.qblk_core.specs.Format.{disk_of, IsSoundAs};
-    ghost use Rattle.qblk_core.specs.Images.{IsKnownOf};
-    ghost use Rattle.qblk_core.specs.Medium.{disk_in};
+    ghost use Rattle.qblk_core.specs.ImageNodes.{HaveOneImage, seen};
+    ghost use Rattle.qblk_core.specs.Session.{IsClosed};
     ghost use Rattle.std.specs.Prelude.{◌≡◌, ◌+◌, ◌<◌, ◌≤◌, ◌^◌, ℕ, List, None};
     ghost use Rattle.qblk_core.specs.Face.{Face};
     ghost use Rattle.qblk_core.specs.Steps.{after_admission, IsJudged, after_retirement, PutsPiece, CanPiece};
     ghost use Rattle.blk_history.specs.Fold.{With};
     ghost use Rattle.blk_history.specs.Legal.{IsOver};
-    ghost use Rattle.qblk_core.specs.Comes.{Opening, Comes};
+    ghost use Rattle.qblk_core.specs.Comes.{Comes};
 
-    /// A guest that has asked for nothing yet, on a device that was opened.
-    pub(crate) fn new(medium: Medium<D>, history: History, buffer: Vec<u8>) -> Self
+    /// A guest that has asked for nothing yet, on the nodes of an image.
+    pub(crate) fn new(nodes: Nodes<D>, image: NodeId, history: History, buffer: Vec<u8>) -> Self
+        requires image { image ≡ 1 }
+        requires one { HaveOneImage nodes }
         requires block { length buffer.items ≡ 65536 }
-        ensures { result ≡ record {
-          format = medium.format;
-          image = medium.image;
-          disk = disk_in medium;
-          is_flushed = medium.is_flushed;
-          faults = medium.faults;
-          capacity = medium.capacity;
-          size = medium.size;
-          guest = new_guest;
-          log = history;
-        } }
+        ensures { result ≡ record { nodes = nodes; guest = new_guest; log = history } }
     {
-        let size = medium.size();
         Engine {
-            medium,
-            size,
+            nodes,
+            image,
             done: 0,
             flight: None,
             history,
@@ -180,26 +167,20 @@ impl<D: Device> Engine<D> {
 
     /// Flushes the device, and gives it back with the history, and with the fault where the flush failed.
     pub(crate) fn finish(self) -> (D, History, Option<FaultAt>)
-        ensures disk { option_map (disk_of self.format) (D.content result.0) ≡ self.disk }
-        ensures sound { (bytes : List ℕ) → D.content result.0 ≡ Some bytes → IsSoundAs self.format bytes }
-        ensures known { (bytes : List ℕ) → D.content result.0 ≡ Some bytes → IsKnownOf self.format bytes self.image }
-        ensures capacity { D.capacity result.0 ≡ self.capacity }
-        ensures faults { self.faults ≤ D.faults result.0 }
+        ensures one { HaveOneImage self.nodes }
+        ensures closed { (last : SeenNodes) × (flush : Outcome)
+            × IsClosed self.nodes last flush (seen D.Device result.0) result.2 }
         ensures history { result.1 ≡ self.log }
-        ensures flushed { MatchOption result.2
-            (((bytes : List ℕ) → D.content result.0 ≡ Some bytes → D.is_flushed result.0 ≡ Some true) × (D.faults result.0 ≡ self.faults))
-            (λ fault. (fault.from ≡ FaultFrom.Dev (record { 0 = 0 })) × Rose self.faults fault.count × (fault.count ≡ D.faults result.0)) }
-        ensures tells { (bytes : List ℕ) → D.content result.0 ≡ Some bytes → is_some (D.is_flushed result.0) ≡ true }
     {
         let Engine {
-            medium,
-            size: _,
+            nodes,
+            image,
             done: _,
             flight: _,
             history,
             buffer: _,
         } = self;
-        let (device, fault) = medium.close();
+        let (device, fault) = close(nodes, image);
         (device, history, fault)
     }
 
@@ -212,7 +193,7 @@ impl<D: Device> Engine<D> {
         ensures kept { self.new ≡ after_admission self.old op result }
     {
         let span = request_span(&op);
-        if span.start + span.len > self.size {
+        if span.start + span.len > self.nodes.size(self.image) {
             note_refusal(&mut self.history, self.done, op, Refused::Range);
             self.done += 1;
             return Some(Refused::Range);
@@ -229,13 +210,15 @@ impl<D: Device> Engine<D> {
     /// Makes the next piece of the request in flight.
     fn put_piece(&mut self) -> Outcome
         requires { With self.old.guest.flight (CanPiece self.old.log) }
-        ensures { With self.old.guest.flight (λ f. (got : List ℕ) × PutsPiece self.old self.new f result got) }
+        ensures { With self.old.guest.flight
+            (λ f. (got : List ℕ) × PutsPiece self.old self.new f result got) }
     {
         let Some(flight) = self.flight else {
             unreachable!()
         };
         let outcome = make_piece(
-            &mut self.medium,
+            &mut self.nodes,
+            self.image,
             &mut self.history,
             &mut self.buffer,
             self.done,
@@ -268,7 +251,7 @@ impl<D: Device> Engine<D> {
         requires numbered { self.old.guest.done + 1 < 2 ^ 32 }
         ensures judged { IsJudged self.old op result }
         ensures kept { self.new ≡ after_admission self.old op result }
-        ensures comes { (o : Opening) → Comes o self.old → Comes o self.new }
+        ensures comes { (first : SeenNodes) → Comes first self.old → Comes first self.new }
     {
         self.put_admission(op)
     }
@@ -276,8 +259,9 @@ impl<D: Device> Engine<D> {
     /// Makes the next piece of the request in flight.
     pub(crate) fn piece(&mut self) -> Outcome
         requires { With self.old.guest.flight (CanPiece self.old.log) }
-        ensures put { With self.old.guest.flight (λ f. (got : List ℕ) × PutsPiece self.old self.new f result got) }
-        ensures comes { (o : Opening) → Comes o self.old → Comes o self.new }
+        ensures put { With self.old.guest.flight
+            (λ f. (got : List ℕ) × PutsPiece self.old self.new f result got) }
+        ensures comes { (first : SeenNodes) → Comes first self.old → Comes first self.new }
     {
         self.put_piece()
     }
@@ -288,7 +272,7 @@ impl<D: Device> Engine<D> {
         requires room { 0 < self.old.log.room }
         requires numbered { self.old.guest.done + 1 < 2 ^ 32 }
         ensures kept { self.new ≡ after_retirement self.old }
-        ensures comes { (o : Opening) → Comes o self.old → Comes o self.new }
+        ensures comes { (first : SeenNodes) → Comes first self.old → Comes first self.new }
     {
         self.put_retirement();
     }

@@ -83,7 +83,9 @@ fn guest_row(alloc: Global) -> Result<Rows, NoMemory>
 
 /// Takes the memory of a run.
 fn take_memory(alloc: Global, ops: Vec<Op>) -> Result<Prepared, NoMemory>
-    ensures { IfOk result (λ p. (p.ops.items ≡ ops.items) × IsReady ops.items p.history p.buffer.items p.names p.line) }
+    ensures { IfOk result
+        (λ p. (p.ops.items ≡ ops.items)
+        × IsReady ops.items p.history p.buffer.items p.names p.line) }
 {
     let room = room_for(&ops).ok_or(NoMemory)?;
     Ok(Prepared {
@@ -97,7 +99,9 @@ fn take_memory(alloc: Global, ops: Vec<Op>) -> Result<Prepared, NoMemory>
 
 /// The requests of a trace with all the memory that a run of them takes, or its refusal.
 pub(crate) fn judge(alloc: Global, trace: &str, read: TraceRead) -> Result<Prepared, Status>
-    ensures ok { IfOk result (λ p. (bytes : List ℕ) × (read ≡ TraceRead.Whole bytes) × IsUtf8 bytes × (ops_of bytes ≡ Ok p.ops.items)
+    ensures ok { IfOk result
+        (λ p. (bytes : List ℕ) × (read ≡ TraceRead.Whole bytes) × IsUtf8 bytes
+        × (ops_of bytes ≡ Ok p.ops.items)
         × IsReady p.ops.items p.history p.buffer.items p.names p.line) }
     ensures err { IfErr result (IsTraceStop trace.now read) }
 {

@@ -1,13 +1,12 @@
 //! The calls of the program, on any store and any sink: its words, a trace run on an image, the transcript, how a run ended.
 #![tactic(auto)]
 
+mod closing;
 mod engine;
 mod flight;
 mod input;
-mod medium;
 mod opening;
 mod output;
-mod qcow2;
 mod requests;
 mod run;
 mod session;

@@ -13,11 +13,14 @@ pub const CHUNK: usize = 65536;
 
 /// Puts what the text holds, and empties it.
 fn send<K: Sink>(line: &mut Text, out: &mut K) -> Result<(), SinkFault>
-    ensures sent { OnOk result (K.sent out.new ≡ option_map (λ s. s ++ line.old.bytes) (K.sent out.old)) }
+    ensures sent { OnOk result
+        (K.sent out.new ≡ option_map (λ s. s ++ line.old.bytes) (K.sent out.old)) }
     ensures empty { OnOk result (line.new.bytes ≡ []) }
     ensures memory { OnOk result (memory_of line.new ≡ memory_of line.old) }
     ensures quiet { OnOk result (K.faults out.new ≡ K.faults out.old) }
-    ensures failed { OnErr result (SendsFront (K.sent out.old) (K.sent out.new) line.old.bytes (K.faults out.old) (K.faults out.new)) }
+    ensures failed { OnErr result
+        (SendsFront (K.sent out.old) (K.sent out.new) line.old.bytes (K.faults out.old)
+        (K.faults out.new)) }
     ensures faults { K.faults out.old ≤ K.faults out.new }
 {
     match out.put(line.as_str().as_bytes()) {

@@ -18,15 +18,43 @@ pub fn run_io<S: Store, K: Sink>(
     store: S,
     out: &mut K,
 ) -> (Status, S)
-    requires form { (format : Format) × (image : List ℕ) × (trace : List ℕ) × IsIo (texts_of words.now) format image trace }
+    requires form { (format : Format) × (image : List ℕ) × (trace : List ℕ)
+        × IsIo (texts_of words.now) format image trace }
     requires none_out { NoneOut (S.opened store) }
-    ensures ended { (format : Format) (image trace : List ℕ) → IsIo (texts_of words.now) format image trace → Answers format image trace
-        (record { files = S.files store; opened = S.opened store; store_faults = S.faults store; sent = K.sent out.old; sink_faults = K.faults out.old })
-        (record { files = S.files result.1; opened = S.opened result.1; store_faults = S.faults result.1; sent = K.sent out.new; sink_faults = K.faults out.new }) result.0 }
+    ensures ended { (format : Format) (image trace : List ℕ)
+        → IsIo (texts_of words.now) format image trace → Answers format image trace
+        (record {
+          files = S.files store;
+          opened = S.opened store;
+          store_faults = S.faults store;
+          sent = K.sent out.old;
+          sink_faults = K.faults out.old;
+        })
+        (record {
+          files = S.files result.1;
+          opened = S.opened result.1;
+          store_faults = S.faults result.1;
+          sent = K.sent out.new;
+          sink_faults = K.faults out.new;
+        })
+        result.0 }
     // no fault of the store or the sink goes untold
     ensures faults { TellsFaults
-        (record { files = S.files store; opened = S.opened store; store_faults = S.faults store; sent = K.sent out.old; sink_faults = K.faults out.old })
-        (record { files = S.files result.1; opened = S.opened result.1; store_faults = S.faults result.1; sent = K.sent out.new; sink_faults = K.faults out.new }) result.0 }
+        (record {
+          files = S.files store;
+          opened = S.opened store;
+          store_faults = S.faults store;
+          sent = K.sent out.old;
+          sink_faults = K.faults out.old;
+        })
+        (record {
+          files = S.files result.1;
+          opened = S.opened result.1;
+          store_faults = S.faults result.1;
+          sent = K.sent out.new;
+          sink_faults = K.faults out.new;
+        })
+        result.0 }
     ensures back { NoneOut (S.opened result.1) }
 {
     let mut store = store;
@@ -42,17 +70,45 @@ pub fn qblk<S: Store, K: Sink>(alloc: Global, words: &[Text], store: S, out: &mu
     requires { NoneOut (S.opened store) }
 
     // `io FORMAT IMAGE TRACE`
-    ensures io { (format : Format) (image trace : List ℕ) → IsIo (texts_of words.now) format image trace → Answers format image trace
-        (record { files = S.files store; opened = S.opened store; store_faults = S.faults store; sent = K.sent out.old; sink_faults = K.faults out.old })
-        (record { files = S.files result.1; opened = S.opened result.1; store_faults = S.faults result.1; sent = K.sent out.new; sink_faults = K.faults out.new }) result.0 }
+    ensures io { (format : Format) (image trace : List ℕ)
+        → IsIo (texts_of words.now) format image trace → Answers format image trace
+        (record {
+          files = S.files store;
+          opened = S.opened store;
+          store_faults = S.faults store;
+          sent = K.sent out.old;
+          sink_faults = K.faults out.old;
+        })
+        (record {
+          files = S.files result.1;
+          opened = S.opened result.1;
+          store_faults = S.faults result.1;
+          sent = K.sent out.new;
+          sink_faults = K.faults out.new;
+        })
+        result.0 }
 
     // all other words: nothing is done
-    ensures usage { ((format : Format) (image trace : List ℕ) → IsIo (texts_of words.now) format image trace → ⊥) → (result.0 ≡ Status.Usage) × (result.1 ≡ store) × (out.new ≡ out.old) }
+    ensures usage { ((format : Format) (image trace : List ℕ) → IsIo (texts_of words.now) format image trace
+        → ⊥) → (result.0 ≡ Status.Usage) × (result.1 ≡ store) × (out.new ≡ out.old) }
 
     // no fault of the store or the sink goes untold
     ensures faults { TellsFaults
-        (record { files = S.files store; opened = S.opened store; store_faults = S.faults store; sent = K.sent out.old; sink_faults = K.faults out.old })
-        (record { files = S.files result.1; opened = S.opened result.1; store_faults = S.faults result.1; sent = K.sent out.new; sink_faults = K.faults out.new }) result.0 }
+        (record {
+          files = S.files store;
+          opened = S.opened store;
+          store_faults = S.faults store;
+          sent = K.sent out.old;
+          sink_faults = K.faults out.old;
+        })
+        (record {
+          files = S.files result.1;
+          opened = S.opened result.1;
+          store_faults = S.faults result.1;
+          sent = K.sent out.new;
+          sink_faults = K.faults out.new;
+        })
+        result.0 }
 
     // whatever the words: no device is left out
     ensures back { NoneOut (S.opened result.1) }

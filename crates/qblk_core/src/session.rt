@@ -8,15 +8,16 @@ ghost use Rattle.qblk_core.specs.Opened.{IsImageStatus};
 ghost use Rattle.blk_history.specs.Transcript.{transcript};
 ghost use Rattle.qblk_core.specs.Comes.{HaveLines};
 ghost use Rattle.qblk_core.specs.Face.{Face};
+ghost use Rattle.qblk_core.specs.ImageNodes.{seen};
 ghost use Rattle.qblk_core.specs.Run.{guest_names, Answers, StoreStands, TellsFaults};
 
+use crate::closing::device_of;
 use crate::engine::Engine;
 use crate::input::{MAX_TRACE, Prepared, TraceRead, judge, refused};
-use crate::opening::{MediumStop, open_medium};
+use crate::opening::{DEVICE, OpenStop, open_nodes};
 use crate::output::send_transcript;
 use crate::requests::run_requests;
 use crate::status::{InputWhy, Status};
-use crate::transfer::DEVICE;
 use crate::words::Format;
 use blk_base::{Device, FaultAt, FaultFrom, Sink, Store, StoreStop, Text};
 use blk_history::{History, Rows};
@@ -48,7 +49,8 @@ fn read_trace_file<S: Store>(store: &mut S, name: &str) -> Result<TraceRead, Sta
     ensures files { S.files store.new ≡ S.files store.old }
     ensures opened { S.opened store.new ≡ S.opened store.old }
     ensures quiet { OnOk result (S.faults store.new ≡ S.faults store.old) }
-    ensures stands { IfErr result (λ status. StoreStands status (S.faults store.old) (S.faults store.new)) }
+    ensures stands { IfErr result
+        (λ status. StoreStands status (S.faults store.old) (S.faults store.new)) }
 {
     match store.read_all(name, MAX_TRACE) {
         Ok(bytes) => Ok(TraceRead::Whole(bytes)),
@@ -63,14 +65,19 @@ fn read_trace_file<S: Store>(store: &mut S, name: &str) -> Result<TraceRead, Sta
 /// Opens the image.
 fn open_image<S: Store>(alloc: Global, store: &mut S, name: &str) -> Result<S::Dev, Status>
     requires { NoneOut (S.opened store.old) }
-    ensures device { IfOk result (λ dev. IsDeviceOf (S.files store.old) name.now (S.Dev.content dev) (S.Dev.capacity dev) (S.Dev.is_flushed dev)) }
+    ensures device { IfOk result
+        (λ dev. IsDeviceOf (S.files store.old) name.now (S.Dev.content dev) (S.Dev.capacity dev)
+        (S.Dev.is_flushed dev)) }
     ensures opened { MatchResult result
-        (λ dev. S.opened store.new ≡ S.opened store.old ++ record { name = name.now; faults = S.Dev.faults dev; returned = None } ∷ [])
+        (λ dev. S.opened store.new ≡ S.opened store.old
+        ++ record { name = name.now; faults = S.Dev.faults dev; returned = None } ∷ [])
         (λ _. S.opened store.new ≡ S.opened store.old) }
-    ensures stop { IfErr result (IsOpenStop name.now (S.files store.old) (S.faults store.old) (S.faults store.new)) }
+    ensures stop { IfErr result
+        (IsOpenStop name.now (S.files store.old) (S.faults store.old) (S.faults store.new)) }
     ensures files { S.files store.new ≡ S.files store.old }
     ensures quiet { OnOk result (S.faults store.new ≡ S.faults store.old) }
-    ensures stands { IfErr result (λ status. StoreStands status (S.faults store.old) (S.faults store.new)) }
+    ensures stands { IfErr result
+        (λ status. StoreStands status (S.faults store.old) (S.faults store.new)) }
 {
     match store.open_file(name) {
         Ok(device) => Ok(device),
@@ -82,16 +89,16 @@ fn open_image<S: Store>(alloc: Global, store: &mut S, name: &str) -> Result<S::D
 }
 
 /// The status of an image that isn't opened.
-fn image_status(alloc: Global, image: &str, stop: MediumStop) -> Status
+fn image_status(alloc: Global, image: &str, stop: OpenStop) -> Status
     ensures { IsImageStatus image.now stop result }
 {
     match stop {
-        MediumStop::Refused(why) => refused(alloc, image, 0, why),
-        MediumStop::Io { count } => Status::Fault {
+        OpenStop::Refused(why) => refused(alloc, image, 0, why),
+        OpenStop::Io { count } => Status::Fault {
             from: FaultFrom::Dev(DEVICE),
             count,
         },
-        MediumStop::NoMemory => Status::NoMemory,
+        OpenStop::NoMemory => Status::NoMemory,
     }
 }
 
@@ -104,20 +111,18 @@ fn make_run<D: Device>(
     read: TraceRead,
     device: D,
 ) -> (Result<Made, Status>, D)
-    ensures made { IfOk result.0 (λ made. (bytes : List ℕ) × (w : Face) × (read ≡ TraceRead.Whole bytes)
-        × IsMade format bytes
-        (record { content = D.content device; is_flushed = D.is_flushed device; faults = D.faults device; capacity = D.capacity device; size = D.size device })
-        (record { content = D.content result.1; is_flushed = D.is_flushed result.1; faults = D.faults result.1; capacity = D.capacity result.1; size = D.size result.1 }) w made.fault
-        × (made.history ≡ w.log) × (made.names ≡ guest_names) × (made.line.bytes ≡ []) × (393476 ≤ made.line.spare)) }
+    ensures made { IfOk result.0
+        (λ made. (bytes : List ℕ) × (w : Face) × (read ≡ TraceRead.Whole bytes)
+        × IsMade format bytes (seen D.Device device) (seen D.Device result.1) w made.fault
+        × (made.history ≡ w.log) × (made.names ≡ guest_names) × (made.line.bytes ≡ [])
+        × (393476 ≤ made.line.spare)) }
     ensures stop { IfErr result.0 (IsRunStop format image.now trace.now read
-        (record { content = D.content device; is_flushed = D.is_flushed device; faults = D.faults device; capacity = D.capacity device; size = D.size device })
-        (record { content = D.content result.1; is_flushed = D.is_flushed result.1; faults = D.faults result.1; capacity = D.capacity result.1; size = D.size result.1 })) }
-    ensures untouched { OnErr result.0 (IsUntouched
-        (record { content = D.content device; is_flushed = D.is_flushed device; faults = D.faults device; capacity = D.capacity device; size = D.size device })
-        (record { content = D.content result.1; is_flushed = D.is_flushed result.1; faults = D.faults result.1; capacity = D.capacity result.1; size = D.size result.1 })) }
+        (seen D.Device device) (seen D.Device result.1)) }
+    ensures untouched { OnErr result.0
+        (IsUntouched (seen D.Device device) (seen D.Device result.1)) }
 {
-    let medium = match open_medium(alloc, format, device) {
-        Ok(medium) => medium,
+    let (nodes, node) = match open_nodes(alloc, format, device) {
+        Ok(opened) => opened,
         Err((stop, device)) => return (Err(image_status(alloc, image, stop)), device),
     };
     let Prepared {
@@ -128,9 +133,9 @@ fn make_run<D: Device>(
         line,
     } = match judge(alloc, trace, read) {
         Ok(prepared) => prepared,
-        Err(status) => return (Err(status), medium.into_device()),
+        Err(status) => return (Err(status), device_of(nodes)),
     };
-    let mut engine = Engine::new(medium, history, buffer);
+    let mut engine = Engine::new(nodes, node, history, buffer);
     run_requests(&mut engine, ops);
     let (device, history, fault) = engine.finish();
     let made = Made {
@@ -148,7 +153,8 @@ fn write_out<K: Sink>(made: Made, out: &mut K) -> Status
     requires named { made.names ≡ guest_names }
     requires empty { made.line.bytes ≡ [] }
     requires room { 393476 ≤ made.line.spare }
-    ensures { EndsAs made.fault (K.sent out.old) (K.sent out.new) (transcript guest_names made.history.events) (K.faults out.old) (K.faults out.new) result }
+    ensures { EndsAs made.fault (K.sent out.old) (K.sent out.new)
+        (transcript guest_names made.history.events) (K.faults out.old) (K.faults out.new) result }
 {
     let Made {
         history,
@@ -197,11 +203,37 @@ pub(crate) fn run_on<S: Store, K: Sink>(
 ) -> Status
     requires { NoneOut (S.opened store.old) }
     ensures ended { Answers format image.now trace.now
-        (record { files = S.files store.old; opened = S.opened store.old; store_faults = S.faults store.old; sent = K.sent out.old; sink_faults = K.faults out.old })
-        (record { files = S.files store.new; opened = S.opened store.new; store_faults = S.faults store.new; sent = K.sent out.new; sink_faults = K.faults out.new }) result }
+        (record {
+          files = S.files store.old;
+          opened = S.opened store.old;
+          store_faults = S.faults store.old;
+          sent = K.sent out.old;
+          sink_faults = K.faults out.old;
+        })
+        (record {
+          files = S.files store.new;
+          opened = S.opened store.new;
+          store_faults = S.faults store.new;
+          sent = K.sent out.new;
+          sink_faults = K.faults out.new;
+        })
+        result }
     ensures faults { TellsFaults
-        (record { files = S.files store.old; opened = S.opened store.old; store_faults = S.faults store.old; sent = K.sent out.old; sink_faults = K.faults out.old })
-        (record { files = S.files store.new; opened = S.opened store.new; store_faults = S.faults store.new; sent = K.sent out.new; sink_faults = K.faults out.new }) result }
+        (record {
+          files = S.files store.old;
+          opened = S.opened store.old;
+          store_faults = S.faults store.old;
+          sent = K.sent out.old;
+          sink_faults = K.faults out.old;
+        })
+        (record {
+          files = S.files store.new;
+          opened = S.opened store.new;
+          store_faults = S.faults store.new;
+          sent = K.sent out.new;
+          sink_faults = K.faults out.new;
+        })
+        result }
     ensures back { NoneOut (S.opened store.new) }
 {
     let read = match read_trace_file(store, trace) {

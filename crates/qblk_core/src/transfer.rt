@@ -1,21 +1,23 @@
-//! One piece on a device.
-ghost use Rattle.std.specs.Prelude.{◌≡◌, ◌↔◌, ◌+◌, ◌<◌, ◌≤◌, ◌||◌, List, ℕ, [], true, is_ok, MatchOption, length, take, Option, Some, None, option_map, IsTrue};
-ghost use Rattle.blk_base.specs.Counts.{Rose};
-ghost use Rattle.blk_base.specs.Pieces.{Extent, count_of_pieces, piece_of, end_of};
-ghost use Rattle.q2_image.specs.Image.{Known};
-ghost use Rattle.q2_image.specs.Reading.{IsWithinCluster};
+//! One piece of a request, on the image's node.
+ghost use Rattle.std.specs.Prelude.{◌≡◌, ◌<◌, ◌≤◌, List, ℕ, length, Some, option_map};
+ghost use Rattle.blk_base.specs.Content.{bytes_at};
+ghost use Rattle.blk_base.specs.Pieces.{count_of_pieces, piece_of, end_of};
 ghost use Rattle.trace_codec.specs.Request.{pieces_of};
-ghost use Rattle.blk_base.specs.Content.{bytes_at, with_bytes};
-ghost use Rattle.blk_history.specs.Disk.{span_of, piece};
+ghost use Rattle.q2_image.specs.Reading.{IsWithinCluster};
+ghost use Rattle.blk_history.specs.Disk.{span_of, piece, done_in};
 ghost use Rattle.blk_history.specs.Machine.{done_by};
-ghost use Rattle.qblk_core.specs.Space.{LacksSpace, TearsInPlace};
-ghost use Rattle.qblk_core.specs.Steps.{HasCause, outcome_of, shown_of, IsPart, IsRead, IsWritten, IsFlush, shows_in};
+ghost use Rattle.blk_history.specs.Legal.{Tells};
+ghost use Rattle.blk_nodes.specs.Joined.{IsJoined};
+ghost use Rattle.blk_nodes.specs.Nodes.{size_of};
+ghost use Rattle.qblk_core.specs.Along.{HasForm};
+ghost use Rattle.qblk_core.specs.ImageNodes.{HaveOneImage, HaveShapeOf, told_disk, faults_of};
+ghost use Rattle.qblk_core.specs.Pieces.{IsPart, CanTransfer, Transfers, shown_of};
+ghost use Rattle.qblk_core.specs.Steps.{HasCause, shows_in};
 
-use blk_base::{DevNo, Device, FaultAt, FaultFrom, Outcome, Span, Stop, WriteStop, piece_at};
-use trace_codec::Op;
-
-/// The only device of this run.
-pub(crate) const DEVICE: DevNo = DevNo(0);
+use blk_base::{Device, Outcome, Span, piece_at};
+use blk_graph::NodeId;
+use blk_nodes::Nodes;
+use trace_codec::{Op, Payload};
 
 /// The bytes that a request speaks of.
 pub(crate) fn request_span(op: &Op) -> Span
@@ -80,7 +82,7 @@ pub(crate) fn shown_part<'a>(op: &Op, outcome: Outcome, buffer: &'a [u8]) -> &'a
 
 /// Copies bytes from a place on into the buffer, zeros past their end.
 #[tactic(auto, unfolding(blk_base::specs::Content::bytes_at))]
-pub(crate) fn load_bytes(bytes: &[u8], from: u64, buffer: &mut [u8])
+fn load_bytes(bytes: &[u8], from: u64, buffer: &mut [u8])
     ensures { buffer.new ≡ bytes_at bytes.now from (length buffer.old) }
 {
     let from = from.min(bytes.len() as u64) as usize;
@@ -90,94 +92,67 @@ pub(crate) fn load_bytes(bytes: &[u8], from: u64, buffer: &mut [u8])
     back.fill(0);
 }
 
-/// Reads a part of the disk.
-pub(crate) fn read_part<D: Device>(device: &mut D, part: Span, buffer: &mut [u8]) -> Outcome
-    requires { length buffer.old ≡ part.len }
-    ensures read { (disk : List ℕ) → D.content device.old ≡ Some disk → IsRead result disk part buffer.new }
-    ensures space { LacksSpace result → ⊥ }
-    ensures place { TearsInPlace result None part }
-    ensures content { D.content device.new ≡ D.content device.old }
-    ensures flushed { D.is_flushed device.new ≡ D.is_flushed device.old }
-    ensures size { D.size device.new ≡ D.size device.old }
-    ensures cause { HasCause (D.faults device.old) (D.faults device.new) result }
-    ensures faults { D.faults device.old ≤ D.faults device.new }
-    ensures capacity { D.capacity device.new ≡ D.capacity device.old }
+/// Asks a node for one piece of a request. A good read leaves its bytes in the buffer.
+fn ask_node<D: Device>(
+    nodes: &mut Nodes<D>,
+    node: NodeId,
+    op: &Op,
+    part: Span,
+    buffer: &mut [u8],
+) -> Outcome
+    requires whole { length buffer.old ≡ part.len }
+    requires part { IsPart op.now part }
+    requires block { IsWithinCluster 65536 part }
+    requires can { CanTransfer nodes.old node op.now part }
+    ensures length { length buffer.new ≡ part.len }
+    ensures done { Transfers op.now nodes.old nodes.new node part result buffer.new }
 {
-    match device.read_at(part.start, buffer) {
-        Ok(()) => Outcome::Good,
-        Err(_) => Outcome::Io {
-            dev: DEVICE,
-            count: device.faults(),
-        },
+    match op {
+        Op::Read(_) => nodes.read_piece(node, part, buffer),
+        Op::Write(_, Payload::Fill(byte)) => {
+            buffer.fill(*byte);
+            nodes.write_piece(node, part, buffer)
+        }
+        Op::Write(span, Payload::Raw(bytes)) => {
+            let from = part.start.saturating_sub(span.start);
+            load_bytes(bytes.as_slice(), from, buffer);
+            nodes.write_piece(node, part, buffer)
+        }
+        Op::Zero(_) => nodes.zero_piece(node, part),
+        Op::Flush => nodes.flush_node(node),
+        Op::Discard(_) => unreachable!(),
     }
 }
 
-/// Writes a part of the disk.
-pub(crate) fn write_part<D: Device>(device: &mut D, part: Span, bytes: &[u8]) -> Outcome
-    requires { length bytes.now ≡ part.len }
-    ensures written { IsWritten result part }
-    ensures size { D.size device.old ≤ D.size device.new }
-    ensures content { D.content device.new ≡ option_map (λ disk. with_bytes disk part.start (take (done_by result part) bytes.now)) (D.content device.old) }
-    ensures space { LacksSpace result ↔ (end_of part ≤ D.capacity device.old → ⊥) }
-    ensures place { TearsInPlace result None part }
-    ensures cause { HasCause (D.faults device.old) (D.faults device.new) result }
-    ensures faults { D.faults device.old ≤ D.faults device.new }
-    ensures capacity { D.capacity device.new ≡ D.capacity device.old }
+/// Makes one piece of a request on the image's node. A good read leaves its bytes in the buffer.
+pub(crate) fn transfer<D: Device>(
+    nodes: &mut Nodes<D>,
+    image: NodeId,
+    op: &Op,
+    part: Span,
+    buffer: &mut [u8],
+) -> Outcome
+    requires image { image ≡ 1 }
+    requires one { HaveOneImage nodes.old }
+    requires whole { length buffer.old ≡ part.len }
+    requires part { IsPart op.now part }
+    requires block { IsWithinCluster 65536 part }
+    requires inside { end_of part ≤ size_of nodes.old 1 }
+    ensures length { length buffer.new ≡ part.len }
+    ensures done { Transfers op.now nodes.old nodes.new 1 part result buffer.new }
+    ensures joined { IsJoined nodes.new }
+    ensures one { HaveOneImage nodes.new }
+    ensures shape { HaveShapeOf nodes.old nodes.new }
+    ensures tells { (disk : List ℕ) → told_disk nodes.old ≡ Some disk
+        → Tells result op.now part (Some disk) (shown_of op.now result buffer.new) }
+    ensures disk { told_disk nodes.new
+        ≡ option_map (done_in op.now part (done_by result part)) (told_disk nodes.old) }
+    ensures form { HasForm result op.now part }
+    ensures cause { HasCause (faults_of nodes.old) (faults_of nodes.new) result }
+    ensures faults { faults_of nodes.old ≤ faults_of nodes.new }
 {
-    match device.write_at(part.start, bytes) {
-        Ok(()) => Outcome::Good,
-        Err(stop) => write_outcome(stop, device.faults()),
-    }
-}
-
-/// How a write in place went that was stopped, with the device's count of faults behind it.
-pub(crate) fn write_outcome(stop: WriteStop, count: u64) -> Outcome
-    ensures { result ≡ outcome_of stop count }
-{
-    match stop.why {
-        Stop::NoSpace => Outcome::NoSpace { dev: DEVICE },
-        Stop::Failed if stop.done == 0 => Outcome::Io { dev: DEVICE, count },
-        Stop::Failed => Outcome::Torn {
-            done: stop.done,
-            dev: DEVICE,
-            count,
-        },
-    }
-}
-
-/// Flushes a device for a guest.
-pub(crate) fn flush_device<D: Device>(device: &mut D) -> Outcome
-    ensures space { LacksSpace result → ⊥ }
-    ensures place { (image : Option Known) (part : Extent) → TearsInPlace result image part }
-    ensures flushed { IsFlush (D.is_flushed device.old) (D.is_flushed device.new) (D.faults device.old) (D.faults device.new) result }
-    ensures content { D.content device.new ≡ D.content device.old }
-    ensures size { D.size device.new ≡ D.size device.old }
-    ensures faults { D.faults device.old ≤ D.faults device.new }
-    ensures capacity { D.capacity device.new ≡ D.capacity device.old }
-{
-    let Err(_) = device.flush() else {
-        return Outcome::Good;
-    };
-    Outcome::Io {
-        dev: DEVICE,
-        count: device.faults(),
-    }
-}
-
-/// Flushes a device, and tells the fault where that failed.
-pub(crate) fn last_flush<D: Device>(device: &mut D) -> Option<FaultAt>
-    ensures content { D.content device.new ≡ D.content device.old }
-    ensures capacity { D.capacity device.new ≡ D.capacity device.old }
-    ensures faults { D.faults device.old ≤ D.faults device.new }
-    ensures flushed { MatchOption result
-        ((D.is_flushed device.new ≡ option_map (λ _. true) (D.is_flushed device.old)) × (D.faults device.new ≡ D.faults device.old))
-        (λ fault. (fault.from ≡ FaultFrom.Dev (record { 0 = 0 })) × Rose (D.faults device.old) fault.count × (fault.count ≡ D.faults device.new)) }
-{
-    match device.flush() {
-        Ok(()) => None,
-        Err(_) => Some(FaultAt {
-            from: FaultFrom::Dev(DEVICE),
-            count: device.faults(),
-        }),
-    }
+    let _ = nodes.edges();
+    let outcome = ask_node(nodes, image, op, part, buffer);
+    let _ = nodes.edges();
+    outcome
 }

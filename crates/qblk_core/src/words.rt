@@ -52,7 +52,9 @@ pub(crate) struct IoWords<'a> {
 
 /// The format, the image and the trace of the form `io FORMAT IMAGE TRACE`.
 pub(crate) fn io_words(words: &[Text]) -> Option<IoWords<'_>>
-    ensures { MatchOption result ((format : Format) (image trace : List ℕ) → IsIo (texts_of words.now) format image trace → ⊥)
+    ensures { MatchOption result
+        ((format : Format) (image trace : List ℕ) → IsIo (texts_of words.now) format image trace
+        → ⊥)
         (λ io. IsIo (texts_of words.now) io.format io.image.now io.trace.now) }
 {
     let [io, format, image, trace] = words else {

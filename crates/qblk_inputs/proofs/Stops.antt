@@ -15,7 +15,7 @@ use Rattle.qblk_inputs.specs.declared.stop.InputFlaw.TheVariants.{Absent, NotUtf
 use Rattle.qblk_inputs.specs.declared.stop.InputStop.{InputStop}
 use Rattle.qblk_inputs.specs.declared.stop.InputStop.TheVariants.{Refused, Failed, NoMemory}
 use Rattle.qblk_inputs.specs.Inputs.{IsText, IsScript, IsTrace, IsBadText, IsRefusedScript, IsRefusedTrace}
-use Rattle.qblk_inputs.specs.Reading.{IsReadOf, IsUnread, IsRefusal, StopsFor, OfFile}
+use Rattle.qblk_inputs.specs.Reading.{IsReadOfFile, IsUnread, IsInputRefusal, StopsFor, OfFile}
 
 pub told_map : {A : Type 0} (o : Option A) (P Q : A → Type 0) → ((a : A) → P a → Q a) → IfTold o P → IfTold o Q
 told_map None P Q f h = tt
@@ -24,7 +24,7 @@ told_map (Some a) P Q f h = f a h
 -- ---- statuses
 
 pub refused_for : (P : List ℕ → InputFlaw → ℕ → Type 0) (name : List ℕ) (line : ℕ) (why : InputFlaw) (before now : ℕ) (stop : InputStop)
-    → IsRefusal name line why stop → P name why line → now ≡ before → StopsFor P before now stop
+    → IsInputRefusal name line why stop → P name why line → now ≡ before → StopsFor P before now stop
 refused_for P name line why before now (Refused n l w) is p same =
     let A : List ℕ → Type 0 = λ m. P m why line in
     let B : ℕ → Type 0 = λ k. P n.bytes why k in
@@ -80,39 +80,39 @@ trace_unread asked told name before now stop h =
 -- ---- a file that is read
 
 -- what its bytes are, so is what was read
-of_read : (name bytes : List ℕ) (P : List ℕ → Type 0) (files : List File) → IsReadOf name bytes files → (length bytes ≤ 67108864 → P bytes) → HasFile name (λ f. P f.bytes) files
+of_read : (name bytes : List ℕ) (P : List ℕ → Type 0) (files : List File) → IsReadOfFile name bytes files → (length bytes ≤ 67108864 → P bytes) → HasFile name (λ f. P f.bytes) files
 of_read name bytes P files h p = (h.0, h.1, subst P h.2.0 (p h.2.1))
 
-pub reads : (told : Option (List File)) (name bytes : List ℕ) (P : List ℕ → Type 0) → IfTold told (IsReadOf name bytes)
+pub reads : (told : Option (List File)) (name bytes : List ℕ) (P : List ℕ → Type 0) → IfTold told (IsReadOfFile name bytes)
     → (length bytes ≤ 67108864 → P bytes) → IfTold told (HasFile name (λ f. P f.bytes))
-reads told name bytes P h p = told_map told (IsReadOf name bytes) (HasFile name (λ f. P f.bytes)) (λ files is. of_read name bytes P files is p) h
+reads told name bytes P h p = told_map told (IsReadOfFile name bytes) (HasFile name (λ f. P f.bytes)) (λ files is. of_read name bytes P files is p) h
 
-pub not_text : (told : Option (List File)) (name bytes : List ℕ) → IfTold told (IsReadOf name bytes) → (IsUtf8 bytes → ⊥)
+pub not_text : (told : Option (List File)) (name bytes : List ℕ) → IfTold told (IsReadOfFile name bytes) → (IsUtf8 bytes → ⊥)
     → IfTold told (HasFile name (λ f. IsBadText NotUtf8 0 f.bytes))
 not_text told name bytes h other = reads told name bytes (IsBadText NotUtf8 0) h (λ short. (refl, short, other))
 
-pub script_read : (told : Option (List File)) (name bytes : List ℕ) (guests : List (List ℕ)) (orders : List Order) → IfTold told (IsReadOf name bytes)
+pub script_read : (told : Option (List File)) (name bytes : List ℕ) (guests : List (List ℕ)) (orders : List Order) → IfTold told (IsReadOfFile name bytes)
     → IsUtf8 bytes → count_of_lines (lines_of bytes) ≤ 4096 → orders ≡ orders_of guests bytes
     → IfTold told (HasFile name (λ f. IsScript guests orders f.bytes))
 script_read told name bytes guests orders h text few is =
     reads told name bytes (IsScript guests orders) h (λ short. record { text = record { short = short; text = text }; few = few; orders_are = is })
 
-pub script_long : (told : Option (List File)) (name bytes : List ℕ) → IfTold told (IsReadOf name bytes)
+pub script_long : (told : Option (List File)) (name bytes : List ℕ) → IfTold told (IsReadOfFile name bytes)
     → IsUtf8 bytes → 4096 < count_of_lines (lines_of bytes) → OfFile told name IsRefusedScript name TooMany 4097
 script_long told name bytes h text many =
     (refl, reads told name bytes (λ bs. IsText bs × (4097 ≡ 4097) × (4096 < count_of_lines (lines_of bs))) h (λ short. (record { short = short; text = text }, refl, many)))
 
-pub trace_read : (told : Option (List File)) (name bytes : List ℕ) (before asked : Amounts) (wishes : List Wish) → IfTold told (IsReadOf name bytes)
+pub trace_read : (told : Option (List File)) (name bytes : List ℕ) (before asked : Amounts) (wishes : List Wish) → IfTold told (IsReadOfFile name bytes)
     → IsUtf8 bytes → wishes_in before bytes ≡ Ok (wishes, asked) → IfTold told (HasFile name (λ f. IsTrace before wishes asked f.bytes))
 trace_read told name bytes before asked wishes h text is =
     reads told name bytes (IsTrace before wishes asked) h (λ short. record { text = record { short = short; text = text }; read = is })
 
-pub trace_bad : (told : Option (List File)) (name bytes : List ℕ) (before : Amounts) (line : ℕ) → IfTold told (IsReadOf name bytes)
+pub trace_bad : (told : Option (List File)) (name bytes : List ℕ) (before : Amounts) (line : ℕ) → IfTold told (IsReadOfFile name bytes)
     → IsUtf8 bytes → wishes_in before bytes ≡ Err (stops.BadLine line) → OfFile told name (IsRefusedTrace before) name BadLine line
 trace_bad told name bytes before line h text is =
     (refl, reads told name bytes (λ bs. IsText bs × (wishes_in before bs ≡ Err (stops.BadLine line))) h (λ short. (record { short = short; text = text }, is)))
 
-pub trace_long : (told : Option (List File)) (name bytes : List ℕ) (before : Amounts) (line : ℕ) → IfTold told (IsReadOf name bytes)
+pub trace_long : (told : Option (List File)) (name bytes : List ℕ) (before : Amounts) (line : ℕ) → IfTold told (IsReadOfFile name bytes)
     → IsUtf8 bytes → wishes_in before bytes ≡ Err (stops.TooMany line) → OfFile told name (IsRefusedTrace before) name TooMany line
 trace_long told name bytes before line h text is =
     (refl, reads told name bytes (λ bs. IsText bs × (wishes_in before bs ≡ Err (stops.TooMany line))) h (λ short. (record { short = short; text = text }, is)))

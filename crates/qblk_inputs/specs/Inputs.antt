@@ -31,7 +31,8 @@ pub record IsScript (guests : List (List ℕ)) (orders : List Order) (bytes : Li
   pub orders_are : orders ≡ orders_of guests bytes
 
 -- a trace, behind those that ask for so much; with it all ask for so much
-pub record IsTrace (before : Amounts) (wishes : List Wish) (asked : Amounts) (bytes : List ℕ) : Type 0 where
+pub record IsTrace (before : Amounts) (wishes : List Wish) (asked : Amounts) (bytes : List ℕ) : Type
+    0 where
   pub text : IsText bytes
   pub read : wishes_in before bytes ≡ Ok (wishes, asked)
 
@@ -56,12 +57,15 @@ IsBadText NotUtf8 line bytes = (line ≡ 0) × (length bytes ≤ 67108864) × (I
 IsBadText why line bytes = ⊥
 
 abbrev pub IsBadScript : InputFlaw → ℕ → List ℕ → Type 0
-IsBadScript TooMany line bytes = IsText bytes × (line ≡ 4097) × (4096 < count_of_lines (lines_of bytes))
+IsBadScript TooMany line bytes =
+    IsText bytes × (line ≡ 4097) × (4096 < count_of_lines (lines_of bytes))
 IsBadScript why line bytes = IsBadText why line bytes
 
 abbrev pub IsBadTrace : Amounts → InputFlaw → ℕ → List ℕ → Type 0
-IsBadTrace before BadLine line bytes = IsText bytes × (wishes_in before bytes ≡ Err (stops.BadLine line))
-IsBadTrace before TooMany line bytes = IsText bytes × (wishes_in before bytes ≡ Err (stops.TooMany line))
+IsBadTrace before BadLine line bytes =
+    IsText bytes × (wishes_in before bytes ≡ Err (stops.BadLine line))
+IsBadTrace before TooMany line bytes =
+    IsText bytes × (wishes_in before bytes ≡ Err (stops.TooMany line))
 IsBadTrace before why line bytes = IsBadText why line bytes
 
 abbrev pub IsRefusedScript : InputFlaw → ℕ → List ℕ → List File → Type 0
@@ -70,19 +74,22 @@ IsRefusedScript why line script files = HasFile script (λ f. IsBadScript why li
 
 abbrev pub IsRefusedTrace : Amounts → InputFlaw → ℕ → List ℕ → List File → Type 0
 IsRefusedTrace before Absent line trace files = (line ≡ 0) × LacksFile trace files
-IsRefusedTrace before why line trace files = HasFile trace (λ f. IsBadTrace before why line f.bytes) files
+IsRefusedTrace before why line trace files =
+    HasFile trace (λ f. IsBadTrace before why line f.bytes) files
 
 -- the first trace that is refused: those before it are read
 abbrev pub IsFirstRefused : Amounts → List Player → List ℕ → ℕ → InputFlaw → List File → Type 0
 IsFirstRefused before [] name line why files = ⊥
 IsFirstRefused before (p ∷ players) name line why files =
     ((name ≡ p.trace) × IsRefusedTrace before why line p.trace files)
-    ⊎ ((wishes : List Wish) × (asked : Amounts) × HasFile p.trace (λ f. IsTrace before wishes asked f.bytes) files
+    ⊎ ((wishes : List Wish) × (asked : Amounts)
+    × HasFile p.trace (λ f. IsTrace before wishes asked f.bytes) files
     × IsFirstRefused asked players name line why files)
 
 -- the script before the traces
 abbrev pub IsRefusedInput : Cast → List ℕ → ℕ → InputFlaw → List File → Type 0
 IsRefusedInput cast name line why files =
     ((name ≡ cast.script) × IsRefusedScript why line cast.script files)
-    ⊎ ((orders : List Order) × HasFile cast.script (λ f. IsScript (guests_of cast) orders f.bytes) files
+    ⊎ ((orders : List Order)
+    × HasFile cast.script (λ f. IsScript (guests_of cast) orders f.bytes) files
     × IsFirstRefused nothing cast.players name line why files)

@@ -15,14 +15,15 @@ abbrev pub NoneOut : List Opened → Type 0
 NoneOut opened = (name : List ℕ) → is_out name opened ≡ true → ⊥
 
 -- the bytes of a file that is not too long
-abbrev pub IsReadOf : List ℕ → List ℕ → List File → Type 0
-IsReadOf name bytes files = HasFile name (λ f. (bytes ≡ f.bytes) × (length bytes ≤ 67108864)) files
+abbrev pub IsReadOfFile : List ℕ → List ℕ → List File → Type 0
+IsReadOfFile name bytes files =
+    HasFile name (λ f. (bytes ≡ f.bytes) × (length bytes ≤ 67108864)) files
 
 -- the stop is the refusal of that file, or tells of want of memory
-abbrev pub IsRefusal : List ℕ → ℕ → InputFlaw → InputStop → Type 0
-IsRefusal name line why (Refused n l w) = (n.bytes ≡ name) × (l ≡ line) × (w ≡ why)
-IsRefusal name line why (Failed count) = ⊥
-IsRefusal name line why NoMemory = Unit {0}
+abbrev pub IsInputRefusal : List ℕ → ℕ → InputFlaw → InputStop → Type 0
+IsInputRefusal name line why (Refused n l w) = (n.bytes ≡ name) × (l ≡ line) × (w ≡ why)
+IsInputRefusal name line why (Failed count) = ⊥
+IsInputRefusal name line why NoMemory = Unit {0}
 
 -- an input is refused, for this cause; or a call of the store failed; or memory wasn't had
 abbrev pub StopsFor : (List ℕ → InputFlaw → ℕ → Type 0) → ℕ → ℕ → InputStop → Type 0
@@ -37,5 +38,6 @@ IsUnread TooLong line name files = (line ≡ 0) × HasFile name (λ f. 67108864 
 IsUnread why line name files = ⊥
 
 -- a refusal of this file for a cause
-abbrev pub OfFile : Option (List File) → List ℕ → (InputFlaw → ℕ → List ℕ → List File → Type 0) → List ℕ → InputFlaw → ℕ → Type 0
+abbrev pub OfFile : Option (List File) → List ℕ → (InputFlaw → ℕ → List ℕ → List File → Type 0)
+    → List ℕ → InputFlaw → ℕ → Type 0
 OfFile told name P given why line = (given ≡ name) × IfTold told (P why line name)

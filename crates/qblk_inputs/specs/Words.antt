@@ -9,7 +9,9 @@ texts_of words = map (λ w. w.bytes) words
 
 -- a file name has 1 to 1,023 bytes, none of them zero; no word begins with `-`
 abbrev pub is_file_name : List ℕ → Bool
-is_file_name word = nat_lt 0 (length word) && nat_lt (length word) 1024 && not (slice_index word 0 == 45) && not (list_any (λ b. b == 0) word)
+is_file_name word =
+    nat_lt 0 (length word) && nat_lt (length word) 1024 && not (slice_index word 0 == 45)
+    && not (list_any (λ b. b == 0) word)
 
 -- a guest, and the file of its trace
 pub record Player : Type 0 where
@@ -18,11 +20,15 @@ pub record Player : Type 0 where
 
 -- `GUEST=TRACE`, cut at its first `=`
 abbrev pub player_of : List ℕ → Player
-player_of word = record { name = before_first (λ b. b == 61) word; trace = after_first (λ b. b == 61) word }
+player_of word = record {
+  name = before_first (λ b. b == 61) word;
+  trace = after_first (λ b. b == 61) word;
+}
 
 -- a file name that stands within a word, and so may begin with any byte: 1 to 1,023 bytes, none of them zero
 abbrev pub is_inner_name : List ℕ → Bool
-is_inner_name name = nat_lt 0 (length name) && nat_lt (length name) 1024 && not (list_any (λ b. b == 0) name)
+is_inner_name name =
+    nat_lt 0 (length name) && nat_lt (length name) 1024 && not (list_any (λ b. b == 0) name)
 
 -- there is an `=`: what stands before it is not the whole word
 abbrev pub is_player : List ℕ → Bool
@@ -51,7 +57,9 @@ cast_of script words = record { script = script; players = map player_of words }
 
 -- at most 16 guests with their traces, of different names
 abbrev pub are_players : List (List ℕ) → Bool
-are_players words = nat_le (length words) 16 && (list_all is_player words && all_differ (names_of (map player_of words)))
+are_players words =
+    nat_le (length words) 16
+    && (list_all is_player words && all_differ (names_of (map player_of words)))
 
 -- `run 1 SCRIPT GUEST=TRACE ..`
 pub record IsRunOf (words : List (List ℕ)) (cast : Cast) : Type 0 where

@@ -6,7 +6,7 @@ ghost use Rattle.trace_codec.specs.Amounts.{nothing};
 ghost use Rattle.trace_codec.specs.Script.{seen_order};
 ghost use Rattle.qblk_inputs.specs.Words.{texts_of, player_of, names_of, guests_of, cast_of};
 ghost use Rattle.qblk_inputs.specs.Inputs.{IsScript, IsTrace, HasTraces, IsRefusedScript, IsRefusedTrace, IsFirstRefused, HasWork, IsRefusedInput};
-ghost use Rattle.qblk_inputs.specs.Reading.{NoneOut, IsReadOf, IsUnread, IsRefusal, StopsFor, OfFile};
+ghost use Rattle.qblk_inputs.specs.Reading.{NoneOut, IsReadOfFile, IsUnread, IsInputRefusal, StopsFor, OfFile};
 
 use crate::stop::{InputFlaw, InputStop};
 use crate::words::player_of;
@@ -31,7 +31,7 @@ const MAX_TEXT: u64 = 64 * 1024 * 1024;
 
 /// The refusal of an input.
 fn refused(alloc: Global, name: &str, line: u32, why: InputFlaw) -> InputStop
-    ensures { IsRefusal name.now line why result }
+    ensures { IsInputRefusal name.now line why result }
 {
     match Text::copied(alloc, name) {
         Ok(name) => InputStop::Refused { name, line, why },
@@ -42,7 +42,7 @@ fn refused(alloc: Global, name: &str, line: u32, why: InputFlaw) -> InputStop
 /// The bytes of an input's file, where it isn't too long.
 fn read_file<S: Store>(alloc: Global, store: &mut S, name: &str) -> Result<Bytes, InputStop>
     requires { NoneOut (S.opened store.old) }
-    ensures read { IfOk result (λ bytes. IfTold (S.files store.old) (IsReadOf name.now bytes)) }
+    ensures read { IfOk result (λ bytes. IfTold (S.files store.old) (IsReadOfFile name.now bytes)) }
     ensures stop { IfErr result (StopsFor (OfFile (S.files store.old) name.now IsUnread)
         (S.faults store.old) (S.faults store.new)) }
     ensures files { S.files store.new ≡ S.files store.old }

@@ -8,9 +8,11 @@ use Rattle.blk_history.specs.Recorded.{Recorded}
 use Rattle.blk_history.specs.Transcript.{transcript}
 use Rattle.blk_history.specs.declared.event.Event.{Event}
 use Rattle.qblk_core.specs.Run.{Outside, guest_names}
-use Rattle.qblk_core.specs.Session.{Seen, EndsAs}
+use Rattle.blk_nodes.specs.Nodes.{DeviceState}
+use Rattle.qblk_core.specs.ImageNodes.{faults_of, seen}
+use Rattle.qblk_core.specs.Session.{EndsAs}
 use Rattle.qblk_core.proofs.Returned.{none-out-back}
-use Rattle.qblk_core.proofs.Whole.{ends, stops, store-stands, sink-stands, ends-stands}
+use Rattle.qblk_core.proofs.Whole.{ends, stops, store-stands, sink-stands, ends-stands, closed-of}
 use Rattle.qblk_core.proofs.session.run_on.Goals as goal
 
 pub give_back-requires : goal.give_back-requires
@@ -23,8 +25,8 @@ returns-in-Ok-made-clause-ended g c =
     let K = g.K.Sink in
     let dev = c.in-Ok-open_image.device in
     let back = c.make_run-made.result.1 in
-    let d : Seen = record { content = D.content dev; is_flushed = D.is_flushed dev; faults = D.faults dev; capacity = D.capacity dev; size = D.size dev } in
-    let n : Seen = record { content = D.content back; is_flushed = D.is_flushed back; faults = D.faults back; capacity = D.capacity back; size = D.size back } in
+    let d : DeviceState = seen D dev in
+    let n : DeviceState = seen D back in
     let old : Outside = record { files = S.files c.args.store.now; opened = S.opened c.args.store.now; store_faults = S.faults c.args.store.now; sent = K.sent c.args.out.now; sink_faults = K.faults c.args.out.now } in
     let new : Outside = record { files = S.files c.give_back.new.self; opened = S.opened c.give_back.new.self; store_faults = S.faults c.give_back.new.self; sent = K.sent c.write_out.new.out; sink_faults = K.faults c.write_out.new.out } in
     let sized : (b : List ℕ) → d.content ≡ Some b → d.size ≡ length b = λ b is. g.met.S.Dev.Device.told_size dev b is in
@@ -50,8 +52,8 @@ returns-in-Err-made-clause-ended g c =
     let K = g.K.Sink in
     let dev = c.in-Ok-open_image.device in
     let back = c.make_run-made.result.1 in
-    let d : Seen = record { content = D.content dev; is_flushed = D.is_flushed dev; faults = D.faults dev; capacity = D.capacity dev; size = D.size dev } in
-    let n : Seen = record { content = D.content back; is_flushed = D.is_flushed back; faults = D.faults back; capacity = D.capacity back; size = D.size back } in
+    let d : DeviceState = seen D dev in
+    let n : DeviceState = seen D back in
     let old : Outside = record { files = S.files c.args.store.now; opened = S.opened c.args.store.now; store_faults = S.faults c.args.store.now; sent = K.sent c.args.out.now; sink_faults = K.faults c.args.out.now } in
     let new : Outside = record { files = S.files c.give_back.new.self; opened = S.opened c.give_back.new.self; store_faults = S.faults c.give_back.new.self; sent = K.sent c.args.out.now; sink_faults = K.faults c.args.out.now } in
     let sized : (b : List ℕ) → d.content ≡ Some b → d.size ≡ length b = λ b is. g.met.S.Dev.Device.told_size dev b is in
@@ -92,14 +94,14 @@ returns-in-Ok-made-clause-faults g c =
     let D = g.S.Dev.Device in
     let K = g.K.Sink in
     let back = c.make_run-made.result.1 in
-    let n : Seen = record { content = D.content back; is_flushed = D.is_flushed back; faults = D.faults back; capacity = D.capacity back; size = D.size back } in
+    let n : DeviceState = seen D back in
     let made = rw c.in-Ok-made.is at c.make_run-made.ensures.made in
     let w = made.1 in
     let counts = c.give_back.ensures.faults ∙ c.in-Ok-open_image.ensures.quiet ∙ c.in-Ok.ensures.quiet in
     record {
       store = store-stands (S.faults c.args.store.now) (S.faults c.give_back.new.self) c.write_out.result counts;
-      sink = ends-stands n w.faults c.in-Ok-made.made.fault (K.sent c.args.out.now) (K.sent c.write_out.new.out) (transcript guest_names c.in-Ok-made.made.history.events)
-          (K.faults c.args.out.now) (K.faults c.write_out.new.out) c.write_out.result made.3.flushed c.write_out.ensures;
+      sink = ends-stands n (faults_of w.nodes) c.in-Ok-made.made.fault (K.sent c.args.out.now) (K.sent c.write_out.new.out) (transcript guest_names c.in-Ok-made.made.history.events)
+          (K.faults c.args.out.now) (K.faults c.write_out.new.out) c.write_out.result (closed-of c.args.format made.0 (seen D c.in-Ok-open_image.device) n w c.in-Ok-made.made.fault made.3).flushed c.write_out.ensures;
     }
 
 pub returns-in-Err-made-clause-faults : goal.returns-in-Err-made-clause-faults

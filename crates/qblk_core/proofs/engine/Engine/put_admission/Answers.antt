@@ -1,6 +1,7 @@
 use Rattle.std.proofs.Common.{◌≡◌, ◌+◌, ◌∙◌, refl, ap, arith}
 use Rattle.blk_base.specs.Pieces.{end_of}
 use Rattle.blk_history.specs.Disk.{span_of}
+use Rattle.blk_nodes.specs.Nodes.{size_of}
 use Rattle.qblk_core.proofs.Flights.{request-push}
 use Rattle.qblk_core.proofs.engine.Engine.put_admission.Goals as goal
 
@@ -9,13 +10,15 @@ invariant_of-self-2 g c =
     let placed = request-push c.self.inside.history.events c.args.op c.self.inside.done (c.note_admission-place.result) c.note_admission-place.ensures.place in
     let span = c.request_span-span.ensures in
     let is = c.span.view_is in
+    let size : c.size.result ≡ size_of c.self.inside.nodes 1 = c.size.ensures ∙ ap (size_of c.self.inside.nodes) c.self.invariant.image in
     record {
+      one = c.self.invariant.one;
+      image = c.self.invariant.image;
       admitted = (
         c.args.op,
         rw c.note_admission-place.ensures.noted placed,
         (let end : c.span.inside.start + c.span.inside.len ≡ end_of (span_of c.args.op) = ap end_of (is ∙ span) in omega arith),
       );
-      whole = c.self.invariant.whole;
       block = c.self.invariant.block;
     }
 

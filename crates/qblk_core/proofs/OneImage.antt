@@ -1,0 +1,564 @@
+-- What a piece leaves of the nodes of one image.
+use Rattle.std.proofs.Common.{◌≡◌, ◌≢◌, ◌⊎◌, ℕ, ◌+◌, ◌<◌, ◌≤◌, max, Bool, true, false, List, [], ◌∷◌, length, take, replicate, get_or, zero, suc, Option, Some, None, refl, sym, ◌∙◌, ap, subst, inl, inr, arith}
+use Rattle.std.specs.Prelude.{IsTrue, is_some, option_map}
+use Rattle.std.proofs.lemmas.Bool.{false≢true, cases_eq}
+use Rattle.std.proofs.lemmas.List.{length-replicate, length-take, take_all}
+use Rattle.blk_base.specs.Content.{with_bytes, size_with}
+use Rattle.blk_base.specs.Counts.{Rose}
+use Rattle.blk_base.specs.Pieces.{Extent, end_of}
+use Rattle.blk_base.specs.declared.fault.DevNo.{DevNo}
+use Rattle.blk_base.specs.declared.fault.Outcome.{Outcome}
+use Rattle.blk_base.specs.declared.fault.Outcome.TheVariants.{Good, Torn, Io, NoSpace}
+use Rattle.blk_base.proofs.Contents.{length-bytes_at}
+use Rattle.trace_codec.specs.declared.op.Op.{Op}
+use Rattle.trace_codec.specs.declared.op.Op.TheVariants.{Read, Write, Zero, Flush, Discard}
+use Rattle.trace_codec.specs.declared.op.Payload.TheVariants.{Fill, Raw}
+use Rattle.blk_graph.specs.Edits.{child_of}
+use Rattle.blk_graph.specs.Graph.{Graph, HasNode}
+use Rattle.blk_graph.specs.declared.edge.Parent.TheVariants.{Node}
+use Rattle.blk_graph.specs.declared.edge.Role.TheVariants.{File, Backing}
+use Rattle.blk_history.specs.Disk.{payload_in, shown_in, done_in, is_write}
+use Rattle.blk_history.specs.Legal.{Tells}
+use Rattle.blk_history.specs.Machine.{done_by}
+use Rattle.q2_format.specs.declared.header.Header.{Header}
+use Rattle.q2_image.specs.Image.{Known}
+use Rattle.raw_image.specs.declared.image.RawImage.{RawImage}
+use Rattle.blk_nodes.specs.Changing.{IsWritten, IsZeroed, LeavesRow}
+use Rattle.blk_nodes.specs.Contents.{disk_of}
+use Rattle.blk_nodes.specs.Flushing.{base_in, base_of, HasFlushCause, IsFlushAt}
+use Rattle.blk_nodes.specs.Joined.{IsJoined, IsSized}
+use Rattle.blk_nodes.specs.Nodes.{Nodes, DeviceState, AreTold, row_at, size_by, size_of, kind_in, kind_of, file_of, backing_of, device_in}
+use Rattle.blk_nodes.specs.Reading.{HasRisen, HaveRisen, OnlyAt, StoppedBy, StoppedAt, IsReadBelow, ReadsDisk}
+use Rattle.blk_nodes.specs.Writing.{IsDriverAfter, IsRowAfter, AreRowsAfter, LeavesNodes, HasCauseOf, HasPieceCause, IsTornAt, IsWriteOf, WritesFile, WritesImage, WritesBy, ZerosBy, WritesPiece, ZerosPiece, MayWrite, CanBeWritten, HasImageIn, own_file, own_start, taken_by}
+use Rattle.blk_nodes.specs.declared.row.Driver.{Driver}
+use Rattle.blk_nodes.specs.declared.row.Driver.TheVariants as drivers
+use Rattle.blk_nodes.specs.declared.row.Row.{Row}
+use Rattle.blk_nodes.proofs.Alike.{alike_but, row_refl}
+use Rattle.qblk_core.specs.Along.{HasForm}
+use Rattle.qblk_core.specs.ImageNodes.{only_device, IsOnFile, HaveOneImage, HaveShapeOf, content_of, told_disk, faults_of}
+use Rattle.qblk_core.specs.Pieces.{CanTransfer, Transfers, shown_of}
+use Rattle.qblk_core.specs.Steps.{HasCause}
+use Rattle.qblk_core.proofs.Capacities.{written-capacity, zeroed-capacity}
+use Rattle.qblk_core.proofs.OneDevice.{first-found, head-same, only-one, risen-one, told-one, content-is, faults-is, capacity-is, stopped-by, stopped-at}
+
+-- what puts bytes has as many of them as its part
+abbrev IsPutting : Op → Type 0
+IsPutting (Read span) = ⊥
+IsPutting (Write span payload) = Unit {0}
+IsPutting (Zero span) = Unit {0}
+IsPutting Flush = ⊥
+IsPutting (Discard span) = ⊥
+
+payload-length : (op : Op) (part : Extent) → IsPutting op → length (payload_in op part) ≡ part.len
+payload-length (Read span) part bad = absurd bad
+payload-length (Write span (Fill byte)) part is = length-replicate part.len byte
+payload-length (Write span (Raw bytes)) part is = length-bytes_at bytes _ part.len
+payload-length (Zero span) part is = length-replicate part.len 0
+payload-length Flush part bad = absurd bad
+payload-length (Discard span) part bad = absurd bad
+
+-- ---- what may be asked of the image's node
+
+pub node-there : (nodes : Nodes) → IsJoined nodes → HaveOneImage nodes → HasNode nodes.graph 1
+node-there nodes joined one = joined.only 1 (rw one.there refl)
+
+can-write : (nodes : Nodes) (one : HaveOneImage nodes) (d : Driver) (was now : ℕ) → IsOnFile d was now → CanBeWritten nodes 1 d
+can-write nodes one drivers.File was now on = absurd on
+can-write nodes one (drivers.Raw part) was now on = tt
+can-write nodes one (drivers.Qcow2 image) was now on = λ over file backing edge.
+    let none : Some over ≡ None = sym backing ∙ one.bare in
+    let bad : ⊥ = cc none in absurd bad
+can-write nodes one drivers.CopyOnRead was now on = absurd on
+
+pub may-write : (nodes : Nodes) → HaveOneImage nodes → MayWrite nodes 1
+may-write nodes one = record {
+  row = one.row;
+  there = one.there;
+  writable = one.writable;
+  can = can-write nodes one one.row.driver (size_of nodes 0) one.device.size one.on_file;
+  owns = λ file own other has. elim (cases_eq other 1) [
+    | inl same ↦ same
+    | inr apart ↦
+        let none : Some file ≡ None = sym has.edge ∙ one.others other apart in
+        let bad : ⊥ = cc none in absurd bad
+  ];
+}
+
+pub can-transfer : (nodes : Nodes) (op : Op) (part : Extent) → IsJoined nodes → HaveOneImage nodes → end_of part ≤ size_of nodes 1
+    → CanTransfer nodes 1 op part
+can-transfer nodes op part joined one inside = record { there = node-there nodes joined one; inside = inside; may = λ writes. may-write nodes one }
+
+-- the image's node is flushed by its file's device
+pub base-is : (nodes : Nodes) → HaveOneImage nodes → base_of nodes 1 ≡ 0
+unfolding base_of
+base-is nodes one =
+    ap (λ (f : Option ℕ). elim f as (λ _. ℕ) [ None ↦ 1 | Some next ↦ base_in 63 nodes next ]) one.file
+    ∙ ap (λ (f : Option ℕ). elim f as (λ _. ℕ) [ None ↦ 0 | Some next ↦ base_in 62 nodes next ]) (one.others 0 (λ bad. absurd (let e : ⊥ = cc bad in e)))
+
+-- ---- the device
+
+-- what a piece leaves of it
+pub record StepsTo (d e : DeviceState) (outcome : Outcome) : Type 0 where
+  pub node : e.node ≡ d.node
+  pub number : e.number ≡ d.number
+  pub told : is_some e.content ≡ is_some d.content
+  pub capacity : e.capacity ≡ d.capacity
+  pub faults : d.faults ≤ e.faults
+  pub cause : HasCause d.faults e.faults outcome
+
+pub record Goes (d : DeviceState) (new : List DeviceState) (outcome : Outcome) : Type 0 where
+  pub device : DeviceState
+  pub is : new ≡ device ∷ []
+  pub steps : StepsTo d device outcome
+
+some-mapped : (f : List ℕ → List ℕ) (content : Option (List ℕ)) → is_some (option_map f content) ≡ is_some content
+some-mapped f None = refl
+some-mapped f (Some bytes) = refl
+
+write-cause : (d e : DeviceState) (place n : ℕ) (outcome : Outcome) → d.number ≡ only_device → HasCauseOf d e place n outcome → HasCause d.faults e.faults outcome
+write-cause d e place n Good number cause = cause.1
+write-cause d e place n (Torn done dev count) number cause = stopped-by d e dev count number cause.4
+write-cause d e place n (Io dev count) number cause = stopped-by d e dev count number cause.1
+write-cause d e place n (NoSpace dev) number cause = (ap (λ (k : DevNo). k.0) (cause.1 ∙ number), cause.2)
+
+flush-cause : (d e : DeviceState) (outcome : Outcome) → d.number ≡ only_device → HasFlushCause d e outcome → HasCause d.faults e.faults outcome
+flush-cause d e Good number cause = cause
+flush-cause d e (Torn done dev count) number cause = absurd cause
+flush-cause d e (Io dev count) number cause = stopped-by d e dev count number cause
+flush-cause d e (NoSpace dev) number cause = absurd cause
+
+module _ (old new : Nodes) (one : HaveOneImage old) where
+  -- the device that a call's clauses speak of
+  pub the-one : (file : ℕ) (before after : DeviceState) → OnlyAt file old.devices new.devices → device_in old.devices file ≡ Some before
+      → device_in new.devices file ≡ Some after → (new.devices ≡ after ∷ []) × (before ≡ one.device)
+  the-one file before after only held left =
+      only-one file one.device before after new.devices (subst (λ (ds : List DeviceState). OnlyAt file ds new.devices) one.only only)
+      (subst (λ (ds : List DeviceState). device_in ds file ≡ Some before) one.only held) left
+
+  the-stop : (file : ℕ) (e : DeviceState) (dev : DevNo) (count : ℕ) → new.devices ≡ e ∷ [] → StoppedAt file old.devices new.devices dev count
+      → (dev.0 ≡ 0) × Rose one.device.faults count × (count ≡ e.faults)
+  the-stop file e dev count is stopped =
+      stopped-at file one.device e new.devices dev count one.number is
+      (subst (λ (ds : List DeviceState). StoppedAt file ds new.devices dev count) one.only stopped)
+
+  the-risen : HaveRisen old.devices new.devices → (e : DeviceState) × (new.devices ≡ e ∷ []) × HasRisen one.device e
+  the-risen risen = risen-one one.device new.devices (subst (λ (ds : List DeviceState). HaveRisen ds new.devices) one.only risen)
+
+  the-same : (e : DeviceState) → new.devices ≡ e ∷ [] → new ≡ old → e ≡ one.device
+  the-same e is same = sym (head-same one.device e [] (sym one.only ∙ ap (λ (n : Nodes). n.devices) (sym same) ∙ is))
+
+  pub file-goes : (place : ℕ) (bytes : List ℕ) (outcome : Outcome) → WritesFile old new 1 place bytes outcome → Goes one.device new.devices outcome
+  file-goes place bytes outcome wrote =
+      let at = wrote.at in
+      let r = the-one wrote.file at.before at.after at.only at.held at.left in
+      let w : IsWriteOf one.device at.after wrote.start bytes outcome = subst (λ (x : DeviceState). IsWriteOf x at.after wrote.start bytes outcome) r.1 at.wrote in
+      record {
+        device = at.after;
+        is = r.0;
+        steps = record {
+          node = w.node;
+          number = w.number;
+          told = ap is_some w.content ∙ some-mapped _ one.device.content;
+          capacity = w.capacity;
+          faults = w.faults;
+          cause = write-cause one.device at.after wrote.start (length bytes) outcome one.number w.cause;
+        };
+      }
+
+  image-goes : (fits : ℕ → Type 0) (own : Option ℕ) (n : ℕ) (outcome : Outcome) (wrote : WritesImage fits own old new 1 n outcome)
+      → wrote.after.capacity ≡ wrote.before.capacity → Goes one.device new.devices outcome
+  image-goes fits own n outcome wrote capacity =
+      record {
+        device = wrote.after;
+        is = r.0;
+        steps = record {
+          node = wrote.device.node ∙ ap (λ (x : DeviceState). x.node) r.1;
+          number = wrote.device.number ∙ ap (λ (x : DeviceState). x.number) r.1;
+          told = wrote.device.told ∙ ap (λ (x : DeviceState). is_some x.content) r.1;
+          capacity = capacity ∙ ap (λ (x : DeviceState). x.capacity) r.1;
+          faults = subst (λ (x : DeviceState). x.faults ≤ wrote.after.faults) r.1 wrote.device.faults;
+          cause = by_cause outcome wrote.cause;
+        };
+      }
+    where
+      r : (new.devices ≡ wrote.after ∷ []) × (wrote.before ≡ one.device)
+      r = elim wrote.devices [
+        | inl only ↦ the-one wrote.file wrote.before wrote.after only wrote.held wrote.left
+        | inr risen ↦
+            let e = the-risen risen in
+            let after : wrote.after ≡ e.0 = first-found e.0 wrote.after wrote.file (subst (λ (ds : List DeviceState). device_in ds wrote.file ≡ Some wrote.after) e.1 wrote.left) in (
+              e.1 ∙ ap (λ (x : DeviceState). x ∷ []) (sym after),
+              first-found one.device wrote.before wrote.file (subst (λ (ds : List DeviceState). device_in ds wrote.file ≡ Some wrote.before) one.only wrote.held),
+            )
+      ]
+
+      by_cause : (o : Outcome) → HasPieceCause (fits wrote.before.capacity) own n wrote.file old new 1 wrote.before wrote.after o → HasCause one.device.faults wrote.after.faults o
+      by_cause Good cause = cause.1 ∙ ap (λ (x : DeviceState). x.faults) r.1
+      by_cause (Torn done dev count) cause =
+          stopped-by one.device wrote.after dev count one.number (subst (λ (x : DeviceState). StoppedBy x wrote.after dev count) r.1 cause.2)
+      by_cause (Io dev count) cause = the-stop cause.1.file wrote.after dev count r.0 cause.1.stopped
+      by_cause (NoSpace dev) cause = (
+        ap (λ (k : DevNo). k.0) (cause.1 ∙ ap (λ (x : DeviceState). x.number) r.1 ∙ one.number),
+        ap (λ (x : DeviceState). x.faults) (the-same wrote.after r.0 cause.2),
+      )
+
+  write-goes : (part : Extent) (bytes : List ℕ) (outcome : Outcome) (row : Row) (driver : Driver) → WritesBy driver old new 1 part bytes outcome
+      → LeavesRow (IsWritten part bytes) driver row old new 1 outcome → Goes one.device new.devices outcome
+  write-goes part bytes outcome row drivers.File wrote left = file-goes part.start bytes outcome wrote
+  write-goes part bytes outcome row (drivers.Raw p) wrote left = file-goes part.start bytes outcome wrote
+  write-goes part bytes outcome row (drivers.Qcow2 image) wrote left =
+      image-goes _ _ _ outcome wrote
+      (written-capacity image left.now wrote.before wrote.after part bytes outcome (left.changed wrote.file wrote.before wrote.after wrote.edge wrote.held wrote.left))
+  write-goes part bytes outcome row drivers.CopyOnRead wrote left = file-goes part.start bytes outcome wrote
+
+  zero-goes : (part : Extent) (outcome : Outcome) (row : Row) (driver : Driver) → ZerosBy driver old new 1 part outcome → LeavesRow (IsZeroed part) driver row old new 1 outcome
+      → Goes one.device new.devices outcome
+  zero-goes part outcome row drivers.File wrote left = file-goes part.start (replicate part.len 0) outcome wrote
+  zero-goes part outcome row (drivers.Raw p) wrote left = file-goes part.start (replicate part.len 0) outcome wrote
+  zero-goes part outcome row (drivers.Qcow2 image) wrote left =
+      image-goes _ _ _ outcome wrote
+      (zeroed-capacity image left.now wrote.before wrote.after part outcome (left.changed wrote.file wrote.before wrote.after wrote.edge wrote.held wrote.left))
+  zero-goes part outcome row drivers.CopyOnRead wrote left = file-goes part.start (replicate part.len 0) outcome wrote
+
+  read-goes : (outcome : Outcome) → IsReadBelow old new 1 outcome → HaveRisen old.devices new.devices → Goes one.device new.devices outcome
+  read-goes outcome read risen =
+      let e = the-risen risen in
+      let same = e.2.same in
+      record {
+        device = e.0;
+        is = e.1;
+        steps = record {
+          node = ap (λ (x : DeviceState). x.node) same;
+          number = ap (λ (x : DeviceState). x.number) same;
+          told = ap (λ (x : DeviceState). is_some x.content) same;
+          capacity = ap (λ (x : DeviceState). x.capacity) same;
+          faults = e.2.faults;
+          cause = by_outcome e.0 e.1 outcome read;
+        };
+      }
+    where
+      by_outcome : (e : DeviceState) → new.devices ≡ e ∷ [] → (o : Outcome) → IsReadBelow old new 1 o → HasCause one.device.faults e.faults o
+      by_outcome e is Good same = ap (λ (x : DeviceState). x.faults) (the-same e is same)
+      by_outcome e is (Torn done dev count) bad = absurd bad
+      by_outcome e is (Io dev count) stopped = the-stop stopped.file e dev count is stopped.stopped
+      by_outcome e is (NoSpace dev) bad = absurd bad
+
+  pub flush-goes : (file : ℕ) (outcome : Outcome) → IsFlushAt file old.devices new.devices outcome → Goes one.device new.devices outcome
+  flush-goes file outcome flushed =
+      let r = the-one file flushed.before flushed.after flushed.only flushed.held flushed.left in
+      record {
+        device = flushed.after;
+        is = r.0;
+        steps = record {
+          node = ap (λ (x : DeviceState). x.node) flushed.flush.is ∙ ap (λ (x : DeviceState). x.node) r.1;
+          number = ap (λ (x : DeviceState). x.number) flushed.flush.is ∙ ap (λ (x : DeviceState). x.number) r.1;
+          told = ap (λ (x : DeviceState). is_some x.content) flushed.flush.is ∙ ap (λ (x : DeviceState). is_some x.content) r.1;
+          capacity = ap (λ (x : DeviceState). x.capacity) flushed.flush.is ∙ ap (λ (x : DeviceState). x.capacity) r.1;
+          faults = subst (λ (x : DeviceState). x.faults ≤ flushed.after.faults) r.1 flushed.flush.faults;
+          cause = subst (λ (x : DeviceState). HasCause x.faults flushed.after.faults outcome) r.1
+              (flush-cause flushed.before flushed.after outcome (ap (λ (x : DeviceState). x.number) r.1 ∙ one.number) flushed.flush.cause);
+        };
+      }
+
+  pub goes : (op : Op) (part : Extent) (outcome : Outcome) (buffer : List ℕ) → Transfers op old new 1 part outcome buffer → Goes one.device new.devices outcome
+  goes (Read span) part outcome buffer did = read-goes outcome did.outcome_is did.devices
+  goes (Write span payload) part outcome buffer did = write-goes part (payload_in (Write span payload) part) outcome did.0.row did.0.row.driver did.0.wrote did.0.left
+  goes (Zero span) part outcome buffer did = zero-goes part outcome did.0.row did.0.row.driver did.0.wrote did.0.left
+  goes Flush part outcome buffer did = flush-goes (base_of old 1) outcome did.flushed
+  goes (Discard span) part outcome buffer did = absurd did
+
+  pub flush-size : (file : ℕ) (outcome : Outcome) (e : DeviceState) → new.devices ≡ e ∷ [] → IsFlushAt file old.devices new.devices outcome → e.size ≡ one.device.size
+  flush-size file outcome e is flushed =
+      let r = the-one file flushed.before flushed.after flushed.only flushed.held flushed.left in
+      ap (λ (x : DeviceState). x.size) (head-same e flushed.after [] (sym is ∙ r.0)) ∙ ap (λ (x : DeviceState). x.size) flushed.flush.is
+      ∙ ap (λ (x : DeviceState). x.size) r.1
+
+-- ---- the rows
+
+pub record RowsAfter (old new : Nodes) : Type 0 where
+  pub graph : new.graph ≡ old.graph
+  pub rows : (n : ℕ) → AreRowsAfter (row_at old n) (row_at new n)
+
+pub rows-kept : (old new : Nodes) → new ≡ record old { devices = new.devices } → RowsAfter old new
+rows-kept old new kept = record {
+  graph = ap (λ (n : Nodes). n.graph) kept;
+  rows = λ n. subst (λ (rs : List (Option Row)). AreRowsAfter (row_at old n) (get_or rs n None)) (sym (ap (λ (n : Nodes). n.rows) kept)) (row_refl (row_at old n));
+}
+
+rows-left : (old new : Nodes) → LeavesNodes old new 1 → RowsAfter old new
+rows-left old new leaves = record { graph = leaves.graph; rows = alike_but old new 1 leaves.others leaves.own }
+
+pub rows-after : (old new : Nodes) (op : Op) (part : Extent) (outcome : Outcome) (buffer : List ℕ) → Transfers op old new 1 part outcome buffer → RowsAfter old new
+rows-after old new (Read span) part outcome buffer did = rows-kept old new did.kept
+rows-after old new (Write span payload) part outcome buffer did = rows-left old new did.1.kept
+rows-after old new (Zero span) part outcome buffer did = rows-left old new did.1.kept
+rows-after old new Flush part outcome buffer did = rows-kept old new did.kept
+rows-after old new (Discard span) part outcome buffer did = absurd did
+
+size-after : (a b : Option Row) → AreRowsAfter a b → size_by b ≡ size_by a
+size-after None b is = ap size_by is
+size-after (Some row) b is = ap size_by is.1 ∙ is.2.size
+
+driver-kind : (a b : Driver) → IsDriverAfter a b → kind_of b ≡ kind_of a
+driver-kind drivers.File b is = ap kind_of is
+driver-kind (drivers.Raw part) b is = ap kind_of is
+driver-kind (drivers.Qcow2 image) b is = ap kind_of is.1
+driver-kind drivers.CopyOnRead b is = ap kind_of is
+
+kind-after : (a b : Option Row) → AreRowsAfter a b → option_map kind_in b ≡ option_map kind_in a
+kind-after None b is = ap (option_map kind_in) is
+kind-after (Some row) b is = ap (option_map kind_in) is.1 ∙ ap Some (driver-kind row.driver is.0.driver is.2.driver)
+
+pub shape-after : (old new : Nodes) (one : HaveOneImage old) (e : DeviceState) → new.devices ≡ e ∷ [] → e.node ≡ one.device.node → e.capacity ≡ one.device.capacity
+    → RowsAfter old new → HaveShapeOf old new
+shape-after old new one e is node capacity after = record {
+  file = size-after (row_at old 0) (row_at new 0) (after.rows 0);
+  image = size-after (row_at old 1) (row_at new 1) (after.rows 1);
+  kind = kind-after (row_at old 1) (row_at new 1) (after.rows 1);
+  capacity = capacity-is new e is (node ∙ one.node) ∙ ap Some capacity ∙ sym (capacity-is old one.device one.only one.node);
+}
+
+on-file-after : (a b : Driver) (was now was' now' : ℕ) → IsDriverAfter a b → was' ≡ was → ((p : RawImage) → a ≡ drivers.Raw p → now' ≡ now) → IsOnFile a was now → IsOnFile b was' now'
+on-file-after drivers.File b was now was' now' is size same on = absurd on
+on-file-after (drivers.Raw p) b was now was' now' is size same on =
+    subst (λ (d : Driver). IsOnFile d was' now') (sym is) (on.0, on.1 ∙ sym size, same p refl ∙ on.2 ∙ sym size)
+on-file-after (drivers.Qcow2 image) b was now was' now' is size same on =
+    subst (λ (d : Driver). IsOnFile d was' now') (sym is.1) (ap (λ (h : Header). h.name) is.2 ∙ on)
+on-file-after drivers.CopyOnRead b was now was' now' is size same on = absurd on
+
+row-after : (row : Row) (b : Option Row) → AreRowsAfter (Some row) b → (now : Row) × (b ≡ Some now) × IsRowAfter row now
+row-after row b is = is
+
+pub one-after : (old new : Nodes) (one : HaveOneImage old) (e : DeviceState) → new.devices ≡ e ∷ [] → e.node ≡ one.device.node → e.number ≡ one.device.number
+    → ((p : RawImage) → one.row.driver ≡ drivers.Raw p → e.size ≡ one.device.size) → RowsAfter old new → HaveOneImage new
+one-after old new one e is node number size after =
+    let r = row-after one.row (row_at new 1) (subst (λ (b : Option Row). AreRowsAfter b (row_at new 1)) one.there (after.rows 1)) in
+    record {
+      device = e;
+      only = is;
+      node = node ∙ one.node;
+      number = number ∙ one.number;
+      row = r.0;
+      there = r.1;
+      writable = r.2.is_read_only ∙ one.writable;
+      on_file = on-file-after one.row.driver r.0.driver (size_of old 0) one.device.size (size_of new 0) e.size r.2.driver
+          (size-after (row_at old 0) (row_at new 0) (after.rows 0)) size one.on_file;
+      file = ap (λ (g : Graph). child_of (Node 1) File g.edges) after.graph ∙ one.file;
+      bare = ap (λ (g : Graph). child_of (Node 1) Backing g.edges) after.graph ∙ one.bare;
+      others = λ other apart. ap (λ (g : Graph). child_of (Node other) File g.edges) after.graph ∙ one.others other apart;
+    }
+
+-- ---- the length of a raw image's file
+
+-- no more is written than was given
+length-written : (outcome : Outcome) (bytes : List ℕ) → length (taken_by outcome bytes) ≤ length bytes
+length-written Good bytes = omega arith
+length-written (Torn done dev count) bytes = omega (arith, length-take done bytes)
+length-written (Io dev count) bytes = omega arith
+length-written (NoSpace dev) bytes = omega arith
+
+size-within : (size at : ℕ) (bytes : List ℕ) → at + length bytes ≤ size → size_with size at bytes ≡ size
+size-within size at [] within = refl
+size-within size at (b ∷ bytes) within = omega arith
+
+module _ (old new : Nodes) (joined : IsJoined old) (one : HaveOneImage old) (p : RawImage) (raw : one.row.driver ≡ drivers.Raw p) where
+  same-row : (row : Row) → row_at old 1 ≡ Some row → row.driver ≡ drivers.Raw p
+  same-row row there = let same : row ≡ one.row = cc (sym there ∙ one.there) in ap (λ (r : Row). r.driver) same ∙ raw
+
+  is-whole : IsOnFile (drivers.Raw p) (size_of old 0) one.device.size
+  is-whole = subst (λ (d : Driver). IsOnFile d (size_of old 0) one.device.size) raw one.on_file
+
+  raw-size : size_of old 1 ≡ size_of old 0
+  raw-size =
+      let sized : IsSized one.row.size (drivers.Raw p) = subst (IsSized one.row.size) raw (joined.sized 1 one.row one.there) in
+      ap size_by one.there ∙ sym sized.0 ∙ is-whole.1
+
+  file-size : (part : Extent) (bytes : List ℕ) (outcome : Outcome) (e : DeviceState) → new.devices ≡ e ∷ [] → length bytes ≡ part.len → end_of part ≤ size_of old 1
+      → WritesFile old new 1 part.start bytes outcome → e.size ≡ one.device.size
+  file-size part bytes outcome e is len inside wrote =
+      let at = wrote.at in
+      let r = the-one old new one wrote.file at.before at.after at.only at.held at.left in
+      let w : IsWriteOf one.device at.after wrote.start bytes outcome = subst (λ (x : DeviceState). IsWriteOf x at.after wrote.start bytes outcome) r.1 at.wrote in
+      let after : at.after ≡ e = head-same at.after e [] (sym r.0 ∙ is) in
+      let start : wrote.start ≡ p.offset + part.start = wrote.start_is ∙ ap (λ (d : Driver). own_start d part.start) (same-row wrote.row wrote.there) in
+      let most : length (taken_by outcome bytes) ≤ length bytes = length-written outcome bytes in
+      let first : p.offset ≡ 0 = is-whole.0 in
+      let now : one.device.size ≡ size_of old 0 = is-whole.2 in
+      let whole : size_of old 1 ≡ size_of old 0 = raw-size in
+      ap (λ (x : DeviceState). x.size) (sym after) ∙ w.size
+      ∙ size-within one.device.size wrote.start (taken_by outcome bytes) (omega (arith, start, first, now, whole, len, inside, most))
+
+  pub size-after-piece : (op : Op) (part : Extent) (outcome : Outcome) (buffer : List ℕ) (e : DeviceState) → new.devices ≡ e ∷ [] → end_of part ≤ size_of old 1
+      → Transfers op old new 1 part outcome buffer → e.size ≡ one.device.size
+  size-after-piece (Read span) part outcome buffer e is inside did =
+      let r = the-risen old new one did.devices in
+      ap (λ (x : DeviceState). x.size) (head-same e r.0 [] (sym is ∙ r.1)) ∙ ap (λ (x : DeviceState). x.size) r.2.same
+  size-after-piece (Write span payload) part outcome buffer e is inside did =
+      let bytes : List ℕ = payload_in (Write span payload) part in
+      file-size part bytes outcome e is (payload-length (Write span payload) part tt) inside
+      (subst (λ (d : Driver). WritesBy d old new 1 part bytes outcome) (same-row did.0.row did.0.there) did.0.wrote)
+  size-after-piece (Zero span) part outcome buffer e is inside did =
+      file-size part (replicate part.len 0) outcome e is (length-replicate part.len 0) inside
+      (subst (λ (d : Driver). ZerosBy d old new 1 part outcome) (same-row did.0.row did.0.there) did.0.wrote)
+  size-after-piece Flush part outcome buffer e is inside did = flush-size old new one (base_of old 1) outcome e is did.flushed
+  size-after-piece (Discard span) part outcome buffer e is inside did = absurd did
+
+-- ---- what its outcome tells
+
+torn-file : (before after : DeviceState) (place n done : ℕ) (dev : DevNo) (count : ℕ) → HasCauseOf before after place n (Torn done dev count) → (0 < done) × (done < n)
+torn-file before after place n done dev count cause = (cause.1, cause.2)
+
+torn-image : (own : Option ℕ) (n done : ℕ) → IsTornAt own n done → (0 < done) × (done < n)
+torn-image None n done never = absurd never
+torn-image (Some place) n done is = (is.0, is.1)
+
+torn-write : (old new : Nodes) (part : Extent) (bytes : List ℕ) (done : ℕ) (dev : DevNo) (count : ℕ) (d : Driver) → WritesBy d old new 1 part bytes (Torn done dev count)
+    → (0 < done) × (done < length bytes)
+torn-write old new part bytes done dev count drivers.File wrote = torn-file wrote.at.before wrote.at.after wrote.start (length bytes) done dev count wrote.at.wrote.cause
+torn-write old new part bytes done dev count (drivers.Raw p) wrote = torn-file wrote.at.before wrote.at.after wrote.start (length bytes) done dev count wrote.at.wrote.cause
+torn-write old new part bytes done dev count (drivers.Qcow2 image) wrote = torn-image _ (length bytes) done wrote.cause.1
+torn-write old new part bytes done dev count drivers.CopyOnRead wrote = torn-file wrote.at.before wrote.at.after wrote.start (length bytes) done dev count wrote.at.wrote.cause
+
+torn-zero : (old new : Nodes) (part : Extent) (done : ℕ) (dev : DevNo) (count : ℕ) (d : Driver) → ZerosBy d old new 1 part (Torn done dev count)
+    → (0 < done) × (done < part.len)
+torn-zero old new part done dev count drivers.File wrote =
+    let is = torn-file wrote.at.before wrote.at.after wrote.start (length (replicate {A = ℕ} part.len 0)) done dev count wrote.at.wrote.cause in
+    let len = length-replicate {A = ℕ} part.len 0 in
+    (is.0, omega (arith, is.1, len))
+torn-zero old new part done dev count (drivers.Raw p) wrote =
+    let is = torn-file wrote.at.before wrote.at.after wrote.start (length (replicate {A = ℕ} part.len 0)) done dev count wrote.at.wrote.cause in
+    let len = length-replicate {A = ℕ} part.len 0 in
+    (is.0, omega (arith, is.1, len))
+torn-zero old new part done dev count (drivers.Qcow2 image) wrote = torn-image _ part.len done wrote.cause.1
+torn-zero old new part done dev count drivers.CopyOnRead wrote =
+    let is = torn-file wrote.at.before wrote.at.after wrote.start (length (replicate {A = ℕ} part.len 0)) done dev count wrote.at.wrote.cause in
+    let len = length-replicate {A = ℕ} part.len 0 in
+    (is.0, omega (arith, is.1, len))
+
+-- only a write is torn, behind some of its bytes and not all
+torn-by : (old new : Nodes) (op : Op) (part : Extent) (done : ℕ) (dev : DevNo) (count : ℕ) (buffer : List ℕ) → Transfers op old new 1 part (Torn done dev count) buffer
+    → (is_write op ≡ true) × (0 < done) × (done < part.len)
+torn-by old new (Read span) part done dev count buffer did = absurd did.outcome_is
+torn-by old new (Write span payload) part done dev count buffer did =
+    let is = torn-write old new part (payload_in (Write span payload) part) done dev count did.0.row.driver did.0.wrote in
+    let len = payload-length (Write span payload) part tt in
+    (refl, is.0, omega (arith, is.1, len))
+torn-by old new (Zero span) part done dev count buffer did = let is = torn-zero old new part done dev count did.0.row.driver did.0.wrote in (refl, is.0, is.1)
+torn-by old new Flush part done dev count buffer did = absurd did.flushed.flush.cause
+torn-by old new (Discard span) part done dev count buffer did = absurd did
+
+pub has-form : (old new : Nodes) (op : Op) (part : Extent) (outcome : Outcome) (buffer : List ℕ) → Transfers op old new 1 part outcome buffer → HasForm outcome op part
+has-form old new op part Good buffer did = tt
+has-form old new op part (Torn done dev count) buffer did = torn-by old new op part done dev count buffer did
+has-form old new op part (Io dev count) buffer did = tt
+has-form old new op part (NoSpace dev) buffer did = tt
+
+shown-none : (op : Op) (outcome : Outcome) (buffer : List ℕ) → (outcome ≡ Good → ⊥) → shown_of op outcome buffer ≡ []
+shown-none (Read span) Good buffer none = absurd (none refl)
+shown-none (Read span) (Torn done dev count) buffer none = refl
+shown-none (Read span) (Io dev count) buffer none = refl
+shown-none (Read span) (NoSpace dev) buffer none = refl
+shown-none (Write span payload) outcome buffer none = refl
+shown-none (Zero span) outcome buffer none = refl
+shown-none Flush outcome buffer none = refl
+shown-none (Discard span) outcome buffer none = refl
+
+good-tells : (old new : Nodes) (op : Op) (part : Extent) (buffer : List ℕ) → AreTold old.devices → Transfers op old new 1 part Good buffer
+    → shown_of op Good buffer ≡ shown_in op part (disk_of old 1)
+good-tells old new (Read span) part buffer told did = did.read told
+good-tells old new (Write span payload) part buffer told did = refl
+good-tells old new (Zero span) part buffer told did = refl
+good-tells old new Flush part buffer told did = refl
+good-tells old new (Discard span) part buffer told did = absurd did
+
+tells-by : (old new : Nodes) (op : Op) (part : Extent) (outcome : Outcome) (buffer : List ℕ) → AreTold old.devices → Transfers op old new 1 part outcome buffer
+    → Tells outcome op part (Some (disk_of old 1)) (shown_of op outcome buffer)
+tells-by old new op part Good buffer told did = good-tells old new op part buffer told did
+tells-by old new op part (Torn done dev count) buffer told did =
+    let torn = torn-by old new op part done dev count buffer did in
+    (torn.0, torn.1, torn.2, shown-none op (Torn done dev count) buffer (λ bad. let e : ⊥ = cc bad in e))
+tells-by old new op part (Io dev count) buffer told did = shown-none op (Io dev count) buffer (λ bad. let e : ⊥ = cc bad in e)
+tells-by old new op part (NoSpace dev) buffer told did = shown-none op (NoSpace dev) buffer (λ bad. let e : ⊥ = cc bad in e)
+
+-- ---- the disk
+
+nothing-taken : (disk : List ℕ) (at n : ℕ) → with_bytes disk at (take n []) ≡ disk
+nothing-taken disk at zero = refl
+nothing-taken disk at (suc n) = refl
+
+taken-is : (op : Op) (part : Extent) (outcome : Outcome) → IsPutting op → taken_by outcome (payload_in op part) ≡ take (done_by outcome part) (payload_in op part)
+taken-is op part Good is = let len = payload-length op part is in sym (take_all part.len (payload_in op part) (omega (arith, len)))
+taken-is op part (Torn done dev count) is = refl
+taken-is op part (Io dev count) is = refl
+taken-is op part (NoSpace dev) is = refl
+
+disk-by : (old new : Nodes) (op : Op) (part : Extent) (outcome : Outcome) (buffer : List ℕ) → AreTold old.devices → Transfers op old new 1 part outcome buffer
+    → disk_of new 1 ≡ done_in op part (done_by outcome part) (disk_of old 1)
+disk-by old new (Read span) part outcome buffer told did = did.disk ∙ sym (nothing-taken (disk_of old 1) part.start (done_by outcome part))
+disk-by old new (Write span payload) part outcome buffer told did =
+    did.1.disk told ∙ ap (with_bytes (disk_of old 1) part.start) (taken-is (Write span payload) part outcome tt)
+disk-by old new (Zero span) part outcome buffer told did =
+    did.1.disk told ∙ ap (with_bytes (disk_of old 1) part.start) (taken-is (Zero span) part outcome tt)
+disk-by old new Flush part outcome buffer told did = did.disk ∙ sym (nothing-taken (disk_of old 1) part.start (done_by outcome part))
+disk-by old new (Discard span) part outcome buffer told did = absurd did
+
+by-content : (c k : Option (List ℕ)) (was is : List ℕ) (f : List ℕ → List ℕ) → is_some k ≡ is_some c → ((b : List ℕ) → c ≡ Some b → is ≡ f was)
+    → option_map (λ (_ : List ℕ). is) k ≡ option_map f (option_map (λ (_ : List ℕ). was) c)
+by-content None None was is f same changed = refl
+by-content None (Some b) was is f same changed = absurd (false≢true (sym same))
+by-content (Some b) None was is f same changed = absurd (false≢true same)
+by-content (Some b) (Some k) was is f same changed = ap Some (changed b refl)
+
+-- what of a disk is told, is that of the bytes
+pub told-is : (c : Option (List ℕ)) (node_disk disk : List ℕ) → option_map (λ (_ : List ℕ). node_disk) c ≡ Some disk → (b : List ℕ) × (c ≡ Some b) × (node_disk ≡ disk)
+told-is None node_disk disk is = absurd (let bad : ⊥ = cc is in bad)
+told-is (Some b) node_disk disk is = (b, refl, cc is)
+
+module _ (old new : Nodes) (joined : IsJoined old) (one : HaveOneImage old) (op : Op) (part : Extent) (outcome : Outcome) (buffer : List ℕ)
+    (did : Transfers op old new 1 part outcome buffer) where
+  gone : Goes one.device new.devices outcome
+  gone = goes old new one op part outcome buffer did
+
+  are-told : (b : List ℕ) → one.device.content ≡ Some b → AreTold old.devices
+  are-told b is = subst AreTold (sym one.only) (told-one one.device b is)
+
+  pub piece-tells : (disk : List ℕ) → told_disk old ≡ Some disk → Tells outcome op part (Some disk) (shown_of op outcome buffer)
+  piece-tells disk told =
+      let t = told-is (content_of old) (disk_of old 1) disk told in
+      let content : one.device.content ≡ Some t.0 = sym (content-is old one.device one.only one.node) ∙ t.1 in
+      subst (λ (d : List ℕ). Tells outcome op part (Some d) (shown_of op outcome buffer)) t.2
+      (tells-by old new op part outcome buffer (are-told t.0 content) did)
+
+  pub piece-disk : told_disk new ≡ option_map (done_in op part (done_by outcome part)) (told_disk old)
+  piece-disk =
+      let g = gone in
+      let was = content-is old one.device one.only one.node in
+      let is = content-is new g.device g.is (g.steps.node ∙ one.node) in
+      ap (option_map (λ (_ : List ℕ). disk_of new 1)) is
+      ∙ by-content one.device.content g.device.content (disk_of old 1) (disk_of new 1) (done_in op part (done_by outcome part)) g.steps.told
+      (λ b told. disk-by old new op part outcome buffer (are-told b told) did)
+      ∙ ap (λ (c : Option (List ℕ)). option_map (done_in op part (done_by outcome part)) (option_map (λ (_ : List ℕ). disk_of old 1) c)) (sym was)
+
+  pub piece-cause : HasCause (faults_of old) (faults_of new) outcome
+  piece-cause =
+      let g = gone in
+      subst (λ (n : ℕ). HasCause n (faults_of new) outcome) (sym (faults-is old one.device one.only one.node))
+      (subst (λ (n : ℕ). HasCause one.device.faults n outcome) (sym (faults-is new g.device g.is (g.steps.node ∙ one.node))) g.steps.cause)
+
+  pub piece-faults : faults_of old ≤ faults_of new
+  piece-faults =
+      let g = gone in
+      let was = faults-is old one.device one.only one.node in
+      let is = faults-is new g.device g.is (g.steps.node ∙ one.node) in
+      let more = g.steps.faults in
+      omega (arith, was, is, more)
+
+  pub piece-shape : HaveShapeOf old new
+  piece-shape =
+      let g = gone in shape-after old new one g.device g.is g.steps.node g.steps.capacity (rows-after old new op part outcome buffer did)
+
+  pub piece-one : end_of part ≤ size_of old 1 → HaveOneImage new
+  piece-one inside =
+      let g = gone in
+      one-after old new one g.device g.is g.steps.node g.steps.number
+      (λ p raw. size-after-piece old new joined one p raw op part outcome buffer g.device g.is inside did) (rows-after old new op part outcome buffer did)

@@ -1,0 +1,151 @@
+-- The nodes of a run, made step by step, and what stops them.
+use Rattle.std.proofs.Common.{◌≡◌, ◌≢◌, ℕ, ◌<◌, ◌≤◌, Bool, true, false, List, [], ◌∷◌, length, Option, Some, None, Result, Ok, Err, refl, sym, ◌∙◌, ap, subst, inl, inr, arith}
+use Rattle.std.specs.Prelude.{◌↔◌, Contains, IsSome, IsOk, IfErr, is_some}
+use Rattle.blk_base.specs.Counts.{Rose}
+use Rattle.blk_graph.specs.Graph.{HasName, HasNode, ids}
+use Rattle.blk_graph.specs.declared.edge.Conflict.{Conflict as Pair}
+use Rattle.blk_graph.specs.declared.edge.Edge.{Edge}
+use Rattle.blk_graph.specs.declared.kind.NodeKind.{NodeKind}
+use Rattle.blk_graph.specs.Ids.{IsLowestFree}
+use Rattle.blk_graph.specs.Rule.{KeepsPermissions}
+use Rattle.blk_graph.proofs.Members.{Contains-here, Contains-there}
+use Rattle.q2_format.specs.Sound.{image_refusal}
+use Rattle.q2_format.specs.declared.header.Header.{Header}
+use Rattle.q2_image.specs.Image.{Known, IsImageOf}
+use Rattle.q2_image.specs.Opening.{Names, HasCause, refusal_of}
+use Rattle.q2_image.specs.declared.stop.ImageStop.{ImageStop}
+use Rattle.q2_image.specs.declared.stop.ImageStop.TheVariants as stops
+use Rattle.blk_nodes.specs.Adding.{with_node, with_device, with_below, file_edge, guest_edge, raw_row, IsDenied, IsOverStop as IsOverStopOf}
+use Rattle.blk_nodes.specs.declared.stop.AddStop.{AddStop}
+use Rattle.blk_nodes.specs.declared.stop.AddStop.TheVariants as adding
+use Rattle.blk_nodes.specs.Contents.{Unfolds}
+use Rattle.blk_nodes.specs.Joined.{IsJoined, IsFile}
+use Rattle.blk_nodes.specs.Nodes.{Nodes, DeviceState, no_nodes, row_at, size_of, device_in}
+use Rattle.blk_nodes.specs.Overlays.{Asked, IsOpened, IsUnopened, with_qcow2}
+use Rattle.blk_nodes.specs.Reading.{HaveRisen, HasRisen}
+use Rattle.blk_nodes.specs.declared.backing.Backing.TheVariants.{Unsaid}
+use Rattle.blk_nodes.specs.declared.row.Driver.TheVariants as drivers
+use Rattle.qblk_core.specs.Closing.{IsOnlyDevice}
+use Rattle.qblk_core.specs.Face.{machine_on}
+use Rattle.qblk_core.specs.ImageNodes.{file_name, image_name, only_device, with_file, with_raw, asked_image, IsOver, AreMadeOf}
+use Rattle.qblk_core.specs.Opened.{IsFileOver, IsOpenedAs, StopsAs, IsOverStop, IsStopped, stop_by}
+use Rattle.qblk_core.specs.Session.{IsRefusedImage, IsUntouched}
+use Rattle.qblk_core.specs.declared.opening.OpenStop.{OpenStop}
+use Rattle.qblk_core.specs.declared.opening.OpenStop.TheVariants.{Refused, Io, NoMemory}
+use Rattle.qblk_core.specs.declared.status.InputWhy.TheVariants.{TooLarge, NeedsBacking, Image, Absent}
+use Rattle.qblk_core.specs.declared.words.Format.{Format}
+use Rattle.qblk_core.specs.declared.words.Format.TheVariants.{Raw, Qcow2}
+use Rattle.qblk_core.proofs.Made.{first-id, second-id, over-as, made-one, drive-keeps, not-stopped}
+use Rattle.qblk_core.proofs.OneDevice.{first-found, head-same, only-one, risen-one}
+
+-- ---- the `file` node
+
+pub file-made : (d : DeviceState) (old new : Nodes) (id : ℕ) (name : List ℕ) → d.node ≡ 0 → old ≡ no_nodes → name ≡ file_name → IsLowestFree (ids old.graph) id
+    → new ≡ with_device (with_node old id name (record { driver = drivers.File; size = d.size; is_read_only = false })) (record d { node = id })
+    → (new ≡ with_file d) × (id ≡ 0)
+file-made d old new id name node none named lowest is =
+    let zeroth : id ≡ 0 = first-id id (subst (λ (o : Nodes). IsLowestFree (ids o.graph) id) none lowest) in
+    let at : id ≡ d.node = zeroth ∙ sym node in (
+      is ∙ ap (λ (o : Nodes). with_device (with_node o id name (record { driver = drivers.File; size = d.size; is_read_only = false })) (record d { node = id })) none
+          ∙ ap (λ (n : List ℕ). with_device (with_node no_nodes id n (record { driver = drivers.File; size = d.size; is_read_only = false })) (record d { node = id })) named
+          ∙ ap (λ (k : ℕ). with_device (with_node no_nodes k file_name (record { driver = drivers.File; size = d.size; is_read_only = false })) (record d { node = id })) zeroth
+          ∙ ap (λ (k : ℕ). with_device (with_node no_nodes 0 file_name (record { driver = drivers.File; size = d.size; is_read_only = false })) (record d { node = k })) at,
+      zeroth,
+    )
+
+pub is-file : (d : DeviceState) (nodes : Nodes) (file : ℕ) → IsFileOver d nodes → file ≡ 0 → IsFile nodes file
+is-file d nodes file over zeroth =
+    let here : IsFile (with_file d) 0 = record { row = _; there = refl; driver = refl } in
+    subst (λ (k : ℕ). IsFile nodes k) (sym zeroth) (subst (λ (n : Nodes). IsFile n 0) (sym over.is) here)
+
+-- ---- the image's node
+
+pub qcow2-made : (d : DeviceState) (old new : Nodes) (file id : ℕ) (name : List ℕ) (image : Known) → IsFileOver d old → file ≡ 0 → name ≡ image_name
+    → IsLowestFree (ids old.graph) id → new ≡ with_qcow2 old (record { name = name; file = file; backing = Unsaid; is_read_only = false }) id image
+    → (id ≡ 1) × (new ≡ with_qcow2 old asked_image 1 image)
+qcow2-made d old new file id name image over zeroth named lowest is =
+    let first : id ≡ 1 = second-id id (subst (λ (o : Nodes). IsLowestFree (ids o.graph) id) over.is lowest) in (
+      first,
+      is ∙ ap (λ (k : ℕ). with_qcow2 old (record { name = name; file = file; backing = Unsaid; is_read_only = false }) k image) first
+          ∙ ap (λ (n : List ℕ). with_qcow2 old (record { name = n; file = file; backing = Unsaid; is_read_only = false }) 1 image) named
+          ∙ ap (λ (k : ℕ). with_qcow2 old (record { name = image_name; file = k; backing = Unsaid; is_read_only = false }) 1 image) zeroth,
+    )
+
+-- ---- what stops it
+
+found-device : (d : DeviceState) (old : Nodes) (file : ℕ) (x : DeviceState) → IsFileOver d old → device_in old.devices file ≡ Some x → x ≡ d
+found-device d old file x over held = first-found d x file (subst (λ (n : Nodes). device_in n.devices file ≡ Some x) over.is held)
+
+named-stop : (d e : DeviceState) (stop : ImageStop) → ((bytes : List ℕ) → d.content ≡ Some bytes → Names (image_refusal bytes) stop) → HasCause d.faults e.faults stop
+    → StopsAs Qcow2 d e (stop_by stop)
+named-stop d e (stops.Header stop) named cause = record { bytes = named; there = λ bad. absurd (let no : ⊥ = cc bad in no); cause = refl }
+named-stop d e (stops.Offset offset) named cause = record { bytes = named; there = λ bad. absurd (let no : ⊥ = cc bad in no); cause = refl }
+named-stop d e (stops.Reserved table index) named cause = record { bytes = named; there = λ bad. absurd (let no : ⊥ = cc bad in no); cause = refl }
+named-stop d e (stops.Compressed cluster) named cause = record { bytes = named; there = λ bad. absurd (let no : ⊥ = cc bad in no); cause = refl }
+named-stop d e (stops.Overlap cluster) named cause = record { bytes = named; there = λ bad. absurd (let no : ⊥ = cc bad in no); cause = refl }
+named-stop d e (stops.Refcount cluster) named cause = record { bytes = named; there = λ bad. absurd (let no : ⊥ = cc bad in no); cause = refl }
+named-stop d e stops.HeaderFull named cause = record { bytes = named; there = λ bad. absurd (let no : ⊥ = cc bad in no); cause = refl }
+named-stop d e (stops.Io count) named cause = (refl, cause.0, cause.1)
+named-stop d e stops.NoMemory named cause = tt
+
+pub unopened : (d : DeviceState) (old new : Nodes) (file : ℕ) (stop : ImageStop) → IsFileOver d old → IsUnopened old.devices new.devices file stop → HaveRisen old.devices new.devices
+    → IsOverStop Qcow2 old new (stop_by stop)
+unopened d old new file stop over is risen =
+    let was : old.devices ≡ d ∷ [] = ap (λ (n : Nodes). n.devices) over.is in
+    let r = risen-one d new.devices (subst (λ (ds : List DeviceState). HaveRisen ds new.devices) was risen) in
+    let before = found-device d old file is.before over is.held in
+    let after : is.after ≡ r.0 = first-found r.0 is.after file (subst (λ (ds : List DeviceState). device_in ds file ≡ Some is.after) r.1 is.left) in
+    let same = r.2.same in
+    record {
+      before = d;
+      now = r.0;
+      was = was;
+      is = record {
+        only = r.1;
+        node = ap (λ (x : DeviceState). x.node) same ∙ over.node;
+        number = ap (λ (x : DeviceState). x.number) same ∙ over.number;
+      };
+      cause = named-stop d r.0 stop (λ bytes told. is.on.named bytes (ap (λ (x : DeviceState). x.content) before ∙ told))
+          (subst (λ (x : DeviceState). HasCause d.faults x.faults stop) after (subst (λ (x : DeviceState). HasCause x.faults is.after.faults stop) before is.on.cause));
+      untouched = record {
+        content = ap (λ (x : DeviceState). x.content) same;
+        is_flushed = ap (λ (x : DeviceState). x.is_flushed) same;
+        capacity = ap (λ (x : DeviceState). x.capacity) same;
+      };
+    }
+
+-- ---- the guest's drive
+
+pub keeps-drive : (format : Format) (d : DeviceState) (over : Nodes) (image : ℕ) → IsOver format (with_file d) over → image ≡ 1
+    → KeepsPermissions (with_below over (guest_edge over 0 image false)).graph.edges
+keeps-drive format d over image is first =
+    let as_is = over-as format d over is in
+    subst (λ (k : ℕ). KeepsPermissions (with_below over (guest_edge over 0 k false)).graph.edges) (sym first)
+    (drive-keeps over as_is.one.edges _ false over.graph.kinds)
+
+-- ---- the whole
+
+pub all-made : (format : Format) (d : DeviceState) (file over nodes : Nodes) (image : ℕ) → IsFileOver d file → image ≡ 1 → IsOver format file over
+    → nodes ≡ with_below over (guest_edge over 0 1 false) → IsJoined nodes → Unfolds nodes → IsOpenedAs format d nodes image
+all-made format d file over nodes image of_file first is drive joined disks =
+    let made : AreMadeOf format d nodes = record {
+      node = of_file.node;
+      number = of_file.number;
+      over = over;
+      image = subst (λ (f : Nodes). IsOver format f over) of_file.is is;
+      drive = drive;
+      joined = joined;
+    } in
+    record { number = first; made = made; disks = disks; one = made-one format d nodes made }
+
+-- no addition of the image's node is refused
+pub not-refused : {T : Type 0} (d : DeviceState) (old : Nodes) (name : List ℕ) (kind : NodeKind) (edges : ℕ → List Edge → List Edge) (result : Result T AddStop) → IsFileOver d old
+    → name ≡ image_name → ((id : ℕ) → edges id [] ≡ file_edge id 0 ∷ []) → IfErr result IsOverStopOf
+    → ((result ≡ Err adding.NameTaken) ↔ HasName old.graph name) → ((result ≡ Err adding.TooManyNodes) ↔ ((length old.graph.nodes ≡ 64) × ¬ HasName old.graph name))
+    → ((pair : Pair) → result ≡ Err (adding.Conflict pair) → IsDenied old kind edges pair) → IsOk result
+not-refused d old name kind edges (Ok id) over named one only taken full denied = refl
+not-refused d old name kind edges (Err stop) over named one only taken full denied =
+    absurd (not-stopped d kind edges stop one only
+    (λ is. subst (λ (o : Nodes). HasName o.graph image_name) over.is (subst (HasName old.graph) named (taken.0 (ap Err is))))
+    (λ is. subst (λ (o : Nodes). length o.graph.nodes ≡ 64) over.is (full.0 (ap Err is)).0)
+    (λ pair is. subst (λ (o : Nodes). IsDenied o kind edges pair) over.is (denied pair (ap Err is))))

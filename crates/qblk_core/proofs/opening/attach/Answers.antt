@@ -1,0 +1,9 @@
+use Rattle.std.proofs.lemmas.Bool.{false≢true}
+use Rattle.qblk_core.proofs.Openings.{keeps-drive}
+use Rattle.qblk_core.proofs.opening.attach.Goals as goal
+
+pub unreachable-requires : goal.unreachable-requires
+unreachable-requires g c =
+    let over = c.requires.over in
+    let rule = keeps-drive over.0 over.1 c.args.nodes.now c.args.image over.2 c.requires.image in
+    false≢true (rw c.in-Err.is at (c.attach.ensures.kept.1 rule))

@@ -1,0 +1,52 @@
+-- The nodes along a history, and what of a history needs no bytes.
+use Rattle.std.specs.Prelude.{◌≡◌, ℕ, ◌<◌, true, false, Option, List, [], ◌∷◌}
+use Rattle.blk_base.specs.Pieces.{Extent}
+use Rattle.blk_base.specs.declared.fault.Outcome.{Outcome}
+use Rattle.blk_base.specs.declared.fault.Outcome.TheVariants.{Good, Torn, Io, NoSpace}
+use Rattle.trace_codec.specs.declared.op.Op.{Op}
+use Rattle.trace_codec.specs.Request.{pieces_of}
+use Rattle.blk_history.specs.Disk.{is_write, piece}
+use Rattle.blk_history.specs.Fold.{Each, With}
+use Rattle.blk_history.specs.Legal.{Fits}
+use Rattle.blk_history.specs.Machine.{State, Flight, guest_at, after}
+use Rattle.blk_history.specs.declared.event.Event.{Event}
+use Rattle.blk_history.specs.declared.event.Event.TheVariants.{Piece}
+use Rattle.blk_nodes.specs.Nodes.{Nodes}
+use Rattle.qblk_core.specs.Pieces.{IsPieceOn}
+
+-- what an entry makes of the nodes: only a piece changes them, on its guest's node
+abbrev pub IsStepOf : State → Event → Nodes → Nodes → Type 0
+IsStepOf s (Piece g r k outcome got) old new = With (guest_at s g) (λ row.
+    With row.flight (λ f. IsPieceOn f.op old new row.node (piece f.op k) outcome got))
+IsStepOf s e old new = new ≡ old
+
+-- so it went on, entry by entry, from the first to the last
+abbrev pub HaveNodes : State → Nodes → List Event → Nodes → Type 0
+HaveNodes s old [] new = new ≡ old
+HaveNodes s old (e ∷ es) new =
+    (next : Nodes) × IsStepOf s e old next × HaveNodes (after s e) next es new
+
+-- only a write is torn, behind some of its bytes and not all
+abbrev pub HasForm : Outcome → Op → Extent → Type 0
+HasForm Good op part = Unit {0}
+HasForm (Torn done dev count) op part = (is_write op ≡ true) × (0 < done) × (done < part.len)
+HasForm (Io dev count) op part = Unit {0}
+HasForm (NoSpace dev) op part = Unit {0}
+
+-- piece k is the next of the request in flight
+pub record IsInTurn (f : Flight) (k : ℕ) (outcome : Outcome) : Type 0 where
+  pub running : f.is_stopped ≡ false
+  pub next : k ≡ f.next
+  pub within : k < pieces_of f.op
+  pub form : HasForm outcome f.op (piece f.op k)
+
+-- the entry fits the state before it, but for bytes that are read
+abbrev pub FitsUnread : State → Event → Type 0
+FitsUnread s (Piece g r k outcome got) = With (guest_at s g) (λ row.
+    With row.flight (λ f. (r ≡ row.done) × IsInTurn f k outcome))
+FitsUnread s e = Fits s e
+
+-- Requests are admitted or refused for their cause in order, their pieces made in order up to the first that isn't good, and
+-- they are retired then and not sooner.
+abbrev pub GoesInTurn : State → List Event → Type 0
+GoesInTurn = Each after FitsUnread
