@@ -1,7 +1,8 @@
 -- What a run was, as the program tells it.
-use Rattle.std.proofs.Common.{◌≡◌, ℕ, ◌≤◌, Bool, true, false, List, [], ◌++◌, length, map, refl, sym, ◌∙◌, ap, subst, arith, Option, Some, None, inl, inr}
+use Rattle.std.proofs.Common.{◌≡◌, ℕ, ◌≤◌, Bool, true, false, List, [], ◌∷◌, ◌++◌, length, map, refl, sym, ◌∙◌, ap, subst, arith, Option, Some, None, inl, inr}
 use Rattle.std.specs.Prelude.{slice_get, get_or, All, is_some, MatchOption, unwrap_or}
 use Rattle.std.proofs.lemmas.Bool.{false≢true}
+use Rattle.std.proofs.lemmas.List.Elements.{All-nil, All-cons}
 use Rattle.blk_base.specs.Counts.{Rose}
 use Rattle.blk_base.specs.Files.{IfTold}
 use Rattle.blk_base.specs.Written.{Written}
@@ -18,7 +19,10 @@ use Rattle.flat_machine.specs.Final.{AreDisks}
 use Rattle.flat_machine.specs.Machine.{replay}
 use Rattle.flat_machine.specs.Opening.{start}
 use Rattle.flat_machine.specs.Blocked.{IsStuck, ActorWaits}
-use Rattle.flat_machine.specs.Courses.{Course, KeepsOrder, course_of, course_after}
+use Rattle.flat_machine.specs.Courses.{Course, KeepsOrder, course_of, course_after, onward}
+use Rattle.flat_machine.specs.Unique.{IsSmall}
+use Rattle.blk_history.specs.declared.event.Event.{Event}
+use Rattle.blk_history.specs.declared.event.Event.TheVariants.{Piece, End}
 use Rattle.flat_machine.specs.Licence.{Counts, AreLicensed}
 use Rattle.flat_machine.specs.declared.opening.Opening.{Opening}
 use Rattle.world_commands.specs.Closing.{IsToldBack, count_back, store_in}
@@ -29,7 +33,7 @@ use Rattle.world_parts.specs.Steps.{StoreSeen, IsOpeningOf, new_world}
 use Rattle.world_commands.specs.Tabling.{IsTableAfter}
 use Rattle.qblk_inputs.specs.Inputs.{Work}
 use Rattle.qblk_inputs.specs.Words.{Cast, guests_of}
-use Rattle.qblk_run.specs.Run.{Account, HasOpened, IsRun, HaveNotSunk, IsFlushedAs, LeavesFiles, EndsDone, EndsStuck, HasStopped, FailsToFlush, counts_at_first, counts_at_last, course_in, seen_waits}
+use Rattle.qblk_run.specs.Run.{Account, HasOpened, IsRun, HaveNotSunk, IsFlushedAs, LeavesFiles, EndsDone, EndsStuck, HasStopped, FailsToFlush, counts_at_first, counts_at_last, course_in, history_room, seen_waits}
 use Rattle.qblk_run.specs.Session.{IsEnd}
 use Rattle.qblk_run.specs.Tasks.{Tasks, KeepsTo, CanGoOn}
 use Rattle.qblk_run.specs.Turns.{StaysIn}
@@ -37,7 +41,7 @@ use Rattle.qblk_run.specs.Rounds.{AllRest, AreDone, IsFirst}
 use Rattle.qblk_run.proofs.Closing.{all-back, behind-back, licensed-later, quiet-run, leaves-files}
 use Rattle.qblk_run.proofs.Flushes.{same-places, all-stand, first-stand, first-above, both-at}
 use Rattle.qblk_run.specs.Devices.{HaveDevices}
-use Rattle.qblk_run.specs.Worlds.{GoesThrough, IsLast}
+use Rattle.qblk_run.specs.Worlds.{GoesThrough, IsEventOf, IsLast}
 use Rattle.qblk_run.proofs.Ending.{is-stuck, is-whole, idle-at}
 use Rattle.qblk_run.proofs.History.{course-ended}
 use Rattle.qblk_run.proofs.Lists.{at-get}
@@ -54,6 +58,17 @@ opening-of store guests = record { guests_are = refl; files_are = by_files store
     by_files : (files : Option (List File)) → is_some files ≡ true → files ≡ Some (unwrap_or files [])
     by_files None told = absurd (false≢true told)
     by_files (Some files) told = refl
+
+-- the numbers that an entry prints have 64 bits
+small-event : (w v : Face) (e : Event) → IsEventOf w v e → IsSmall e
+small-event w v (Piece g r k outcome got) event = event.left.made.fits
+small-event w v (End job outcome offset) event = absurd event.left
+small-event w v _ event = tt
+
+all-small : (o : Opening) (c : Course) (w : Face) (h : List Event) (v : Face) → GoesThrough o c w h v → All IsSmall h
+all-small o c w [] v through = All-nil IsSmall
+all-small o c w (e ∷ h) v through =
+    All-cons IsSmall e h (small-event through.0 through.1 e through.4) (all-small o (onward c e) through.1 h v through.5)
 
 with-none : (P : List File → Type 0) (x : Option (List File)) → With x P → x ≡ None → ⊥
 with-none P None holds none = holds
@@ -120,10 +135,10 @@ module _ (old : StoreSeen) (guests : List (List ℕ)) (w v : Face) (store : Stor
 
   pub run-is : (cast : Cast) (work : Work) (had : Bool) → guests_of cast ≡ guests → length work.traces ≡ length guests
       → KeepsOrder (course_of work.script work.traces) v.progress.log.events
-      → (room : Room) (near : Face)
+      → (room : Room) → room ≡ history_room work → (near : Face)
       → GoesThrough (opening_by old guests) (course_of work.script work.traces) (new_world old guests room) v.progress.log.events near
       → IsLast had (course_after (course_of work.script work.traces) v.progress.log.events).script near v → IsRun cast work had fault old store account
-  run-is cast work had names count order room near through is_last = record {
+  run-is cast work had names count order room sized near through is_last = record {
     opening = rw names (opening-of old guests);
     openings = opened;
     room = end.room ∙ stays.room ∙ roomy;
@@ -134,15 +149,17 @@ module _ (old : StoreSeen) (guests : List (List ℕ)) (w v : Face) (store : Stor
         (licensed-later (counts_at_first old account) (counts_now v) (counts_at_last store account) v.progress.log.events later.store later.devices licensed);
     flush = flush;
     worlds = record {
-      room = room;
       near = near;
-      through = through;
+      through =
+          subst (λ (r : Room). GoesThrough (opening_by old guests) (course_of work.script work.traces) (new_world old guests r) v.progress.log.events near)
+          sized through;
       last = v;
       is_last = is_last;
       comes = comes;
       counts_are = refl;
       closed = end.closed;
     };
+    small = all-small (opening_by old guests) (course_of work.script work.traces) (new_world old guests room) v.progress.log.events near through;
     files = by_files old.files refl;
   }
     where

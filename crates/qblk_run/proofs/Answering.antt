@@ -31,7 +31,7 @@ use Rattle.qblk_inputs.specs.Inputs.{Work, HasWork}
 use Rattle.qblk_inputs.specs.Words.{Cast, guests_of}
 use Rattle.qblk_run.specs.Beginning.{new_tasks}
 use Rattle.qblk_run.specs.Ending.{EndsAs, ended_as, failed_as, WentOut}
-use Rattle.qblk_run.specs.Run.{Setting, Account, IsRun, WasRun, HasStopped, IsFaulty, Answers, whole_transcript, seen_waits}
+use Rattle.qblk_run.specs.Run.{Setting, Account, IsRun, WasRun, HasStopped, IsFaulty, Answers, history_room, whole_transcript, seen_waits}
 use Rattle.qblk_run.specs.Session.{IsPlayed}
 use Rattle.qblk_run.specs.Tasks.{HaveLines, KeepsTo, guests_only}
 use Rattle.qblk_run.proofs.Accounts.{opening_by, opening-of, account, run-is, ends-done, ends-stuck, has-stopped, flush-failed}
@@ -73,7 +73,7 @@ front-out old new front rest whole is sent = sent ∙ ap (λ (x : List ℕ). opt
 
 -- ---- the statuses
 
-module _ (cast : Cast) (work : Work) (old new : Setting) (room : Room) (log : Recorded) (fault : Option FaultAt) (waiting : Option (ℕ × Waits Written))
+module _ (cast : Cast) (work : Work) (old new : Setting) (room : Room) (sized : room ≡ history_room work) (log : Recorded) (fault : Option FaultAt) (waiting : Option (ℕ × Waits Written))
     (inputs : IfTold old.store.files (HasWork cast work)) (count : length work.traces ≡ length (guests_of cast))
     (played : IsPlayed (new_world old.store (guests_of cast) room) (new_tasks work.script work.traces) new.store log fault waiting)
     (begins : (o : Opening) → IsOpeningOf old.store (guests_of cast) o → Comes o (new_world old.store (guests_of cast) room)) where
@@ -99,7 +99,7 @@ module _ (cast : Cast) (work : Work) (old new : Setting) (room : Room) (log : Re
   run : (had : Bool) → IsLast had (course_after course played.now.progress.log.events).script played.now played.now → IsRun cast work had fault old.store new.store its
   run had is_last =
       run-is old.store (guests_of cast) w played.now new.store fault refl refl refl refl comes.counted played.stays comes played.end
-      cast work had refl count keeps.order room played.now has.through is_last
+      cast work had refl count keeps.order room sized played.now has.through is_last
 
   run-as : (x : Option FaultAt) → fault ≡ x → IsRun cast work true x old.store new.store its
   run-as x is = subst (λ (f : Option FaultAt). IsRun cast work true f old.store new.store its) is (run true refl)

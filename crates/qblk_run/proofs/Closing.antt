@@ -12,19 +12,18 @@ use Rattle.blk_base.specs.declared.file.File.{File}
 use Rattle.blk_base.specs.declared.file.Opened.{Opened}
 use Rattle.blk_history.specs.Fold.{With}
 use Rattle.blk_history.specs.declared.event.Event.{Event}
-use Rattle.qmp_rules.specs.Table.{Table}
 use Rattle.flat_machine.specs.State.{Left, filename_of}
 use Rattle.flat_machine.specs.Machine.{replay}
 use Rattle.flat_machine.specs.Opening.{start}
 use Rattle.flat_machine.specs.Agreement.{Contents, IsLeftAs}
-use Rattle.flat_machine.specs.Final.{bytes_of, read_as, IsLeftIn, AreDisks}
+use Rattle.flat_machine.specs.Final.{bytes_named, IsDiskIn, IsLeftIn, AreDisks}
 use Rattle.flat_machine.specs.Licence.{Counts, IsBetween, AreLicensed, faults_of, count_of}
 use Rattle.flat_machine.specs.declared.opening.Opening.{Opening}
+use Rattle.flat_machine.proofs.ImagesKept.{sound_same}
 use Rattle.world_commands.specs.Comes.{Comes}
 use Rattle.world_commands.specs.Counting.{HaveNotFallen}
 use Rattle.world_parts.specs.Face.{Face, held, told_bytes, contents_of}
 use Rattle.world_parts.specs.Steps.{StoreSeen}
-use Rattle.blk_world.specs.Images.{ImagesAreSound}
 use Rattle.qblk_run.specs.Run.{HaveStood, LeavesFiles, Account}
 use Rattle.qblk_run.specs.Session.{IsEnd}
 use Rattle.qblk_run.proofs.Lists.{with-some, with-map}
@@ -109,11 +108,11 @@ quiet-run a b h licensed stood = no-faults a b (faults_of h) stood licensed.rise
 -- ---- files
 
 -- a left disk is what its driver reads, by the files
-left-in : (files : List File) (c : Contents) → ((name : List ℕ) → bytes_of files name ≡ c.held name) → (left : Left) → IsLeftAs c left → IsLeftIn files left
-left-in files c holds left is = by_file (file_at left.file files) (subst (λ x. With x (λ bytes. read_as left.kind left.offset (length left.bytes) bytes ≡ left.bytes)) (sym (holds left.file)) is)
+left-in : (files : List File) (c : Contents) → ((name : List ℕ) → bytes_named files name ≡ c.held name) → (left : Left) → IsLeftAs c left → IsLeftIn files left
+left-in files c holds left is = by_file (file_at left.file files) (subst (λ x. With x (IsDiskIn left.kind left.offset left.bytes)) (sym (holds left.file)) is)
   where
-    by_file : (x : Option File) → With (option_map (λ (f : File). f.bytes) x) (λ bytes. read_as left.kind left.offset (length left.bytes) bytes ≡ left.bytes)
-        → With x (λ f. read_as left.kind left.offset (length left.bytes) f.bytes ≡ left.bytes)
+    by_file : (x : Option File) → With (option_map (λ (f : File). f.bytes) x) (IsDiskIn left.kind left.offset left.bytes)
+        → With x (λ f. IsDiskIn left.kind left.offset left.bytes f.bytes)
     by_file None is = is
     by_file (Some f) is = is
 
@@ -123,8 +122,7 @@ pub leaves-files : (o : Opening) (v : Face) (a : Account) (store : StoreSeen) (f
 leaves-files o v a store fault files opening events comes end told is =
     let shows = comes.shows told in
     let s = replay (start o) v.progress.log.events in
-    let holds : (name : List ℕ) → bytes_of files name ≡ held v name = λ name. sym (ap (λ x. told_bytes x name) is) ∙ end.held told name in
-    let sound : ImagesAreSound s.table files = subst (λ (t : Table). ImagesAreSound t files) (sym shows.table.table_is) (rw is at (end.sound told)) in
+    let holds : (name : List ℕ) → bytes_named files name ≡ held v name = λ name. sym (ap (λ x. told_bytes x name) is) ∙ end.held told name in
     let disks : AreDisks files s = rw is at (end.disks told s shows.table.table_is shows.contents.disks) in
     rw (opening, events) (record {
       history = comes.history.history told;
@@ -135,5 +133,5 @@ leaves-files o v a store fault files opening events comes end told is =
       };
       flushed = λ none node name named.
           rw is at (end.flushed told none node name (ap (λ (t : _). filename_of t node) (sym shows.table.table_is) ∙ named));
-      sound = sound;
+      sound = sound_same v.table s.table (held v) (bytes_named files) shows.table.table_is holds (comes.sound told);
     })

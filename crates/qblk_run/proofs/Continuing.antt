@@ -11,7 +11,7 @@ use Rattle.blk_history.specs.Machine.{Flight}
 use Rattle.blk_history.specs.declared.event.Event.{Event}
 use Rattle.blk_history.specs.declared.event.Event.TheVariants.{Admit, Refuse, Piece, Retire, Reply, Reached, Start, Ready, End, Done}
 use Rattle.flat_machine.specs.Blocked.{ScriptWaits}
-use Rattle.flat_machine.specs.Marks.{Drained, holds, is_held}
+use Rattle.flat_machine.specs.Marks.{Drained, holds_disk, is_held}
 use Rattle.flat_machine.specs.State.{disk_of_guest}
 use Rattle.flat_machine.specs.Courses.{course_of, course_after, past_waits, rest_of}
 use Rattle.world_parts.specs.Face.{Face, seen_state}
@@ -325,7 +325,7 @@ none-drained w script is rests drains = by_command drains.command
 none-held : (w : Face) (g : ℕ) → w.drains.jobs ≡ [] → w.drains.command ≡ [] → is_held (seen_state w) w.drains g ≡ false
 none-held w g jobs command = by_disk (disk_of_guest w.table g)
   where
-    by_disk : (disk : Option ℕ) → holds w.table w.drains disk ≡ false
+    by_disk : (disk : Option ℕ) → holds_disk w.table w.drains disk ≡ false
     by_disk None = refl
     by_disk (Some node) = rw (jobs, command) refl
 

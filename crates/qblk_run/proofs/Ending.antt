@@ -7,7 +7,7 @@ use Rattle.trace_codec.specs.declared.waits.Waits.{Waits}
 use Rattle.trace_codec.specs.Script.{Order}
 use Rattle.flat_machine.specs.State.{Guest, guest_at}
 use Rattle.flat_machine.specs.Blocked.{ScriptWaits, TraceWaits, ActorWaits, IsUnfinished, IsStuck, SlotWaits}
-use Rattle.flat_machine.specs.Courses.{Course, course_of, course_after, past_waits, rest_of, IsUsedUp, AreAllDone, IsWhole}
+use Rattle.flat_machine.specs.Courses.{Course, course_of, course_after, past_waits, rest_of, IsTraceUsedUp, AreAllDone, IsWhole}
 use Rattle.world_parts.specs.Face.{Face, seen_state}
 use Rattle.world_parts.specs.Progress.{ended_in, answered_in}
 use Rattle.qblk_run.specs.Tasks.{Task, Tasks, CanGoOn, KeepsTo, IsTaskOf, IsFlying, Rests, TaskWaits, ScriptRests}
@@ -155,7 +155,7 @@ module _ (w : Face) (tasks : Tasks) (orders : List Order) (traces : List (List W
     done = all;
   }
     where
-      used : (g : ℕ) → g < length c.traces → IsUsedUp c g
+      used : (g : ℕ) → g < length c.traces → IsTraceUsedUp c g
       used g below =
           let count = keeps.rests.count in
           let task = get-below tasks.guests g (omega arith) in

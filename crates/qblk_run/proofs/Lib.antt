@@ -15,6 +15,7 @@ pub mod ScriptTurns
 pub mod Lines
 pub mod Ending
 pub mod Firsts
+pub mod GoodInputs
 pub mod Closing
 pub mod Flushes
 pub mod Accounts

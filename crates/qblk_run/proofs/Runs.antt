@@ -1,5 +1,5 @@
 -- A run from its inputs on.
-use Rattle.std.proofs.Common.{◌≡◌, ℕ, ◌≤◌, false, List, [], ◌∷◌, length, map, refl, sym, ◌∙◌, ap, subst, arith, Option, Some, None, inl, inr}
+use Rattle.std.proofs.Common.{◌≡◌, ℕ, ◌+◌, ◌≤◌, false, List, [], ◌∷◌, length, map, refl, sym, ◌∙◌, ap, subst, arith, Option, Some, None, inl, inr}
 use Rattle.std.specs.Prelude.{vec_len, IfSome}
 use Rattle.std.proofs.Common.{Vec, Global}
 use Rattle.std.proofs.lemmas.List.{length-map}
@@ -25,11 +25,12 @@ use Rattle.qblk_core.specs.declared.words.Format.{Format}
 use Rattle.qblk_core.specs.Words.{IsIo}
 use Rattle.qblk_inputs.specs.Inputs.{Work, HasWork, IsRefusedInput}
 use Rattle.qblk_inputs.specs.Reading.{StopsFor}
+use Rattle.qblk_inputs.specs.Room.{IsRoomFor, entries_for_all}
 use Rattle.qblk_inputs.specs.Words.{Cast, IsRunOf, Player, guests_of, player_of}
 use Rattle.qblk_inputs.specs.declared.stop.InputStop.{InputStop}
 use Rattle.qblk_inputs.specs.declared.stop.InputStop.TheVariants as stops
 use Rattle.qblk_run.specs.Beginning.{new_task, new_tasks, IsReady}
-use Rattle.qblk_run.specs.Run.{Setting, Answers, status_of}
+use Rattle.qblk_run.specs.Run.{Setting, Answers, history_room, status_of}
 use Rattle.qblk_run.specs.Session.{IsPlayed, IsGivenUp}
 use Rattle.blk_history.specs.Transcript.{transcript}
 use Rattle.qblk_run.specs.Ending.{EndsAs}
@@ -65,11 +66,11 @@ played-lines w script traces store log fault waiting guests none count played =
     subst (λ (l : Recorded). HaveLines guests l.events) (sym played.log_is) (played.so.lines guests (omega arith) lines)
 
 -- memory wasn't had for a turn
-pub given-up : (cast : Cast) (work : Work) (old new : Setting) (room : Room) → IfTold old.store.files (HasWork cast work) → length work.traces ≡ length (guests_of cast)
+pub given-up : (cast : Cast) (work : Work) (old new : Setting) (room : Room) → room ≡ history_room work → IfTold old.store.files (HasWork cast work) → length work.traces ≡ length (guests_of cast)
     → ((o : Opening) → IsOpeningOf old.store (guests_of cast) o → Comes o (new_world old.store (guests_of cast) room))
     → IsGivenUp (new_world old.store (guests_of cast) room) (new_tasks work.script work.traces) new.store
     → new.sent ≡ old.sent → new.sink_faults ≡ old.sink_faults → Answers cast old new NoMemory
-given-up cast work old new room inputs count begins given sent sink =
+given-up cast work old new room sized inputs count begins given sent sink =
     let o = opening_by old.store (guests_of cast) in
     let c = course_of work.script work.traces in
     let w = new_world old.store (guests_of cast) room in
@@ -88,7 +89,7 @@ given-up cast work old new room inputs count begins given sent sink =
         account old.store (guests_of cast) w given.now new.store given.fault refl refl refl refl comes.counted given.stays comes given.end,
         inputs,
         run-is old.store (guests_of cast) w given.now new.store given.fault refl refl refl refl comes.counted given.stays comes given.end cast work false refl count
-            (subst (λ (p : Progress). KeepsOrder c p.log.events) same keeps.order) room near
+            (subst (λ (p : Progress). KeepsOrder c p.log.events) same keeps.order) room sized near
             (subst (λ (p : Progress). GoesThrough o c w p.log.events near) same has.through)
             (inr (subst (λ (x : List Order). IsUndoneBy x near given.now) left given.gives.undone.by)),
       ),
@@ -131,9 +132,9 @@ pub refused-answers : (cast : Cast) (old new : Setting) (stop : InputStop)
     → new.store.files ≡ old.store.files → new.store.opened ≡ old.store.opened → new.store.room ≡ old.store.room → new.sent ≡ old.sent → new.sink_faults ≡ old.sink_faults
     → StopsFor (λ name why line. IfTold old.store.files (IsRefusedInput cast name line why)) old.store.faults new.store.faults stop → Answers cast old new (status_of stop)
 refused-answers cast old new (stops.Refused name line why) files opened room sent sink stop =
-    (record { files = files; opened = opened; sent = sent; sink = sink }, stop.1, (why, refl, stop.0))
+    (record { files = files; opened = opened; room = room; sent = sent; sink = sink }, stop.1, (why, refl, stop.0))
 refused-answers cast old new (stops.Failed count) files opened room sent sink stop =
-    (record { files = files; opened = opened; sent = sent; sink = sink }, stop.0, stop.1)
+    (record { files = files; opened = opened; room = room; sent = sent; sink = sink }, stop.0, stop.1)
 refused-answers cast old new stops.NoMemory files opened room sent sink stop = (sent, sink, inl (same-store new.store old.store files opened room stop))
 
 -- ---- what was read
@@ -142,6 +143,15 @@ pub traces-count : (traces : Vec (Vec Wish Global) Global) (n : ℕ) → vec_len
 traces-count traces n is = length-map traces.items (λ t. t.items) ∙ sym traces.ok.0 ∙ is
 
 -- ---- as the calls say it
+
+-- the room that was taken
+room-is : (work : Work) (room : Room) → IsRoomFor (length work.script) work.traces room → room ≡ history_room work
+room-is work room is =
+    let one : room ≡ record room { entries = (length work.script + 1) + entries_for_all work.traces } =
+    ap (λ (n : ℕ). record room { entries = n }) is.entries in
+    let two : record room { entries = (length work.script + 1) + entries_for_all work.traces } ≡ history_room work =
+    ap (λ (n : ℕ). record (history_room work) { bytes = n }) is.bytes in
+    one ∙ two
 
 -- the world and the actors that a run began with
 world-is : (store : StoreSeen) (guests its : List (List ℕ)) (room : Room) (world : Face) → its ≡ guests → world ≡ new_world store its room → world ≡ new_world store guests room
@@ -160,7 +170,7 @@ module _ (cast : Cast) (work : Work) (old new : Setting) (room : Room) (guests i
 
   pub given-here : IfTold old.store.files (HasWork cast work) → IsGivenUp world actors new.store → new.sent ≡ old.sent → new.sink_faults ≡ old.sink_faults → Answers cast old new NoMemory
   given-here inputs given sent sink =
-      given-up cast work old new room inputs (count ∙ ap length (sym called)) (begins-is old.store (guests_of cast) its room world same is begins)
+      given-up cast work old new room (room-is work room ready.room_is) inputs (count ∙ ap length (sym called)) (begins-is old.store (guests_of cast) its room world same is begins)
       (subst (λ (t : Tasks). IsGivenUp (new_world old.store (guests_of cast) room) t new.store) ready.actors_are
       (subst (λ (w : Face). IsGivenUp w actors new.store) (world-is old.store (guests_of cast) its room world same is) given)) sent sink
 
@@ -176,7 +186,7 @@ module _ (cast : Cast) (work : Work) (old new : Setting) (room : Room) (guests i
   played-here log fault waiting status inputs played ends =
       let played' = played-as log fault waiting played in
       let printed : names ≡ guests_of cast = ready.names_are ∙ sym called in
-      run-answers cast work old new room log fault waiting inputs (count ∙ ap length (sym called)) played' (begins-is old.store (guests_of cast) its room world same is begins)
+      run-answers cast work old new room (room-is work room ready.room_is) log fault waiting inputs (count ∙ ap length (sym called)) played' (begins-is old.store (guests_of cast) its room world same is begins)
       (played-lines (new_world old.store (guests_of cast) room) work.script work.traces new.store log fault waiting (guests_of cast) refl (count ∙ ap length (sym called)) played')
       status (subst (λ (ns : List (List ℕ)). EndsAs fault waiting old.sent new.sent (transcript (guests_only ns) log.events) old.sink_faults new.sink_faults status) printed ends)
 

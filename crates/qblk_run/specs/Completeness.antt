@@ -49,7 +49,8 @@ lines_in (Watch line what ∷ orders) = line ∷ lines_in orders
 abbrev pub WaitsForLines : List ℕ → List Wish → Type 0
 WaitsForLines lines [] = Unit {0}
 WaitsForLines lines (Ask op ∷ wishes) = WaitsForLines lines wishes
-WaitsForLines lines (Wait line ∷ wishes) = (is_answered lines line ≡ true) × WaitsForLines lines wishes
+WaitsForLines lines (Wait line ∷ wishes) =
+    (is_answered lines line ≡ true) × WaitsForLines lines wishes
 
 pub record CanBeWhole (work : Work) : Type 0 where
   pub script : AwaitsNothing work.script
@@ -77,8 +78,8 @@ pub record MeetsNone (h : List Event) : Type 0 where
   pub faults : faults_of h ≡ []
   pub full : filter_map full_in h ≡ []
 
--- No write of the event that was made in this world would pass the capacity of a device: of a piece, of one that the guest's
--- disk leads to; of a command, of one that it calls.
+-- No write of the event that was made in this world would pass the capacity of a device: of a piece, of that of the file
+-- which the guest's disk writes; of a command, of one that it calls.
 abbrev pub HasSpaceFor : Face → Event → Type 0
 HasSpaceFor w (Piece g r k outcome got) = (f : Flight) (drive dev : ℕ)
     → flight_at w.progress.guests g ≡ Some f → drive_of w.table g ≡ Some drive
@@ -89,7 +90,8 @@ HasSpaceFor w (Reply line given command text) =
 HasSpaceFor w e = Unit {0}
 
 -- so it is with each event, in the world before it
-abbrev pub HaveSpace : (o : Opening) (c : Course) (w : Face) (h : List Event) (v : Face) → GoesThrough o c w h v → Type 0
+abbrev pub HaveSpace : (o : Opening) (c : Course) (w : Face) (h : List Event) (v : Face)
+    → GoesThrough o c w h v → Type 0
 HaveSpace o c w [] v through = Unit {0}
 HaveSpace o c w (e ∷ h) v through =
     HasSpaceFor through.0 e × HaveSpace o (onward c e) through.1 h v through.5

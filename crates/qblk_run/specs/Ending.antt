@@ -28,7 +28,8 @@ pub record WentOut (old new : Option (List ℕ)) (whole : List ℕ) (before now 
 
 -- Memory wasn't had, and nothing went out; or all of it did, or a front of it and a put failed, and the status says how it
 -- ended.
-abbrev pub EndsAs : Option FaultAt → Option (ℕ × Waits Written) → Option (List ℕ) → Option (List ℕ) → List ℕ → ℕ → ℕ → Status → Type 0
+abbrev pub EndsAs : Option FaultAt → Option (ℕ × Waits Written) → Option (List ℕ) → Option (List ℕ)
+    → List ℕ → ℕ → ℕ → Status → Type 0
 EndsAs fault waiting old new whole before now status =
     ((status ≡ NoMemory) × (new ≡ old) × (now ≡ before))
     ⊎ ((status ≡ ended_as fault waiting) × WentOut old new whole before now)

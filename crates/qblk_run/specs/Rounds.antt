@@ -12,7 +12,8 @@ use Rattle.qblk_run.specs.Worlds.{ComesOn, IsUndone}
 -- The history still keeps the order of script and traces, and what is left of these are the tasks.
 abbrev pub OrderStays : Face → Face → Tasks → Tasks → Type 0
 OrderStays w v before after = (script : List Order) (traces : List (List Wish))
-    → KeepsTo script traces w.progress.log.events before → KeepsTo script traces v.progress.log.events after
+    → KeepsTo script traces w.progress.log.events before
+    → KeepsTo script traces v.progress.log.events after
 
 -- Its entries have lines.
 abbrev pub LinesStay : Face → Face → Tasks → Type 0
@@ -38,7 +39,8 @@ pub record GivesUp (w v : Face) (before : Tasks) : Type 0 where
 
 -- each actor is done or waits
 abbrev pub GuestsRest : Face → ℕ → List Task → Type 0
-GuestsRest w n tasks = (g : ℕ) (task : Task) → g < n → slice_get tasks g ≡ Some task → Rests w g task
+GuestsRest w n tasks =
+    (g : ℕ) (task : Task) → g < n → slice_get tasks g ≡ Some task → Rests w g task
 
 pub record AllRest (w : Face) (tasks : Tasks) : Type 0 where
   pub script : ScriptRests w tasks.script
@@ -46,7 +48,8 @@ pub record AllRest (w : Face) (tasks : Tasks) : Type 0 where
 
 -- each of the first n guests makes no entry
 abbrev pub GuestsHalt : Face → ℕ → List Task → Type 0
-GuestsHalt w n tasks = (g : ℕ) (task : Task) → g < n → slice_get tasks g ≡ Some task → Halts w g task
+GuestsHalt w n tasks =
+    (g : ℕ) (task : Task) → g < n → slice_get tasks g ≡ Some task → Halts w g task
 
 -- An entry was made, and less is left to do; or none was by the script and the first n guests, which can make none now.
 abbrev pub Goes : Face → Tasks → Tasks → ℕ → Bool → Type 0
@@ -72,15 +75,19 @@ pub record AreDone (tasks : Tasks) : Type 0 where
   pub guests : AllAreDone tasks.guests
 
 -- a guest is the first that is not done
-pub record IsFirstGuest (w : Face) (tasks : List Task) (g : ℕ) (what : Waits (List ℕ)) : Type 0 where
-  pub task : Task
-  pub there : slice_get tasks g ≡ Some task
-  pub runs : task.is_done ≡ false
-  pub waits : TraceWaits (seen_state w) g task.wishes what
-  pub before : (other : ℕ) (done : Task) → other < g → slice_get tasks other ≡ Some done → done.is_done ≡ true
+pub record IsFirstGuest (w : Face) (tasks : List Task) (g : ℕ) (what : Waits (List ℕ)) : Type 0
+  where
+    pub task : Task
+    pub there : slice_get tasks g ≡ Some task
+    pub runs : task.is_done ≡ false
+    pub waits : TraceWaits (seen_state w) g task.wishes what
+    pub before : (other : ℕ) (done : Task) → other < g → slice_get tasks other ≡ Some done
+        → done.is_done ≡ true
 
 -- the first actor that is not done, and what it waits for
 abbrev pub IsFirst : Face → Tasks → ℕ → Waits (List ℕ) → Type 0
 IsFirst w tasks actor what =
-    ((actor ≡ 0) × (tasks.script.is_done ≡ false) × ScriptWaits (seen_state w) tasks.script.orders what)
-    ⊎ ((tasks.script.is_done ≡ true) × ((g : ℕ) × (actor ≡ g + 1) × IsFirstGuest w tasks.guests g what))
+    ((actor ≡ 0) × (tasks.script.is_done ≡ false)
+    × ScriptWaits (seen_state w) tasks.script.orders what)
+    ⊎ ((tasks.script.is_done ≡ true)
+    × ((g : ℕ) × (actor ≡ g + 1) × IsFirstGuest w tasks.guests g what))

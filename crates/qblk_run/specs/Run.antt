@@ -1,5 +1,5 @@
 -- What a run of a script and traces is, seen from outside.
-use Rattle.std.specs.Prelude.{◌≡◌, ◌⊎◌, ℕ, ◌<◌, ◌≤◌, Bool, true, false, List, [], ◌++◌, length, map, take, slice_get, All, Option, Some, None, IsSome, is_some, option_map}
+use Rattle.std.specs.Prelude.{◌≡◌, ◌⊎◌, ℕ, ◌+◌, ◌<◌, ◌≤◌, Bool, true, false, List, [], ◌++◌, length, map, take, slice_get, All, Option, Some, None, IsSome, is_some, option_map}
 use Rattle.blk_base.specs.Counts.{Rose}
 use Rattle.blk_base.specs.Files.{IfTold}
 use Rattle.blk_base.specs.Written.{Written}
@@ -22,7 +22,9 @@ use Rattle.flat_machine.specs.Comes.{IsHistoryOf, IsInOrder, HasEnded, guests_af
 use Rattle.flat_machine.specs.Courses.{Course, course_of, course_after}
 use Rattle.flat_machine.specs.Blocked.{IsStuck}
 use Rattle.flat_machine.specs.Licence.{Counts, AreLicensed, count_of, fault_at, faults_of}
-use Rattle.flat_machine.specs.Final.{AreLeftBy}
+use Rattle.flat_machine.specs.Final.{AreLeftBy, bytes_named}
+use Rattle.flat_machine.specs.Unique.{IsSmall}
+use Rattle.flat_machine.specs.Imaging.{ImagesAreSound}
 use Rattle.flat_machine.specs.declared.opening.Opening.{Opening}
 use Rattle.world_commands.specs.Closing.{IsClosed, IsFlushedIn, count_back}
 use Rattle.world_commands.specs.Comes.{Comes}
@@ -30,8 +32,8 @@ use Rattle.world_commands.specs.Counting.{HaveNotFallen}
 use Rattle.world_parts.specs.Face.{Face, counts_now}
 use Rattle.world_parts.specs.Steps.{StoreSeen, IsOpeningOf, new_world, seen_store}
 use Rattle.world_commands.specs.Tabling.{IsTableAfter}
-use Rattle.blk_world.specs.Images.{ImagesAreSound}
 use Rattle.qblk_inputs.specs.Inputs.{Work, HasWork, IsRefusedInput}
+use Rattle.qblk_inputs.specs.Room.{bytes_for_all, entries_for_all}
 use Rattle.qblk_inputs.specs.Words.{Cast, guests_of}
 use Rattle.qblk_inputs.specs.declared.stop.InputFlaw.{InputFlaw}
 use Rattle.qblk_inputs.specs.declared.stop.InputFlaw.TheVariants as flaws
@@ -58,7 +60,13 @@ setting files opened room faults sent sink_faults =
 -- as `io` sees it
 abbrev pub outside : Option (List File) → List Opened → ℕ → Option (List ℕ) → ℕ → Outside
 outside files opened faults sent sink_faults =
-    record { files = files; opened = opened; store_faults = faults; sent = sent; sink_faults = sink_faults }
+    record {
+      files = files;
+      opened = opened;
+      store_faults = faults;
+      sent = sent;
+      sink_faults = sink_faults;
+    }
 
 -- What a run was: what it began with, the openings of devices in it, its history, and the counts of faults behind its last
 -- event.
@@ -97,26 +105,28 @@ HaveStood first last = (from : FaultFrom) (n : ℕ) → count_of first from ≡ 
 
 -- the file of each `file` node is flushed
 abbrev pub NodesAreFlushed : Table → List File → Type 0
-NodesAreFlushed t files = (node : ℕ) (name : List ℕ) → filename_of t node ≡ Some name → IsFlushedIn files name
+NodesAreFlushed t files =
+    (node : ℕ) (name : List ℕ) → filename_of t node ≡ Some name → IsFlushedIn files name
 
 -- the state that a history comes to
 abbrev pub state_after : Opening → List Event → State
 state_after o h = replay (start o) h
 
 -- The history is one of its opening: it is legal, and no mark of it splits a request. Each node of the last table that has a
--- flat disk reads as it, by these files alone; left disks are what their drivers read; files that no command named for
--- writing are as they were; and the image in the file of each qcow2 node of that table is sound.
+-- flat disk reads as it, by these files alone; left disks are what their drivers read, of sound images; files that no command
+-- named for writing are as they were; and the image in the file of each qcow2 node of that table is sound.
 pub record LeavesFiles (a : Account) (fault : Option FaultAt) (files : List File) : Type 0 where
   pub history : IsHistoryOf a.opening a.events
   pub left : AreLeftBy a.opening.files (state_after a.opening a.events) files
   pub flushed : fault ≡ None → NodesAreFlushed (state_after a.opening a.events).table files
-  pub sound : ImagesAreSound (state_after a.opening a.events).table files
+  pub sound : ImagesAreSound (state_after a.opening a.events).table (bytes_named files)
 
 -- ---- the last flush: each device that is still out, in the order in which they were opened
 
 -- It failed at this device, and at none before it: the count, which the device was given back with, rose behind the last event.
 pub record FailsToFlush (new : StoreSeen) (a : Account) (dev : DevNo) (count : ℕ) : Type 0 where
-  pub last : With (slice_get a.openings dev.0) (λ o. (o.returned ≡ Some count) × Rose o.faults count)
+  pub last : With (slice_get a.openings dev.0)
+      (λ o. (o.returned ≡ Some count) × Rose o.faults count)
   pub rose : With (slice_get a.counts.devices dev.0) (λ before. Rose before count)
   pub first : (n : ℕ) → n < dev.0
       → slice_get (counts_at_last new a).devices n ≡ slice_get a.counts.devices n
@@ -129,17 +139,24 @@ IsFlushedAs new a (Some fault) =
 
 -- ---- the worlds of a run
 
+-- the room that is taken of the history: of each line an entry, of the end of each actor, and for what each trace asks
+abbrev pub history_room : Work → Room
+history_room work = record {
+  entries = (length work.script + 1) + entries_for_all work.traces;
+  bytes = bytes_for_all work.traces;
+}
+
 -- what is left of script and traces behind the history
 abbrev pub course_in : Work → Account → Course
 course_in work a = course_after (course_of work.script work.traces) a.events
 
 -- A world was made over the store, the entries are its events, one after another, and it was closed. Between them nothing happens
 -- but that the script's next line is put off; `had` says whether memory was had for each line.
-pub record IsPlayedBy (work : Work) (had : Bool) (fault : Option FaultAt) (old new : StoreSeen) (a : Account) : Type 0 where
-  pub room : Room
+pub record IsPlayedBy (work : Work) (had : Bool) (fault : Option FaultAt) (old new : StoreSeen)
+    (a : Account) : Type 0 where
   pub near : Face
   pub through : GoesThrough a.opening (course_of work.script work.traces)
-      (new_world old a.opening.guests room) a.events near
+      (new_world old a.opening.guests (history_room work)) a.events near
   pub last : Face
   pub is_last : IsLast had (course_in work a).script near last
   pub comes : Comes a.opening last
@@ -150,8 +167,9 @@ pub record IsPlayedBy (work : Work) (had : Bool) (fault : Option FaultAt) (old n
 
 -- Each guest's requests are its trace's, in order, and so it is with the script; each fault that the history names is a
 -- rise of its count in this run, and is named once; where no count has risen, none is named. Of the last flush the first fault is
--- told. The files are spoken of where the store tells them.
-pub record IsRun (cast : Cast) (work : Work) (had : Bool) (fault : Option FaultAt) (old new : StoreSeen)
+-- told. The numbers that an entry prints have 64 bits. The files are spoken of where the store tells them.
+pub record IsRun (cast : Cast) (work : Work) (had : Bool) (fault : Option FaultAt)
+    (old new : StoreSeen)
     (a : Account) : Type 0 where
   pub opening : IsOpeningOf old (guests_of cast) a.opening
   pub openings : HasOpened old.opened new.opened a.openings
@@ -162,13 +180,15 @@ pub record IsRun (cast : Cast) (work : Work) (had : Bool) (fault : Option FaultA
   pub quiet : HaveStood (counts_at_first old a) (counts_at_last new a) → faults_of a.events ≡ []
   pub flush : IsFlushedAs new a fault
   pub worlds : IsPlayedBy work had fault old new a
+  pub small : All IsSmall a.events
   pub files : IfTold old.files (λ told. With new.files (LeavesFiles a fault))
 
 -- Some actor is unfinished, and each of those is blocked; the first is named. The table in which that is so is one that the
 -- entries make, with what is dirty, and the state is the one that the history comes to, where the store tells its files. What
 -- blocked actors look at is fixed by the entries whatever the store tells: which guests have a device, how far each is, and that
 -- no job is there (no command starts one yet).
-pub record EndsStuck (is_told : Bool) (work : Work) (a : Account) (actor : ℕ) (what : Waits (List ℕ)) : Type 0 where
+pub record EndsStuck (is_told : Bool) (work : Work) (a : Account) (actor : ℕ)
+    (what : Waits (List ℕ)) : Type 0 where
   pub state : State
   pub table : IsTableAfter a.opening.guests a.events state.table state.dirty
   pub devices : HaveDevices a.opening.guests a.events state.table
@@ -185,7 +205,8 @@ EndsDone is_told work a = HasEnded a.opening is_told work.script work.traces a.e
 -- a run stops in one of these two ways
 abbrev pub HasStopped : Bool → Work → Account → Type 0
 HasStopped is_told work a =
-    EndsDone is_told work a ⊎ ((actor : ℕ) × (what : Waits (List ℕ)) × EndsStuck is_told work a actor what)
+    EndsDone is_told work a
+    ⊎ ((actor : ℕ) × (what : Waits (List ℕ)) × EndsStuck is_told work a actor what)
 
 -- ---- what went out
 
@@ -193,7 +214,8 @@ abbrev pub whole_transcript : Account → List ℕ
 whole_transcript a = transcript_of a.opening a.events
 
 -- script and traces are what the words name, they were run, and of the transcript the first n bytes went out
-pub record WasRun (cast : Cast) (work : Work) (fault : Option FaultAt) (old new : Setting) (a : Account) (n : ℕ) : Type 0 where
+pub record WasRun (cast : Cast) (work : Work) (fault : Option FaultAt) (old new : Setting)
+    (a : Account) (n : ℕ) : Type 0 where
   pub inputs : IfTold old.store.files (HasWork cast work)
   pub run : IsRun cast work true fault old.store new.store a
   pub sent : new.sent ≡ option_map (λ s. s ++ take n (whole_transcript a)) old.sent
@@ -204,7 +226,8 @@ pub record WasRunWhole (cast : Cast) (work : Work) (old new : Setting) (a : Acco
   pub sink : new.sink_faults ≡ old.sink_faults
 
 -- it stopped, whether or not all of it went out
-pub record WasStopped (cast : Cast) (work : Work) (fault : Option FaultAt) (old new : Setting) (a : Account) (n : ℕ) : Type 0 where
+pub record WasStopped (cast : Cast) (work : Work) (fault : Option FaultAt) (old new : Setting)
+    (a : Account) (n : ℕ) : Type 0 where
   pub was : WasRun cast work fault old new a n
   pub stopped : HasStopped (is_some old.store.files) work a
 
@@ -212,6 +235,7 @@ pub record WasStopped (cast : Cast) (work : Work) (fault : Option FaultAt) (old 
 pub record NothingWritten (old new : Setting) : Type 0 where
   pub files : new.store.files ≡ old.store.files
   pub opened : new.store.opened ≡ old.store.opened
+  pub room : new.store.room ≡ old.store.room
   pub sent : new.sent ≡ old.sent
   pub sink : new.sink_faults ≡ old.sink_faults
 
@@ -251,15 +275,18 @@ seen_waits (waits.Ready id) = waits.Ready id.bytes
 seen_waits (waits.Ended id) = waits.Ended id.bytes
 
 -- an input is refused
-abbrev pub IsRefusedFor : Cast → Setting → Setting → List ℕ → ℕ → InputWhy → Type 0
-IsRefusedFor cast old new name line why = NothingWritten old new × (new.store.faults ≡ old.store.faults)
-    × ((flaw : InputFlaw) × (why ≡ why_of flaw) × IfTold old.store.files (IsRefusedInput cast name line flaw))
+abbrev pub IsInputRefused : Cast → Setting → Setting → List ℕ → ℕ → InputWhy → Type 0
+IsInputRefused cast old new name line why =
+    NothingWritten old new × (new.store.faults ≡ old.store.faults)
+    × ((flaw : InputFlaw) × (why ≡ why_of flaw)
+    × IfTold old.store.files (IsRefusedInput cast name line flaw))
 
 -- memory wasn't had: nothing went out, and the store is as it was, or as the events so far left it
 abbrev pub IsUnsent : Cast → Setting → Setting → Type 0
 IsUnsent cast old new = (new.sent ≡ old.sent) × (new.sink_faults ≡ old.sink_faults)
     × ((new.store ≡ old.store)
-    ⊎ ((work : Work) × (fault : Option FaultAt) × (a : Account) × IfTold old.store.files (HasWork cast work)
+    ⊎ ((work : Work) × (fault : Option FaultAt) × (a : Account)
+    × IfTold old.store.files (HasWork cast work)
     × IsRun cast work false fault old.store new.store a))
 
 -- why a run of these words ended so
@@ -267,10 +294,11 @@ abbrev pub Answers : Cast → Setting → Setting → Status → Type 0
 Answers cast old new Done = (work : Work) × (a : Account)
     × WasRunWhole cast work old new a × EndsDone (is_some old.store.files) work a
 Answers cast old new Usage = ⊥
-Answers cast old new (Input name line why) = IsRefusedFor cast old new name.bytes line why
+Answers cast old new (Input name line why) = IsInputRefused cast old new name.bytes line why
 Answers cast old new (Fault from count) = IsFaulty cast old new from count
 Answers cast old new (Stuck actor what) = (work : Work) × (a : Account)
-    × WasRunWhole cast work old new a × EndsStuck (is_some old.store.files) work a actor (seen_waits what)
+    × WasRunWhole cast work old new a
+    × EndsStuck (is_some old.store.files) work a actor (seen_waits what)
 Answers cast old new NoMemory = IsUnsent cast old new
 
 -- the status of inputs that weren't read

@@ -5,7 +5,8 @@ use Rattle.blk_history.specs.declared.event.Event.{Event}
 
 -- no reply's text is longer
 abbrev pub RepliesFit : ℕ → List Event → Type 0
-RepliesFit most events = (at : ℕ) (e : Event) (text : List ℕ) → slice_get events at ≡ Some e → reply_by e ≡ Some text
+RepliesFit most events =
+    (at : ℕ) (e : Event) (text : List ℕ) → slice_get events at ≡ Some e → reply_by e ≡ Some text
     → length text ≤ most
 
 -- no name is

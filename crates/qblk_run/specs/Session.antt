@@ -12,7 +12,6 @@ use Rattle.flat_machine.specs.State.{State}
 use Rattle.world_commands.specs.Closing.{IsClosed, AreNodesFlushed}
 use Rattle.world_parts.specs.Face.{Face, held, told_bytes, contents_of}
 use Rattle.world_parts.specs.Steps.{StoreSeen}
-use Rattle.blk_world.specs.Images.{ImagesAreSound}
 use Rattle.qblk_run.specs.Run.{seen_waits}
 use Rattle.qblk_run.specs.Tasks.{Tasks}
 use Rattle.qblk_run.specs.Turns.{StaysIn}
@@ -28,12 +27,12 @@ pub record IsEnd (v : Face) (store : StoreSeen) (fault : Option FaultAt) : Type 
   pub flushed : is_some v.files ≡ true → fault ≡ None → AreNodesFlushed v.table store.files
   pub disks : is_some v.files ≡ true → (s : State) → s.table ≡ v.table
       → ReadAsDisks s (contents_of v) → With store.files (λ files. AreDisks files s)
-  pub sound : is_some v.files ≡ true → With store.files (ImagesAreSound v.table)
   pub held : is_some v.files ≡ true → (name : List ℕ) → told_bytes store.files name ≡ held v name
 
 -- A world was played until no actor could go on, and closed; told are its history, the first fault of the last flushes, and the
 -- first actor that is not done.
-pub record IsPlayed (w : Face) (before : Tasks) (store : StoreSeen) (log : Recorded) (fault : Option FaultAt)
+pub record IsPlayed (w : Face) (before : Tasks) (store : StoreSeen) (log : Recorded)
+    (fault : Option FaultAt)
     (waiting : Option (ℕ × Waits Written)) : Type 0 where
   pub now : Face
   pub after : Tasks

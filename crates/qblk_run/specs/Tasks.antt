@@ -135,7 +135,8 @@ pub record AreRestsOf (c : Course) (tasks : Tasks) : Type 0 where
   pub traces : (g : ℕ) (task : Task) → slice_get tasks.guests g ≡ Some task → IsRestOf c g task
 
 -- The history keeps the order of script and traces, and the tasks are what is left of them.
-pub record KeepsTo (script : List Order) (traces : List (List Wish)) (h : List Event) (tasks : Tasks) : Type 0 where
+pub record KeepsTo (script : List Order) (traces : List (List Wish)) (h : List Event)
+    (tasks : Tasks) : Type 0 where
   pub order : KeepsOrder (course_of script traces) h
   pub rests : AreRestsOf (course_after (course_of script traces) h) tasks
 
@@ -168,7 +169,9 @@ abbrev pub Rests : Face → ℕ → Task → Type 0
 Rests w g task = (task.is_done ≡ true) ⊎ TaskWaits w g task
 
 abbrev pub ScriptRests : Face → ScriptTask → Type 0
-ScriptRests w script = (script.is_done ≡ true) ⊎ ((what : Waits (List ℕ)) × ScriptWaits (seen_state w) script.orders what)
+ScriptRests w script =
+    (script.is_done ≡ true)
+    ⊎ ((what : Waits (List ℕ)) × ScriptWaits (seen_state w) script.orders what)
 
 -- ---- drains
 

@@ -54,7 +54,8 @@ pub record Ends (answered : List ℕ) (before after : Task) : Type 0 where
 -- the entry is the next of a guest's task
 abbrev pub IsOwnMove : List ℕ → ℕ → Task → Task → Event → Type 0
 IsOwnMove answered g before after (Admit n r op) = (n ≡ g) × Asks answered (Ask op) before after
-IsOwnMove answered g before after (Refuse n r op why) = (n ≡ g) × Asks answered (Ask op) before after
+IsOwnMove answered g before after (Refuse n r op why) =
+    (n ≡ g) × Asks answered (Ask op) before after
 IsOwnMove answered g before after (Piece n r k outcome got) = (n ≡ g) × GoesOn answered before after
 IsOwnMove answered g before after (Retire n r) = (n ≡ g) × GoesOn answered before after
 IsOwnMove answered g before after (Done actor) = (actor ≡ g + 1) × Ends answered before after

@@ -36,8 +36,10 @@ pub record IsReplyOf (w v : Face) (line : ℕ) (given text : List ℕ) : Type 0 
 
 -- What the call leaves that makes the entry. No call makes one of a job yet.
 abbrev pub IsLeftBy : Face → Face → Event → Type 0
-IsLeftBy w v (Admit g r op) = IsAnswered w g op (Admitted r) × (v ≡ after_admission w g op (Admitted r))
-IsLeftBy w v (Refuse g r op why) = IsAnswered w g op (NotAdmitted why) × (v ≡ after_admission w g op (NotAdmitted why))
+IsLeftBy w v (Admit g r op) =
+    IsAnswered w g op (Admitted r) × (v ≡ after_admission w g op (Admitted r))
+IsLeftBy w v (Refuse g r op why) =
+    IsAnswered w g op (NotAdmitted why) × (v ≡ after_admission w g op (NotAdmitted why))
 IsLeftBy w v (Piece g r k outcome got) = IsPieceOf w v g outcome
 IsLeftBy w v (Retire g r) = v ≡ onward w (with_retirement g)
 IsLeftBy w v (Reply line given command text) = IsReplyOf w v line given text
@@ -63,7 +65,8 @@ pub record IsEventOf (w v : Face) (e : Event) : Type 0 where
 
 -- the script's next line has to come again
 abbrev pub IsPutOffBy : List Order → Face → Face → Type 0
-IsPutOffBy (Give line given ∷ orders) w v = (g : ℕ) × (r : ℕ) × IsPutOff w v (given_line line given) g r
+IsPutOffBy (Give line given ∷ orders) w v =
+    (g : ℕ) × (r : ℕ) × IsPutOff w v (given_line line given) g r
 IsPutOffBy orders w v = ⊥
 
 -- Nothing has happened, or the script's next line was put off.
@@ -75,7 +78,8 @@ IsUneventful orders w v = (v ≡ w) ⊎ IsPutOffBy orders w v
 abbrev pub GoesThrough : Opening → Course → Face → List Event → Face → Type 0
 GoesThrough o c w [] v = IsUneventful c.script w v
 GoesThrough o c w (e ∷ h) v = (x : Face) × (y : Face)
-    × IsUneventful c.script w x × Comes o x × IsEventOf x y e × GoesThrough o (course_onward c e) y h v
+    × IsUneventful c.script w x × Comes o x × IsEventOf x y e
+    × GoesThrough o (course_onward c e) y h v
 
 -- ---- a world in its run
 
@@ -89,7 +93,8 @@ pub record HasCome (o : Opening) (c : Course) (first w : Face) (orders : List Or
 -- so it is with what is made of a world that has come
 abbrev pub ComesOn : Face → Face → List Order → List Order → Type 0
 ComesOn w v before after =
-    (o : Opening) (c : Course) (first : Face) → HasCome o c first w before → HasCome o c first v after
+    (o : Opening) (c : Course) (first : Face) → HasCome o c first w before
+    → HasCome o c first v after
 
 -- by a guest's turn, which leaves the script as it is
 abbrev pub ComesOnBeside : Face → Face → Type 0

@@ -60,7 +60,8 @@ pub(crate) trait Events {
         ensures done { IfOk result (λ answer.
             IsExecuted (face self.old) (face self.new) (given_line line text.now) answer) }
         ensures back { OnErr result (IsPutBack (face self.old) (face self.new)) }
-        ensures back_in { OnErr result (IsPutBackIn (face self.old) (face self.new) (command_at text.now)) }
+        ensures back_in { OnErr result
+            (IsPutBackIn (face self.old) (face self.new) (command_at text.now)) }
         ensures stays { StaysIn (face self.old) (face self.new) }
         ensures comes { (o : Opening) → Comes o (face self.old) → Comes o (face self.new) };
 

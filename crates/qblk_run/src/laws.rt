@@ -1,15 +1,19 @@
 //! What follows from the statement of a run, as the contract of a function that does nothing.
 ghost use Rattle.std.specs.Prelude.{ℕ, Bool, List, Option, length};
+ghost use Rattle.blk_base.specs.Written.{Written};
 ghost use Rattle.blk_base.specs.declared.fault.FaultAt.{FaultAt};
+ghost use Rattle.blk_history.specs.Fold.{With};
 ghost use Rattle.trace_codec.specs.declared.waits.Waits.{Waits};
 ghost use Rattle.flat_machine.specs.Comes.{IsInOrder};
 ghost use Rattle.flat_machine.specs.Courses.{course_of};
 ghost use Rattle.world_parts.specs.Steps.{StoreSeen, new_world};
+ghost use Rattle.qblk_core.specs.declared.status.InputWhy.{InputWhy};
 ghost use Rattle.qblk_core.specs.declared.status.Status.{Status};
-ghost use Rattle.qblk_inputs.specs.Inputs.{Work};
+ghost use Rattle.qblk_core.specs.declared.status.Status.TheVariants.{Input};
+ghost use Rattle.qblk_inputs.specs.Inputs.{Work, HasWork};
 ghost use Rattle.qblk_inputs.specs.Words.{Cast};
 ghost use Rattle.qblk_run.specs.Completeness.{CanBeWhole, AreAttached, HaveSpace, MeetsNone, NamesNoFault, NoneHasRisen};
-ghost use Rattle.qblk_run.specs.Run.{Account, Answers, EndsStuck, HaveStood, IsRun, Setting, counts_at_first, counts_at_last};
+ghost use Rattle.qblk_run.specs.Run.{Account, Answers, EndsStuck, HaveStood, IsRun, Setting, counts_at_first, counts_at_last, history_room};
 
 /// A run whose script awaits nothing, and whose traces wait for lines of the script alone, isn't stuck where each of its guests
 /// has a device at the end.
@@ -18,6 +22,14 @@ pub fn runs_that_await_nothing_are_whole()
         → CanBeWhole work → IsInOrder a.opening work.script work.traces a.events
         → (stuck : EndsStuck is_told work a actor what)
         → AreAttached stuck.state.table (length work.traces) → ⊥ }
+{}
+
+/// Inputs that are there, and that say what is to be done, are not refused.
+pub fn good_inputs_are_taken()
+    ensures { (cast : Cast) (work : Work) (old new : Setting) (name : Written) (line : ℕ)
+        (why : InputWhy)
+        → With old.store.files (HasWork cast work) → Answers cast old new (Input name line why)
+        → ⊥ }
 {}
 
 /// A run in which no count of store, device or sink rises names no fault.
@@ -29,10 +41,12 @@ pub fn runs_without_a_rise_name_no_fault()
 /// In a run in which no count rises, and no write would pass a capacity in the world that it is made in, each piece is good, and
 /// no command fails with a call of it.
 pub fn runs_with_space_are_good()
-    ensures { (cast : Cast) (work : Work) (had : Bool) (fault : Option FaultAt) (old new : StoreSeen) (a : Account)
+    ensures { (cast : Cast) (work : Work) (had : Bool) (fault : Option FaultAt)
+        (old new : StoreSeen) (a : Account)
         → (run : IsRun cast work had fault old new a)
         → HaveStood (counts_at_first old a) (counts_at_last new a)
         → HaveSpace a.opening (course_of work.script work.traces)
-        (new_world old a.opening.guests run.worlds.room) a.events run.worlds.near run.worlds.through
+        (new_world old a.opening.guests (history_room work)) a.events run.worlds.near
+        run.worlds.through
         → MeetsNone a.events }
 {}

@@ -20,7 +20,8 @@ pub fn qblk<S: Store, K: Sink>(alloc: Global, words: &[Text], store: S, out: &mu
     // `io FORMAT IMAGE TRACE`
     ensures io { (format : Format) (image trace : List ℕ)
         → IsIo (texts_of words.now) format image trace → Answers format image trace
-        (outside (S.files store) (S.opened store) (S.faults store) (K.sent out.old) (K.faults out.old))
+        (outside (S.files store) (S.opened store) (S.faults store) (K.sent out.old)
+        (K.faults out.old))
         (outside (S.files result.1) (S.opened result.1) (S.faults result.1) (K.sent out.new)
         (K.faults out.new))
         result.0 }
@@ -42,7 +43,8 @@ pub fn qblk<S: Store, K: Sink>(alloc: Global, words: &[Text], store: S, out: &mu
     // of `io`, no fault of the store or the sink goes untold
     ensures faults { (format : Format) (image trace : List ℕ)
         → IsIo (texts_of words.now) format image trace → TellsFaults
-        (outside (S.files store) (S.opened store) (S.faults store) (K.sent out.old) (K.faults out.old))
+        (outside (S.files store) (S.opened store) (S.faults store) (K.sent out.old)
+        (K.faults out.old))
         (outside (S.files result.1) (S.opened result.1) (S.faults result.1) (K.sent out.new)
         (K.faults out.new))
         result.0 }

@@ -31,7 +31,8 @@ fn next_guest<W: Events>(world: &mut W, actors: &mut Actors, guest: u32) -> bool
     requires can { CanGoOn (W.face world.old).progress actors.old }
     ensures goes { Continues (W.face world.old) (W.face world.new) actors.old actors.new }
     ensures script { actors.new.script ≡ actors.old.script }
-    ensures turn { HasTurn (W.face world.old) (W.face world.new) actors.old.guests actors.new.guests guest result }
+    ensures turn { HasTurn (W.face world.old) (W.face world.new) actors.old.guests actors.new.guests
+        guest result }
     ensures stays { StaysIn (W.face world.old) (W.face world.new) }
     ensures comes { ComesOnBeside (W.face world.old) (W.face world.new) }
 {
@@ -45,9 +46,11 @@ fn next_script<W: Events>(
     actors: &mut Actors,
 ) -> Result<bool, NoMemory>
     requires can { CanGoOn (W.face world.old).progress actors.old }
-    ensures goes { OnOk result (Continues (W.face world.old) (W.face world.new) actors.old actors.new) }
+    ensures goes { OnOk result
+        (Continues (W.face world.old) (W.face world.new) actors.old actors.new) }
     ensures turn { IfOk result (Goes (W.face world.new) actors.old actors.new 0) }
-    ensures stop { OnErr result (IsUndone actors.old.script.orders (W.face world.old) (W.face world.new)) }
+    ensures stop { OnErr result
+        (IsUndone actors.old.script.orders (W.face world.old) (W.face world.new)) }
     ensures stays { StaysIn (W.face world.old) (W.face world.new) }
     ensures comes { OnOk result (ComesOn (W.face world.old) (W.face world.new)
         actors.old.script.orders actors.new.script.orders) }
@@ -58,10 +61,12 @@ fn next_script<W: Events>(
 /// Gives each actor its turn. Says whether one of them made an entry.
 fn round<W: Events>(alloc: Global, world: &mut W, actors: &mut Actors) -> Result<bool, NoMemory>
     requires can { CanGoOn (W.face world.old).progress actors.old }
-    ensures goes { OnOk result (Continues (W.face world.old) (W.face world.new) actors.old actors.new) }
+    ensures goes { OnOk result
+        (Continues (W.face world.old) (W.face world.new) actors.old actors.new) }
     ensures round { IfOk result (Goes (W.face world.new) actors.old actors.new
         (length actors.new.guests)) }
-    ensures stop { OnErr result (IsUndone actors.old.script.orders (W.face world.old) (W.face world.new)) }
+    ensures stop { OnErr result
+        (IsUndone actors.old.script.orders (W.face world.old) (W.face world.new)) }
     ensures stays { StaysIn (W.face world.old) (W.face world.new) }
     ensures comes { OnOk result (ComesOn (W.face world.old) (W.face world.new)
         actors.old.script.orders actors.new.script.orders) }
@@ -85,7 +90,8 @@ pub(crate) fn run_rounds<W: Events>(
 ) -> Result<(), NoMemory>
     requires can { CanGoOn (W.face world.old).progress actors.old }
     requires drains { AreDrainsOf (W.face world.old) actors.old.script }
-    ensures goes { OnOk result (Continues (W.face world.old) (W.face world.new) actors.old actors.new) }
+    ensures goes { OnOk result
+        (Continues (W.face world.old) (W.face world.new) actors.old actors.new) }
     ensures rest { OnOk result (AllRest (W.face world.new) actors.new) }
     ensures stop { OnErr result (GivesUp (W.face world.old) (W.face world.new) actors.old) }
     ensures stays { StaysIn (W.face world.old) (W.face world.new) }

@@ -19,7 +19,8 @@ pub(crate) fn script_turn<W: Events>(
 ) -> Result<bool, NoMemory>
     requires task { IsScriptIn (W.face world.old).progress script.old }
     requires entries { entries_of_script script.old ≤ (W.face world.old).progress.spare.entries }
-    ensures turn { IfOk result (IsScriptTurn (W.face world.old) (W.face world.new) script.old script.new) }
+    ensures turn { IfOk result
+        (IsScriptTurn (W.face world.old) (W.face world.new) script.old script.new) }
     ensures stop { OnErr result (IsUndone script.old.orders (W.face world.old) (W.face world.new)) }
     ensures stays { StaysIn (W.face world.old) (W.face world.new) }
     ensures comes { OnOk result (ComesOn (W.face world.old) (W.face world.new)

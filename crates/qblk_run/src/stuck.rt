@@ -24,7 +24,8 @@ fn what_of(what: Await) -> Waits
 /// What the script waits for, where it is not done.
 fn script_waits(script: Script) -> Option<Waits>
     ensures { (w : Face) → ScriptRests w script → MatchOption result (script.is_done ≡ true)
-        (λ what. (script.is_done ≡ false) × ScriptWaits (seen_state w) script.orders (seen_waits what)) }
+        (λ what. (script.is_done ≡ false)
+        × ScriptWaits (seen_state w) script.orders (seen_waits what)) }
 {
     let Script {
         mut next,
@@ -46,7 +47,8 @@ fn script_waits(script: Script) -> Option<Waits>
 fn task_waits(task: &Task) -> Option<Waits>
     ensures { (w : Face) (g : ℕ) → Rests w g task.now
         → MatchOption result (task.now.is_done ≡ true)
-        (λ what. (task.now.is_done ≡ false) × TraceWaits (seen_state w) g task.now.wishes (seen_waits what)) }
+        (λ what. (task.now.is_done ≡ false)
+        × TraceWaits (seen_state w) g task.now.wishes (seen_waits what)) }
 {
     if task.is_done {
         return None;

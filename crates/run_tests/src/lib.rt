@@ -11,6 +11,8 @@ mod failing;
 #[cfg(test)]
 mod files;
 #[cfg(test)]
+mod lines;
+#[cfg(test)]
 mod managing;
 #[cfg(test)]
 mod marking;

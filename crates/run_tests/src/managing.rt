@@ -35,6 +35,38 @@ done script
     ..ROW
 };
 
+const NOT_CARRIED_OUT: &str = r#"{"execute":"no-such-command"}
+{"execute":"block-stream","arguments":{"job-id":"j","device":"d"}}
+{"execute":"qmp_capabilities"}
+{"execute":"transaction","arguments":{"actions":[]}}
+{"execute":"block-stream","arguments":{"job-id":"j","device":"d"}}
+{"execute":"block-commit","arguments":{"job-id":"j","device":"d"}}
+{"execute":"blockdev-mirror","arguments":{"job-id":"j","device":"d","target":"t","sync":"full"}}
+{"execute":"blockdev-backup","arguments":{"job-id":"j","device":"d","target":"t","sync":"full"},"id":8}
+{"execute":"block-job-cancel","arguments":{"device":"j"}}
+{"execute":"block-job-complete","arguments":{"device":"j"}}
+{"execute":"no-such-command"}
+"#;
+
+/// A command that nobody knows, and those that are read and not carried out.
+const UNKNOWN: Row<'static> = Row {
+    lines: &[("", NOT_CARRIED_OUT)],
+    rest: r#"reply 1 {"error":{"class":"CommandNotFound","desc":"command no-such-command is not known"}}
+reply 2 {"error":{"class":"CommandNotFound","desc":"command block-stream is not known"}}
+reply 3 {"return":{}}
+reply 4 {"error":{"class":"CommandNotFound","desc":"command transaction is not known"}}
+reply 5 {"error":{"class":"CommandNotFound","desc":"command block-stream is not known"}}
+reply 6 {"error":{"class":"CommandNotFound","desc":"command block-commit is not known"}}
+reply 7 {"error":{"class":"CommandNotFound","desc":"command blockdev-mirror is not known"}}
+reply 8 {"error":{"class":"CommandNotFound","desc":"command blockdev-backup is not known"},"id":8}
+reply 9 {"error":{"class":"CommandNotFound","desc":"command block-job-cancel is not known"}}
+reply 10 {"error":{"class":"CommandNotFound","desc":"command block-job-complete is not known"}}
+reply 11 {"error":{"class":"CommandNotFound","desc":"command no-such-command is not known"}}
+done script
+"#,
+    ..ROW
+};
+
 /// A guest over one that writes is refused.
 const OVER_A_WRITER: Row<'static> = Row {
     words: "run 1 s vda=t vdb=u",
@@ -250,7 +282,7 @@ const NO_SPACE: Row<'static> = Row {
     ..ROW
 };
 
-static ANSWERED: [Row<'static>; 3] = [BEFORE_NEGOTIATION, OVER_A_WRITER, READ_ONLY_DRIVE];
+static ANSWERED: [Row<'static>; 4] = [BEFORE_NEGOTIATION, UNKNOWN, OVER_A_WRITER, READ_ONLY_DRIVE];
 
 #[test]
 fn scripts_are_answered(rt: HostRuntime) -> Result<(), Fail> {

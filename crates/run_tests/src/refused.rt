@@ -1,7 +1,7 @@
 //! Commands that are refused: each is told why, and leaves nodes and files as they were.
 
 use crate::files::Edits;
-use crate::rows::{Left, Line, ROW, Row, START, all_come_out, comes_out};
+use crate::rows::{Left, Line, ROW, Row, START, Said, all_come_out, check_answers};
 use std::test::Fail;
 
 /// An image in `a.img`, and a guest on it.
@@ -22,15 +22,12 @@ const QUERY: Line<'static> = ("query-named-block-nodes", "");
 const HALF: Edits<'static> = &[(24, &[0, 0, 0, 0, 0, 8, 0, 0])];
 
 /// What is answered then.
-const NODES_STAY: &str = "reply 5 {\"return\":[\
+const NODES_STAY: &str = "reply 16 {\"return\":[\
     {\"dirty-bitmaps\":[],\"drv\":\"file\",\"node-name\":\"#d\",\"ro\":false,\"size\":393216},\
     {\"dirty-bitmaps\":[],\"drv\":\"qcow2\",\"node-name\":\"d\",\"ro\":false,\"size\":1048576}]}\n\
     done script\n";
 
-/// A command, its arguments, and why it is refused.
-type Refused<'a> = (&'a str, &'a str, &'a str);
-
-static TABLE: [Refused<'static>; 11] = [
+static TABLE: [Said<'static>; 12] = [
     ("blockdev-del", "", "member node-name is missing"),
     (
         "blockdev-del",
@@ -61,6 +58,11 @@ static TABLE: [Refused<'static>; 11] = [
     ),
     (
         "device_add",
+        r##""driver":"ide-hd","id":"vdb","drive":"#d""##,
+        "member drive is not a name",
+    ),
+    (
+        "device_add",
         r#""driver":"ide-hd","id":"vda","drive":"d""#,
         "name vda is taken",
     ),
@@ -76,7 +78,7 @@ static TABLE: [Refused<'static>; 11] = [
     ),
 ];
 
-static ADDITIONS: [Refused<'static>; 12] = [
+static ADDITIONS: [Said<'static>; 12] = [
     (
         "blockdev-add",
         r#""driver":"file","node-name":"d","filename":"b.img""#,
@@ -139,8 +141,11 @@ static ADDITIONS: [Refused<'static>; 12] = [
     ),
 ];
 
-/// A command that is refused leaves nodes and files as they were.
+/// Commands that are refused leave nodes and files as they were.
 static LEFT: Row<'static> = Row {
+    lines: &[START, IMAGE, GUEST],
+    causes: &["", "", ""],
+    tail: b"{\"execute\":\"query-named-block-nodes\"}\n",
     a: Some(&[]),
     b: Some(HALF),
     rest: NODES_STAY,
@@ -148,35 +153,14 @@ static LEFT: Row<'static> = Row {
     ..ROW
 };
 
-/// Whether a command is refused for its cause.
-fn is_refused(rt: &HostRuntime, refused: &Refused) -> Result<bool, Fail> {
-    let (command, arguments, cause) = *refused;
-    let lines = [START, IMAGE, GUEST, (command, arguments), QUERY];
-    let causes = ["", "", "", cause];
-    let row = Row {
-        lines: &lines,
-        causes: &causes,
-        ..LEFT
-    };
-    comes_out(rt, &row)
-}
-
 #[test]
 fn each_refusal_has_its_cause(rt: HostRuntime) -> Result<(), Fail> {
-    for row in &TABLE {
-        let so = is_refused(&rt, row)?;
-        assert!(rt; so, "{} {}", row.1, row.2);
-    }
-    Ok(())
+    check_answers(&rt, &LEFT, &TABLE)
 }
 
 #[test]
 fn each_refusal_of_an_addition_has_its_cause(rt: HostRuntime) -> Result<(), Fail> {
-    for row in &ADDITIONS {
-        let so = is_refused(&rt, row)?;
-        assert!(rt; so, "{} {}", row.1, row.2);
-    }
-    Ok(())
+    check_answers(&rt, &LEFT, &ADDITIONS)
 }
 
 /// A refused file can be opened by the next command.

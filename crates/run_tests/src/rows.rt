@@ -2,6 +2,7 @@
 
 use crate::files::{Edits, ROOM, Ran, bytes_of, image, run};
 use blk_fakes::FailAt;
+use qblk_core::Status;
 use std::test::Fail;
 
 /// A line of a script: a command with its arguments. Without a command it is text as it stands.
@@ -9,6 +10,9 @@ pub(crate) type Line<'a> = (&'a str, &'a str);
 
 /// The first line of a script.
 pub(crate) const START: Line<'static> = ("qmp_capabilities", "");
+
+/// A line of a script with its command, its arguments, and why it is refused: no cause, where it is accepted.
+pub(crate) type Said<'a> = (&'a str, &'a str, &'a str);
 
 /// What is in a file behind a run.
 #[derive(Clone, Copy)]
@@ -79,7 +83,7 @@ fn put(bytes: &mut Vec<u8>, texts: &[&str]) -> Result<(), Fail> {
 }
 
 /// Puts a line behind a script.
-fn put_line(script: &mut Vec<u8>, line: &Line) -> Result<(), Fail> {
+pub(crate) fn put_line(script: &mut Vec<u8>, line: &Line) -> Result<(), Fail> {
     let (command, text) = *line;
     if command.is_empty() {
         return put(script, &[text]);
@@ -171,6 +175,13 @@ fn is_so(rt: &HostRuntime, ran: &Ran, row: &Row, transcript: &[u8]) -> Result<bo
     )
 }
 
+/// How the run of a row ends.
+pub(crate) fn ended(rt: &HostRuntime, row: &Row) -> Result<Status, Fail> {
+    let script = script_of(rt, row)?;
+    let ran = run(rt, row, script.as_slice())?;
+    Ok(ran.status)
+}
+
 /// Whether a row comes out so.
 pub(crate) fn comes_out(rt: &HostRuntime, row: &Row) -> Result<bool, Fail> {
     let script = script_of(rt, row)?;
@@ -188,4 +199,31 @@ pub(crate) fn all_come_out(rt: &HostRuntime, rows: &[Row]) -> Result<(), Fail> {
         }
     }
     Ok(())
+}
+
+/// Whether a row comes out so with these lines behind its own, which are answered so.
+pub(crate) fn are_answered(rt: &HostRuntime, row: &Row, said: &[Said]) -> Result<bool, Fail> {
+    let mut lines = Vec::new(rt.alloc());
+    let mut causes = Vec::new(rt.alloc());
+    lines.extend_from_slice(row.lines)?;
+    causes.extend_from_slice(row.causes)?;
+    for (command, arguments, cause) in said {
+        lines.push((*command, *arguments))?;
+        causes.push(*cause)?;
+    }
+    let row = Row {
+        lines: lines.as_slice(),
+        causes: causes.as_slice(),
+        ..*row
+    };
+    comes_out(rt, &row)
+}
+
+/// The failure where these lines are answered otherwise.
+pub(crate) fn check_answers(rt: &HostRuntime, row: &Row, said: &[Said]) -> Result<(), Fail> {
+    if are_answered(rt, row, said)? {
+        Ok(())
+    } else {
+        Err(Fail::new("another answer"))
+    }
 }

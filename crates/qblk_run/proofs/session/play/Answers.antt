@@ -16,7 +16,6 @@ returns-in-Ok-clause-made g c = record {
     none_out = c.close_world-store.ensures.none_out;
     flushed = c.close_world-store.ensures.named;
     disks = c.close_world-store.ensures.disks;
-    sound = c.close_world-store.ensures.sound;
     held = c.close_world-store.ensures.held;
   };
   named = c.first_waiting-waiting.ensures c.run_rounds-went.new.world c.in-Ok.ensures.rest;
@@ -35,7 +34,6 @@ returns-in-Err-clause-stopped g c = λ none. record {
     none_out = c.close_world-store.ensures.none_out;
     flushed = c.close_world-store.ensures.named;
     disks = c.close_world-store.ensures.disks;
-    sound = c.close_world-store.ensures.sound;
     held = c.close_world-store.ensures.held;
   };
 }
