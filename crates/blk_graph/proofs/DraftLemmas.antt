@@ -232,16 +232,12 @@ child_without over edges = by_found (find (is_filters over) edges) refl
         children_moved over edge.child (but_filters over edges) (Node over) Filtered (λ q. absurd cc)
         ∙ ap (λ (found : Option Edge). option_map (child_moved over edge.child) (option_map (λ (e : Edge). e.child) found)) (none_left (is_filters over) edges)
 
--- its parents have its child
+-- its parents, other filters among them, have its child
 pub children_without : (over : ℕ) (edges : List Edge) (node : ℕ) → child_of (Node over) Filtered edges ≡ Some node
-    → (parent : Parent) (role : Role) → role ≢ Between → role ≢ Filtered
+    → (parent : Parent) (role : Role) → role ≢ Between → (same_parent parent (Node over) && same_role role Filtered) ≡ false
     → child_of parent role (without_filter over edges) ≡ option_map (child_moved over node) (child_of parent role edges)
 children_without over edges node is parent role single other = by_found (find (is_filters over) edges) refl is
   where
-    and_false : (b : Bool) → not (b && false) ≡ true
-    and_false true = refl
-    and_false false = refl
-
     by_found : (found : Option Edge) → find (is_filters over) edges ≡ found → option_map (λ (e : Edge). e.child) found ≡ Some node
         → child_of parent role (elim found as (λ _. List Edge) [
           | None ↦ edges
@@ -254,8 +250,9 @@ children_without over edges node is parent role single other = by_found (find (i
         ∙ children_moved over node (but_filters over edges) parent role single
         ∙ ap (option_map (child_moved over node)) (children_fewer (λ e. not (is_filters over e)) parent role
         (λ e own.
+        let parents : e.parent ≡ parent = same_parent-true e.parent parent (and-left (same_parent e.parent parent) (same_role e.role role) own) in
         let roles : e.role ≡ role = same_role-true e.role role (and-right (same_parent e.parent parent) (same_role e.role role) own) in
-        rw (same_role-other e.role Filtered (λ q. other (sym roles ∙ q))) (and_false (same_parent e.parent (Node over))))
+        let no : is_filters over e ≡ false = rw (parents, roles) other in rw no refl)
         edges)
 
 -- what has no child is no filter

@@ -146,7 +146,8 @@ impl EdgeList {
         edit::put_filter(&mut self.edges, node, filter, perm, shared);
     }
 
-    /// Takes a filter from between its child and its parents. Where a job has an edge of the role Between to both, one stays.
+    /// Takes a filter from between its child and its parents, which may be filters too. Where a job has an edge of the role Between
+    /// to both, one stays.
     pub fn drop_filter(&mut self, filter: NodeId)
         ensures edges { self.new ≡ without_filter filter self.old }
         ensures fit { KeepsFit self.old self.new }
@@ -154,7 +155,8 @@ impl EdgeList {
         ensures child { child_of (Parent.Node filter) Role.Filtered self.new ≡ None }
         ensures children { (node : ℕ)
             → child_of (Parent.Node filter) Role.Filtered self.old ≡ Some node
-            → (parent : Who) (role : What) → role ≢ Role.Between → role ≢ Role.Filtered
+            → (parent : Who) (role : What) → role ≢ Role.Between
+            → (same_parent parent (Parent.Node filter) && same_role role Role.Filtered) ≡ false
             → child_of parent role self.new
             ≡ option_map (child_moved filter node) (child_of parent role self.old) }
         ensures none { child_of (Parent.Node filter) Role.Filtered self.old ≡ None

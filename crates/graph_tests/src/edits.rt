@@ -237,7 +237,7 @@ fn first_wrong(graph: &mut Graph, steps: &[Step]) -> Option<usize> {
 /// Nodes of some kinds, in order of addition, and what is done with them.
 type Row<'a> = (&'a str, &'a [Kind], &'a [Step<'a>]);
 
-const ROWS: [Row; 12] = [
+const ROWS: [Row; 13] = [
     (
         "a filter and back",
         &[Kind::Protocol, Kind::Qcow2, Kind::Qcow2, Kind::BeforeWrite],
@@ -298,6 +298,28 @@ const ROWS: [Row; 12] = [
                 Answer::Denied(1, Who::Guest(1), Who::Node(2), Perm::Write),
             ),
             Step::Do(Edit::Pull(2), Answer::Done),
+        ],
+    ),
+    (
+        "a filter over a filter, of which the lower and then the upper one is taken out",
+        &[Kind::Protocol, Kind::Qcow2, Kind::BeforeWrite, Kind::Mirror],
+        &[
+            Step::Do(Edit::Link(1, 0, Role::File), Answer::Done),
+            Step::Do(Edit::Attach(0, 1, false), Answer::Done),
+            Step::Do(Edit::Filter(1, 2), Answer::Done),
+            Step::Do(Edit::Filter(2, 3), Answer::Done),
+            Step::Is(Fact::Edges(&[
+                (Who::Node(1), 0),
+                (Who::Guest(0), 3),
+                (Who::Node(2), 1),
+                (Who::Node(3), 2),
+            ])),
+            Step::Is(Fact::Uses(2, READS_WRITES, READS_UNCHANGED)),
+            Step::Do(Edit::Pull(2), Answer::Done),
+            Step::Is(Fact::Edges(&[(Who::Node(1), 0), (Who::Guest(0), 3), (Who::Node(3), 1)])),
+            Step::Do(Edit::Filter(1, 2), Answer::Done),
+            Step::Do(Edit::Pull(3), Answer::Done),
+            Step::Is(Fact::Edges(&[(Who::Node(1), 0), (Who::Guest(0), 2), (Who::Node(2), 1)])),
         ],
     ),
     (
