@@ -7,10 +7,12 @@ pub mod Autocleared
 pub mod Merged
 pub mod Order
 pub mod NameRoom
+pub mod HeaderKept
 pub mod HeaderWrites
 pub mod NameSteps
 pub mod LastWrite
 pub mod NameStops
+pub mod KnownAt
 pub mod NameCalls
 pub mod NameAnswers
 pub mod Opened

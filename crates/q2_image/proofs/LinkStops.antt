@@ -1,4 +1,4 @@
--- The writes of a link, wherever they stop: the disk is as before, or one guest cluster has its new bytes.
+-- The writes of a link, wherever they stop: the disk is as before, or one guest cluster has its new bytes; the header's cluster stays.
 use Rattle.std.proofs.Common.{◌≡◌, ◌≢◌, ℕ, ◌+◌, ◌*◌, ◌/◌, ◌%◌, ◌^◌, ◌<◌, ◌≤◌, inl, inr, max, Bool, true, false, List, [], length, Some, Result, Ok, Err, refl, arith}
 use Rattle.blk_base.specs.Writes.{AtEachStop}
 use Rattle.blk_base.specs.declared.fault.DevStop.{DevStop}
@@ -15,7 +15,8 @@ use Rattle.q2_image.specs.Image.{Known, IsImageOf, IsOpen, cluster_size_in}
 use Rattle.q2_image.specs.Made.{IsOldOrWith, word_for}
 use Rattle.q2_image.specs.Writing.{IsSameDisk, IsSpare, MayName, Shows, counts_once}
 use Rattle.q2_image.proofs.EntryWrites.{l1_whole, lies_apart}
-use Rattle.q2_image.proofs.LinkTold.{disk_after, disk_kept, image_after, tree_by_kept}
+use Rattle.q2_image.proofs.HeaderKept.{KeepsFirst, first_then}
+use Rattle.q2_image.proofs.LinkTold.{disk_after, disk_kept, first_kept, first_linked, image_after, tree_by_kept}
 use Rattle.q2_image.proofs.OwnWrites.{disk_then}
 
 -- an image between the writes of a call, which has changed no byte of the disk yet
@@ -23,6 +24,11 @@ pub record IsBetween (file mid : List ℕ) (image : Known) : Type 0 where
   pub is : IsImageOf mid image
   pub ready : IsOpen image
   pub disk : IsSameDisk file mid
+  pub first : KeepsFirst file mid
+
+-- the file wherever a call stops that puts bytes at a place of the disk
+abbrev pub Leaves : ℕ → List ℕ → List ℕ → List ℕ → Type 0
+Leaves at bytes file now = IsOldOrWith at bytes file now × KeepsFirst file now
 
 -- the word of an entry is one
 word_small : (e : L2Entry) (single : Bool) → IsWritable e → l2_spelling e single < 2 ^ 64
@@ -40,7 +46,7 @@ module _ (file mid : List ℕ) (image : Known) (cluster table : ℕ) (entry : L2
     (reached : host_of entry < length image.refs.counts * cluster_size_in image) (spare : table ≢ 0 → IsSpare mid (table / 65536)) (whole : table % 65536 ≡ 0)
     (near : table + 65536 ≤ 549755813888) (may : MayName 65536 mid image cluster table (host_of entry)) (len : length bytes ≡ 65536) (shows : Shows 65536 mid entry bytes) where
   abbrev P : List ℕ → Type 0
-  P = IsOldOrWith (cluster * 65536) bytes file
+  P = Leaves (cluster * 65536) bytes file
 
   abbrev word : ℕ
   word = word_for image entry
@@ -64,7 +70,8 @@ module _ (file mid : List ℕ) (image : Known) (cluster table : ℕ) (entry : L2
       image.tables (Some new) refl r tt refl after tt in
       let same = disk_kept image cluster table word entry single between.ready below can writable refl reached mid new between.is spare whole near may grows bound
       image.tables (Some new) refl stop refl after in
-      (now.sound, inl (disk_then file mid new 0 [] between.disk same))
+      let first = first_kept image cluster table word entry single between.ready below can writable refl reached mid new between.is spare whole near may grows bound after in
+      ((now.sound, inl (disk_then file mid new 0 [] between.disk same)), first_then file mid new between.first first)
 
   -- it is
   linked : (new : List ℕ) → length mid ≤ length new → length new ≤ max (length mid) (link_end image.tables cluster table)
@@ -77,7 +84,8 @@ module _ (file mid : List ℕ) (image : Known) (cluster table : ℕ) (entry : L2
       next (Some new) refl r refl tt after long in
       let disk = disk_after image cluster table word entry single between.ready below can writable refl reached mid new between.is spare whole near may grows bound
       next (Some new) refl tt refl after long bytes len shows in
-      (now.sound, inr (disk_then file mid new (cluster * 65536) bytes between.disk disk))
+      let first = first_linked image cluster table word entry single between.ready below can writable refl reached mid new between.is spare whole near may grows bound after in
+      ((now.sound, inr (disk_then file mid new (cluster * 65536) bytes between.disk disk)), first_then file mid new between.first first)
 
   fits : word < 2 ^ 64
   fits = word_small entry single writable

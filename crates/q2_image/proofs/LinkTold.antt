@@ -7,6 +7,7 @@ use Rattle.blk_base.specs.declared.device.Device.{Ghosts}
 use Rattle.blk_base.specs.declared.fault.DevStop.{DevStop}
 use Rattle.blk_base.specs.declared.fault.DevStop.TheVariants.{Io, NoSpace}
 use Rattle.q2_tables.proofs.LinkWrites.{end-link_writes}
+use Rattle.q2_format.specs.Bytes.{ReadsAlike}
 use Rattle.q2_format.specs.Contents.{byte_by_entry}
 use Rattle.q2_format.specs.Entry.{l2_entry, l2_spelling, host_of, host_offset, is_compressed, has_reserved_in_l2, reads_as_zeros, IsWritable}
 use Rattle.q2_format.specs.References.{own_offset}
@@ -22,6 +23,7 @@ use Rattle.q2_tables.specs.Linking.{CanLink, FileAfter, entry_at, l1_index, link
 use Rattle.std.proofs.lemmas.List.{get_or-set_same, get_or-set_other}
 use Rattle.q2_image.specs.Image.{Known, IsImageOf, IsOpen, cluster_size_in, entry_in}
 use Rattle.q2_image.specs.Writing.{IsDiskWith, IsFault, IsSameDisk, HasEntriesBut, IsSpelled, counts_once, IsSpare, MayName, Shows}
+use Rattle.q2_image.proofs.EntryFrames.{counts_stay}
 use Rattle.q2_image.proofs.EntryWrites.{entry_place, short}
 use Rattle.q2_image.proofs.HostUses.{host_entry, zero_entry, size_in}
 use Rattle.q2_image.proofs.LinkedImage.{open_linked}
@@ -205,6 +207,17 @@ module _ (image : Known) (cluster table single_word : ℕ) (entry : L2Entry) (si
       linked_disk bytes len shows =
           disk_linked old new image cluster table is ready below can spare whole b.outside grows small single_word (host_of entry) entry is_entry own plain reached may inside_new b.tree
           bytes len (shown entry bytes refl shows)
+
+    -- the header's cluster, whose bytes are as before
+    pub first_kept : FileAfter image.tables old (Some new) (entry_at image.tables cluster table) 0 table (table_len image.tables table) → ReadsAlike old new 0 65536
+    first_kept after =
+        (counts_stay old new image cluster table is ready below can spare whole (wider image.tables (behind image.tables 0 (Some new) refl after)) grows small).first
+
+    pub first_linked : FileAfter (with_entry image.tables cluster single_word table) old (Some new) (entry_at image.tables cluster table) 8 table (table_len image.tables table)
+        → ReadsAlike old new 0 65536
+    first_linked after =
+        let b = behind (with_entry image.tables cluster single_word table) 8 (Some new) refl after in
+        (counts_stay old new image cluster table is ready below can spare whole b.outside grows small).first
 
     -- by the answer
     module _ (next : tables.Kept) (told : Option (List ℕ)) (is_new : told ≡ Some new) where

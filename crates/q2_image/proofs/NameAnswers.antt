@@ -1,29 +1,29 @@
 -- The answers of the calls by which an image gets another backing name: the list of their writes, and the file that a device tells then.
-use Rattle.std.proofs.Common.{◌≡◌, ◌≢◌, ℕ, ◌+◌, ◌-◌, ◌<◌, ◌≤◌, ◌⊎◌, inl, inr, max, Bool, true, false, List, [], ◌∷◌, ◌++◌, length, Option, Some, None, Result, Ok, Err, OnOk, OnErr, refl, sym, ap, subst, ◌∙◌, arith}
+use Rattle.std.proofs.Common.{◌≡◌, ℕ, ◌+◌, ◌-◌, ◌<◌, ◌≤◌, inl, inr, List, [], ◌++◌, length, Option, Some, None, Result, Ok, Err, OnOk, OnErr, refl, sym, ap, subst, ◌∙◌, arith, append_assoc, length-append}
 use Rattle.std.proofs.lemmas.List.{append-nil}
 use Rattle.std.specs.Option.{ForSome, option_map}
-use Rattle.std.specs.Prelude.{IfErr}
 use Rattle.std.specs.Str.{IsUtf8}
 use Rattle.blk_base.specs.Content.{Write, after_writes, with_bytes}
-use Rattle.blk_base.specs.Device.{Reads, Untouched, Wrote, Writes, stop_of}
-use Rattle.blk_base.specs.Writes.{write_of, end_of_writes, AtEachStop}
+use Rattle.blk_base.specs.Device.{CountsFault, IsMade, Untouched, Wrote, Writes, stop_of}
+use Rattle.blk_base.specs.Writes.{end_of_writes, AtEachStop, IsCutBy}
 use Rattle.blk_base.specs.declared.device.Device.{Ghosts}
 use Rattle.blk_base.specs.declared.fault.DevStop.{DevStop}
 use Rattle.blk_base.specs.declared.fault.DevStop.TheVariants.{Io, NoSpace}
-use Rattle.blk_base.proofs.DeviceLemmas.{content_after, untouched-writes, wrote-content, writes_sooner, writes_then}
+use Rattle.blk_base.proofs.DeviceLemmas.{content_after, untouched-writes, wrote-content, wrote-then, writes_then}
 use Rattle.q2_format.specs.Created.{IsNewName, IsNewFormat}
-use Rattle.q2_format.specs.declared.header.Header.{Header}
+use Rattle.q2_format.specs.Renamed.{next_extension}
+use Rattle.q2_format.proofs.ByPlace.{length-bytes_at}
 use Rattle.q2_refs.proofs.Placing.{told_before}
-use Rattle.q2_image.specs.BackingName.{EndsWithFields, FailsBefore, HasSameName, IsStoppedRenaming, MakesLast, MakesRenaming, RenamesImage, between_in, count_of, early_writes, ending_length, ending_writes, fields_end, format_writes, last_bytes, last_writes, name_in, rename_end, rename_writes, text_writes, with_format, with_name}
+use Rattle.q2_image.specs.BackingName.{EndsWithFields, HasSameName, MakesLast, RenamesImage, between_in, early_writes, ending_length, ending_writes, format_writes, last_bytes, last_writes, name_in, rename_end, text_writes, with_format, with_name, StopsWithFields, IsKnownEarly, MakesEarly, MakesFormat, known_at}
 use Rattle.q2_image.specs.Image.{Known, IsImageOf, IsOpen}
 use Rattle.q2_image.specs.Made.{clear_writes}
-use Rattle.q2_image.specs.Writing.{IsFault, IsSameDisk, autocleared}
+use Rattle.q2_image.specs.Writing.{IsFault, IsSameDisk, autocleared, count_of}
 use Rattle.q2_image.proofs.HeaderWrites.{KeepsName}
+use Rattle.q2_image.proofs.KnownAt.{at_clear, at_format, at_text, part_length, sooner_made, then_made, with_whole}
 use Rattle.q2_image.proofs.LastWrite.{IsReadyFor, IsRenamed, last_made}
-use Rattle.q2_image.proofs.NameCalls.{early_end, fields_behind, fields_fault, fields_sooner, fields_stopped, writes_fault}
+use Rattle.q2_image.proofs.NameCalls.{early_end, fields_behind, fields_fault, fields_stopped, last_told, what_is_told, writes_fault}
 use Rattle.q2_image.proofs.NameSteps.{ending_stops, text_stops}
-use Rattle.q2_image.proofs.NameStops.{StaysAsNamed, before_fields, early_stops, m4_is, open_with_format, ready_for_fields, same_name}
-use Rattle.q2_image.proofs.OwnStops.{same_disk_as}
+use Rattle.q2_image.proofs.NameStops.{StaysAsNamed, before_fields, early_stops, m4_is, open_with_format, ready_for_fields}
 use Rattle.q2_image.proofs.OwnTold.{open_cleared}
 use Rattle.q2_image.proofs.OwnWrites.{disk_then}
 
@@ -46,33 +46,68 @@ module _ {D : Type 0} (g : Ghosts D) where
     abbrev E : List Write
     E = ending_writes image.header name n
 
-    pub stopped_1 : (stop : DevStop) (a b : D) → Writes g C (Some stop) a b → Writes g (early_writes image n name format) (Some stop) a b
-    stopped_1 stop a b w = writes_sooner g C (T ++ (F ++ E)) stop a b w
-
     text_is : (stop : Option DevStop) (b c : D) → Writes g (text_writes k1.header name) stop b c → Writes g T stop b c
     text_is stop b c w = let P : Known → Type 0 = λ k. Writes g (text_writes k.header name) stop b c in subst P is1 w
 
-    format_is : (stop : Option DevStop) (b c : D) → Writes g (format_writes k1.header format) stop b c → Writes g F stop b c
-    format_is stop b c w = let P : Known → Type 0 = λ k. Writes g (format_writes k.header format) stop b c in subst P is1 w
+    format_is : (stop : Option DevStop) (left : Known) (b c : D) → MakesFormat g k1 format stop left b c → MakesFormat g (autocleared image) format stop left b c
+    format_is stop left b c w = let P : Known → Type 0 = λ k. MakesFormat g k format stop left b c in subst P is1 w
 
-    pub stopped_2 : (stop : DevStop) (a b c : D) → Writes g C None a b → Writes g (text_writes k1.header name) (Some stop) b c
-        → Writes g (early_writes image n name format) (Some stop) a c
-    stopped_2 stop a b c w1 w2 = writes_then g C (T ++ (F ++ E)) (Some stop) a b c w1 (writes_sooner g T (F ++ E) stop b c (text_is (Some stop) b c w2))
+    known_by : (made same : List Write) → made ≡ same → known_at image name format same ≡ known_at image name format made
+    known_by made same is = ap (known_at image name format) (sym is)
 
-    pub stopped_3 : (stop : DevStop) (a b c d : D) → Writes g C None a b → Writes g (text_writes k1.header name) None b c
-        → Writes g (format_writes k1.header format) (Some stop) c d → Writes g (early_writes image n name format) (Some stop) a d
-    stopped_3 stop a b c d w1 w2 w3 =
-        writes_then g C (T ++ (F ++ E)) (Some stop) a b d w1
-        (writes_then g T (F ++ E) (Some stop) b c d (text_is None b c w2) (writes_sooner g F E stop c d (format_is (Some stop) c d w3)))
+    pub made_1 : (left : Known) (stop : DevStop) (a b : D) → Writes g C (Some stop) a b → left ≡ image → MakesEarly g image n name format (Some stop) left a b
+    made_1 left stop a b w is =
+        let all = sooner_made g C (T ++ (F ++ E)) stop a b w in
+        let few = part_length (IsCutBy stop) C w.made w.part in
+        record { writes = all.0; known = is ∙ sym (at_clear image name format w.made few.1) ∙ known_by all.0.made w.made all.1 }
 
-    pub ended_4 : (is3 : k3 ≡ with_format k1 format) (stop : Option DevStop) (a b c d e : D) → Writes g C None a b → Writes g (text_writes k1.header name) None b c
-        → Writes g (format_writes k1.header format) None c d → Writes g (ending_writes k3.header name n) stop d e → Writes g (early_writes image n name format) stop a e
-    ended_4 is3 stop a b c d e w1 w2 w3 w4 =
+    pub made_2 : (stop : DevStop) (a b c : D) → Writes g C None a b → Writes g (text_writes k1.header name) (Some stop) b c
+        → MakesEarly g image n name format (Some stop) k1 a c
+    made_2 stop a b c w1 w2 =
+        let w = text_is (Some stop) b c w2 in
+        let text = sooner_made g T (F ++ E) stop b c w in
+        let all = then_made g C (T ++ (F ++ E)) (Some stop) a b c w1 text.0 in
+        let few = part_length (IsCutBy stop) T w.made w.part in
+        let made : all.0.made ≡ C ++ w.made = all.1 ∙ ap (λ (ms : List Write). C ++ ms) text.1 in
+        record { writes = all.0; known = is1 ∙ sym (at_text image name format w.made few.0 few.1) ∙ known_by all.0.made (C ++ w.made) made }
+
+    pub made_3 : (left : Known) (stop : DevStop) (a b c d : D) → Writes g C None a b → Writes g (text_writes k1.header name) None b c
+        → MakesFormat g k1 format (Some stop) left c d → MakesEarly g image n name format (Some stop) left a d
+    made_3 left stop a b c d w1 w2 w3 =
+        let w = format_is (Some stop) left c d w3 in
+        let put = sooner_made g F E stop c d w.writes in
+        let text = then_made g T (F ++ E) (Some stop) b c d (text_is None b c w2) put.0 in
+        let all = then_made g C (T ++ (F ++ E)) (Some stop) a b d w1 text.0 in
+        let few = part_length (IsCutBy stop) F w.writes.made w.writes.part in
+        let made : all.0.made ≡ C ++ (T ++ w.writes.made) = all.1 ∙ ap (λ (ms : List Write). C ++ ms) (text.1 ∙ ap (λ (ms : List Write). T ++ ms) put.1) in
+        record {
+          writes = all.0;
+          known = w.known ∙ sym (at_format image name format w.writes.made few.0) ∙ known_by all.0.made (C ++ (T ++ w.writes.made)) made;
+        }
+
+    -- behind the format all is known that is before the last write
+    pub known_later : (rest : List Write) → 0 < length rest → ForSome format IsNewFormat → known_at image name format (C ++ (T ++ (F ++ rest))) ≡ with_format (autocleared image) format
+    known_later rest some new =
+        at_format image name format (F ++ rest) (omega (arith, length-append F rest, some)) ∙ with_whole (autocleared image) format rest some new
+
+    pub made_4 : (is3 : k3 ≡ with_format k1 format) (stop : Option DevStop) (a b c d e : D) → ForSome format IsNewFormat → Writes g C None a b → Writes g (text_writes k1.header name) None b c
+        → MakesFormat g k1 format None k3 c d → Writes g (ending_writes k3.header name n) stop d e → MakesEarly g image n name format stop k3 a e
+    made_4 is3 stop a b c d e new w1 w2 w3 w4 =
         let P : Known → Type 0 = λ k. Writes g (ending_writes k.header name n) stop d e in
         let Q : Known → Type 0 = λ k. Writes g (ending_writes (with_format k format).header name n) stop d e in
         let ending : Writes g E stop d e = subst Q is1 (subst P is3 w4) in
-        writes_then g C (T ++ (F ++ E)) stop a b e w1
-        (writes_then g T (F ++ E) stop b c e (text_is None b c w2) (writes_then g F E stop c d e (format_is None c d w3) ending))
+        let put = then_made g F E stop c d e (format_is None k3 c d w3).writes ending in
+        let text = then_made g T (F ++ E) stop b c e (text_is None b c w2) put.0 in
+        let all = then_made g C (T ++ (F ++ E)) stop a b e w1 text.0 in
+        let made : all.0.made ≡ C ++ (T ++ (F ++ ending.made)) = all.1 ∙ ap (λ (ms : List Write). C ++ ms) (text.1 ∙ ap (λ (ms : List Write). T ++ ms) put.1) in
+        let is : k3 ≡ with_format (autocleared image) format = is3 ∙ ap (λ (k : Known). with_format k format) is1 in
+        record { writes = all.0; known = by_stop stop ending.made all.0.made ending.part made is }
+      where
+        by_stop : (stop : Option DevStop) (rest made : List Write) → IsMade stop E rest → made ≡ C ++ (T ++ (F ++ rest)) → k3 ≡ with_format (autocleared image) format
+            → IsKnownEarly stop image name format made k3
+        by_stop None rest made part same is = is
+        by_stop (Some stop) rest made part same is =
+            is ∙ sym (known_later rest (part_length (IsCutBy stop) E rest part).0 new) ∙ known_by made (C ++ (T ++ (F ++ rest))) same
 
   -- What a device tells behind some writes, by what it told before them.
   pub told_by : (P : List ℕ → List ℕ → Type 0) (ws : List Write) (stop : Option DevStop) (a b : D) → Writes g ws stop a b
@@ -192,6 +227,12 @@ module _ {D : Type 0} (g : Ghosts D) where
           disk_then old mid new 0 [] (early_told None first old mid was mid_told).disk (all_told old new was told).disk
 
   -- A read before the writes.
+  pub early_behind_read : (image left : Known) (n : ℕ) (name format : Option (List ℕ)) (stop : Option DevStop) (a b c : D) → Untouched g a b
+      → MakesEarly g image n name format stop left b c → MakesEarly g image n name format stop left a c
+  early_behind_read image left n name format stop a b c quiet makes =
+      let all = then_made g [] (early_writes image n name format) stop a b c (untouched-writes g a b quiet) makes.writes in
+      record { writes = all.0; known = subst (λ (ms : List Write). IsKnownEarly stop image name format ms left) (sym all.1) makes.known }
+
   pub behind_read : (ws : List Write) (stop : Option DevStop) (a b c : D) → Untouched g a b → Writes g ws stop b c → Writes g ws stop a c
   behind_read ws stop a b c quiet writes = writes_then g [] ws stop a b c (untouched-writes g a b quiet) writes
 
@@ -202,7 +243,8 @@ module _ {D : Type 0} (g : Ghosts D) where
   same_fields image format name ws stop b c (inr fails) = inr fails
 
   -- What the call leaves of image and device, by where it stops.
-  module _ (image : Known) (name format : Option (List ℕ)) (n : ℕ) (a b c : D) (ready : IsOpen image) (new_name : ForSome name IsNewName) (fits : rename_end image name format ≤ g.capacity a)
+  module _ (image : Known) (name format : Option (List ℕ)) (n : ℕ) (a b c : D) (ready : IsOpen image) (new_name : ForSome name IsNewName)
+      (new_format : ForSome format IsNewFormat) (fits : rename_end image name format ≤ g.capacity a)
       (length_told : (file : List ℕ) → g.content a ≡ Some file → ending_writes image.header name n ≡ ending_writes image.header name (ending_length file image.header)) where
     abbrev ws : List Write
     ws = early_writes image n name format
@@ -213,15 +255,73 @@ module _ {D : Type 0} (g : Ghosts D) where
     pub early_fault : (stop : DevStop) → Writes g ws (Some stop) a b → IsFault (g.faults a) (g.faults b) stop
     early_fault stop writes = writes_fault g ws (Err stop) a b writes end_early
 
-    pub early_changes : (stop : DevStop) (left : Known) → Writes g ws (Some stop) a b → IsStoppedRenaming image format left → RenamesImage g image name format (stopped_as stop) left a b
-    early_changes (Io count) left writes known = inr (known, record { n = n; told = length_told; makes = fields_sooner g image.header ws name (Io count) a b writes })
-    early_changes NoSpace left writes known = absurd (early_fault NoSpace writes)
+    pub early_changes : (stop : DevStop) (left : Known) → MakesEarly g image n name format (Some stop) left a b → RenamesImage g image name format (stopped_as stop) left a b
+    early_changes (Io count) left makes =
+        let between : List ℕ = between_in (after_writes (what_is_told (g.content a)) ws) image.header in
+        let all = sooner_made g ws (last_writes image.header between name) (Io count) a b makes.writes in
+        inr (record {
+          n = n;
+          told = length_told;
+          makes = inl (
+            record {
+              between = between;
+              whole = length-bytes_at (after_writes (what_is_told (g.content a)) ws) 20 (next_extension image.header - 20);
+              told = λ file was. ap (λ (o : Option (List ℕ)). between_in (after_writes (what_is_told o) ws) image.header) was;
+              writes = all.0;
+            },
+            makes.known ∙ ap (known_at image name format) (sym all.1),
+          );
+        })
+    early_changes NoSpace left makes = absurd (early_fault NoSpace makes.writes)
 
     module _ (k left : Known) (known : k ≡ with_format (autocleared image) format) (first : Writes g ws None a b) where
-      ends : (stop : Option DevStop) → EndsWithFields g k.header [] name stop b c → EndsWithFields g image.header ws name stop a c
-      ends stop last =
+      fields_of : (stop : Option DevStop) → EndsWithFields g k.header [] name stop b c → EndsWithFields g image.header [] name stop b c
+      fields_of stop last =
           let P : Known → Type 0 = λ x. EndsWithFields g x.header [] name stop b c in
-          fields_behind g image.header ws name stop a b c first (same_fields image format name [] stop b c (subst P known last))
+          same_fields image format name [] stop b c (subst P known last)
+
+      ends : (stop : Option DevStop) → EndsWithFields g k.header [] name stop b c → EndsWithFields g image.header ws name stop a c
+      ends stop last = fields_behind g image.header ws name stop a b c first (fields_of stop last)
+
+      wrote_early : Wrote g ws a b
+      wrote_early = subst (λ (xs : List Write). Wrote g xs a b) first.part first.wrote
+
+      known_last : (made : List Write) → 0 < length made → known_at image name format (ws ++ made) ≡ with_format (autocleared image) format
+      known_last made some =
+          let clear : List Write = clear_writes image in
+          let text : List Write = text_writes image.header name in
+          let put : List Write = format_writes image.header format in
+          let ending : List Write = ending_writes image.header name n in
+          let moved : ws ++ made ≡ clear ++ (text ++ (put ++ (ending ++ made))) =
+          append_assoc clear (text ++ (put ++ ending)) made ∙ ap (λ (xs : List Write). clear ++ xs) (append_assoc text (put ++ ending) made ∙ ap (λ (xs : List Write). text ++ xs) (append_assoc put ending made)) in
+          ap (known_at image name format) moved ∙ known_later image (autocleared image) (autocleared image) name format n refl (ending ++ made) (omega (arith, length-append ending made, some)) new_format
+
+      -- where it stops, with what is known then
+      stopped_last : (count : ℕ) (now : Known) → now ≡ with_format (autocleared image) format → EndsWithFields g image.header [] name (Some (Io count)) b c
+          → StopsWithFields g image name format ws count now a c
+      stopped_last count now is (inl last) =
+          let all = then_made g ws (last_writes image.header last.between name) (Some (Io count)) a b c first last.writes in
+          let some = (part_length (IsCutBy (Io count)) (last_writes image.header last.between name) last.writes.made last.writes.part).0 in
+          inl (
+            record {
+              between = last.between;
+              whole = last.whole;
+              told = last_told g image.header ws name a b c last.between wrote_early last.told;
+              writes = all.0;
+            },
+            is ∙ sym (known_last last.writes.made some) ∙ ap (known_at image name format) (sym all.1),
+          )
+      stopped_last count now is (inr fails) =
+          let W : List Write → Type 0 = λ xs. Wrote g xs a c in
+          inr (
+            record {
+              count = fails.count;
+              is = fails.is;
+              wrote = subst W (append-nil ws) (wrote-then g ws [] a b c wrote_early fails.wrote);
+              cause = subst (λ (x : ℕ). CountsFault (Some fails.count) x (g.faults c)) first.cause.1 fails.cause;
+            },
+            is,
+          )
 
       pub last_changes : (r : Result (Unit {0}) DevStop) → EndsWithFields g k.header [] name (stop_of r) b c → OnOk r (left ≡ with_name k name None) → OnErr r (left ≡ k)
           → RenamesImage g image name format r left a c
@@ -229,7 +329,7 @@ module _ {D : Type 0} (g : Ghosts D) where
           let P : Known → Type 0 = λ x. left ≡ with_name x name None in
           (subst P known ok, record { n = n; told = length_told; makes = ends None last })
       last_changes (Err (Io count)) last ok err =
-          inr (inr (inr (err ∙ known)), record { n = n; told = length_told; makes = ends (Some (Io count)) last })
+          inr (record { n = n; told = length_told; makes = stopped_last count left (err ∙ known) (fields_of (Some (Io count)) last) })
       last_changes (Err NoSpace) last ok err =
           absurd (fields_fault g image.header ws name (Err NoSpace) a c (ends (Some NoSpace) last) ready.list end_early (omega (arith, fits)))
 
@@ -258,3 +358,21 @@ module _ {D : Type 0} (g : Ghosts D) where
         → (old new : List ℕ) → g.content a ≡ Some old → g.content c ≡ Some new → IsSameDisk old new
     last_disk_is (Ok done) last old new was told = renamed_disk image name format n a b c is ready new_name new_format text length_told k known first last old new was told
     last_disk_is (Err stop) last old new was told = (stopped_told image name format n a b c is ready new_name new_format stop k known first last old new was told).disk
+
+  -- Why it stops.
+  pub renames_cause : (image left : Known) (name format : Option (List ℕ)) (r : Result (Unit {0}) DevStop) (a b : D) → RenamesImage g image name format r left a b
+      → CountsFault (count_of r) (g.faults a) (g.faults b)
+  renames_cause image left name format (Ok done) a b renames = by_last renames.1.makes
+    where
+      by_last : EndsWithFields g image.header (early_writes image renames.1.n name format) name None a b → g.faults b ≡ g.faults a
+      by_last (inl last) = last.writes.cause.1
+      by_last (inr fails) = absurd (let is = fails.is in cc)
+  renames_cause image left name format (Err (Io count)) a b (inl (same, reads)) = reads.cause
+  renames_cause image left name format (Err (Io count)) a b (inr stops) = by_last stops.makes
+    where
+      by_last : StopsWithFields g image name format (early_writes image stops.n name format) count left a b → CountsFault (Some count) (g.faults a) (g.faults b)
+      by_last (inl last) = last.0.writes.cause
+      by_last (inr fails) =
+          let same : count ≡ fails.0.count = let is = fails.0.is in cc in
+          subst (λ (n : ℕ). CountsFault (Some n) (g.faults a) (g.faults b)) (sym same) fails.0.cause
+  renames_cause image left name format (Err NoSpace) a b renames = renames.1.cause

@@ -1,27 +1,25 @@
 -- What the calls leave of a device by which an image gets another backing name, one behind the other.
-use Rattle.std.proofs.Common.{◌≡◌, ◌≢◌, ℕ, suc, ◌+◌, ◌-◌, ◌%◌, ◌<◌, ◌≤◌, ◌⊎◌, inl, inr, max, Bool, true, false, not, ◌&&◌, cond, ltb, List, [], ◌∷◌, ◌++◌, length, take, drop, replicate, get_or, Option, Some, None, Result, Ok, Err, OnOk, OnErr, is_some, refl, sym, ap, subst, ◌∙◌, arith, length-append, append_assoc}
-use Rattle.std.proofs.lemmas.Bool.{cases_eq, eq-eqb, ne_eqb, lt-ltb, le-ltb}
+use Rattle.std.proofs.Common.{◌≡◌, ℕ, suc, ◌+◌, ◌-◌, ◌<◌, ◌≤◌, inl, inr, Bool, true, false, not, ◌&&◌, cond, ltb, List, [], ◌∷◌, ◌++◌, length, take, drop, replicate, get_or, Option, Some, None, Result, Ok, Err, is_some, refl, sym, ap, subst, ◌∙◌, arith, length-append}
+use Rattle.std.proofs.lemmas.Bool.{cases_eq, cases_lt, eq-eqb, ne_eqb, lt-ltb, le-ltb}
 use Rattle.std.proofs.lemmas.List.{append-nil, ext_get_or, get_or-drop, get_or-replicate, get_or-take, length-replicate, length-take}
 use Rattle.std.proofs.Math.Seq.{take-length}
 use Rattle.std.specs.Option.{ForSome, option_map, option_map_or}
 use Rattle.std.specs.Prelude.{IfErr, IfSome}
 use Rattle.q2_format.specs.Header.{LiesWithin}
-use Rattle.std.specs.Str.{IsUtf8}
-use Rattle.byteorder.specs.Endian.{big_bytes, big_from}
-use Rattle.byteorder.specs.Numbers.{length-bytes_high_first}
+use Rattle.byteorder.specs.Endian.{big_from}
 use Rattle.blk_base.specs.Content.{Write, after_writes, with_bytes}
 use Rattle.blk_base.specs.Content as content
 use Rattle.blk_base.proofs.Contents.{get_or-bytes_at}
 use Rattle.blk_base.specs.Counts.{IsFailedWrite}
-use Rattle.blk_base.specs.Device.{CountsFault, OnlyReads, Reads, StopsBy, Untouched, Wrote, Writes, IsMade, stop_of}
+use Rattle.blk_base.specs.Device.{CountsFault, Reads, StopsBy, Untouched, Wrote, Writes, stop_of}
 use Rattle.blk_base.specs.Writes.{write_of, end_of_writes, IsCutBy, IsPart}
 use Rattle.blk_base.specs.declared.device.Device.{Ghosts}
 use Rattle.blk_base.specs.declared.device.Stop.{Stop}
 use Rattle.blk_base.specs.declared.device.Stop.TheVariants as why
 use Rattle.blk_base.specs.declared.fault.DevStop.{DevStop}
 use Rattle.blk_base.specs.declared.fault.DevStop.TheVariants.{Io, NoSpace}
-use Rattle.blk_base.proofs.DeviceLemmas.{only_reads-wrote, untouched-same, untouched-writes, wrote-content, wrote-then, wrote-told, writes_sooner, writes_then}
-use Rattle.blk_base.proofs.WriteLists.{after_writes-append, cut-sector, end_of_writes-append}
+use Rattle.blk_base.proofs.DeviceLemmas.{only_reads-wrote, untouched-writes, wrote-then, writes_then}
+use Rattle.blk_base.proofs.WriteLists.{cut-sector, end_of_writes-append}
 use Rattle.q2_format.specs.Created.{IsNewName, IsNewFormat}
 use Rattle.q2_format.specs.Renamed.{ending_place, format_bytes, format_room, name_fields, needs_ending, next_extension, new_name_offset}
 use Rattle.q2_format.specs.declared.header.Header.{Header}
@@ -30,11 +28,10 @@ use Rattle.q2_format.specs.Bytes.{bytes_at, number_at}
 use Rattle.q2_format.proofs.ByPlace.{big_from-moved, bytes_from_places, length-bytes_at}
 use Rattle.q2_format.proofs.NamePlaces.{offset_within}
 use Rattle.q2_refs.proofs.Placing.{told_before}
-use Rattle.q2_image.specs.BackingName.{IsPutBetween, stop_by, with_format_at, EndsWithFields, FailsBefore, HasSameName, IsStoppedRenaming, MakesLast, MakesRenaming, RenamesImage, between_in, count_of, early_writes, ending_length, ending_writes, fields_end, format_writes, last_bytes, last_writes, name_in, rename_end, rename_writes, text_writes, with_format, with_name}
+use Rattle.q2_image.specs.BackingName.{IsPutBetween, stop_by, with_format_at, EndsWithFields, between_in, early_writes, ending_writes, fields_end, format_writes, last_bytes, last_writes, rename_end, text_writes, with_format, MakesFormat, known_with}
 use Rattle.q2_image.specs.Image.{Known, IsImageOf, IsOpen, cluster_size_in}
 use Rattle.q2_image.specs.Made.{clear_writes}
-use Rattle.q2_image.specs.Writing.{HasWriteCause, IsFault, IsSameDisk, autocleared, autoclear_end}
-use Rattle.q2_image.proofs.HostUses.{size_in}
+use Rattle.q2_image.specs.Writing.{IsFault, autoclear_end, count_of}
 use Rattle.q2_image.proofs.LastWrite.{length-name_fields}
 use Rattle.q2_image.proofs.NameRoom.{room_in}
 use Rattle.q2_image.proofs.NameSteps.{format_known, format_part, length-format_bytes, open_format, room_at}
@@ -60,13 +57,13 @@ fields_in_sector image ready =
     let h : Header = image.header in
     fields_low (needs_ending h) (is_some h.name) h.ended (next_extension h) refl (room_in h ready.room).1
 
-abbrev what_is_told : Option (List ℕ) → List ℕ
+abbrev pub what_is_told : Option (List ℕ) → List ℕ
 what_is_told None = []
 what_is_told (Some file) = file
 
 module _ {D : Type 0} (g : Ghosts D) where
   -- it is made behind others, or that stops
-  last_told : (h : Header) (early : List Write) (name : Option (List ℕ)) (a b c : D) (between : List ℕ) → Wrote g early a b
+  pub last_told : (h : Header) (early : List Write) (name : Option (List ℕ)) (a b c : D) (between : List ℕ) → Wrote g early a b
       → ((file : List ℕ) → g.content b ≡ Some file → between ≡ between_in (after_writes file []) h)
       → (file : List ℕ) → g.content a ≡ Some file → between ≡ between_in (after_writes file early) h
   last_told h early name a b c between wrote told file was =
@@ -91,17 +88,6 @@ module _ {D : Type 0} (g : Ghosts D) where
         is = fails.is;
         wrote = subst W (append-nil early) (wrote-then g early [] a b c wrote fails.wrote);
         cause = subst (λ (n : ℕ). CountsFault (Some fails.count) n (g.faults c)) quiet fails.cause;
-      })
-
-  pub fields_sooner : (h : Header) (early : List Write) (name : Option (List ℕ)) (stop : DevStop) (a b : D) → Writes g early (Some stop) a b
-      → EndsWithFields g h early name (Some stop) a b
-  fields_sooner h early name stop a b first =
-      let between : List ℕ = between_in (after_writes (what_is_told (g.content a)) early) h in
-      inl (record {
-        between = between;
-        whole = length-bytes_at (after_writes (what_is_told (g.content a)) early) 20 (next_extension h - 20);
-        told = λ file was. ap (λ (o : Option (List ℕ)). between_in (after_writes (what_is_told o) early) h) was;
-        writes = writes_sooner g early (last_writes h between name) stop a b first;
       })
 
   -- Which calls fail, where there is room.
@@ -191,23 +177,27 @@ module _ {D : Type 0} (g : Ghosts D) where
   pub stopped_write : (at done : ℕ) (bytes : List ℕ) (reason : Stop) (a b : D) → Wrote g (write_of at (take done bytes) ∷ []) a b
       → (reason ≡ why.NoSpace → (g.capacity a < at + length bytes) × (done ≡ 0) × (g.faults b ≡ g.faults a))
       → (reason ≡ why.Failed → (at + length bytes ≤ g.capacity a) × IsFailedWrite at done (length bytes) (g.faults a) (g.faults b))
-      → Writes g (write_of at bytes ∷ []) (Some (stop_by reason (g.faults b))) a b
+      → (all : Writes g (write_of at bytes ∷ []) (Some (stop_by reason (g.faults b))) a b) × (all.made ≡ write_of at (take done bytes) ∷ [])
   stopped_write at done bytes why.Failed a b wrote no_space failed =
-      let stopped = (failed refl).1 in
-      record {
-        made = write_of at (take done bytes) ∷ [];
-        part = inr (record { n = done; short = stopped.part; sector = stopped.sector; first = refl }, refl);
-        wrote = wrote;
-        cause = (stopped.rose, refl);
-      }
+      let stopped = (failed refl).1 in (
+        record {
+          made = write_of at (take done bytes) ∷ [];
+          part = inr (record { n = done; short = stopped.part; sector = stopped.sector; first = refl }, refl);
+          wrote = wrote;
+          cause = (stopped.rose, refl);
+        },
+        refl,
+      )
   stopped_write at done bytes why.NoSpace a b wrote no_space failed =
-      let refused = no_space refl in
-      record {
-        made = write_of at (take done bytes) ∷ [];
-        part = inr (ap (λ (n : ℕ). write_of at (take n bytes)) refused.1, refl);
-        wrote = wrote;
-        cause = (let beyond = refused.0 in omega (arith, beyond), refused.2);
-      }
+      let refused = no_space refl in (
+        record {
+          made = write_of at (take done bytes) ∷ [];
+          part = inr (ap (λ (n : ℕ). write_of at (take n bytes)) refused.1, refl);
+          wrote = wrote;
+          cause = (let beyond = refused.0 in omega (arith, beyond), refused.2);
+        },
+        refl,
+      )
 
 pub format_writes_at : (h : Header) (format : List ℕ) (p : Place) → format_room h ≡ Some p → format_writes h (Some format) ≡ write_of (p.at - 4) (format_bytes format) ∷ []
 format_writes_at h format p room = ap (λ (o : Option Place). option_map_or (λ (place : Place). write_of (place.at - 4) (format_bytes format) ∷ []) o []) room
@@ -255,15 +245,37 @@ format_whole o n image format p of_image ready room new is =
 -- The same as its call answers.
 
 module _ {D : Type 0} (g : Ghosts D) (image : Known) (format bytes : List ℕ) (p : Place) (room : format_room image.header ≡ Some p) (same : bytes ≡ format_bytes format) (a b : D) where
-  pub format_stopped : (done : ℕ) (reason : Stop) (r : DevStop) → r ≡ stop_by reason (g.faults b) → Wrote g (write_of (p.at - 4) (take done bytes) ∷ []) a b
+  -- the first of its bytes are as many as those of a part
+  few_bytes : (done : ℕ) → IsNewFormat format → ltb (length (take done bytes)) 4 ≡ ltb done 4
+  few_bytes done new =
+      let len = ap (λ (bs : List ℕ). length bs) same ∙ length-format_bytes format new.1 in
+      let cut = length-take done bytes in
+      elim (cases_lt done 4) [
+        | inl few ↦ lt-ltb (length (take done bytes)) 4 (omega (arith, cut, len, few)) ∙ sym (lt-ltb done 4 few)
+        | inr many ↦ le-ltb (length (take done bytes)) 4 (omega (arith, cut, len, many)) ∙ sym (le-ltb done 4 many)
+      ]
+
+  pub format_stopped : (done : ℕ) (reason : Stop) (r : DevStop) (left : Known) → r ≡ stop_by reason (g.faults b) → Wrote g (write_of (p.at - 4) (take done bytes) ∷ []) a b
       → (reason ≡ why.NoSpace → (g.capacity a < p.at - 4 + length bytes) × (done ≡ 0) × (g.faults b ≡ g.faults a))
       → (reason ≡ why.Failed → (p.at - 4 + length bytes ≤ g.capacity a) × IsFailedWrite (p.at - 4) done (length bytes) (g.faults a) (g.faults b))
-      → Writes g (format_writes image.header (Some format)) (Some r) a b
-  format_stopped done reason r is wrote no_space failed =
-      let W : List Write → Type 0 = λ ws. Writes g ws (Some r) a b in
-      let B : List ℕ → Type 0 = λ bs. Writes g (write_of (p.at - 4) bs ∷ []) (Some r) a b in
-      let R : DevStop → Type 0 = λ x. Writes g (write_of (p.at - 4) bytes ∷ []) (Some x) a b in
-      subst W (sym (format_writes_at image.header format p room)) (subst B same (subst R (sym is) (stopped_write g (p.at - 4) done bytes reason a b wrote no_space failed)))
+      → IsNewFormat format → left ≡ cond (ltb done 4) image (with_format image (Some format)) → MakesFormat g image (Some format) (Some r) left a b
+  format_stopped done reason r left is wrote no_space failed new known =
+      let part : List Write = write_of (p.at - 4) (take done bytes) ∷ [] in
+      let W : List Write → Type 0 = λ ws. (all : Writes g ws (Some r) a b) × (all.made ≡ part) in
+      let B : List ℕ → Type 0 = λ bs. W (write_of (p.at - 4) bs ∷ []) in
+      let R : DevStop → Type 0 = λ x. (all : Writes g (write_of (p.at - 4) bytes ∷ []) (Some x) a b) × (all.made ≡ part) in
+      let all : W (format_writes image.header (Some format)) = subst W (sym (format_writes_at image.header format p room)) (subst B same (subst R (sym is) (stopped_write g (p.at - 4) done bytes reason a b wrote no_space failed))) in
+      record {
+        writes = all.0;
+        known = known ∙ ap (λ (t : Bool). cond t image (with_format image (Some format))) (sym (few_bytes done new)) ∙ ap (known_with image (Some format)) (sym all.1);
+      }
+
+  -- before its length is written, and behind that
+  pub known_before : (done : ℕ) → done < 4 → image ≡ cond (ltb done 4) image (with_format image (Some format))
+  known_before done few = ap (λ (t : Bool). cond t image (with_format image (Some format))) (sym (lt-ltb done 4 few))
+
+  pub known_past : (done : ℕ) (left : Known) → 4 ≤ done → left ≡ with_format_at image (record { at = p.at; len = length format }) → left ≡ cond (ltb done 4) image (with_format image (Some format))
+  known_past done left many known = known ∙ format_named image format p room ∙ ap (λ (t : Bool). cond t image (with_format image (Some format))) (sym (le-ltb done 4 many))
 
   module _ (of_image : (file : List ℕ) → g.content a ≡ Some file → IsImageOf file image) (ready : IsOpen image) (new : IsNewFormat format) (now : Known)
       (known : now ≡ with_format_at image (record { at = p.at; len = length format })) where

@@ -1,7 +1,7 @@
 -- A put and a zero write, wherever they stop: until the entry is written no byte of the disk has changed.
 use Rattle.std.proofs.Common.{◌≡◌, ◌≢◌, ℕ, ◌*◌, ◌/◌, ◌%◌, ◌<◌, ◌≤◌, ◌⊎◌, inl, inr, Bool, true, false, cond, List, [], ◌∷◌, ◌++◌, length, take, replicate, get_or, Some, refl, sym, ap, subst, ◌∙◌, arith}
-use Rattle.std.proofs.lemmas.Bool.{cases_eq, eq-eqb, ne_eqb}
-use Rattle.std.proofs.lemmas.List.{append-nil, get_or-set_same, length-take}
+use Rattle.std.proofs.lemmas.Bool.{cases_eq, cases_lt, eq-eqb, ne_eqb}
+use Rattle.std.proofs.lemmas.List.{append-nil, get_or-replicate, get_or-set_same, get_or_past, length-replicate, length-take}
 use Rattle.blk_base.specs.Content.{Write, with_bytes, after_writes}
 use Rattle.blk_base.specs.Writes.{write_of, AtEachStop, IsPart, IsTorn}
 use Rattle.blk_base.specs.declared.fault.DevStop.{DevStop}
@@ -19,6 +19,7 @@ use Rattle.q2_refs.proofs.AllocationStops.{CanBeGiven, Holds, allocation_done, a
 use Rattle.q2_refs.proofs.FreeClusters.{first_free_cluster}
 use Rattle.q2_tables.specs.Kept as tables
 use Rattle.q2_tables.specs.Linking.{link_writes}
+use Rattle.q2_image.specs.BackingName.{KeepsHeader}
 use Rattle.q2_image.specs.Image.{Known, IsImageOf, IsOpen, cluster_size_in, entry_in}
 use Rattle.q2_image.specs.Made.{WriteStep, IsOldOrWith, writes_of_steps, clear_writes, clear_steps, take_steps, table_steps, host_steps, data_steps, entry_steps, fill_steps, clean_steps, put_steps, zero_steps, word_for}
 use Rattle.q2_image.specs.Writing.{AreClusterZeros, IsSameDisk, IsSpare, HoldsNoGuestByte, MayName, CanTake, PutFits, ZeroFits, after_take, autocleared, idle_host, needs_host, needs_table, next_host, table_for, taken_at, with_host, with_table, with_taken}
@@ -26,7 +27,8 @@ use Rattle.q2_image.proofs.Autocleared.{cleared_image, cleared_disk}
 use Rattle.q2_image.proofs.Changes.{fill_are}
 use Rattle.q2_image.proofs.HostUses.{held_by, size_in, zero_entry}
 use Rattle.q2_tables.proofs.LinkStops.{reaching}
-use Rattle.q2_image.proofs.LinkStops.{IsBetween, link_stops}
+use Rattle.q2_image.proofs.HeaderKept.{KeepsFirst, first_cleared, first_counted, first_itself, first_then, first_without, header_kept}
+use Rattle.q2_image.proofs.LinkStops.{IsBetween, Leaves, link_stops}
 use Rattle.q2_image.proofs.OwnStops.{behind_clear, same_disk_as}
 use Rattle.q2_image.proofs.OwnTold.{open_cleared}
 use Rattle.q2_image.proofs.OwnWrites.{disk_then}
@@ -36,12 +38,12 @@ use Rattle.q2_image.proofs.Plans.{IsPut, below_second, can_first, host_facts, id
 use Rattle.q2_image.proofs.StepsMade.{writes_of_steps-append}
 use Rattle.q2_image.proofs.Taken.{by_size, disk_taken, fresh_count, image_taken, open_with_refs, ready_block_for, ready_same, ready_taken, spare_stays, step_of, StaysReady}
 
--- a sound file whose disk is as before
+-- a sound file whose disk is as before, and the header's cluster
 abbrev pub IsAsBefore : List ℕ → List ℕ → Type 0
-IsAsBefore file now = IsSound now × IsSameDisk file now
+IsAsBefore file now = IsSound now × IsSameDisk file now × KeepsFirst file now
 
 as_before : (file now : List ℕ) (image : Known) → IsBetween file now image → IsAsBefore file now
-as_before file now image between = (between.is.sound, between.disk)
+as_before file now image between = (between.is.sound, between.disk, between.first)
 
 -- Taking a cluster.
 
@@ -72,6 +74,7 @@ module _ (file mid : List ℕ) (image : Known) (capacity : ℕ) (between : IsBet
         is = image_taken mid now image r between.is holds.keeps holds.step;
         ready = ready;
         disk = disk_then file mid now 0 [] between.disk (disk_taken mid now image r between.is holds.keeps holds.step between.ready ready);
+        first = first_then file mid now between.first (first_counted mid now between.is.sound holds.keeps);
       }
 
   stopped : (made : List Write) → IsPart IsTorn (allocation_writes image.refs n) made → IsAsBefore file (after_writes mid made)
@@ -139,9 +142,9 @@ take_if false file mid image capacity between can = record {
 }
 
 -- A change of one guest cluster behind what changed nothing.
-weaker : (file : List ℕ) (at : ℕ) (bytes : List ℕ) (ws : List Write) (mid : List ℕ) → AtEachStop (IsAsBefore file) ws mid → AtEachStop (IsOldOrWith at bytes file) ws mid
+weaker : (file : List ℕ) (at : ℕ) (bytes : List ℕ) (ws : List Write) (mid : List ℕ) → AtEachStop (IsAsBefore file) ws mid → AtEachStop (Leaves at bytes file) ws mid
 weaker file at bytes ws mid stops =
-    at_each_stop-weaker (IsAsBefore file) (IsOldOrWith at bytes file) ws mid (λ now same. (same.0, inl same.1)) stops
+    at_each_stop-weaker (IsAsBefore file) (Leaves at bytes file) ws mid (λ now same. ((same.0, inl same.1), same.2)) stops
 
 steps_then : (P : List ℕ → Type 0) (ss ts : List WriteStep) (b : List ℕ) → AtEachStop P (writes_of_steps ss) b → AtEachStop P (writes_of_steps ts) (after_writes b (writes_of_steps ss))
     → AtEachStop P (writes_of_steps (ss ++ ts)) b
@@ -237,6 +240,7 @@ module _ (file m0 : List ℕ) (image : Known) (cluster : ℕ) (bytes : List ℕ)
     is = payload_image m2 two host xs there.is there.ready idle aligned short small;
     ready = there.ready;
     disk = disk_then file m2 (with_bytes m2 host xs) 0 [] there.disk (payload_disk m2 two host xs there.is there.ready idle aligned short small);
+    first = first_then file m2 (with_bytes m2 host xs) there.first (payload_tables m2 two host xs there.is there.ready idle aligned short small).first;
   }
 
   data_stops : AtEachStop (IsAsBefore file) (write_of host bytes ∷ []) m2
@@ -271,19 +275,19 @@ module _ (file m0 : List ℕ) (image : Known) (cluster : ℕ) (bytes : List ℕ)
       reached_file : host < length m3
       reached_file = let reach = reaching m2 host bytes (omega (arith, whole)) in omega (arith, reach, whole)
 
-  entry_stops : AtEachStop (IsOldOrWith (cluster * 65536) bytes file) (writes_of_steps (entry_steps two cluster (Host host) table)) m3
+  entry_stops : AtEachStop (Leaves (cluster * 65536) bytes file) (writes_of_steps (entry_steps two cluster (Host host) table)) m3
   entry_stops =
       let facts = table_facts image one two cluster table host capacity put in
-      one_step (IsOldOrWith (cluster * 65536) bytes file) (link_writes two.tables cluster (word_for two (Host host)) table) m3
+      one_step (Leaves (cluster * 65536) bytes file) (link_writes two.tables cluster (word_for two (Host host)) table) m3
       (link_stops file m3 two cluster table (Host host) bytes (data_between bytes (omega (arith, whole))) (below_second image one two cluster table host capacity put)
       facts.can (host_facts image one two cluster table host capacity put).writable (reached_second image one two cluster table host capacity put)
       table_spare_still facts.whole facts.near may whole
       (told_written (Some m2) (Some m3) host bytes refl whole m3 refl))
 
-  pub fill_stops : AtEachStop (IsOldOrWith (cluster * 65536) bytes file) (writes_of_steps (fill_steps image cluster bytes)) m0
+  pub fill_stops : AtEachStop (Leaves (cluster * 65536) bytes file) (writes_of_steps (fill_steps image cluster bytes)) m0
   fill_stops =
       let at : ℕ = cluster * 65536 in
-      let P : List ℕ → Type 0 = IsOldOrWith (cluster * 65536) bytes file in
+      let P : List ℕ → Type 0 = Leaves (cluster * 65536) bytes file in
       let S : List WriteStep → Type 0 = λ steps. AtEachStop P (writes_of_steps steps) m0 in
       let last : List WriteStep = entry_steps two cluster (Host host) table in
       let rest : List WriteStep = data_steps two host bytes ++ last in
@@ -316,9 +320,9 @@ module _ (file m0 : List ℕ) (image : Known) (cluster : ℕ) (zeros : List ℕ)
       let number = ap (λ (n : ℕ). n / 65536) taken.1 ∙ by_size (free_cluster image.refs 0) (cluster_size_in image) (size_in image between.ready) in
       subst (IsSpare m1_z) (sym number) (first_z.behind.spare taken.0)
 
-  pub clean_stops : AtEachStop (IsOldOrWith (cluster * 65536) zeros file) (writes_of_steps (clean_steps image cluster)) m0
+  pub clean_stops : AtEachStop (Leaves (cluster * 65536) zeros file) (writes_of_steps (clean_steps image cluster)) m0
   clean_stops =
-      let P : List ℕ → Type 0 = IsOldOrWith (cluster * 65536) zeros file in
+      let P : List ℕ → Type 0 = Leaves (cluster * 65536) zeros file in
       let facts = zero_table image one_z cluster table_z capacity between.ready below fits refl refl in
       let ready = zero_open image one_z cluster table_z capacity between.ready below fits refl refl in
       let inside = zero_below image one_z cluster table_z capacity between.ready below fits refl refl in
@@ -336,11 +340,11 @@ clear_stops : (file : List ℕ) (image : Known) → IsImageOf file image → AtE
 clear_stops file image is = one_step (IsAsBefore file) (clear_writes image) file (elim (cases_eq image.header.autoclear 0) [
   | inl none ↦
       let test = eq-eqb image.header.autoclear 0 none in
-      rw test (at_each_stop-none (IsAsBefore file) file (is.sound, same_disk_as file))
+      rw test (at_each_stop-none (IsAsBefore file) file (is.sound, same_disk_as file, first_itself file))
   | inr some ↦
       let test = ne_eqb image.header.autoclear 0 some in
-      rw test (at_each_stop-sector (IsAsBefore file) (write_of 88 (replicate 8 0)) file (omega arith) (is.sound, same_disk_as file)
-      ((cleared_image file image is).sound, cleared_disk file is.sound))
+      rw test (at_each_stop-sector (IsAsBefore file) (write_of 88 (replicate 8 0)) file (omega arith) (is.sound, same_disk_as file, first_itself file)
+      ((cleared_image file image is).sound, cleared_disk file is.sound, first_without file))
 ])
 
 between_clear : (file : List ℕ) (image : Known) → IsImageOf file image → IsOpen image
@@ -348,7 +352,7 @@ between_clear : (file : List ℕ) (image : Known) → IsImageOf file image → I
 between_clear file image is ready =
     let behind = behind_clear file image is in
     let B : List Write → Type 0 = λ ws. IsBetween file (after_writes file ws) (autocleared image) in
-    subst B (sym (append-nil (clear_writes image))) (record { is = behind.image_is; ready = open_cleared image ready; disk = behind.disk })
+    subst B (sym (append-nil (clear_writes image))) (record { is = behind.image_is; ready = open_cleared image ready; disk = behind.disk; first = first_cleared file image })
 
 can_cleared : (image : Known) (k capacity : ℕ) → CanTake image k capacity → CanTake (autocleared image) k capacity
 can_cleared image k capacity can = record { below = can.below; fits = can.fits }
@@ -367,28 +371,64 @@ put_cleared image cluster capacity fits = record {
   payload = fits.payload;
 }
 
-pub put_stops : (file : List ℕ) (image : Known) (cluster : ℕ) (bytes : List ℕ) (capacity : ℕ) → IsImageOf file image → IsOpen image → cluster < length image.tables.words
+put_leaves : (file : List ℕ) (image : Known) (cluster : ℕ) (bytes : List ℕ) (capacity : ℕ) → IsImageOf file image → IsOpen image → cluster < length image.tables.words
     → length bytes ≡ cluster_size_in image → PutFits image cluster capacity
-    → AtEachStop (IsOldOrWith (cluster * cluster_size_in image) bytes file) (writes_of_steps (put_steps image cluster bytes)) file
-put_stops file image cluster bytes capacity is ready below whole fits =
+    → AtEachStop (Leaves (cluster * cluster_size_in image) bytes file) (writes_of_steps (put_steps image cluster bytes)) file
+put_leaves file image cluster bytes capacity is ready below whole fits =
     let size = size_in image ready in
-    let Q : ℕ → Type 0 = λ c. AtEachStop (IsOldOrWith (cluster * c) bytes file) (writes_of_steps (put_steps image cluster bytes)) file in
-    let P : List ℕ → Type 0 = IsOldOrWith (cluster * 65536) bytes file in
+    let Q : ℕ → Type 0 = λ c. AtEachStop (Leaves (cluster * c) bytes file) (writes_of_steps (put_steps image cluster bytes)) file in
+    let P : List ℕ → Type 0 = Leaves (cluster * 65536) bytes file in
     subst Q (sym size)
     (steps_then P (clear_steps image) (fill_steps (autocleared image) cluster bytes) file
     (weaker file (cluster * 65536) bytes (writes_of_steps (clear_steps image)) file (clear_stops file image is))
     (fill_stops file (after_writes file (writes_of_steps (clear_steps image))) (autocleared image) cluster bytes capacity (between_clear file image is ready) below
     (whole ∙ size) (put_cleared image cluster capacity fits)))
 
-pub zero_stops : (file : List ℕ) (image : Known) (cluster : ℕ) (zeros : List ℕ) (capacity : ℕ) → IsImageOf file image → IsOpen image → cluster < length image.tables.words
+zero_leaves : (file : List ℕ) (image : Known) (cluster : ℕ) (zeros : List ℕ) (capacity : ℕ) → IsImageOf file image → IsOpen image → cluster < length image.tables.words
     → AreClusterZeros (cluster_size_in image) zeros → ZeroFits image cluster capacity
-    → AtEachStop (IsOldOrWith (cluster * cluster_size_in image) zeros file) (writes_of_steps (zero_steps image cluster)) file
-zero_stops file image cluster zeros capacity is ready below are fits =
+    → AtEachStop (Leaves (cluster * cluster_size_in image) zeros file) (writes_of_steps (zero_steps image cluster)) file
+zero_leaves file image cluster zeros capacity is ready below are fits =
     let size = size_in image ready in
-    let Q : ℕ → Type 0 = λ c. AreClusterZeros c zeros → AtEachStop (IsOldOrWith (cluster * c) zeros file) (writes_of_steps (zero_steps image cluster)) file in
-    let P : List ℕ → Type 0 = IsOldOrWith (cluster * 65536) zeros file in
+    let Q : ℕ → Type 0 = λ c. AreClusterZeros c zeros → AtEachStop (Leaves (cluster * c) zeros file) (writes_of_steps (zero_steps image cluster)) file in
+    let P : List ℕ → Type 0 = Leaves (cluster * 65536) zeros file in
     subst Q (sym size)
     (λ are. steps_then P (clear_steps image) (clean_steps (autocleared image) cluster) file
     (weaker file (cluster * 65536) zeros (writes_of_steps (clear_steps image)) file (clear_stops file image is))
     (clean_stops file (after_writes file (writes_of_steps (clear_steps image))) (autocleared image) cluster zeros capacity (between_clear file image is ready) below
     are (zero_cleared image cluster capacity fits))) are
+
+-- What that says of the disk, and of the header.
+
+pub cluster_zeros : (c : ℕ) → AreClusterZeros c (replicate c 0)
+cluster_zeros c = record {
+  whole = length-replicate {A = ℕ} c 0;
+  zeros = λ i. elim (cases_lt i c) [
+    | inl below ↦ get_or-replicate c i 0 0 below
+    | inr past ↦ get_or_past (replicate c 0) i 0 (omega (arith, length-replicate {A = ℕ} c 0, past))
+  ];
+}
+
+module _ (file : List ℕ) (image : Known) (cluster : ℕ) (bytes : List ℕ) (capacity : ℕ) (is : IsImageOf file image) (ready : IsOpen image)
+    (below : cluster < length image.tables.words) where
+  abbrev at : ℕ
+  at = cluster * cluster_size_in image
+
+  disk_in : (ws : List Write) → AtEachStop (Leaves at bytes file) ws file → AtEachStop (IsOldOrWith at bytes file) ws file
+  disk_in ws stops = at_each_stop-weaker (Leaves at bytes file) (IsOldOrWith at bytes file) ws file (λ now left. left.0) stops
+
+  header_in : (ws : List Write) → AtEachStop (Leaves at bytes file) ws file → AtEachStop (KeepsHeader file) ws file
+  header_in ws stops = at_each_stop-weaker (Leaves at bytes file) (KeepsHeader file) ws file (λ now left. header_kept file now is.sound left.1) stops
+
+  module _ (whole : length bytes ≡ cluster_size_in image) (fits : PutFits image cluster capacity) where
+    pub put_stops : AtEachStop (IsOldOrWith (cluster * cluster_size_in image) bytes file) (writes_of_steps (put_steps image cluster bytes)) file
+    put_stops = disk_in (writes_of_steps (put_steps image cluster bytes)) (put_leaves file image cluster bytes capacity is ready below whole fits)
+
+    pub put_header : AtEachStop (KeepsHeader file) (writes_of_steps (put_steps image cluster bytes)) file
+    put_header = header_in (writes_of_steps (put_steps image cluster bytes)) (put_leaves file image cluster bytes capacity is ready below whole fits)
+
+  module _ (are : AreClusterZeros (cluster_size_in image) bytes) (fits : ZeroFits image cluster capacity) where
+    pub zero_stops : AtEachStop (IsOldOrWith (cluster * cluster_size_in image) bytes file) (writes_of_steps (zero_steps image cluster)) file
+    zero_stops = disk_in (writes_of_steps (zero_steps image cluster)) (zero_leaves file image cluster bytes capacity is ready below are fits)
+
+    pub zero_header : AtEachStop (KeepsHeader file) (writes_of_steps (zero_steps image cluster)) file
+    zero_header = header_in (writes_of_steps (zero_steps image cluster)) (zero_leaves file image cluster bytes capacity is ready below are fits)

@@ -1,5 +1,5 @@
 -- Another backing name for an image: which writes it takes, and what they leave.
-use Rattle.std.specs.Prelude.{◌≡◌, ◌⊎◌, ℕ, ◌+◌, ◌-◌, ◌<◌, ◌≤◌, max, ◌==◌, ◌&&◌, nat_lt, if◌then◌else◌, List, [], ◌∷◌, ◌++◌, length, take, replicate, Option, Some, None, Result, Ok, Err}
+use Rattle.std.specs.Prelude.{◌≡◌, ◌⊎◌, ℕ, ◌+◌, ◌-◌, ◌<◌, ◌≤◌, max, ◌==◌, ◌&&◌, nat_lt, if◌then◌else◌, List, [], ◌∷◌, ◌++◌, length, slice_index, take, drop, replicate, Option, Some, None, Result, Ok, Err}
 use Rattle.std.specs.Option.{option_map_or}
 use Rattle.blk_base.specs.Content.{Write, after_writes}
 use Rattle.blk_base.specs.Content as content
@@ -13,6 +13,7 @@ use Rattle.blk_base.specs.declared.fault.DevStop.TheVariants.{Io, NoSpace}
 use Rattle.q2_format.specs.Bytes.{number_at, bytes_at}
 use Rattle.q2_format.specs.Header.{header_of}
 use Rattle.q2_format.specs.Renamed.{new_name_offset, format_room, format_bytes, name_fields, needs_ending, next_extension, replaced_format, renamed}
+use Rattle.q2_format.specs.Sizes.{cluster_size}
 use Rattle.q2_format.specs.Sound.{IsSound}
 use Rattle.q2_format.specs.declared.header.Header.{Header}
 use Rattle.q2_format.specs.declared.header.Place.{Place}
@@ -97,18 +98,22 @@ with_format_at image place = record image { header = record image.header { forma
 abbrev pub with_name : Known → Option (List ℕ) → Option (List ℕ) → Known
 with_name image name format = record image { header = renamed image.header name format }
 
--- what is known behind a stop: nothing changed, the autoclear field is 0, or the format is named too
-abbrev pub IsStoppedRenaming : Known → Option (List ℕ) → Known → Type 0
-IsStoppedRenaming image format left =
-    (left ≡ image) ⊎ ((left ≡ autocleared image) ⊎ (left ≡ with_format (autocleared image) format))
+-- behind writes of a format, the last of them in part: it is named once its length is written
+abbrev pub known_with : Known → Option (List ℕ) → List Write → Known
+known_with image format [] = image
+known_with image format (w ∷ ws) =
+    if nat_lt (length w.bytes) 4 then image else with_format image format
+
+-- What is known where a call stops behind these of its writes, the last of them in part: nothing
+-- changed until the autoclear field is written, and nothing but that until a format is.
+abbrev pub known_at : Known → Option (List ℕ) → Option (List ℕ) → List Write → Known
+known_at image name format made =
+    let cleared = clear_writes image in
+    let named = cleared ++ text_writes image.header name in
+    if nat_lt (length cleared) (length made)
+    then known_with (autocleared image) format (drop (length named) made) else image
 
 -- What a call leaves of a device.
-
--- the fault that an answer tells
-abbrev pub count_of : {A : Type 0} → Result A DevStop → Option ℕ
-count_of (Ok done) = None
-count_of (Err (Io count)) = Some count
-count_of (Err NoSpace) = None
 
 -- the stop of a call whose write stopped, by the count of faults then
 abbrev pub stop_by : Stop → ℕ → DevStop
@@ -122,6 +127,28 @@ pub record IsPutBetween (fields : List ℕ) (n : ℕ) (told : Option (List ℕ))
   pub whole : length between ≡ n
   pub is : (file : List ℕ) → told ≡ Some file → between ≡ content.bytes_at file 20 n
   pub put : take (n + 20) buffer ≡ fields ++ (between ++ replicate 8 0)
+
+-- what the write of a format leaves of an image and of its device, by the stop that its call tells
+abbrev pub IsKnownWith : Option DevStop → Known → Option (List ℕ) → List Write → Known → Type 0
+IsKnownWith None image format made left = left ≡ with_format image format
+IsKnownWith (Some stop) image format made left = left ≡ known_with image format made
+
+pub record MakesFormat {D : Type 0} (g : Ghosts D) (image : Known) (format : Option (List ℕ))
+    (stop : Option DevStop) (left : Known) (before now : D) : Type 0 where
+  pub writes : Writes g (format_writes image.header format) stop before now
+  pub known : IsKnownWith stop image format writes.made left
+
+-- and all writes but the last
+abbrev pub IsKnownEarly : Option DevStop → Known → Option (List ℕ) → Option (List ℕ) → List Write
+    → Known → Type 0
+IsKnownEarly None image name format made left = left ≡ with_format (autocleared image) format
+IsKnownEarly (Some stop) image name format made left = left ≡ known_at image name format made
+
+pub record MakesEarly {D : Type 0} (g : Ghosts D) (image : Known) (n : ℕ)
+    (name format : Option (List ℕ)) (stop : Option DevStop) (left : Known) (before now : D) : Type
+    0 where
+  pub writes : Writes g (early_writes image n name format) stop before now
+  pub known : IsKnownEarly stop image name format writes.made left
 
 -- The last write is made behind others. What stands in it between fields and ending extension was read before it.
 pub record MakesLast {D : Type 0} (g : Ghosts D) (h : Header) (early : List Write)
@@ -145,6 +172,16 @@ abbrev pub EndsWithFields : {D : Type 0} → Ghosts D → Header → List Write 
 EndsWithFields g h early name stop before now =
     MakesLast g h early name stop before now ⊎ FailsBefore g early stop before now
 
+-- where a failed call stops them, and what is known then: by those that were made, or behind all
+-- but the last
+abbrev pub StopsWithFields : {D : Type 0} → Ghosts D → Known → Option (List ℕ) → Option (List ℕ)
+    → List Write → ℕ → Known → D → D → Type 0
+StopsWithFields g image name format early count left before now =
+    ((last : MakesLast g image.header early name (Some (Io count)) before now)
+    × (left ≡ known_at image name format last.writes.made))
+    ⊎ (FailsBefore g early (Some (Io count)) before now
+    × (left ≡ with_format (autocleared image) format))
+
 -- All the writes. The length of the ending extension was read before them, where it has a say.
 pub record MakesRenaming {D : Type 0} (g : Ghosts D) (image : Known) (name format : Option (List ℕ))
     (stop : Option DevStop) (before now : D) : Type 0 where
@@ -154,6 +191,16 @@ pub record MakesRenaming {D : Type 0} (g : Ghosts D) (image : Known) (name forma
       ≡ ending_writes image.header name (ending_length file image.header)
   pub makes : EndsWithFields g image.header (early_writes image n name format) name stop before now
 
+-- and where they stop
+pub record StopsRenaming {D : Type 0} (g : Ghosts D) (image : Known) (name format : Option (List ℕ))
+    (count : ℕ) (left : Known) (before now : D) : Type 0 where
+  pub n : ℕ
+  pub told : (file : List ℕ) → g.content before ≡ Some file
+      → ending_writes image.header name n
+      ≡ ending_writes image.header name (ending_length file image.header)
+  pub makes : StopsWithFields g image name format (early_writes image n name format) count left
+      before now
+
 -- what a call leaves of an image and of its device that gives it another backing name
 abbrev pub RenamesImage : {A D : Type 0} → Ghosts D → Known → Option (List ℕ) → Option (List ℕ)
     → Result A DevStop → Known → D → D → Type 0
@@ -162,8 +209,7 @@ RenamesImage g image name format (Ok done) left before now =
     × MakesRenaming g image name format None before now
 RenamesImage g image name format (Err (Io count)) left before now =
     ((left ≡ image) × Reads g (Some count) before now)
-    ⊎ (IsStoppedRenaming image format left
-    × MakesRenaming g image name format (Some (Io count)) before now)
+    ⊎ StopsRenaming g image name format count left before now
 RenamesImage g image name format (Err NoSpace) left before now =
     (left ≡ image) × Untouched g before now
 
@@ -176,6 +222,13 @@ name_in file = text_at file (header_of file).name
 pub record HasSameName (before now : List ℕ) : Type 0 where
   pub place : (header_of now).name ≡ (header_of before).name
   pub text : name_in now ≡ name_in before
+
+-- All of the header's cluster is as before, but for the 8 bytes of the autoclear field. So the
+-- header says the same name.
+pub record KeepsHeader (before now : List ℕ) : Type 0 where
+  pub bytes : (i : ℕ) → i < cluster_size (header_of before).cluster_bits → (i < 88) ⊎ (96 ≤ i)
+      → slice_index now i ≡ slice_index before i
+  pub name : HasSameName before now
 
 -- wherever it stops, the file is sound, its disk is the same, and it has the old name or the new one
 abbrev pub IsOldOrRenamed : Option (List ℕ) → List ℕ → List ℕ → Type 0

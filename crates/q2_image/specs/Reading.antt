@@ -1,9 +1,6 @@
 -- Reading a part of a cluster.
-use Rattle.std.specs.Prelude.{◌≡◌, ℕ, ◌+◌, ◌%◌, ◌≤◌}
-use Rattle.blk_base.specs.Counts.{Rose}
+use Rattle.std.specs.Prelude.{ℕ, ◌+◌, ◌%◌, ◌≤◌}
 use Rattle.blk_base.specs.Pieces.{Extent}
-use Rattle.blk_base.specs.declared.fault.DevStop.{DevStop}
-use Rattle.blk_base.specs.declared.fault.DevStop.TheVariants.{Io, NoSpace}
 use Rattle.q2_format.specs.declared.entries.L2Entry.{L2Entry}
 use Rattle.q2_format.specs.declared.entries.L2Entry.TheVariants.{Unallocated, Zero, Host, Compressed, Reserved}
 
@@ -18,8 +15,3 @@ IsHost Reserved = ⊥
 -- a span of a disk ends in the cluster in which it begins
 abbrev pub IsWithinCluster : ℕ → Extent → Type 0
 IsWithinCluster c span = span.start % c + span.len ≤ c
-
--- a read stops only where the device's count of faults rose, and names the count
-abbrev pub HasReadCause : ℕ → ℕ → DevStop → Type 0
-HasReadCause before now (Io count) = Rose before count × (count ≡ now)
-HasReadCause before now NoSpace = ⊥

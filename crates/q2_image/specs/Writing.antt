@@ -1,6 +1,7 @@
 -- Writing an image: what changes of its disk, and when there is room for it.
-use Rattle.std.specs.Prelude.{◌≡◌, ◌≢◌, ◌⊎◌, ℕ, ◌+◌, ◌*◌, ◌/◌, ◌%◌, ◌<◌, ◌≤◌, max, ◌==◌, Bool, true, not, ◌&&◌, if◌then◌else◌, ⊤, List, [], length, slice_index, Option}
+use Rattle.std.specs.Prelude.{◌≡◌, ◌≢◌, ◌⊎◌, ℕ, ◌+◌, ◌*◌, ◌/◌, ◌%◌, ◌<◌, ◌≤◌, max, ◌==◌, Bool, true, not, ◌&&◌, if◌then◌else◌, List, [], length, slice_index, Option, Some, None, Result, Ok, Err}
 use Rattle.blk_base.specs.Counts.{Rose}
+use Rattle.blk_base.specs.Device.{CountsFault}
 use Rattle.blk_base.specs.Pieces.{Extent}
 use Rattle.blk_base.specs.declared.device.WriteStop.{WriteStop}
 use Rattle.blk_base.specs.declared.device.Stop.TheVariants as why
@@ -179,15 +180,16 @@ pub record PutFits (image : Known) (cluster capacity : ℕ) : Type 0 where
       → CanTake image (if needs_table image cluster then 1 else 0) capacity
   pub payload : host_for image cluster + cluster_size_in image ≤ capacity
 
--- a call of the device failed, whose count rose and is named
-abbrev pub IsFault : ℕ → ℕ → DevStop → Type 0
-IsFault before now (Io count) = Rose before count × (count ≡ now)
-IsFault before now NoSpace = ⊥
+-- the fault that an answer tells
+abbrev pub count_of : {A : Type 0} → Result A DevStop → Option ℕ
+count_of (Ok done) = None
+count_of (Err (Io count)) = Some count
+count_of (Err NoSpace) = None
 
--- the same where there may be no room, which has a cause of its own
-abbrev pub HasWriteCause : ℕ → ℕ → DevStop → Type 0
-HasWriteCause before now (Io count) = Rose before count × (count ≡ now)
-HasWriteCause before now NoSpace = ⊤
+-- a call that has room stops only where the device failed
+abbrev pub IsFault : ℕ → ℕ → DevStop → Type 0
+IsFault before now (Io count) = CountsFault (Some count) before now
+IsFault before now NoSpace = ⊥
 
 -- one image has the header of another, but for the autoclear field
 abbrev pub HasHeaderOf : Known → Known → Type 0

@@ -4,16 +4,15 @@
 ghost use Rattle.std.specs.Prelude.{◌≡◌, ◌≢◌, ◌↔◌, ◌⊎◌, ◌+◌, ◌-◌, ◌<◌, ◌≤◌, ℕ, Bool, true, ◌&&◌, List, [], ◌∷◌, ◌++◌, length, replicate, Option, Some, None, is_some, IsTrue, Err, IfOk, IfErr, IfSome, OnOk, OnErr, if◌then◌else◌};
 ghost use Rattle.std.specs.Option.{ForSome, option_copied};
 ghost use Rattle.std.specs.Str.{IsUtf8};
-ghost use Rattle.blk_base.specs.Counts.{Rose};
-ghost use Rattle.blk_base.specs.Device.{Reads, Untouched, Writes, stop_of, fault_of};
+ghost use Rattle.blk_base.specs.Device.{CountsFault, Reads, Untouched, Writes, stop_of, fault_of};
 ghost use Rattle.blk_base.specs.Writes.{AtEachStop, end_of_writes};
 ghost use Rattle.blk_base.specs.declared.fault.DevStop.TheVariants.{NoSpace};
 ghost use Rattle.q2_format.specs.Bytes.{bytes_at};
 ghost use Rattle.q2_format.specs.Created.{IsNewName, IsNewFormat};
 ghost use Rattle.q2_format.specs.Renamed.{format_room, name_fields, needs_ending, next_extension, new_name_offset};
-ghost use Rattle.q2_image.specs.BackingName.{EndsWithFields, IsPutBetween, count_of, HasSameName, IsOldOrRenamed, IsStoppedRenaming, RenamesImage, early_writes, ending_length, ending_writes, fields_end, format_writes, last_bytes, name_in, rename_end, rename_writes, stop_by, text_writes, with_format, with_format_at, with_name};
+ghost use Rattle.q2_image.specs.BackingName.{EndsWithFields, IsPutBetween, MakesEarly, MakesFormat, HasSameName, IsOldOrRenamed, RenamesImage, ending_length, ending_writes, fields_end, format_writes, last_bytes, name_in, rename_end, rename_writes, stop_by, text_writes, with_format, with_format_at, with_name};
 ghost use Rattle.q2_image.specs.Image.{IsImageOf, IsOpen};
-ghost use Rattle.q2_image.specs.Writing.{HasWriteCause, IsFault, IsSameDisk, autoclear_end, autocleared};
+ghost use Rattle.q2_image.specs.Writing.{IsFault, IsSameDisk, autoclear_end, autocleared, count_of};
 
 use crate::image::Image;
 use blk_base::{DevStop, Device, Stop, write};
@@ -96,7 +95,7 @@ impl Image {
         // why each answer comes
         ensures no_space { (result ≡ Err NoSpace)
             ↔ (D.capacity dev.old < rename_end self.old (option_copied name.entry) (option_copied format.entry)) }
-        ensures cause { IfErr result (HasWriteCause (D.faults dev.old) (D.faults dev.new)) }
+        ensures cause { CountsFault (count_of result) (D.faults dev.old) (D.faults dev.new) }
 
         // the device
         ensures told { is_some (D.content dev.new) ≡ is_some (D.content dev.old) }
@@ -188,13 +187,10 @@ impl Image {
             ≤ D.capacity dev.old }
         requires small { length < 4294967296 }
         requires image { (file : List ℕ) → D.content dev.old ≡ Some file → IsImageOf file self.old }
-        ensures writes { Writes D.Device
-            (early_writes self.old length (option_copied name.entry) (option_copied format.entry))
-            (stop_of result) dev.old dev.new }
+        ensures makes { MakesEarly D.Device self.old length (option_copied name.entry)
+            (option_copied format.entry) (stop_of result) self.new dev.old dev.new }
         ensures ok { OnOk result
             (self.new ≡ with_format (autocleared self.old) (option_copied format.entry)) }
-        ensures err { OnErr result
-            (IsStoppedRenaming self.old (option_copied format.entry) self.new) }
         ensures image { (file : List ℕ) → D.content dev.new ≡ Some file → IsImageOf file self.new }
     {
         self.clear_autoclear(dev)?;
@@ -219,13 +215,9 @@ impl Image {
         requires open { IsOpen self.old }
         requires format { ForSome format (λ format. IsNewFormat format.now) }
         requires image { (file : List ℕ) → D.content dev.old ≡ Some file → IsImageOf file self.old }
-        ensures writes { Writes D.Device
-            (format_writes self.old.header (option_copied format.entry)) (stop_of result) dev.old
-            dev.new }
+        ensures makes { MakesFormat D.Device self.old (option_copied format.entry) (stop_of result)
+            self.new dev.old dev.new }
         ensures ok { OnOk result (self.new ≡ with_format self.old (option_copied format.entry)) }
-        ensures err { OnErr result
-            ((self.new ≡ self.old)
-            ⊎ (self.new ≡ with_format self.old (option_copied format.entry))) }
         ensures image { (file : List ℕ) → D.content dev.new ≡ Some file → IsImageOf file self.new }
     {
         match (format, format_room(&self.header)) {
@@ -245,11 +237,9 @@ impl Image {
         requires room { format_room self.old.header ≡ Some place }
         requires format { IsNewFormat format.now }
         requires image { (file : List ℕ) → D.content dev.old ≡ Some file → IsImageOf file self.old }
-        ensures writes { Writes D.Device (format_writes self.old.header (Some format.now))
-            (stop_of result) dev.old dev.new }
+        ensures makes { MakesFormat D.Device self.old (Some format.now) (stop_of result) self.new
+            dev.old dev.new }
         ensures ok { OnOk result (self.new ≡ with_format self.old (Some format.now)) }
-        ensures err { OnErr result
-            ((self.new ≡ self.old) ⊎ (self.new ≡ with_format self.old (Some format.now))) }
         ensures image { (file : List ℕ) → D.content dev.new ≡ Some file → IsImageOf file self.new }
     {
         let bytes = format_bytes(format.as_bytes());

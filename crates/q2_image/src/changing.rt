@@ -1,16 +1,17 @@
 //! The calls that change an image: each looks first whether there is room for all that it writes.
 
 ghost use Rattle.std.specs.Prelude.{◌≡◌, ◌↔◌, ◌⊎◌, ◌+◌, ◌*◌, ◌/◌, ◌%◌, ◌<◌, ◌≤◌, max, ℕ, Bool, true, ◌||◌, List, length, Option, Some, is_some, is_ok, option_map, Err, IfErr, OnOk, OnErr};
-ghost use Rattle.blk_base.specs.Counts.{taken, Rose};
+ghost use Rattle.blk_base.specs.Counts.{taken};
 ghost use Rattle.blk_base.specs.declared.device.Stop.TheVariants as why;
 ghost use Rattle.blk_base.specs.declared.fault.DevStop.TheVariants.{NoSpace};
 ghost use Rattle.q2_format.specs.Entry.{host_of, is_single};
 ghost use Rattle.q2_format.specs.declared.entries.L2Entry.TheVariants.{Zero, Host};
+ghost use Rattle.q2_image.specs.BackingName.{KeepsHeader};
 ghost use Rattle.q2_image.specs.Image.{IsImageOf, IsOpen, clusters_in, cluster_size_in, word_in, entry_in};
 ghost use Rattle.q2_image.specs.Reading.{IsHost, IsWithinCluster};
-ghost use Rattle.blk_base.specs.Device.{AtEachStopOf, stop_of};
+ghost use Rattle.blk_base.specs.Device.{AtEachStopOf, CountsFault, stop_of};
 ghost use Rattle.q2_image.specs.Made.{ChangesImage, IsOldOrWith, MakesSteps, put_steps, put_writes, zero_steps, zero_writes, own_writes, WroteOwn, UnlessFull, IsOwnPart};
-ghost use Rattle.q2_image.specs.Writing.{IsDiskWith, IsSameDisk, HasEntriesBut, StaysTaken, IsSpelled, AreClusterZeros, PutFits, ZeroFits, needs_host, HasWriteCause, IsFault, IsOwnStop, IsFailedOwn, own_place, own_end, autoclear_end, autocleared, ClearsFirst, HasHeaderOf};
+ghost use Rattle.q2_image.specs.Writing.{IsDiskWith, IsSameDisk, HasEntriesBut, StaysTaken, IsSpelled, AreClusterZeros, PutFits, ZeroFits, needs_host, IsFault, count_of, IsOwnStop, IsFailedOwn, own_place, own_end, autoclear_end, autocleared, ClearsFirst, HasHeaderOf};
 
 use crate::image::Image;
 use blk_base::{DevStop, Device, Span, Stop, WriteStop};
@@ -41,6 +42,8 @@ impl Image {
         ensures stops { PutFits self.old cluster (D.capacity dev.old)
             → AtEachStopOf D.Device (IsOldOrWith (cluster * cluster_size_in self.old) bytes.now)
             (put_writes self.old cluster bytes.now) dev.old }
+        ensures named { PutFits self.old cluster (D.capacity dev.old)
+            → AtEachStopOf D.Device KeepsHeader (put_writes self.old cluster bytes.now) dev.old }
         ensures mapped { OnOk result (IsHost (entry_in self.new cluster)) }
         ensures spelled { OnOk result (IsSpelled self.new cluster) }
         ensures single { OnOk result
@@ -65,7 +68,7 @@ impl Image {
             × (D.content dev.new ≡ D.content dev.old) × (D.log dev.new ≡ D.log dev.old)
             × (D.is_flushed dev.new ≡ D.is_flushed dev.old) × (D.size dev.new ≡ D.size dev.old)
             × (D.faults dev.new ≡ D.faults dev.old) }
-        ensures cause { IfErr result (HasWriteCause (D.faults dev.old) (D.faults dev.new)) }
+        ensures cause { CountsFault (count_of result) (D.faults dev.old) (D.faults dev.new) }
 
         // the device
         ensures told { is_some (D.content dev.new) ≡ is_some (D.content dev.old) }
@@ -91,6 +94,8 @@ impl Image {
             → AreClusterZeros (cluster_size_in self.old) zeros
             → AtEachStopOf D.Device (IsOldOrWith (cluster * cluster_size_in self.old) zeros)
             (zero_writes self.old cluster) dev.old }
+        ensures named { ZeroFits self.old cluster (D.capacity dev.old)
+            → AtEachStopOf D.Device KeepsHeader (zero_writes self.old cluster) dev.old }
         ensures mapped { OnOk result
             (entry_in self.new cluster ≡ Zero (host_of (entry_in self.old cluster))) }
         ensures spelled { OnOk result (IsSpelled self.new cluster) }
@@ -115,7 +120,7 @@ impl Image {
             × (D.content dev.new ≡ D.content dev.old) × (D.log dev.new ≡ D.log dev.old)
             × (D.is_flushed dev.new ≡ D.is_flushed dev.old) × (D.size dev.new ≡ D.size dev.old)
             × (D.faults dev.new ≡ D.faults dev.old) }
-        ensures cause { IfErr result (HasWriteCause (D.faults dev.old) (D.faults dev.new)) }
+        ensures cause { CountsFault (count_of result) (D.faults dev.old) (D.faults dev.new) }
 
         // the device
         ensures told { is_some (D.content dev.new) ≡ is_some (D.content dev.old) }
@@ -151,6 +156,8 @@ impl Image {
             → IsDiskWith old new span.start (taken result bytes.now) }
         ensures stops { AtEachStopOf D.Device (IsOwnPart span.start bytes.now)
             (own_writes self.old span bytes.now) dev.old }
+        ensures named { AtEachStopOf D.Device KeepsHeader (own_writes self.old span bytes.now)
+            dev.old }
 
         // why each answer comes
         ensures fits { OnOk result (own_end self.old span ≤ D.capacity dev.old) }

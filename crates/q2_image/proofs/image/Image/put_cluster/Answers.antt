@@ -2,8 +2,8 @@ use Rattle.std.proofs.Common.{◌≡◌, ℕ, ◌*◌, List, Some, OnOk, sym, su
 use Rattle.q2_image.specs.Writing.{IsDiskWith}
 use Rattle.q2_image.proofs.HostUses.{size_in}
 use Rattle.q2_image.specs.Made.{put_steps}
-use Rattle.q2_image.proofs.StepsMade.{changes_by, changes_none}
-use Rattle.q2_image.proofs.PutStops.{put_stops}
+use Rattle.q2_image.proofs.StepsMade.{changes_by, changes_none, steps_cause}
+use Rattle.q2_image.proofs.PutStops.{put_header, put_stops}
 use Rattle.q2_image.proofs.image.Image.put_cluster.Goals as goal
 
 pub put_cleared-requires-clause-whole : goal.put_cleared-requires-clause-whole
@@ -32,3 +32,18 @@ pub returns-clause-stops : goal.returns-clause-stops
 returns-clause-stops g c = λ fits file told.
     put_stops file c.args.self.now c.args.cluster c.args.bytes.now (g.D.Device.capacity c.args.dev.now) (c.requires.image file told) c.if-not-put_fits.ensures.open
     c.if-not-put_fits.ensures.below c.requires.whole fits
+
+pub returns-then-not-put_fits-clause-named : goal.returns-then-not-put_fits-clause-named
+returns-then-not-put_fits-clause-named g c = λ fits file told.
+    put_header file c.args.self.now c.args.cluster c.args.bytes.now (g.D.Device.capacity c.args.dev.now) (c.requires.image file told) c.if-not-put_fits.ensures.open
+    c.if-not-put_fits.ensures.below c.requires.whole fits
+
+pub returns-clause-named : goal.returns-clause-named
+returns-clause-named g c = λ fits file told.
+    put_header file c.args.self.now c.args.cluster c.args.bytes.now (g.D.Device.capacity c.args.dev.now) (c.requires.image file told) c.if-not-put_fits.ensures.open
+    c.if-not-put_fits.ensures.below c.requires.whole fits
+
+pub returns-clause-cause : goal.returns-clause-cause
+returns-clause-cause g c =
+    steps_cause g.D.Device c.args.self.now c.put_cleared.new.self (put_steps c.args.self.now c.args.cluster c.args.bytes.now) c.put_cleared.result c.args.dev.now c.put_cleared.new.dev
+    c.put_cleared.ensures.cause c.put_cleared.ensures.steps

@@ -1,16 +1,14 @@
 -- What was read before leaves the device; then all writes are made, or some.
-use Rattle.std.proofs.Common.{◌≡◌, ◌<◌, ◌≤◌, ℕ, List, Option, Some, None, Result, Ok, Err, OnErr, refl, sym, ap, subst, ◌∙◌, arith}
+use Rattle.std.proofs.Common.{◌≡◌, ◌≤◌, ℕ, Some, None, Err, refl, sym, subst, ◌∙◌, arith}
 use Rattle.std.proofs.lemmas.Result.{err_from_is_err_and}
 use Rattle.std.specs.Option.{option_copied}
-use Rattle.blk_base.specs.Device.{Writes, stop_of}
 use Rattle.blk_base.specs.declared.fault.DevStop.{DevStop}
 use Rattle.blk_base.specs.declared.fault.DevStop.TheVariants.{NoSpace}
 use Rattle.q2_format.specs.Created.{IsNewName, IsNewFormat}
 use Rattle.q2_format.proofs.Placed.{copied_fits}
-use Rattle.q2_image.specs.BackingName.{HasSameName, RenamesImage, early_writes, rename_end}
-use Rattle.q2_image.specs.Image.{Known}
+use Rattle.q2_image.specs.BackingName.{RenamesImage, early_writes, rename_end}
 use Rattle.q2_image.specs.Writing.{IsFault}
-use Rattle.q2_image.proofs.NameAnswers.{behind_read, early_changes, early_fault, early_told, last_changes, last_disk_is, last_image_is, last_kept, last_named, stopped_as}
+use Rattle.q2_image.proofs.NameAnswers.{behind_read, early_behind_read, early_changes, early_fault, early_told, last_changes, last_disk_is, last_image_is, last_kept, last_named, renames_cause, stopped_as}
 use Rattle.q2_image.proofs.NameStops.{rename_stops}
 use Rattle.q2_image.proofs.image.Image.set_backing_name.Goals as goal
 
@@ -37,14 +35,19 @@ returns-in_err-write_before_fields-clause-changes g c =
     let n : ℕ = c.in_ok-length.length in
     let p = err_from_is_err_and c.from_residual-in_err-write_before_fields.result c.from_residual-in_err-write_before_fields.ensures.1 in
     let stop : DevStop = c.in_err-write_before_fields.field-0.0 in
-    let first = behind_read g.D.Device (early_writes c.args.self.now n name format) (Some stop) c.args.dev.now c.ending_length.new.dev c.write_before_fields.new.dev
-    c.in_ok-length.ensures.reads c.in_err-write_before_fields.ensures.writes in
+    let first = early_behind_read g.D.Device c.args.self.now c.write_before_fields.new.self n name format (Some stop) c.args.dev.now c.ending_length.new.dev c.write_before_fields.new.dev
+    c.in_ok-length.ensures.reads c.in_err-write_before_fields.ensures.makes in
     let fits : rename_end c.args.self.now name format ≤ g.D.Device.capacity c.args.dev.now = subst (λ (x : ℕ). rename_end c.args.self.now name format ≤ x) c.capacity.ensures (c.if-not-name_fits.ensures.fits.0 refl) in
     let new_name = copied_fits IsNewName c.args.name c.requires.name in
     let new_format = copied_fits IsNewFormat c.args.format c.requires.format in
     let Q : DevStop → Type 0 = λ x. RenamesImage g.D.Device c.args.self.now name format (stopped_as x) c.write_before_fields.new.self c.args.dev.now c.write_before_fields.new.dev in
-    rw p.1 (subst Q (sym p.2) (early_changes g.D.Device c.args.self.now name format n c.args.dev.now c.write_before_fields.new.dev c.write_before_fields.new.dev c.name_fits.ensures.open new_name fits c.in_ok-length.ensures.length
-    stop c.write_before_fields.new.self first c.in_err-write_before_fields.ensures.err))
+    rw p.1 (subst Q (sym p.2) (early_changes g.D.Device c.args.self.now name format n c.args.dev.now c.write_before_fields.new.dev c.write_before_fields.new.dev c.name_fits.ensures.open new_name new_format fits c.in_ok-length.ensures.length
+    stop c.write_before_fields.new.self first))
+
+pub returns-in_err-write_before_fields-clause-cause : goal.returns-in_err-write_before_fields-clause-cause
+returns-in_err-write_before_fields-clause-cause g c =
+    renames_cause g.D.Device c.args.self.now c.write_before_fields.new.self (option_copied c.args.name) (option_copied c.args.format) c.from_residual-in_err-write_before_fields.result
+    c.args.dev.now c.write_before_fields.new.dev (returns-in_err-write_before_fields-clause-changes g c)
 
 pub returns-in_err-write_before_fields-clause-stops : goal.returns-in_err-write_before_fields-clause-stops
 returns-in_err-write_before_fields-clause-stops g c = λ file told.
@@ -59,7 +62,7 @@ returns-in_err-write_before_fields-clause-kept g c =
     let p = err_from_is_err_and c.from_residual-in_err-write_before_fields.result c.from_residual-in_err-write_before_fields.ensures.1 in
     let stop : DevStop = c.in_err-write_before_fields.field-0.0 in
     let first = behind_read g.D.Device (early_writes c.args.self.now n name format) (Some stop) c.args.dev.now c.ending_length.new.dev c.write_before_fields.new.dev
-    c.in_ok-length.ensures.reads c.in_err-write_before_fields.ensures.writes in
+    c.in_ok-length.ensures.reads c.in_err-write_before_fields.ensures.makes.writes in
     let fits : rename_end c.args.self.now name format ≤ g.D.Device.capacity c.args.dev.now = subst (λ (x : ℕ). rename_end c.args.self.now name format ≤ x) c.capacity.ensures (c.if-not-name_fits.ensures.fits.0 refl) in
     let new_name = copied_fits IsNewName c.args.name c.requires.name in
     let new_format = copied_fits IsNewFormat c.args.format c.requires.format in
@@ -73,7 +76,7 @@ returns-in_err-write_before_fields-clause-disk g c =
     let p = err_from_is_err_and c.from_residual-in_err-write_before_fields.result c.from_residual-in_err-write_before_fields.ensures.1 in
     let stop : DevStop = c.in_err-write_before_fields.field-0.0 in
     let first = behind_read g.D.Device (early_writes c.args.self.now n name format) (Some stop) c.args.dev.now c.ending_length.new.dev c.write_before_fields.new.dev
-    c.in_ok-length.ensures.reads c.in_err-write_before_fields.ensures.writes in
+    c.in_ok-length.ensures.reads c.in_err-write_before_fields.ensures.makes.writes in
     let fits : rename_end c.args.self.now name format ≤ g.D.Device.capacity c.args.dev.now = subst (λ (x : ℕ). rename_end c.args.self.now name format ≤ x) c.capacity.ensures (c.if-not-name_fits.ensures.fits.0 refl) in
     let new_name = copied_fits IsNewName c.args.name c.requires.name in
     let new_format = copied_fits IsNewFormat c.args.format c.requires.format in
@@ -87,12 +90,12 @@ returns-in_err-write_before_fields-clause-no_space g c =
     let p = err_from_is_err_and c.from_residual-in_err-write_before_fields.result c.from_residual-in_err-write_before_fields.ensures.1 in
     let stop : DevStop = c.in_err-write_before_fields.field-0.0 in
     let first = behind_read g.D.Device (early_writes c.args.self.now n name format) (Some stop) c.args.dev.now c.ending_length.new.dev c.write_before_fields.new.dev
-    c.in_ok-length.ensures.reads c.in_err-write_before_fields.ensures.writes in
+    c.in_ok-length.ensures.reads c.in_err-write_before_fields.ensures.makes.writes in
     let fits : rename_end c.args.self.now name format ≤ g.D.Device.capacity c.args.dev.now = subst (λ (x : ℕ). rename_end c.args.self.now name format ≤ x) c.capacity.ensures (c.if-not-name_fits.ensures.fits.0 refl) in
     let new_name = copied_fits IsNewName c.args.name c.requires.name in
     let new_format = copied_fits IsNewFormat c.args.format c.requires.format in
     let F : DevStop → Type 0 = IsFault (g.D.Device.faults c.args.dev.now) (g.D.Device.faults c.write_before_fields.new.dev) in
-    let fault = subst F (sym p.2) (early_fault g.D.Device c.args.self.now name format n c.args.dev.now c.write_before_fields.new.dev c.write_before_fields.new.dev c.name_fits.ensures.open new_name fits c.in_ok-length.ensures.length stop first) in
+    let fault = subst F (sym p.2) (early_fault g.D.Device c.args.self.now name format n c.args.dev.now c.write_before_fields.new.dev c.write_before_fields.new.dev c.name_fits.ensures.open new_name new_format fits c.in_ok-length.ensures.length stop first) in
     (λ is. absurd (not_space (g.D.Device.faults c.args.dev.now) (g.D.Device.faults c.write_before_fields.new.dev) p.0 fault (sym p.1 ∙ is)), λ beyond. absurd (omega (arith, beyond, fits)))
   where
     not_space : (before now : ℕ) (x : DevStop) → IsFault before now x → stopped_as x ≡ Err NoSpace → ⊥
@@ -104,12 +107,17 @@ returns-clause-changes g c =
     let format = option_copied c.args.format in
     let n : ℕ = c.in_ok-length.length in
     let first = behind_read g.D.Device (early_writes c.args.self.now n name format) None c.args.dev.now c.ending_length.new.dev c.write_before_fields.new.dev
-    c.in_ok-length.ensures.reads c.in_ok-write_before_fields.ensures.writes in
+    c.in_ok-length.ensures.reads c.in_ok-write_before_fields.ensures.makes.writes in
     let fits : rename_end c.args.self.now name format ≤ g.D.Device.capacity c.args.dev.now = subst (λ (x : ℕ). rename_end c.args.self.now name format ≤ x) c.capacity.ensures (c.if-not-name_fits.ensures.fits.0 refl) in
     let new_name = copied_fits IsNewName c.args.name c.requires.name in
     let new_format = copied_fits IsNewFormat c.args.format c.requires.format in
-    last_changes g.D.Device c.args.self.now name format n c.args.dev.now c.write_before_fields.new.dev c.write_fields.new.dev c.name_fits.ensures.open new_name fits c.in_ok-length.ensures.length c.write_before_fields.new.self c.write_fields.new.self
+    last_changes g.D.Device c.args.self.now name format n c.args.dev.now c.write_before_fields.new.dev c.write_fields.new.dev c.name_fits.ensures.open new_name new_format fits c.in_ok-length.ensures.length c.write_before_fields.new.self c.write_fields.new.self
     c.in_ok-write_before_fields.ensures.ok first c.write_fields.result c.write_fields.ensures.makes c.write_fields.ensures.ok c.write_fields.ensures.err
+
+pub returns-clause-cause : goal.returns-clause-cause
+returns-clause-cause g c =
+    renames_cause g.D.Device c.args.self.now c.write_fields.new.self (option_copied c.args.name) (option_copied c.args.format) c.write_fields.result
+    c.args.dev.now c.write_fields.new.dev (returns-clause-changes g c)
 
 pub returns-clause-stops : goal.returns-clause-stops
 returns-clause-stops g c = λ file told.
@@ -122,7 +130,7 @@ returns-clause-named g c =
     let format = option_copied c.args.format in
     let n : ℕ = c.in_ok-length.length in
     let first = behind_read g.D.Device (early_writes c.args.self.now n name format) None c.args.dev.now c.ending_length.new.dev c.write_before_fields.new.dev
-    c.in_ok-length.ensures.reads c.in_ok-write_before_fields.ensures.writes in
+    c.in_ok-length.ensures.reads c.in_ok-write_before_fields.ensures.makes.writes in
     let fits : rename_end c.args.self.now name format ≤ g.D.Device.capacity c.args.dev.now = subst (λ (x : ℕ). rename_end c.args.self.now name format ≤ x) c.capacity.ensures (c.if-not-name_fits.ensures.fits.0 refl) in
     let new_name = copied_fits IsNewName c.args.name c.requires.name in
     let new_format = copied_fits IsNewFormat c.args.format c.requires.format in
@@ -135,7 +143,7 @@ returns-clause-kept g c =
     let format = option_copied c.args.format in
     let n : ℕ = c.in_ok-length.length in
     let first = behind_read g.D.Device (early_writes c.args.self.now n name format) None c.args.dev.now c.ending_length.new.dev c.write_before_fields.new.dev
-    c.in_ok-length.ensures.reads c.in_ok-write_before_fields.ensures.writes in
+    c.in_ok-length.ensures.reads c.in_ok-write_before_fields.ensures.makes.writes in
     let fits : rename_end c.args.self.now name format ≤ g.D.Device.capacity c.args.dev.now = subst (λ (x : ℕ). rename_end c.args.self.now name format ≤ x) c.capacity.ensures (c.if-not-name_fits.ensures.fits.0 refl) in
     let new_name = copied_fits IsNewName c.args.name c.requires.name in
     let new_format = copied_fits IsNewFormat c.args.format c.requires.format in
@@ -148,7 +156,7 @@ returns-clause-image g c =
     let format = option_copied c.args.format in
     let n : ℕ = c.in_ok-length.length in
     let first = behind_read g.D.Device (early_writes c.args.self.now n name format) None c.args.dev.now c.ending_length.new.dev c.write_before_fields.new.dev
-    c.in_ok-length.ensures.reads c.in_ok-write_before_fields.ensures.writes in
+    c.in_ok-length.ensures.reads c.in_ok-write_before_fields.ensures.makes.writes in
     let fits : rename_end c.args.self.now name format ≤ g.D.Device.capacity c.args.dev.now = subst (λ (x : ℕ). rename_end c.args.self.now name format ≤ x) c.capacity.ensures (c.if-not-name_fits.ensures.fits.0 refl) in
     let new_name = copied_fits IsNewName c.args.name c.requires.name in
     let new_format = copied_fits IsNewFormat c.args.format c.requires.format in
@@ -161,7 +169,7 @@ returns-clause-disk g c =
     let format = option_copied c.args.format in
     let n : ℕ = c.in_ok-length.length in
     let first = behind_read g.D.Device (early_writes c.args.self.now n name format) None c.args.dev.now c.ending_length.new.dev c.write_before_fields.new.dev
-    c.in_ok-length.ensures.reads c.in_ok-write_before_fields.ensures.writes in
+    c.in_ok-length.ensures.reads c.in_ok-write_before_fields.ensures.makes.writes in
     let fits : rename_end c.args.self.now name format ≤ g.D.Device.capacity c.args.dev.now = subst (λ (x : ℕ). rename_end c.args.self.now name format ≤ x) c.capacity.ensures (c.if-not-name_fits.ensures.fits.0 refl) in
     let new_name = copied_fits IsNewName c.args.name c.requires.name in
     let new_format = copied_fits IsNewFormat c.args.format c.requires.format in
