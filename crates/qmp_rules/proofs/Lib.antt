@@ -1,5 +1,6 @@
 pub mod OrderLemmas
 pub mod PlaceLemmas
+pub mod LookLemmas
 pub mod AskLists
 pub mod ChainLemmas
 pub mod FirstLemmas

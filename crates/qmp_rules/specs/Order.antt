@@ -1,12 +1,14 @@
--- The order of refusals: each command's list of asks ascends, and an ask's refusal has the ask's place.
-use Rattle.std.specs.Prelude.{◌≡◌, ℕ, nat_le, Bool, true, ◌&&◌, List, [], ◌∷◌, ◌++◌, Some}
+-- The order of refusals: each command's list of asks ascends, an ask's refusal has the ask's place, and what the files
+-- decide has the place of the look at which it comes.
+use Rattle.std.specs.Prelude.{◌≡◌, ℕ, nat_le, Bool, true, ◌&&◌, List, [], ◌∷◌, ◌++◌, Option, Some, None}
 use Rattle.qmp_codec.specs.Commands.{Act, Cmd}
 use Rattle.qmp_rules.specs.declared.ask.Ask.TheVariants as ask
 use Rattle.qmp_rules.specs.declared.refusal.Refusal.{Refusal}
+use Rattle.qmp_rules.specs.declared.told.Stopped.{Stopped}
 use Rattle.qmp_rules.specs.declared.told.Told.{Told}
 use Rattle.qmp_rules.specs.Table.{Table}
 use Rattle.qmp_rules.specs.Refusals.{place_of}
-use Rattle.qmp_rules.specs.Asks.{Asking, place, holds}
+use Rattle.qmp_rules.specs.Asks.{Asking, look_place, place, holds}
 use Rattle.qmp_rules.specs.CommandAsks.{action_values, action_names, action_rest}
 
 -- no place is below the one before it, nor the first below this
@@ -30,3 +32,8 @@ abbrev pub HasPlace : Table → Told → Asking → Type 0
 HasPlace t told asking =
     IsOfTable asking → (cause : Refusal) → holds t told asking ≡ Some cause
     → place_of cause ≡ Some (place asking)
+
+-- a refusal that the files decide, where they decide one
+abbrev pub HasLookPlace : Option Stopped → Type 0
+HasLookPlace None = Unit {0}
+HasLookPlace (Some stopped) = place_of stopped.refusal ≡ Some (look_place stopped.look)

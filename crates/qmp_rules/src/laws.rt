@@ -1,10 +1,14 @@
 //! What follows from the definitions, each law the contract of a function that does nothing.
 
+ghost use Rattle.std.specs.Prelude.{ℕ, List, Option};
+ghost use Rattle.qmp_codec.specs.declared.nodes.BlockdevAdd.{BlockdevAdd};
+ghost use Rattle.qmp_codec.specs.declared.nodes.Created.{Created};
 ghost use Rattle.qmp_codec.specs.Commands.{Act, Cmd};
 ghost use Rattle.qmp_rules.specs.declared.told.Told.{Told};
 ghost use Rattle.qmp_rules.specs.Asks.{Asking};
 ghost use Rattle.qmp_rules.specs.CommandAsks.{asks_of};
-ghost use Rattle.qmp_rules.specs.Order.{Ascends, action_asks, HasPlace};
+ghost use Rattle.qmp_rules.specs.Looks.{FileSight, add_told, create_told};
+ghost use Rattle.qmp_rules.specs.Order.{Ascends, action_asks, HasLookPlace, HasPlace};
 ghost use Rattle.qmp_rules.specs.Table.{Table};
 
 /// The asks of each command stand in the order of their refusals, and so do those of each action.
@@ -18,4 +22,13 @@ pub fn asks_ascend()
 #[tactic(auto, using(crate::proofs::PlaceLemmas::has_place))]
 pub fn refusals_have_the_place_of_their_ask()
     ensures { (t : Table) (told : Told) (asking : Asking) → HasPlace t told asking }
+{}
+
+/// What the store's files and its room decide has the place of the look at which it comes.
+#[tactic(auto, using(crate::proofs::LookLemmas::add_has_place, crate::proofs::LookLemmas::create_has_place))]
+pub fn told_refusals_have_the_place_of_their_look()
+    ensures additions { (t : Table) (c : BlockdevAdd (List ℕ)) (sight : Option FileSight)
+        → HasLookPlace (add_told t c sight).stopped }
+    ensures creations { (c : Created (List ℕ)) (room : ℕ)
+        → HasLookPlace (create_told c room).stopped }
 {}

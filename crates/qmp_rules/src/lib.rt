@@ -36,7 +36,9 @@ mod values;
 pub use ask::{Ask, Drivers, JobNodes};
 pub use change::{Change, Edits};
 pub use judge::PrepareStop;
-pub use laws::{asks_ascend, refusals_have_the_place_of_their_ask};
+pub use laws::{
+    asks_ascend, refusals_have_the_place_of_their_ask, told_refusals_have_the_place_of_their_look,
+};
 pub use name::Name;
 pub use refusal::{Crowd, FileFault, Refusal};
 pub use rows::{

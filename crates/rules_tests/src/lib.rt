@@ -2,8 +2,16 @@
 #![tactic(auto)]
 
 #[cfg(test)]
+mod crowds;
+#[cfg(test)]
 mod judged;
 #[cfg(test)]
 mod live;
+#[cfg(test)]
+mod looked;
+#[cfg(test)]
+mod met;
+#[cfg(test)]
+mod ordered;
 #[cfg(test)]
 mod refusals;
