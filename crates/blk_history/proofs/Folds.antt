@@ -1,7 +1,7 @@
--- One more entry at the end of a history.
-use Rattle.std.proofs.Common.{◌≡◌, ℕ, true, false, cond, List, [], ◌∷◌, ◌++◌, refl, ap}
-use Rattle.std.specs.Prelude.{◌==◌}
-use Rattle.blk_history.specs.Fold.{run, Each}
+-- Lists and what stands with options, and one more entry at the end of a history.
+use Rattle.std.proofs.Common.{◌≡◌, ℕ, zero, suc, ◌<◌, true, false, cond, List, [], ◌∷◌, ◌++◌, length, refl, ap, subst, arith, Option, Some, None}
+use Rattle.std.specs.Prelude.{◌==◌, slice_get}
+use Rattle.blk_history.specs.Fold.{run, Each, With, change}
 use Rattle.blk_history.specs.Owned.{asked_by}
 use Rattle.blk_history.specs.declared.event.Event.{Event}
 use Rattle.blk_history.specs.declared.event.Event.TheVariants.{Admit, Refuse}
@@ -26,3 +26,24 @@ asked-push g (Refuse h r op why ∷ es) e = elim (h == g) as (λ b. cond b (op �
   | false ↦ asked-push g es e
 ]
 asked-push g (x ∷ es) e = asked-push g es e
+
+-- ---- what stands with options
+
+pub with-some : {A : Type 0} (P : A → Type 0) (o : Option A) → With o P → (a : A) × ((o ≡ Some a) × P a)
+with-some P None h = absurd h
+with-some P (Some a) h = (a, (refl, h))
+
+pub with-at : {A : Type 0} (P : A → Type 0) (o : Option A) (a : A) → o ≡ Some a → With o P → P a
+with-at P o a e h = subst (λ x. With x P) e h
+
+-- ---- the length of a list
+
+pub length-change : {A : Type 0} (n : ℕ) (f : A → A) (xs : List A) → length (change n f xs) ≡ length xs
+length-change n f [] = refl
+length-change zero f (x ∷ xs) = refl
+length-change (suc n) f (x ∷ xs) = ap suc (length-change n f xs)
+
+pub slice-there : {A : Type 0} (xs : List A) (n : ℕ) (x : A) → slice_get xs n ≡ Some x → n < length xs
+slice-there [] n x e = absurd cc
+slice-there (y ∷ ys) zero x e = omega arith
+slice-there (y ∷ ys) (suc n) x e = let less = slice-there ys n x e in omega arith

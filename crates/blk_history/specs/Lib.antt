@@ -8,3 +8,5 @@ pub mod Names
 pub mod Transcript
 pub mod Recorded
 pub mod Line
+pub mod Small
+pub mod Alone

@@ -37,6 +37,7 @@ use Rattle.blk_history.specs.Disk.{piece, done_in}
 use Rattle.blk_history.specs.Machine.{Flight, done_by}
 use Rattle.blk_history.specs.declared.event.Event.{Event}
 use Rattle.blk_history.specs.declared.event.Event.TheVariants.{Admit, Refuse, Piece, Retire, Reply, Reached, Start, Ready, End, Done}
+use Rattle.blk_history.proofs.Verbs.{IsOfNoJob}
 use Rattle.flat_machine.specs.State.{State, drive_of}
 use Rattle.flat_machine.specs.Machine.{after, replay, with_part, with_piece, with_disk, written, flight_of, path, note, noted, is_noted, read_through, copies_through}
 use Rattle.flat_machine.specs.Sights.{expected}
@@ -292,13 +293,6 @@ entry_runs s (Start job) fits h = absurd (let few = fits.0.1 in let none = h.non
 entry_runs s (Ready job) fits h = absurd (subst (λ row. With row (λ r. (can_be_ready r r.kind ≡ true) × (r.is_ready ≡ false))) (no_job_at s.table h.none job) fits.1)
 entry_runs s (End job outcome offset) fits h = absurd (subst (λ row. With row (CanEnd s outcome offset)) (no_job_at s.table h.none job) fits.1)
 entry_runs s (Done actor) fits h = beside_runs s (after s (Done actor)) refl refl refl refl refl h
-
--- an entry that is no job's
-abbrev pub IsOfNoJob : Event → Type 0
-IsOfNoJob (Start job) = ⊥
-IsOfNoJob (Ready job) = ⊥
-IsOfNoJob (End job outcome offset) = ⊥
-IsOfNoJob e = Unit {0}
 
 pub of_no_job : (s : State) (e : Event) → Fits s e → Runs s → IsOfNoJob e
 of_no_job s (Start job) fits h = let few = fits.0.1 in let none = h.none.started in omega arith

@@ -33,7 +33,6 @@ pub mod ImagesKept
 pub mod ImagesChanged
 pub mod ImagesWritten
 pub mod Histories
-mod Lines
 mod OneHistory
 pub mod Recorded
 pub mod BitmapRows

@@ -1,14 +1,11 @@
 -- A transcript, with its script and traces, is that of at most one history.
-use Rattle.std.proofs.Common.{◌≡◌, ℕ, zero, suc, ◌<◌, ◌^◌, Bool, true, false, List, [], ◌∷◌, ◌++◌, map, length, refl, sym, ap, subst, ◌∙◌, inl, inr, arith, Option, Some, None, option_and_then}
-use Rattle.std.specs.Prelude.{◌==◌, if◌then◌else◌, drop, All, get_or, slice_get, flat_map, decimal, codes}
+use Rattle.std.proofs.Common.{◌≡◌, ℕ, zero, suc, ◌<◌, Bool, true, false, List, [], ◌∷◌, ◌++◌, map, length, refl, sym, ap, subst, ◌∙◌, inl, inr, arith, Option, Some, None, option_and_then}
+use Rattle.std.specs.Prelude.{if◌then◌else◌, All, get_or, flat_map, decimal, codes}
 use Rattle.std.proofs.lemmas.Bool.{cases_order}
-use Rattle.std.proofs.lemmas.Fmt.{decimal_injective}
 use Rattle.std.proofs.lemmas.List.{append_cancel_left, length-map}
 use Rattle.std.proofs.lemmas.List.Elements.{All-head, All-tail}
 use Rattle.blk_base.specs.Pieces.{Extent}
-use Rattle.blk_base.specs.declared.fault.DevNo.{DevNo}
 use Rattle.blk_base.specs.declared.fault.Outcome.{Outcome}
-use Rattle.blk_base.specs.declared.fault.Outcome.TheVariants.{Good, Torn, Io, NoSpace}
 use Rattle.trace_codec.specs.declared.op.Op.{Op}
 use Rattle.trace_codec.specs.declared.op.Op.TheVariants.{Read, Write, Zero, Flush, Discard}
 use Rattle.trace_codec.specs.declared.wish.Wish.{Wish}
@@ -26,16 +23,21 @@ use Rattle.qmp_rules.specs.declared.rows.NodeRecord.{NodeRecord}
 use Rattle.qmp_rules.specs.Table.{device_at, node_at}
 use Rattle.qmp_rules.specs.Chains.{disk_node}
 use Rattle.qmp_rules.specs.Answers.{line_text, line_answer, reply_data}
-use Rattle.blk_history.specs.Fold.{With, change as changed_at}
+use Rattle.blk_history.specs.Fold.{With}
 use Rattle.blk_history.specs.Disk.{piece, done_in}
 use Rattle.blk_history.specs.Machine.{Flight, done_by}
 use Rattle.blk_history.specs.Legal.{IsNextPiece, IsOver, Tells}
 use Rattle.blk_history.specs.Names.{RowNames}
-use Rattle.blk_history.specs.Transcript.{op_words, refused_word, outcome_words, dev_word, actor_word, line_of, transcript}
+use Rattle.blk_history.specs.Transcript.{op_words, refused_word, outcome_words, actor_word, line_of, transcript}
 use Rattle.blk_history.specs.declared.entry.Refused.{Refused}
 use Rattle.blk_history.specs.declared.entry.Refused.TheVariants.{Range, ReadOnly}
 use Rattle.blk_history.specs.declared.event.Event.{Event}
 use Rattle.blk_history.specs.declared.event.Event.TheVariants.{Admit, Refuse, Piece, Retire, Reply, Reached, Start, Ready, End, Done}
+use Rattle.blk_history.specs.Small.{IsSmall}
+use Rattle.blk_history.proofs.Folds.{with-some, with-at, length-change, slice-there}
+use Rattle.blk_history.proofs.Lines.{IsLine, IsWord, words_then, after-verb, first-word, same-word, last-word, name-word, text-line}
+use Rattle.blk_history.proofs.Outcomes.{one-outcome, one-told}
+use Rattle.blk_history.proofs.Verbs.{IsOfNoJob, verb_of, verb_in, verb-told, line-there}
 use Rattle.flat_machine.specs.State.{State, Guest, Content, Unknown, Left, Mapped, guest_at, drive_of, disk_of_guest, size_of, content_in, filename_of}
 use Rattle.flat_machine.specs.Contents.{file_bytes, mapped_in}
 use Rattle.flat_machine.specs.Changed.{stepped, all_stepped, name_if, leave, know_if, note_image, add_file, put, name_file, filename_or, content_under, format_bytes, left_disk, overlay_file}
@@ -46,23 +48,15 @@ use Rattle.flat_machine.specs.Legal.{IsNext, IsRefusedFor, guest_disk, MayStand,
 use Rattle.flat_machine.specs.Courses.{Course, Begins, IsNextOf, IsGiven, IsWatched, IsOwn, onward, KeepsOrder, course_of, rest_of, past_waits}
 use Rattle.flat_machine.specs.Opening.{start, new_guest}
 use Rattle.flat_machine.specs.Comes.{jobs_from, transcript_of}
-use Rattle.flat_machine.specs.Unique.{IsSmallOutcome, IsSmall, AreGuests, HaveOneHistory}
+use Rattle.flat_machine.specs.Unique.{AreGuests, HaveOneHistory}
 use Rattle.flat_machine.specs.declared.opening.Opening.{Opening}
-use Rattle.flat_machine.proofs.Histories.{Runs, entry_runs, start_runs, IsOfNoJob, of_no_job}
-use Rattle.flat_machine.proofs.Lines.{IsLine, IsWord, words_then, after-verb, first-word, same-word, last-word, decimal-word, name-word, all-append, text-line, in_word}
+use Rattle.flat_machine.proofs.Histories.{Runs, entry_runs, start_runs, of_no_job}
 
 -- ---- what stands with options
 
 with-same : {A : Type 0} {x y : ℕ} (f : A → ℕ) (o : Option A) → With o (λ a. x ≡ f a) → With o (λ a. y ≡ f a) → x ≡ y
 with-same f None h k = absurd h
 with-same f (Some a) h k = h ∙ sym k
-
-with-some : {A : Type 0} (P : A → Type 0) (o : Option A) → With o P → (a : A) × ((o ≡ Some a) × P a)
-with-some P None h = absurd h
-with-some P (Some a) h = (a, (refl, h))
-
-with-at : {A : Type 0} (P : A → Type 0) (o : Option A) (a : A) → o ≡ Some a → With o P → P a
-with-at P o a e h = subst (λ x. With x P) e h
 
 -- ---- guests
 
@@ -128,119 +122,7 @@ judged-same None below P Q R f h k = absurd h
 judged-same (Some a) None P Q R f h k = absurd h
 judged-same (Some a) (Some b) P Q R f h k = f a b h k
 
--- ---- pieces
-
-device-word : (dev : DevNo) → IsWord (dev_word dev)
-device-word dev = all-append in_word (codes "dev") (decimal dev.0) refl (decimal-word dev.0)
-
-same-device : (a b : DevNo) → a.0 < 2 ^ 64 → b.0 < 2 ^ 64 → dev_word a ≡ dev_word b → a ≡ b
-same-device a b small_a small_b e =
-    let numbers : decimal a.0 ≡ decimal b.0 = append_cancel_left (codes "dev") (decimal a.0) (decimal b.0) e in
-    ap of_number (decimal_injective a.0 b.0 small_a small_b numbers)
-  where
-    of_number : ℕ → DevNo
-    of_number n = record { 0 = n }
-
--- the first word of an outcome, and the others
-first-of : Outcome → List ℕ
-first-of Good = codes "ok"
-first-of (Torn done dev count) = codes "torn"
-first-of (Io dev count) = codes "io"
-first-of (NoSpace dev) = codes "nospace"
-
-rest-of : Outcome → List ℕ → List (List ℕ)
-rest-of outcome got = drop 1 (outcome_words outcome got)
-
-outcome-parts : (outcome : Outcome) (got : List ℕ) → outcome_words outcome got ≡ first-of outcome ∷ rest-of outcome got
-unfolding first-of rest-of
-outcome-parts Good [] = refl
-outcome-parts Good (byte ∷ bytes) = refl
-outcome-parts (Torn done dev count) got = refl
-outcome-parts (Io dev count) got = refl
-outcome-parts (NoSpace dev) got = refl
-
-first-is-word : (outcome : Outcome) → IsWord (first-of outcome)
-unfolding first-of
-first-is-word Good = refl
-first-is-word (Torn done dev count) = refl
-first-is-word (Io dev count) = refl
-first-is-word (NoSpace dev) = refl
-
-same-count : (m n : ℕ) (ws vs : List (List ℕ)) (r q : List ℕ) → m < 2 ^ 64 → n < 2 ^ 64
-    → words_then (decimal m ∷ ws) r ≡ words_then (decimal n ∷ vs) q → (m ≡ n) × (words_then ws r ≡ words_then vs q)
-same-count m n ws vs r q small_m small_n e =
-    let first = first-word (decimal m) (decimal n) ws vs r q (decimal-word m) (decimal-word n) e in
-    (decimal_injective m n small_m small_n first.0, first.1)
-
-same-dev : (a b : DevNo) (ws vs : List (List ℕ)) (r q : List ℕ) → a.0 < 2 ^ 64 → b.0 < 2 ^ 64
-    → words_then (dev_word a ∷ ws) r ≡ words_then (dev_word b ∷ vs) q → (a ≡ b) × (words_then ws r ≡ words_then vs q)
-same-dev a b ws vs r q small_a small_b e =
-    let first = first-word (dev_word a) (dev_word b) ws vs r q (device-word a) (device-word b) e in
-    (same-device a b small_a small_b first.0, first.1)
-
-rest-same : (a b : Outcome) (got other r q : List ℕ) → IsSmallOutcome a → IsSmallOutcome b → first-of a ≡ first-of b
-    → words_then (rest-of a got) r ≡ words_then (rest-of b other) q → a ≡ b
-unfolding first-of rest-of
-rest-same Good Good got other r q sa sb first e = refl
-rest-same (Torn done dev count) (Torn done2 dev2 count2) got other r q sa sb first e =
-    let d = same-count done done2 (dev_word dev ∷ decimal count ∷ []) (dev_word dev2 ∷ decimal count2 ∷ []) r q sa.0 sb.0 e in
-    let v = same-dev dev dev2 (decimal count ∷ []) (decimal count2 ∷ []) r q sa.1 sb.1 d.1 in
-    let n = same-count count count2 [] [] r q sa.2 sb.2 v.1 in
-    let is_done = d.0 in let is_dev = v.0 in let is_count = n.0 in cc
-rest-same (Io dev count) (Io dev2 count2) got other r q sa sb first e =
-    let v = same-dev dev dev2 (decimal count ∷ []) (decimal count2 ∷ []) r q sa.0 sb.0 e in
-    let n = same-count count count2 [] [] r q sa.1 sb.1 v.1 in
-    let is_dev = v.0 in let is_count = n.0 in cc
-rest-same (NoSpace dev) (NoSpace dev2) got other r q sa sb first e =
-    let v = same-dev dev dev2 [] [] r q sa sb e in
-    ap NoSpace v.0
-rest-same Good (Torn done dev count) got other r q sa sb first e =
-    absurd (let letters : 111 ≡ 116 = ap (λ l. get_or l 0 0) first in omega arith)
-rest-same Good (Io dev count) got other r q sa sb first e =
-    absurd (let letters : 111 ≡ 105 = ap (λ l. get_or l 0 0) first in omega arith)
-rest-same Good (NoSpace dev) got other r q sa sb first e =
-    absurd (let letters : 111 ≡ 110 = ap (λ l. get_or l 0 0) first in omega arith)
-rest-same (Torn done dev count) Good got other r q sa sb first e =
-    absurd (let letters : 116 ≡ 111 = ap (λ l. get_or l 0 0) first in omega arith)
-rest-same (Torn done dev count) (Io dev2 count2) got other r q sa sb first e =
-    absurd (let letters : 116 ≡ 105 = ap (λ l. get_or l 0 0) first in omega arith)
-rest-same (Torn done dev count) (NoSpace dev2) got other r q sa sb first e =
-    absurd (let letters : 116 ≡ 110 = ap (λ l. get_or l 0 0) first in omega arith)
-rest-same (Io dev count) Good got other r q sa sb first e =
-    absurd (let letters : 105 ≡ 111 = ap (λ l. get_or l 0 0) first in omega arith)
-rest-same (Io dev count) (Torn done dev2 count2) got other r q sa sb first e =
-    absurd (let letters : 105 ≡ 116 = ap (λ l. get_or l 0 0) first in omega arith)
-rest-same (Io dev count) (NoSpace dev2) got other r q sa sb first e =
-    absurd (let letters : 105 ≡ 110 = ap (λ l. get_or l 0 0) first in omega arith)
-rest-same (NoSpace dev) Good got other r q sa sb first e =
-    absurd (let letters : 110 ≡ 111 = ap (λ l. get_or l 0 0) first in omega arith)
-rest-same (NoSpace dev) (Torn done dev2 count2) got other r q sa sb first e =
-    absurd (let letters : 110 ≡ 116 = ap (λ l. get_or l 0 0) first in omega arith)
-rest-same (NoSpace dev) (Io dev2 count2) got other r q sa sb first e =
-    absurd (let letters : 110 ≡ 105 = ap (λ l. get_or l 0 0) first in omega arith)
-
-one-outcome : (a b : Outcome) (got other r q : List ℕ) → IsSmallOutcome a → IsSmallOutcome b
-    → words_then (outcome_words a got) r ≡ words_then (outcome_words b other) q → a ≡ b
-one-outcome a b got other r q sa sb e =
-    let parts : words_then (first-of a ∷ rest-of a got) r ≡ words_then (first-of b ∷ rest-of b other) q =
-    sym (ap (λ ws. words_then ws r) (outcome-parts a got)) ∙ e ∙ ap (λ ws. words_then ws q) (outcome-parts b other) in
-    let first = first-word (first-of a) (first-of b) (rest-of a got) (rest-of b other) r q (first-is-word a) (first-is-word b) parts in
-    rest-same a b got other r q sa sb first.0 first.1
-
-one-told : (outcome : Outcome) (op : Op) (part : Extent) (disk : Option (List ℕ)) (got other : List ℕ) → Tells outcome op part disk got
-    → Tells outcome op part disk other → got ≡ other
-one-told Good op part None got other h k = absurd h
-one-told Good op part (Some bytes) got other h k = h ∙ sym k
-one-told (Torn done dev count) op part disk got other h k = h.3 ∙ sym k.3
-one-told (Io dev count) op part disk got other h k = h ∙ sym k
-one-told (NoSpace dev) op part disk got other h k = h ∙ sym k
-
 -- ---- the guests of a state
-
-length-change : {A : Type 0} (n : ℕ) (f : A → A) (xs : List A) → length (changed_at n f xs) ≡ length xs
-length-change n f [] = refl
-length-change zero f (x ∷ xs) = refl
-length-change (suc n) f (x ∷ xs) = ap suc (length-change n f xs)
 
 noted-guests : (s : State) (outcome : Outcome) (part : Extent) (drive : ℕ) → (note outcome part drive s).guests ≡ s.guests
 noted-guests s outcome part drive = by_flag (is_noted outcome)
@@ -355,62 +237,8 @@ entry-guests s (Start job) plain = absurd plain
 entry-guests s (Ready job) plain = absurd plain
 entry-guests s (End job outcome offset) plain = absurd plain
 
-slice-there : {A : Type 0} (xs : List A) (n : ℕ) (x : A) → slice_get xs n ≡ Some x → n < length xs
-slice-there [] n x e = absurd cc
-slice-there (y ∷ ys) zero x e = omega arith
-slice-there (y ∷ ys) (suc n) x e = let less = slice-there ys n x e in omega arith
-
 guest-there : (s : State) (g : ℕ) (P : Guest → Type 0) → With (guest_at s g) P → g < length s.guests
 guest-there s g P h = let row = with-some P (guest_at s g) h in slice-there s.guests g row.0 row.1.0
-
--- ---- verbs
-
-data Verb : Type 0 where
-  Admits : Verb
-  Refuses : Verb
-  Pieces : Verb
-  Retires : Verb
-  Replies : Verb
-  Reaches : Verb
-  Ends : Verb
-  Others : Verb
-
-verb_of : Event → Verb
-verb_of (Admit g r op) = Admits
-verb_of (Refuse g r op why) = Refuses
-verb_of (Piece g r k outcome got) = Pieces
-verb_of (Retire g r) = Retires
-verb_of (Reply line given command text) = Replies
-verb_of (Reached line what) = Reaches
-verb_of (Done actor) = Ends
-verb_of e = Others
-
--- by its first and third letters
-by_letters : ℕ → ℕ → Verb
-by_letters a c =
-    if a == 97 then Admits
-    else if a == 112 then Pieces
-    else if a == 100 then Ends
-    else if c == 102 then Refuses
-    else if c == 116 then Retires
-    else if c == 112 then Replies
-    else Reaches
-
-verb_in : List ℕ → Verb
-verb_in line = by_letters (get_or line 0 0) (get_or line 2 0)
-
-verb-told : (names : RowNames) (e : Event) (r : List ℕ) → IsOfNoJob e → verb_in (line_of names e ++ r) ≡ verb_of e
-unfolding verb_in by_letters verb_of
-verb-told names (Admit g n op) r plain = refl
-verb-told names (Refuse g n op why) r plain = refl
-verb-told names (Piece g n k outcome got) r plain = refl
-verb-told names (Retire g n) r plain = refl
-verb-told names (Reply line given command text) r plain = refl
-verb-told names (Reached line what) r plain = refl
-verb-told names (Done actor) r plain = refl
-verb-told names (Start job) r plain = absurd plain
-verb-told names (Ready job) r plain = absurd plain
-verb-told names (End job outcome offset) r plain = absurd plain
 
 -- ---- the script
 
@@ -547,18 +375,6 @@ module _ (o : Opening) (guests : AreGuests o.guests) (s : State) (c : Course) (a
   same-entry _ _ verbs plain fe ff oe of se sf r q e = absurd cc
 
 -- ---- histories
-
-line-there : (names : RowNames) (e : Event) (r : List ℕ) → [] ≡ line_of names e ++ r → ⊥
-line-there names (Admit g n op) r e = cc
-line-there names (Refuse g n op why) r e = cc
-line-there names (Piece g n k outcome got) r e = cc
-line-there names (Retire g n) r e = cc
-line-there names (Reply line given command text) r e = cc
-line-there names (Reached line what) r e = cc
-line-there names (Start job) r e = cc
-line-there names (Ready job) r e = cc
-line-there names (End job outcome offset) r e = cc
-line-there names (Done actor) r e = cc
 
 all-same : (o : Opening) → AreGuests o.guests → (h k : List Event) (s : State) (c : Course) → length s.guests ≡ length o.guests
     → Legal s h → Legal s k → KeepsOrder c h → KeepsOrder c k → All IsSmall h → All IsSmall k → Runs s

@@ -1,5 +1,5 @@
 -- Whose fault an entry may name: a device or the store that its own event called, whose count rose in that event.
-use Rattle.std.specs.Prelude.{◌≡◌, ◌⊎◌, ℕ, ◌==◌, Bool, true, false, if◌then◌else◌, List, [], ◌∷◌, ◌++◌, length, codes, Option, Some, None, Contains, option_and_then}
+use Rattle.std.specs.Prelude.{◌≡◌, ◌⊎◌, ℕ, ◌==◌, true, if◌then◌else◌, List, [], ◌∷◌, ◌++◌, length, codes, Option, Some, None, Contains, option_and_then}
 use Rattle.std.specs.List.{slice_split}
 use Rattle.std.specs.Str.{bytes_eq}
 use Rattle.blk_base.specs.declared.fault.DevNo.{DevNo}
@@ -11,7 +11,6 @@ use Rattle.blk_base.specs.declared.fault.FaultFrom.TheVariants.{Store, Dev}
 use Rattle.blk_base.specs.declared.fault.Outcome.{Outcome}
 use Rattle.blk_base.specs.declared.fault.Outcome.TheVariants.{Good, Torn, Io, NoSpace}
 use Rattle.trace_codec.specs.declared.op.Op.{Op}
-use Rattle.trace_codec.specs.declared.op.Op.TheVariants.{Write, Zero}
 use Rattle.qmp_codec.specs.declared.event.JobKind.TheVariants.{Backup}
 use Rattle.qmp_codec.specs.Commands.{Cmd}
 use Rattle.qmp_codec.specs.Lines.{command_at}
@@ -25,6 +24,7 @@ use Rattle.qmp_codec.specs.declared.nodes.Created.TheVariants as created
 use Rattle.qmp_rules.specs.declared.rows.JobRecord.{JobRecord}
 use Rattle.qmp_rules.specs.Table.{Table, id_named}
 use Rattle.qmp_rules.specs.Chains.{reaches}
+use Rattle.blk_history.specs.Disk.{is_write}
 use Rattle.blk_history.specs.Fold.{With}
 use Rattle.flat_machine.specs.State.{State, drive_of}
 use Rattle.flat_machine.specs.Machine.{path}
@@ -101,18 +101,13 @@ pub data Deed : Type 0 where
   Settle : ℕ → Deed
   PieceOn : ℕ → Op → Deed
 
-abbrev pub changes_disk : Op → Bool
-changes_disk (Write span payload) = true
-changes_disk (Zero span) = true
-changes_disk op = false
-
--- it is done for the job: a guest's write copies for a backup whose filter it passes
+-- it is done for the job: a piece of a guest's write copies for a backup whose filter it passes
 abbrev pub IsDoneFor : Table → Deed → JobRecord → Type 0
 IsDoneFor t (Turn slot) row = row.slot ≡ slot
 IsDoneFor t (Take slot) row = row.slot ≡ slot
 IsDoneFor t (Settle job) row = row.number ≡ job
 IsDoneFor t (PieceOn drive op) row =
-    (row.kind ≡ Backup) × (changes_disk op ≡ true)
+    (row.kind ≡ Backup) × (is_write op ≡ true)
     × With row.filter (λ filter. Contains (path t drive) filter)
 
 -- Its count rose in the event to what is named, or a write of the event would have passed its capacity. The counts are

@@ -1,0 +1,74 @@
+-- What a line tells of its entry first: the verb.
+use Rattle.std.proofs.Common.{◌≡◌, ℕ, List, [], ◌++◌, refl}
+use Rattle.std.specs.Prelude.{◌==◌, if◌then◌else◌, get_or}
+use Rattle.blk_history.specs.Names.{RowNames}
+use Rattle.blk_history.specs.Transcript.{line_of}
+use Rattle.blk_history.specs.declared.event.Event.{Event}
+use Rattle.blk_history.specs.declared.event.Event.TheVariants.{Admit, Refuse, Piece, Retire, Reply, Reached, Start, Ready, End, Done}
+
+-- an entry that is no job's
+abbrev pub IsOfNoJob : Event → Type 0
+IsOfNoJob (Start job) = ⊥
+IsOfNoJob (Ready job) = ⊥
+IsOfNoJob (End job outcome offset) = ⊥
+IsOfNoJob e = Unit {0}
+
+pub data Verb : Type 0 where
+  Admits : Verb
+  Refuses : Verb
+  Pieces : Verb
+  Retires : Verb
+  Replies : Verb
+  Reaches : Verb
+  Ends : Verb
+  Others : Verb
+
+unfoldable pub verb_of : Event → Verb
+verb_of (Admit g r op) = Admits
+verb_of (Refuse g r op why) = Refuses
+verb_of (Piece g r k outcome got) = Pieces
+verb_of (Retire g r) = Retires
+verb_of (Reply line given command text) = Replies
+verb_of (Reached line what) = Reaches
+verb_of (Done actor) = Ends
+verb_of e = Others
+
+-- by its first and third letters
+by_letters : ℕ → ℕ → Verb
+by_letters a c =
+    if a == 97 then Admits
+    else if a == 112 then Pieces
+    else if a == 100 then Ends
+    else if c == 102 then Refuses
+    else if c == 116 then Retires
+    else if c == 112 then Replies
+    else Reaches
+
+pub verb_in : List ℕ → Verb
+verb_in line = by_letters (get_or line 0 0) (get_or line 2 0)
+
+pub verb-told : (names : RowNames) (e : Event) (r : List ℕ) → IsOfNoJob e → verb_in (line_of names e ++ r) ≡ verb_of e
+unfolding verb_in by_letters verb_of
+verb-told names (Admit g n op) r plain = refl
+verb-told names (Refuse g n op why) r plain = refl
+verb-told names (Piece g n k outcome got) r plain = refl
+verb-told names (Retire g n) r plain = refl
+verb-told names (Reply line given command text) r plain = refl
+verb-told names (Reached line what) r plain = refl
+verb-told names (Done actor) r plain = refl
+verb-told names (Start job) r plain = absurd plain
+verb-told names (Ready job) r plain = absurd plain
+verb-told names (End job outcome offset) r plain = absurd plain
+
+-- a line is not empty
+pub line-there : (names : RowNames) (e : Event) (r : List ℕ) → [] ≡ line_of names e ++ r → ⊥
+line-there names (Admit g n op) r e = cc
+line-there names (Refuse g n op why) r e = cc
+line-there names (Piece g n k outcome got) r e = cc
+line-there names (Retire g n) r e = cc
+line-there names (Reply line given command text) r e = cc
+line-there names (Reached line what) r e = cc
+line-there names (Start job) r e = cc
+line-there names (Ready job) r e = cc
+line-there names (End job outcome offset) r e = cc
+line-there names (Done actor) r e = cc
