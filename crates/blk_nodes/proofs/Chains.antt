@@ -15,7 +15,7 @@ use Rattle.q2_format.specs.declared.entries.L2Entry.{L2Entry}
 use Rattle.q2_format.specs.declared.entries.L2Entry.TheVariants as entries
 use Rattle.q2_format.proofs.ByPlace.{get_or-bytes_at}
 use Rattle.q2_image.specs.Guest.{file_entry, guest_bytes}
-use Rattle.q2_image.specs.Image.{Known, IsImageOf, IsOpen, entry_in}
+use Rattle.q2_image.specs.Image.{Known, IsImageOf, IsOpen, cluster_size_in, entry_in}
 use Rattle.q2_image.proofs.Guests.{guest_host, guest_zero, guest_unallocated, get_or-guest_bytes, length-guest_bytes}
 use Rattle.q2_image.proofs.Mapped.{entry_of_file, below_words}
 use Rattle.blk_nodes.specs.Contents.{bytes_of, file_node_disk, below, disk_by, disk_in, disk_of}
@@ -59,6 +59,10 @@ found_by source place step = elim step as (λ _. Source) [
   | Below next ↦ source next place
 ]
 
+-- the guest cluster of a place
+cluster_at : (image : Known) (place : ℕ) → IsOpen image → place / cluster_size_in image ≡ place / 65536
+cluster_at image place opened = rw opened.cluster_bits refl
+
 -- one more node down the chain, where what is found below it is right
 module _ (turns : ℕ) (nodes : Nodes) (joined : IsJoined nodes) (all : AreTold nodes.devices)
     (rest : (node place i : ℕ) → place + i < size_of nodes node → place % 65536 + i < 65536
@@ -84,7 +88,7 @@ module _ (turns : ℕ) (nodes : Nodes) (joined : IsJoined nodes) (all : AreTold 
 
   over_image : (node : ℕ) (row : Row) (image : Known) → row_at nodes node ≡ Some row → image.header.size ≡ row.size → place + i < row.size → IsOverlay nodes node image
       → get_or (image_disk (below (bytes_of nodes) (file_of nodes node)) (below (disk_in turns nodes) (backing_of nodes node))) (place + i) 0
-      ≡ byte_at nodes (found_by (source_in turns nodes) place (step_by_entry node (file_of nodes node) (backing_of nodes node) (entry_in image (place / 65536)))) place i
+      ≡ byte_at nodes (found_by (source_in turns nodes) place (step_by_entry node (file_of nodes node) (backing_of nodes node) (entry_in image (place / cluster_size_in image)))) place i
   over_image node row image there size inside is =
       let held = told_held is.file nodes.devices all (held_by nodes is.file joined is.is_file) in
       let known : IsImageOf (bytes_of nodes is.file) image = is.known held.0 (bytes_of nodes is.file) held.1 held.2 in
@@ -92,10 +96,11 @@ module _ (turns : ℕ) (nodes : Nodes) (joined : IsJoined nodes) (all : AreTold 
       let bits : (header_of (bytes_of nodes is.file)).cluster_bits ≡ 16 = ap (λ (h : Header). h.cluster_bits) header ∙ is.opened.cluster_bits in
       let whole : (header_of (bytes_of nodes is.file)).size ≡ image.header.size = ap (λ (h : Header). h.size) header in
       let same : (place + i) / 65536 ≡ place / 65536 = omega arith in
-      let entry = ap (file_entry (bytes_of nodes is.file)) same ∙ entry_of_file (bytes_of nodes is.file) image (place / 65536) known (has_entry image (place / 65536) is.opened (omega arith)) in
+      let entry = ap (file_entry (bytes_of nodes is.file)) same ∙ entry_of_file (bytes_of nodes is.file) image (place / 65536) known (has_entry image (place / 65536) is.opened (omega arith))
+      ∙ ap (entry_in image) (sym (cluster_at image place is.opened)) in
       rw is.edge
       (get_or-image_disk (bytes_of nodes is.file) (below (disk_in turns nodes) (backing_of nodes node)) (place + i) (omega (arith, whole, size, inside))
-      ∙ over_entry node is.file (backing_of nodes node) (entry_in image (place / 65536)) bits entry
+      ∙ over_entry node is.file (backing_of nodes node) (entry_in image (place / cluster_size_in image)) bits entry
       (λ next edge. let has = is.backing next edge in rw has.there (omega (arith, has.is, size, inside))))
 
   by_driver : (node : ℕ) (row : Row) (driver : Driver) → row_at nodes node ≡ Some row → row.driver ≡ driver → place + i < row.size

@@ -189,8 +189,8 @@ module _ (image now : Known) (cluster : ℕ) (before after : DeviceState) (steps
   steps_entries IsMade (Io dev count) is = stopped_entries (stops.Io count) is
   steps_entries IsMade (NoSpace dev) is = by_tables image now (ap (λ (k : Known). k.tables) is.0)
 
-module _ (image now : Known) (part : Extent) (bytes : List ℕ) (before after : DeviceState) where
-  around_entries : (o : Outcome) → ChangesAround part bytes image now before after o → LeavesEntries image now (cluster_of image part) o
+module _ (IsDisk : List ℕ → Type 0) (image now : Known) (part : Extent) (bytes : List ℕ) (before after : DeviceState) where
+  around_entries : (o : Outcome) → ChangesAround IsDisk part bytes image now before after o → LeavesEntries image now (cluster_of image part) o
   around_entries Good is =
       made_entries image now (cluster_of image part) before after (put_steps image (cluster_of image part) is.0.cluster) _ _ (put_but image (cluster_of image part) is.0.cluster) (put_before image (cluster_of image part) is.0.cluster)
       is.0.puts
@@ -211,7 +211,7 @@ module _ (image now : Known) (part : Extent) (bytes : List ℕ) (before after : 
   own_entries (Io dev count) is = wrote_entries [] is.wrote
   own_entries (NoSpace dev) is = by_tables image now (ap (λ (k : Known). k.tables) is.0)
 
-  part_entries : (e : L2Entry) (o : Outcome) → ChangesPart e part bytes image now before after o → LeavesEntries image now (cluster_of image part) o
+  part_entries : (e : L2Entry) (o : Outcome) → ChangesPart IsDisk e part bytes image now before after o → LeavesEntries image now (cluster_of image part) o
   part_entries entries.Unallocated o is = around_entries o is
   part_entries (entries.Zero host) o is = around_entries o is
   part_entries (entries.Host host) o is = same_entries image now (cluster_of image part) o (own_entries o is)
@@ -219,22 +219,22 @@ module _ (image now : Known) (part : Extent) (bytes : List ℕ) (before after : 
   part_entries entries.Reserved o is = around_entries o is
 
   -- where bytes were written
-  pub written_entries : (o : Outcome) → IsWritten part bytes image now before after o → LeavesEntries image now (cluster_of image part) o
+  pub written_entries : (o : Outcome) → IsWritten IsDisk part bytes image now before after o → LeavesEntries image now (cluster_of image part) o
   written_entries o is = part_entries (entry_for image part) o is
 
 -- and zeros
-pub zeroed_entries : (image now : Known) (part : Extent) (before after : DeviceState) (o : Outcome) → IsZeroed part image now before after o
+pub zeroed_entries : (IsDisk : List ℕ → Type 0) (image now : Known) (part : Extent) (before after : DeviceState) (o : Outcome) → IsZeroed IsDisk part image now before after o
     → LeavesEntries image now (cluster_of image part) o
-zeroed_entries image now part before after o is = by_whole (is_whole image part) is
+zeroed_entries IsDisk image now part before after o is = by_whole (is_whole image part) is
   where
-    by_entry : (e : L2Entry) → ZeroesPart e part image now before after o → LeavesEntries image now (cluster_of image part) o
-    by_entry entries.Unallocated is = part_entries image now part (replicate part.len 0) before after entries.Unallocated o is
+    by_entry : (e : L2Entry) → ZeroesPart IsDisk e part image now before after o → LeavesEntries image now (cluster_of image part) o
+    by_entry entries.Unallocated is = part_entries IsDisk image now part (replicate part.len 0) before after entries.Unallocated o is
     by_entry (entries.Zero host) is = same_entries image now (cluster_of image part) o (by_tables image now (ap (λ (k : Known). k.tables) is.0.0))
-    by_entry (entries.Host host) is = part_entries image now part (replicate part.len 0) before after (entries.Host host) o is
-    by_entry entries.Compressed is = part_entries image now part (replicate part.len 0) before after entries.Compressed o is
-    by_entry entries.Reserved is = part_entries image now part (replicate part.len 0) before after entries.Reserved o is
+    by_entry (entries.Host host) is = part_entries IsDisk image now part (replicate part.len 0) before after (entries.Host host) o is
+    by_entry entries.Compressed is = part_entries IsDisk image now part (replicate part.len 0) before after entries.Compressed o is
+    by_entry entries.Reserved is = part_entries IsDisk image now part (replicate part.len 0) before after entries.Reserved o is
 
-    by_whole : (b : Bool) → ZeroesBy b part image now before after o → LeavesEntries image now (cluster_of image part) o
+    by_whole : (b : Bool) → ZeroesBy IsDisk b part image now before after o → LeavesEntries image now (cluster_of image part) o
     by_whole true is =
         steps_entries image now (cluster_of image part) before after (zero_steps image (cluster_of image part)) (cluster_of image part * cluster_size_in image)
         (replicate (cluster_size_in image) 0) (zero_but image (cluster_of image part)) (zero_before image (cluster_of image part))

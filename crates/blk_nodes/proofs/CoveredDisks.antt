@@ -78,7 +78,7 @@ module _ (nodes : Nodes) (joined : IsJoined nodes) (told : AreTold nodes.devices
       ap length (step_in nodes turns n row there)
       ∙ length_by turns (λ child r found few. length_in turns child r found few) n row row.driver there refl (joined.below n row there) none
 
-  length_disk : (n : ℕ) (row : Row) → row_at nodes n ≡ Some row → length (disk_of nodes n) ≡ row.size
+  pub length_disk : (n : ℕ) (row : Row) → row_at nodes n ≡ Some row → length (disk_of nodes n) ≡ row.size
   unfolding disk_of
   length_disk n row there = length_in 64 n row there (no_path nodes joined 64 (omega arith) n)
 

@@ -56,7 +56,7 @@ bytes_or : (here : Bool) (x y : DeviceState) (old new : Option DeviceState) → 
 bytes_or true x y old new same rest = ap told same
 bytes_or false x y old new same rest = rest
 
-bytes_risen : (old new : List DeviceState) → HaveRisen old new → (node : ℕ) → bytes_by (device_in new node) ≡ bytes_by (device_in old node)
+pub bytes_risen : (old new : List DeviceState) → HaveRisen old new → (node : ℕ) → bytes_by (device_in new node) ≡ bytes_by (device_in old node)
 bytes_risen [] [] risen node = refl
 bytes_risen (x ∷ old) (y ∷ new) risen node =
     let same : y.node ≡ x.node = ap (λ (d : DeviceState). d.node) (risen.0.same) in

@@ -9,7 +9,7 @@ use Rattle.q2_format.specs.Header.{header_of}
 use Rattle.q2_format.specs.Contents.{guest_byte, image_disk}
 use Rattle.q2_image.specs.Writing.{IsDiskWith}
 use Rattle.q2_image.proofs.Guests.{length-image_disk}
-use Rattle.blk_nodes.specs.Parts.{IsGathered}
+use Rattle.blk_nodes.specs.Parts.{HasFound, IsLaid}
 
 byte_of_disk : (file backing : List ℕ) (i : ℕ) → i < (header_of file).size → get_or (image_disk file backing) i 0 ≡ guest_byte file backing i
 unfolding image_disk
@@ -49,17 +49,18 @@ disk_written old new backing at bytes is within =
     (λ i below. is.inside backing i below (omega arith)) (λ place below side. is.outside backing place below side)
 
 -- after a put of a whole cluster, of which but for a part the disk had the bytes
-pub disk_put : (old new backing : List ℕ) (start n : ℕ) (bytes cluster found : List ℕ) → IsDiskWith old new (start - start % 65536) cluster → length cluster ≡ 65536
-    → IsGathered cluster found n (start % 65536) bytes → found ≡ bytes_at (image_disk old backing) (start - start % 65536) n
+pub disk_put : (old new backing : List ℕ) (start n : ℕ) (bytes cluster found : List ℕ) → IsDiskWith old new (start - start % 65536) cluster
+    → IsLaid n (start % 65536) bytes cluster → HasFound n (start % 65536) bytes found cluster → found ≡ bytes_at (image_disk old backing) (start - start % 65536) n
     → n ≡ min 65536 ((header_of old).size - (start - start % 65536)) → start % 65536 + length bytes ≤ 65536 → start + length bytes ≤ (header_of old).size
     → image_disk new backing ≡ with_bytes (image_disk old backing) start bytes
-disk_put old new backing start n bytes cluster found is whole gathered was count block within =
+disk_put old new backing start n bytes cluster found is laid rest was count block within =
+    let whole = laid.whole in
     let base : ℕ = start - start % 65536 in
     let at : ℕ = start % 65536 in
     disk_changed old new backing start bytes is.size within
     (λ i below.
     let place : base + (at + i) ≡ start + i = omega arith in
-    ap (guest_byte new backing) (sym place) ∙ is.inside backing (at + i) (omega arith) (omega arith) ∙ gathered.inside i below)
+    ap (guest_byte new backing) (sym place) ∙ is.inside backing (at + i) (omega arith) (omega arith) ∙ laid.inside i below)
     (λ place below side. elim (cases_lt place base) [
       | inl before ↦ is.outside backing place below (inl before)
       | inr low ↦ elim (cases_lt place (base + 65536)) [
@@ -69,7 +70,7 @@ disk_put old new backing start n bytes cluster found is whole gathered was count
             let is_there : base + k ≡ place = omega arith in
             let apart : (k < at) ⊎ (at + length bytes ≤ k) = elim side [ inl first ↦ inl (omega arith) | inr last ↦ inr (omega arith) ] in
             let few : k < n = omega arith in
-            ap (guest_byte new backing) (sym is_there) ∙ is.inside backing k (omega arith) (omega arith) ∙ gathered.outside k few apart
+            ap (guest_byte new backing) (sym is_there) ∙ is.inside backing k (omega arith) (omega arith) ∙ rest k few apart
             ∙ ap (λ (b : List ℕ). get_or b k 0) was ∙ get_or-bytes_at (image_disk old backing) base n k few
             ∙ ap (λ (j : ℕ). get_or (image_disk old backing) j 0) is_there ∙ byte_of_disk old backing place below
       ]

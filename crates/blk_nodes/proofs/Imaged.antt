@@ -14,12 +14,12 @@ use Rattle.q2_format.specs.declared.entries.L2Entry.TheVariants as entries
 use Rattle.q2_image.specs.Image.{Known, IsOpen}
 use Rattle.q2_image.specs.Room.{WriteFits, PartZerosFit, ZerosFit, ZerosFitBy, entry_for, is_whole}
 use Rattle.blk_graph.specs.declared.edge.Role.TheVariants.{File as FileRole}
-use Rattle.blk_nodes.specs.Contents.{told, below, disk_by, disk_of, bytes_of}
+use Rattle.blk_nodes.specs.Contents.{IsToldDisk, told, below, disk_by, disk_of, bytes_of}
 use Rattle.blk_nodes.specs.Changing.{ImageChange, IsWritten, IsZeroed, ChangesPart, ZeroesPart, ZeroesBy, LeavesRow}
 use Rattle.blk_nodes.specs.Found.{found_bytes, IsReadFrom}
 use Rattle.blk_nodes.specs.Joined.{IsOverlay, IsJoined}
 use Rattle.blk_nodes.specs.Nodes.{Nodes, DeviceState, AreTold, row_at, device_in, size_by, size_of, file_of, backing_of}
-use Rattle.blk_nodes.specs.Parts.{HasPiece, IsPieceOf, RefusesPiece, StopsReading, CallsPiece, WritesPart, row_in}
+use Rattle.blk_nodes.specs.Parts.{HasPiece, IsPieceOf, IsDiskFound, RefusesPiece, StopsReading, CallsPiece, WritesPart, row_in}
 use Rattle.blk_nodes.specs.Reading.{HasRisen, HaveRisen, LeadsTo, StoppedBelow}
 use Rattle.blk_nodes.specs.Sources.{source_of}
 use Rattle.blk_nodes.specs.Walk.{IsKnownAt, LeadsToSource}
@@ -30,6 +30,7 @@ use Rattle.blk_nodes.specs.declared.row.Driver.TheVariants.{Qcow2}
 use Rattle.blk_nodes.specs.declared.row.Row.{Row}
 use Rattle.blk_nodes.proofs.Alike.{alike_but, row_refl, joined_alike, disks_alike}
 use Rattle.blk_nodes.proofs.Chains.{reads_found}
+use Rattle.blk_nodes.proofs.CoveredDisks.{length_disk}
 use Rattle.blk_nodes.proofs.Disks.{disks_risen}
 use Rattle.blk_nodes.proofs.HeldDevices.{told_is, told_held, held_after, before_rise, device_risen, HasRisen-refl, HaveRisen-refl, some_device}
 use Rattle.blk_nodes.proofs.Joints.{joined_after}
@@ -67,6 +68,33 @@ module _ (nodes : Nodes) (joined : IsJoined nodes) (part : Part) (may : MayWrite
 
   none_below : (other : ℕ) → IsApart nodes other node → LeadsTo nodes.graph.edges other part.file → ⊥
   none_below other apart = apart may.row part.file may.there own_is
+
+  sized : w.image.header.size ≡ size_of nodes node
+  sized = let same : w.image.header.size ≡ w.row.size = rw w.driver at (joined.sized node w.row w.there) in same ∙ sym (ap size_by w.there)
+
+  -- the bytes of its cluster are found on its disk
+  found_is : AreTold nodes.devices → found_bytes nodes.devices part.source part.whole.start part.whole.len ≡ bytes_at (disk_of nodes node) part.whole.start part.whole.len
+  found_is all =
+      let start : part.whole.start ≡ part.span.start - part.span.start % 65536 = ap (λ (s : Extent). s.start) is_piece.whole in
+      let count : part.whole.len ≡ min 65536 (w.image.header.size - (part.span.start - part.span.start % 65536)) = ap (λ (s : Extent). s.len) is_piece.whole in
+      let size = sized in
+      let within = is_piece.inside in
+      let inside : part.whole.start + part.whole.len ≤ size_of nodes node = omega arith in
+      let block : part.whole.start % 65536 + part.whole.len ≤ 65536 = omega arith in
+      reads_found nodes joined all node part.whole.start part.whole.len inside block (found_bytes nodes.devices part.source part.whole.start part.whole.len) part.source source_is refl
+
+  pub disk_found : (disk : List ℕ) → IsToldDisk nodes node disk → IsDiskFound nodes.devices part disk
+  disk_found disk is =
+      let start : part.whole.start ≡ part.span.start - part.span.start % 65536 = ap (λ (s : Extent). s.start) is_piece.whole in
+      let count : part.whole.len ≡ min 65536 (w.image.header.size - (part.span.start - part.span.start % 65536)) = ap (λ (s : Extent). s.len) is_piece.whole in
+      let size = sized in
+      let within = is_piece.inside in
+      let all : length disk ≡ size_of nodes node = ap length is.1 ∙ length_disk nodes joined is.0 node w.row w.there ∙ sym (ap size_by w.there) in
+      record {
+        told = is.0;
+        found = found_is is.0 ∙ ap (λ (d : List ℕ). bytes_at d part.whole.start part.whole.len) (sym is.1);
+        ends = λ less. omega arith;
+      }
 
   -- where nothing changed
   module _ (rows_same : rows ≡ nodes.rows) (devices_same : devices ≡ nodes.devices) where
@@ -263,17 +291,7 @@ module _ (nodes : Nodes) (joined : IsJoined nodes) (part : Part) (may : MayWrite
 
     rest_is : AreTold nodes.devices → found_bytes nodes.devices part.source part.whole.start part.whole.len
         ≡ bytes_at (image_disk before backing) part.whole.start part.whole.len
-    rest_is all =
-        let start : part.whole.start ≡ part.span.start - part.span.start % 65536 = ap (λ (s : Extent). s.start) is_piece.whole in
-        let count : part.whole.len ≡ min 65536 (w.image.header.size - (part.span.start - part.span.start % 65536)) = ap (λ (s : Extent). s.len) is_piece.whole in
-        let sized : w.image.header.size ≡ w.row.size = rw w.driver at (joined.sized node w.row w.there) in
-        let size : size_of nodes node ≡ w.row.size = ap size_by w.there in
-        let within = is_piece.inside in
-        let inside : part.whole.start + part.whole.len ≤ size_of nodes node = omega arith in
-        let block : part.whole.start % 65536 + part.whole.len ≤ 65536 = omega arith in
-        let found : List ℕ = found_bytes nodes.devices part.source part.whole.start part.whole.len in
-        reads_found nodes joined all node part.whole.start part.whole.len inside block found part.source source_is refl
-        ∙ ap (λ (d : List ℕ). bytes_at d part.whole.start part.whole.len) disk_before
+    rest_is all = found_is all ∙ ap (λ (d : List ℕ). bytes_at d part.whole.start part.whole.len) disk_before
 
     disk_called : AreTold nodes.devices → disk_of new node ≡ with_bytes (disk_of nodes node) part.span.start (taken_by outcome bytes)
     disk_called all =
@@ -391,55 +409,55 @@ module _ (nodes : Nodes) (joined : IsJoined nodes) (part : Part) (may : MayWrite
   ]
 
 -- Where there is no room, nothing changes.
-refuses_part : (e : L2Entry) (span : Extent) (bytes : List ℕ) (image : Known) (device : DeviceState) (dev : DevNo)
-    → ChangesPart e span bytes image image device device (NoSpace dev)
-refuses_part entries.Unallocated span bytes image device dev = (refl, refl)
-refuses_part (entries.Zero host) span bytes image device dev = (refl, refl)
-refuses_part (entries.Host host) span bytes image device dev = (refl, refl)
-refuses_part entries.Compressed span bytes image device dev = (refl, refl)
-refuses_part entries.Reserved span bytes image device dev = (refl, refl)
+refuses_part : (IsDisk : List ℕ → Type 0) (e : L2Entry) (span : Extent) (bytes : List ℕ) (image : Known) (device : DeviceState) (dev : DevNo)
+    → ChangesPart IsDisk e span bytes image image device device (NoSpace dev)
+refuses_part IsDisk entries.Unallocated span bytes image device dev = (refl, refl)
+refuses_part IsDisk (entries.Zero host) span bytes image device dev = (refl, refl)
+refuses_part IsDisk (entries.Host host) span bytes image device dev = (refl, refl)
+refuses_part IsDisk entries.Compressed span bytes image device dev = (refl, refl)
+refuses_part IsDisk entries.Reserved span bytes image device dev = (refl, refl)
 
-pub refuses_written : (span : Extent) (bytes : List ℕ) (image : Known) (device : DeviceState) (dev : DevNo)
-    → IsWritten span bytes image image device device (NoSpace dev)
-refuses_written span bytes image device dev = refuses_part (entry_for image span) span bytes image device dev
+pub refuses_written : (IsDisk : List ℕ → Type 0) (span : Extent) (bytes : List ℕ) (image : Known) (device : DeviceState) (dev : DevNo)
+    → IsWritten IsDisk span bytes image image device device (NoSpace dev)
+refuses_written IsDisk span bytes image device dev = refuses_part IsDisk (entry_for image span) span bytes image device dev
 
-refuses_zeroes : (e : L2Entry) (span : Extent) (image : Known) (device : DeviceState) (dev : DevNo) → (PartZerosFit e image span device.capacity → ⊥)
-    → ZeroesPart e span image image device device (NoSpace dev)
-refuses_zeroes entries.Unallocated span image device dev full = (refl, refl)
-refuses_zeroes (entries.Zero host) span image device dev full = absurd (full tt)
-refuses_zeroes (entries.Host host) span image device dev full = (refl, refl)
-refuses_zeroes entries.Compressed span image device dev full = (refl, refl)
-refuses_zeroes entries.Reserved span image device dev full = (refl, refl)
+refuses_zeroes : (IsDisk : List ℕ → Type 0) (e : L2Entry) (span : Extent) (image : Known) (device : DeviceState) (dev : DevNo) → (PartZerosFit e image span device.capacity → ⊥)
+    → ZeroesPart IsDisk e span image image device device (NoSpace dev)
+refuses_zeroes IsDisk entries.Unallocated span image device dev full = (refl, refl)
+refuses_zeroes IsDisk (entries.Zero host) span image device dev full = absurd (full tt)
+refuses_zeroes IsDisk (entries.Host host) span image device dev full = (refl, refl)
+refuses_zeroes IsDisk entries.Compressed span image device dev full = (refl, refl)
+refuses_zeroes IsDisk entries.Reserved span image device dev full = (refl, refl)
 
-pub refuses_zeroed : (span : Extent) (image : Known) (device : DeviceState) (dev : DevNo) → (ZerosFit image span device.capacity → ⊥)
-    → IsZeroed span image image device device (NoSpace dev)
-refuses_zeroed span image device dev full = by (is_whole image span) full
+pub refuses_zeroed : (IsDisk : List ℕ → Type 0) (span : Extent) (image : Known) (device : DeviceState) (dev : DevNo) → (ZerosFit image span device.capacity → ⊥)
+    → IsZeroed IsDisk span image image device device (NoSpace dev)
+refuses_zeroed IsDisk span image device dev full = by (is_whole image span) full
   where
-    by : (b : Bool) → (ZerosFitBy b image span device.capacity → ⊥) → ZeroesBy b span image image device device (NoSpace dev)
+    by : (b : Bool) → (ZerosFitBy b image span device.capacity → ⊥) → ZeroesBy IsDisk b span image image device device (NoSpace dev)
     by true full = (refl, refl)
-    by false full = refuses_zeroes (entry_for image span) span image device dev full
+    by false full = refuses_zeroes IsDisk (entry_for image span) span image device dev full
 
 -- A piece of a qcow2 node, by what the node is.
 pub piece_image : (old new : Nodes) (node : ℕ) (span : Extent) (bytes : List ℕ) (outcome : Outcome) (row : Row) (image : Known) → row_at old node ≡ Some row → row.driver ≡ Qcow2 image
     → WritesImage (WriteFits image span) (own_place_by (entry_for image span) image span) old new node (length bytes) outcome
-    → LeavesRow (IsWritten span bytes) (Qcow2 image) row old new node outcome → WritesPiece old new node span bytes outcome
+    → LeavesRow (IsWritten (IsToldDisk old node) span bytes) (Qcow2 image) row old new node outcome → WritesPiece old new node span bytes outcome
 piece_image old new node span bytes outcome row image there driver wrote left = record {
   row = row;
   there = there;
   wrote = subst (λ (d : Driver). WritesBy d old new node span bytes outcome) (sym driver) wrote;
-  left = subst (λ (d : Driver). LeavesRow (IsWritten span bytes) d row old new node outcome) (sym driver) left;
+  left = subst (λ (d : Driver). LeavesRow (IsWritten (IsToldDisk old node) span bytes) d row old new node outcome) (sym driver) left;
 }
 
 pub zeros_image : (old new : Nodes) (node : ℕ) (span : Extent) (outcome : Outcome) (row : Row) (image : Known) → row_at old node ≡ Some row → row.driver ≡ Qcow2 image
     → WritesImage (ZerosFit image span) (zeros_place (is_whole image span) image span) old new node (length (replicate {A = ℕ} span.len 0)) outcome
-    → LeavesRow (IsZeroed span) (Qcow2 image) row old new node outcome → ZerosPiece old new node span outcome
+    → LeavesRow (IsZeroed (IsToldDisk old node) span) (Qcow2 image) row old new node outcome → ZerosPiece old new node span outcome
 zeros_image old new node span outcome row image there driver wrote left =
     let P : ℕ → Type 0 = λ n. WritesImage (ZerosFit image span) (zeros_place (is_whole image span) image span) old new node n outcome in
     record {
       row = row;
       there = there;
       wrote = subst (λ (d : Driver). ZerosBy d old new node span outcome) (sym driver) (subst P (length-replicate {A = ℕ} span.len 0) wrote);
-      left = subst (λ (d : Driver). LeavesRow (IsZeroed span) d row old new node outcome) (sym driver) left;
+      left = subst (λ (d : Driver). LeavesRow (IsZeroed (IsToldDisk old node) span) d row old new node outcome) (sym driver) left;
     }
 
 -- a slice that takes the place of the whole list

@@ -6,7 +6,7 @@ use Rattle.std.proofs.lemmas.List.{length-replicate, length-map, get_or-map, get
 use Rattle.std.proofs.lemmas.Bool.{cases_lt}
 use Rattle.q2_format.specs.declared.entries.L2Entry.{L2Entry}
 use Rattle.q2_format.specs.declared.entries.L2Entry.TheVariants as entries
-use Rattle.q2_image.specs.Image.{Known, IsImageOf, entry_in}
+use Rattle.q2_image.specs.Image.{Known, IsImageOf, cluster_size_in, entry_in}
 use Rattle.blk_nodes.specs.Nodes.{Nodes, DeviceState, no_nodes, row_at, device_in, size_by, size_of, file_of, backing_of}
 use Rattle.blk_nodes.specs.Joined.{IsFile, HasSize, IsPartOfFile, IsOverlay, IsCopying, HasBelow, IsJoined, DifferInNode}
 use Rattle.blk_nodes.specs.Reading.{HaveRisen}
@@ -117,7 +117,7 @@ held_by nodes file joined is =
     rw is.driver at below
 
 mapped_on : (nodes : Nodes) (node place : ℕ) (row : Row) (image : Known) (entry : L2Entry) → IsJoined nodes → row_at nodes node ≡ Some row → row.driver ≡ Qcow2 image → image.header.size ≡ row.size
-    → place < row.size → IsOverlay nodes node image → entry_in image (place / 65536) ≡ entry → GoesOn nodes place (step_by_entry node (file_of nodes node) (backing_of nodes node) entry)
+    → place < row.size → IsOverlay nodes node image → entry_in image (place / cluster_size_in image) ≡ entry → GoesOn nodes place (step_by_entry node (file_of nodes node) (backing_of nodes node) entry)
 mapped_on nodes node place row image entries.Unallocated joined there driver size below is entry = over_backing (backing_of nodes node) refl
   where
     over_backing : (backing : Option ℕ) → backing_of nodes node ≡ backing → GoesOn nodes place (in_below backing)
@@ -149,7 +149,7 @@ goes_by nodes node place row (Raw part) joined there driver below =
 goes_by nodes node place row (Qcow2 image) joined there driver below =
     let is : IsOverlay nodes node image = rw driver at (joined.below node row there) in
     let size : image.header.size ≡ row.size = rw driver at (joined.sized node row there) in
-    mapped_on nodes node place row image (entry_in image (place / 65536)) joined there driver size below is refl
+    mapped_on nodes node place row image (entry_in image (place / cluster_size_in image)) joined there driver size below is refl
 goes_by nodes node place row CopyOnRead joined there driver below =
     let is : IsCopying nodes node row.size = rw driver at (joined.below node row there) in
     let has = is.same in

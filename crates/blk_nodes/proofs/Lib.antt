@@ -10,6 +10,7 @@ mod Unfolding
 mod Drawn
 mod OverlayAdded
 pub mod Dropped
+mod RawParts
 mod Written
 mod ImageCalls
 mod ImageDisks
@@ -17,8 +18,12 @@ pub mod Changed
 pub mod Alike
 mod PartsWritten
 mod PartFits
+mod ToldDisks
 mod Imaged
 mod Pieces
 mod Covered
 mod CoveredDisks
+mod Copied
+mod CopiedDisks
+mod MappedDown
 mod Formatted

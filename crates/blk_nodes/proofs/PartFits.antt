@@ -16,7 +16,7 @@ use Rattle.q2_image.specs.Room.{WriteFits, ZerosFit, PartZerosFit, WriteFitsBy, 
 use Rattle.q2_image.specs.Writing.{PutFits, ZeroFits, own_end, own_place}
 use Rattle.blk_nodes.specs.Changing.{ImageChange, ChangesAround, ChangesInPlace, ChangesPart, ClearsCluster, IsWritten, IsZeroed, ZeroesBy, ZeroesPart}
 use Rattle.blk_nodes.specs.Nodes.{DeviceState, device_in}
-use Rattle.blk_nodes.specs.Parts.{OfImage, HasPiece, IsPieceOf, WritesPart, row_in}
+use Rattle.blk_nodes.specs.Parts.{OfImage, HasPiece, IsPieceOf, IsDiskFound, WritesPart, row_in}
 use Rattle.blk_nodes.specs.Writing.{own_place_by, zeros_place}
 use Rattle.blk_nodes.specs.declared.part.Part.{Part}
 use Rattle.blk_nodes.specs.declared.row.Row.{Row}
@@ -46,13 +46,13 @@ no_place image span (entries.Host host) none = absurd (none tt)
 no_place image span entries.Compressed none = refl
 no_place image span entries.Reserved none = refl
 
-around_part : (e : L2Entry) → (IsHost e → ⊥) → (span : Extent) (bytes : List ℕ) (image now : Known) (before after : DeviceState) (o : Outcome)
-    → ChangesAround span bytes image now before after o → ChangesPart e span bytes image now before after o
-around_part entries.Unallocated none span bytes image now before after o is = is
-around_part (entries.Zero host) none span bytes image now before after o is = is
-around_part (entries.Host host) none span bytes image now before after o is = absurd (none tt)
-around_part entries.Compressed none span bytes image now before after o is = is
-around_part entries.Reserved none span bytes image now before after o is = is
+around_part : (IsDisk : List ℕ → Type 0) (e : L2Entry) → (IsHost e → ⊥) → (span : Extent) (bytes : List ℕ) (image now : Known) (before after : DeviceState) (o : Outcome)
+    → ChangesAround IsDisk span bytes image now before after o → ChangesPart IsDisk e span bytes image now before after o
+around_part IsDisk entries.Unallocated none span bytes image now before after o is = is
+around_part IsDisk (entries.Zero host) none span bytes image now before after o is = is
+around_part IsDisk (entries.Host host) none span bytes image now before after o is = absurd (none tt)
+around_part IsDisk entries.Compressed none span bytes image now before after o is = is
+around_part IsDisk entries.Reserved none span bytes image now before after o is = is
 
 -- a piece is a whole cluster, up to the disk's end, exactly where it is as long
 module _ (span : Extent) (size : ℕ) (some : 0 < span.len) (block : span.start % 65536 + span.len ≤ 65536) (inside : end_of span ≤ size) where
@@ -81,6 +81,10 @@ module _ (span : Extent) (size : ℕ) (some : 0 < span.len) (block : span.start 
   ]
 
 module _ (rows left : List (Option Row)) (old new : List DeviceState) (part : Part) (bytes : List ℕ) (outcome : Outcome) (has : HasPiece rows old part) where
+  -- what is known of the disk's bytes
+  abbrev IsIts : List ℕ → Type 0
+  IsIts = IsDiskFound old part
+
   abbrev cluster : ℕ
   cluster = part.span.start / 65536
 
@@ -122,7 +126,7 @@ module _ (rows left : List (Option Row)) (old new : List DeviceState) (part : Pa
   in_place = ChangesInPlace part.span bytes
 
   abbrev written : ImageChange
-  written = IsWritten part.span bytes
+  written = IsWritten IsIts part.span bytes
 
   abbrev ClusterFits : Known → ℕ → Type 0
   ClusterFits image = PutFits image cluster
@@ -131,7 +135,7 @@ module _ (rows left : List (Option Row)) (old new : List DeviceState) (part : Pa
   nowhere image = None
 
   abbrev around : ImageChange
-  around = ChangesAround part.span bytes
+  around = ChangesAround IsIts part.span bytes
 
   pub write_own_as : (host : ℕ) → OfImage (row_in rows part.node) (λ image. entries.Host host ≡ entry_in image cluster)
       → WritesPart OwnFits at_own in_place rows left old new part bytes outcome
@@ -142,7 +146,7 @@ module _ (rows left : List (Option Row)) (old new : List DeviceState) (part : Pa
       (λ capacity fit. subst (λ (e : L2Entry). WriteFitsBy e w.image part.span capacity) (sym entry) fit)
       (λ capacity fit. subst (λ (e : L2Entry). WriteFitsBy e w.image part.span capacity) entry fit)
       (sym (ap (λ (e : L2Entry). own_place_by e w.image part.span) entry))
-      (λ now before after o is. subst (λ (e : L2Entry). ChangesPart e part.span bytes w.image now before after o) (sym entry) is)
+      (λ now before after o is. subst (λ (e : L2Entry). ChangesPart IsIts e part.span bytes w.image now before after o) (sym entry) is)
 
   pub write_put_as : (e : L2Entry) → (IsHost e → ⊥) → OfImage (row_in rows part.node) (λ image. e ≡ entry_in image cluster)
       → WritesPart ClusterFits nowhere around rows left old new part bytes outcome
@@ -159,8 +163,8 @@ module _ (rows left : List (Option Row)) (old new : List DeviceState) (part : Pa
       (put_back w.image part.span capacity e none (subst (λ (e : L2Entry). WriteFitsBy e w.image part.span capacity) entry fit)))
       (sym (ap (λ (e : L2Entry). own_place_by e w.image part.span) entry ∙ no_place w.image part.span e none))
       (λ now before after o is.
-      subst (λ (e : L2Entry). ChangesPart e part.span bytes w.image now before after o) (sym entry)
-      (around_part e none part.span bytes w.image now before after o is))
+      subst (λ (e : L2Entry). ChangesPart IsIts e part.span bytes w.image now before after o) (sym entry)
+      (around_part IsIts e none part.span bytes w.image now before after o is))
 
   abbrev to_zeros : Known → ℕ → Type 0
   to_zeros image = ZerosFit image part.span
@@ -169,7 +173,7 @@ module _ (rows left : List (Option Row)) (old new : List DeviceState) (part : Pa
   zeros_at image = zeros_place (is_whole image part.span) image part.span
 
   abbrev zeroed : ImageChange
-  zeroed = IsZeroed part.span
+  zeroed = IsZeroed IsIts part.span
 
   abbrev cleared : ImageChange
   cleared = ClearsCluster cluster
@@ -187,14 +191,14 @@ module _ (rows left : List (Option Row)) (old new : List DeviceState) (part : Pa
       subst (λ (k : ℕ). ZeroFits w.image k capacity) at (subst (λ (b : Bool). ZerosFitBy b w.image part.span capacity) whole fit))
       (sym (ap (λ (b : Bool). zeros_place b w.image part.span) whole))
       (λ now before after o is.
-      subst (λ (b : Bool). ZeroesBy b part.span w.image now before after o) (sym whole)
+      subst (λ (b : Bool). ZeroesBy IsIts b part.span w.image now before after o) (sym whole)
       (subst (λ (k : ℕ). ClearsCluster k w.image now before after o) (sym at) is))
 
   -- zeros of a part that are written as other bytes are
   module _ (less : part.span.len ≢ part.whole.len) (e : L2Entry) (plain : (image : Known) (capacity : ℕ) → WriteFitsBy e image part.span capacity → PartZerosFit e image part.span capacity)
       (back : (image : Known) (capacity : ℕ) → PartZerosFit e image part.span capacity → WriteFitsBy e image part.span capacity)
-      (keeps : (image now : Known) (before after : DeviceState) (o : Outcome) → ChangesPart e part.span bytes image now before after o
-      → ZeroesPart e part.span image now before after o) (is : OfImage (row_in rows part.node) (λ image. e ≡ entry_in image cluster))
+      (keeps : (image now : Known) (before after : DeviceState) (o : Outcome) → ChangesPart IsIts e part.span bytes image now before after o
+      → ZeroesPart IsIts e part.span image now before after o) (is : OfImage (row_in rows part.node) (λ image. e ≡ entry_in image cluster))
       (w : WritesPart (λ image. WriteFits image part.span) (λ image. own_place_by (entry_for image part.span) image part.span) written rows left old new part bytes outcome) where
     abbrev ByWrite : Known → ℕ → Type 0
     ByWrite image = WriteFits image part.span
@@ -218,10 +222,10 @@ module _ (rows left : List (Option Row)) (old new : List DeviceState) (part : Pa
         (back w.image capacity (subst (λ (e : L2Entry). PartZerosFit e w.image part.span capacity) entry of_part)))
         (sym (ap (λ (b : Bool). zeros_place b w.image part.span) test))
         (λ now before after o is_written.
-        subst (λ (b : Bool). ZeroesBy b part.span w.image now before after o) (sym test)
-        (subst (λ (e : L2Entry). ZeroesPart e part.span w.image now before after o) (sym entry)
+        subst (λ (b : Bool). ZeroesBy IsIts b part.span w.image now before after o) (sym test)
+        (subst (λ (e : L2Entry). ZeroesPart IsIts e part.span w.image now before after o) (sym entry)
         (keeps w.image now before after o
-        (subst (λ (e : L2Entry). ChangesPart e part.span bytes w.image now before after o) entry is_written))))
+        (subst (λ (e : L2Entry). ChangesPart IsIts e part.span bytes w.image now before after o) entry is_written))))
 
   -- and of one that reads as zeros already
   pub zero_left_fits : (row : Row) (image : Known) (host capacity : ℕ) → IsPieceOf rows old part image → part.span.len ≢ part.whole.len
@@ -235,15 +239,15 @@ module _ (rows left : List (Option Row)) (old new : List DeviceState) (part : Pa
       subst (λ (b : Bool). ZerosFitBy b image part.span capacity) (sym test) (subst (λ (e : L2Entry). PartZerosFit e image part.span capacity) (sym entry) tt)
 
   pub zero_left_change : (image : Known) (host : ℕ) (device : DeviceState) → IsPieceOf rows old part image → part.span.len ≢ part.whole.len
-      → entries.Zero host ≡ entry_in image cluster → IsZeroed part.span image image device device Good
+      → entries.Zero host ≡ entry_in image cluster → IsZeroed IsIts part.span image image device device Good
   zero_left_change image host device piece less is =
       let bits = size_bits rows old part image piece in
       let len = len_is rows old part image piece in
       let test : is_whole image part.span ≡ false
       = rw bits (whole_false part.span image.header.size piece.some piece.block piece.inside (λ same. less (same ∙ sym len))) in
       let entry : entry_for image part.span ≡ entries.Zero host = entry_is rows old part image piece ∙ sym is in
-      subst (λ (b : Bool). ZeroesBy b part.span image image device device Good) (sym test)
-      (subst (λ (e : L2Entry). ZeroesPart e part.span image image device device Good) (sym entry) ((refl, refl), refl))
+      subst (λ (b : Bool). ZeroesBy IsIts b part.span image image device device Good) (sym test)
+      (subst (λ (e : L2Entry). ZeroesPart IsIts e part.span image image device device Good) (sym entry) ((refl, refl), refl))
 
 -- What a cluster is mapped to.
 pub not_host : (m : Mapping) → ((host : ℕ) → m ≡ mappings.Host host → ⊥) → IsHost (entry_of m) → ⊥
@@ -271,31 +275,31 @@ of_part image span capacity mappings.Unallocated none fits = fits
 of_part image span capacity (mappings.Zero host) none fits = absurd (none host refl)
 of_part image span capacity (mappings.Host host) none fits = fits
 
-rest_zeroed : (m : Mapping) → ((host : ℕ) → m ≡ mappings.Zero host → ⊥) → (span : Extent) (image now : Known) (before after : DeviceState) (o : Outcome)
-    → ChangesPart (entry_of m) span (replicate span.len 0) image now before after o → ZeroesPart (entry_of m) span image now before after o
-rest_zeroed mappings.Unallocated none span image now before after o is = is
-rest_zeroed (mappings.Zero host) none span image now before after o is = absurd (none host refl)
-rest_zeroed (mappings.Host host) none span image now before after o is = is
+rest_zeroed : (IsDisk : List ℕ → Type 0) (m : Mapping) → ((host : ℕ) → m ≡ mappings.Zero host → ⊥) → (span : Extent) (image now : Known) (before after : DeviceState) (o : Outcome)
+    → ChangesPart IsDisk (entry_of m) span (replicate span.len 0) image now before after o → ZeroesPart IsDisk (entry_of m) span image now before after o
+rest_zeroed IsDisk mappings.Unallocated none span image now before after o is = is
+rest_zeroed IsDisk (mappings.Zero host) none span image now before after o is = absurd (none host refl)
+rest_zeroed IsDisk (mappings.Host host) none span image now before after o is = is
 
 pub zero_rest_as : (rows left : List (Option Row)) (old new : List DeviceState) (part : Part) (outcome : Outcome) (has : HasPiece rows old part)
     → part.span.len ≢ part.whole.len → (m : Mapping) → ((host : ℕ) → m ≡ mappings.Zero host → ⊥)
     → OfImage (row_in rows part.node) (λ image. entry_of m ≡ entry_in image (part.span.start / 65536))
-    → WritesPart (λ image. WriteFits image part.span) (λ image. own_place_by (entry_for image part.span) image part.span) (IsWritten part.span (replicate part.span.len 0)) rows left old new part (replicate part.span.len 0) outcome
-    → WritesPart (λ image. ZerosFit image part.span) (λ image. zeros_place (is_whole image part.span) image part.span) (IsZeroed part.span) rows left old new part (replicate part.span.len 0) outcome
+    → WritesPart (λ image. WriteFits image part.span) (λ image. own_place_by (entry_for image part.span) image part.span) (IsWritten (IsDiskFound old part) part.span (replicate part.span.len 0)) rows left old new part (replicate part.span.len 0) outcome
+    → WritesPart (λ image. ZerosFit image part.span) (λ image. zeros_place (is_whole image part.span) image part.span) (IsZeroed (IsDiskFound old part) part.span) rows left old new part (replicate part.span.len 0) outcome
 zero_rest_as rows left old new part outcome has less m none seen w =
     zero_part_as rows left old new part (replicate part.span.len 0) outcome has less (entry_of m) (λ image capacity fits. to_part image part.span capacity m none fits)
-    (λ image capacity fits. of_part image part.span capacity m none fits) (rest_zeroed m none part.span) seen w
+    (λ image capacity fits. of_part image part.span capacity m none fits) (rest_zeroed (IsDiskFound old part) m none part.span) seen w
 
 pub zero_left_as : (rows : List (Option Row)) (old : List DeviceState) (part : Part) (has : HasPiece rows old part) → part.span.len ≢ part.whole.len → (host : ℕ)
     → OfImage (row_in rows part.node) (λ image. entries.Zero host ≡ entry_in image (part.span.start / 65536))
-    → WritesPart (λ image. ZerosFit image part.span) (λ image. zeros_place (is_whole image part.span) image part.span) (IsZeroed part.span) rows rows old old part (replicate part.span.len 0) Good
+    → WritesPart (λ image. ZerosFit image part.span) (λ image. zeros_place (is_whole image part.span) image part.span) (IsZeroed (IsDiskFound old part) part.span) rows rows old old part (replicate part.span.len 0) Good
 zero_left_as rows old part has less host seen =
     let image = has_image (row_in rows part.node) (IsPieceOf rows old part) has in
     let entry : entries.Zero host ≡ entry_in image.1 (part.span.start / 65536)
     = image_found (row_in rows part.node) image.0 image.1 (λ image. entries.Zero host ≡ entry_in image (part.span.start / 65536)) image.2 image.3 seen in
     let device = some_device (device_in old part.file) image.4.held in
     left_wrote rows old part (λ image. ZerosFit image part.span) (λ image. zeros_place (is_whole image part.span) image part.span)
-    (IsZeroed part.span) image.0 image.1 host device.0
+    (IsZeroed (IsDiskFound old part) part.span) image.0 image.1 host device.0
     image.2 image.3 image.4 (row_below rows part.node image.0 image.2) (sym entry) device.1
     (zero_left_fits rows rows old old part (replicate part.span.len 0) Good has image.0 image.1 host device.0.capacity image.4 less entry)
     (zero_left_change rows rows old old part (replicate part.span.len 0) Good has image.1 host device.0 image.4 less entry)

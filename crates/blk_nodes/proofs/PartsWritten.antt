@@ -1,8 +1,8 @@
 -- What the calls of an image leave where they write a piece.
 use Rattle.std.proofs.Common.{◌≡◌, ℕ, ◌+◌, ◌-◌, ◌*◌, ◌/◌, ◌%◌, ◌<◌, ◌≤◌, ◌⊎◌, min, true, false, List, [], ◌∷◌, ◌++◌, length, take, drop, get_or, set, replicate, Option, Some, None, refl, sym, ◌∙◌, ap, subst, arith, inl, inr}
 use Rattle.std.proofs.lemmas.Bool.{cases_lt}
-use Rattle.std.proofs.lemmas.List.{get_or-take, set-get_or}
-use Rattle.blk_base.proofs.Contents.{get_or-with_bytes_inside, get_or-with_bytes_outside, length-overwritten, overwritten-within}
+use Rattle.std.proofs.lemmas.List.{get_or-drop, get_or-replicate, get_or-take, get_or_past, length-replicate, set-get_or}
+use Rattle.blk_base.proofs.Contents.{bytes_at-by_place, get_or-bytes_at, get_or-with_bytes_inside, get_or-with_bytes_outside, length-overwritten, overwritten-within}
 use Rattle.blk_base.specs.Content.{bytes_at, with_bytes}
 use Rattle.blk_base.specs.Pieces.{Extent}
 use Rattle.blk_base.specs.declared.fault.DevNo.{DevNo}
@@ -19,14 +19,14 @@ use Rattle.q2_image.specs.Writing.{IsDiskWith, PutFits, ZeroFits, own_end, own_p
 use Rattle.q2_image.proofs.Guests.{guest_zero}
 use Rattle.q2_image.proofs.Mapped.{entry_of_file}
 use Rattle.blk_base.specs.Outcomes.{is_good}
-use Rattle.blk_nodes.specs.Changing.{ImageChange, ChangesAround, ChangesInPlace, ClearsCluster, HasPart, PutsCluster}
+use Rattle.blk_nodes.specs.Changing.{ImageChange, ChangesAround, ChangesInPlace, ClearsCluster, IsClusterAround, PutsCluster, cluster_start}
 use Rattle.blk_nodes.specs.Found.{found_bytes, IsReadFrom}
 use Rattle.blk_nodes.specs.Reading.{HaveRisen, IsReadAt}
 use Rattle.blk_nodes.specs.Walk.{IsKnownAt}
 use Rattle.blk_nodes.specs.declared.source.Source.{Source}
 use Rattle.blk_nodes.specs.declared.source.Source.TheVariants as sources
 use Rattle.blk_nodes.specs.Nodes.{DeviceState, AreTold, device_in}
-use Rattle.blk_nodes.specs.Parts.{OfImage, HasPiece, IsPieceOf, IsGathered, CallsRow, IsDiskAfter, WritesPart, row_in}
+use Rattle.blk_nodes.specs.Parts.{OfImage, HasPiece, IsPieceOf, IsLaid, HasFound, IsDiskFound, CallsRow, IsDiskAfter, WritesPart, row_in}
 use Rattle.blk_nodes.specs.Writing.{taken_by, FitsAt, HasRoomAt, HasRoomBy, HasImageCause, IsTornAt}
 use Rattle.blk_nodes.specs.declared.part.Part.{Part}
 use Rattle.blk_nodes.specs.declared.row.Driver.{Driver}
@@ -81,6 +81,55 @@ module _ (rows : List (Option Row)) (old : List DeviceState) (part : Part) (imag
   pub entry_is : entry_for image part.span ≡ entry_in image (part.span.start / 65536)
   entry_is = ap (entry_in image) cluster_is
 
+  base_is : cluster_start image part.span ≡ part.span.start - part.span.start % 65536
+  base_is = let same : cluster_start image part.span ≡ part.span.start / 65536 * 65536 = ap (λ (c : ℕ). part.span.start / c * c) size_bits in same ∙ omega arith
+
+  -- a cluster that was put together has all bytes of the disk with the piece
+  module _ (bytes cluster : List ℕ) (len : length bytes ≡ part.span.len) (is_laid : IsLaid part.whole.len (part.span.start % 65536) bytes cluster)
+      (rest : AreTold old → HasFound part.whole.len (part.span.start % 65536) bytes (found_bytes old part.source part.whole.start part.whole.len) cluster) where
+    abbrev begin : ℕ
+    begin = part.span.start - part.span.start % 65536
+
+    module _ (disk : List ℕ) (is : IsDiskFound old part disk) where
+      beside : (i : ℕ) → i < 65536 → (i < part.span.start % 65536) ⊎ (part.span.start % 65536 + length bytes ≤ i) → get_or cluster i 0 ≡ get_or disk (begin + i) 0
+      beside i below apart = elim (cases_lt i part.whole.len) [
+        | inl few ↦
+            rest is.told i few apart ∙ ap (λ (b : List ℕ). get_or b i 0) is.found ∙ get_or-bytes_at disk part.whole.start part.whole.len i few
+            ∙ ap (λ (s : ℕ). get_or disk (s + i) 0) start_is
+        | inr past ↦
+            let start = start_is in
+            let ends = is.ends (omega (arith, past, below)) in
+            is_laid.behind i past ∙ sym (get_or_past disk (begin + i) 0 (omega (arith, past, start, ends)))
+      ]
+
+      by_place : (i : ℕ) → i < 65536 → get_or cluster i 0 ≡ get_or (with_bytes disk part.span.start bytes) (begin + i) 0
+      by_place i below =
+          let at : ℕ = part.span.start % 65536 in
+          elim (cases_lt i at) [
+            | inl before ↦
+                beside i below (inl before) ∙ sym (get_or-with_bytes_outside disk part.span.start bytes (begin + i) (inl (omega arith)))
+            | inr low ↦ elim (cases_lt i (at + length bytes)) [
+              | inl here ↦
+                  let k : ℕ = i - at in
+                  ap (λ (j : ℕ). get_or cluster j 0) (let e : i ≡ at + k = omega arith in e) ∙ is_laid.inside k (omega arith)
+                  ∙ sym (get_or-with_bytes_inside disk part.span.start bytes k (omega arith))
+                  ∙ ap (λ (j : ℕ). get_or (with_bytes disk part.span.start bytes) j 0) (let e : part.span.start + k ≡ begin + i = omega arith in e)
+              | inr high ↦
+                  beside i below (inr high) ∙ sym (get_or-with_bytes_outside disk part.span.start bytes (begin + i) (inr (omega arith)))
+            ]
+          ]
+
+    pub around_is : IsClusterAround (IsDiskFound old part) image part.span bytes cluster
+    around_is = record {
+      whole = is_laid.whole ∙ sym size_bits;
+      holds = λ i few. ap (λ (c : ℕ). get_or cluster (part.span.start % c + i) 0) size_bits ∙ is_laid.inside i few;
+      behind = λ i past. let count = len_is in let at_base = base_is in is_laid.behind i (omega (arith, count, at_base, past));
+      is = λ disk is.
+          bytes_at-by_place (with_bytes disk part.span.start bytes) cluster begin 65536 is_laid.whole (by_place disk is)
+          ∙ ap (λ (s : ℕ). bytes_at (with_bytes disk part.span.start bytes) s 65536) (sym base_is)
+          ∙ ap (λ (c : ℕ). bytes_at (with_bytes disk part.span.start bytes) (cluster_start image part.span) c) (sym size_bits);
+    }
+
 -- bytes that are put where they belong
 laid : (old bytes : List ℕ) (at : ℕ) → at + length bytes ≤ length old → 0 < length bytes → take at old ++ bytes ++ drop (at + length bytes) old ≡ with_bytes old at bytes
 laid old [] at within some = absurd (omega (arith, some))
@@ -89,7 +138,7 @@ laid old (x ∷ xs) at within some = sym (overwritten-within old at (x ∷ xs) w
 -- the cluster of a piece, put together
 pub gathered : (rows : List (Option Row)) (devices : List DeviceState) (part : Part) → HasPiece rows devices part → (old found bytes new : List ℕ)
     → length old ≡ 65536 → new ≡ take (part.span.start % 65536) old ++ bytes ++ drop (part.span.start % 65536 + length bytes) old → length bytes ≡ part.span.len
-    → (part.span.len < part.whole.len → take part.whole.len old ≡ found) → IsGathered new found part.whole.len (part.span.start % 65536) bytes
+    → (part.span.len < part.whole.len → take part.whole.len old ≡ found) → HasFound part.whole.len (part.span.start % 65536) bytes found new
 gathered rows devices part has old found bytes new whole is len read =
     let image = has_image (row_in rows part.node) (IsPieceOf rows devices part) has in
     let piece : IsPieceOf rows devices part image.1 = image.4 in
@@ -100,35 +149,43 @@ gathered rows devices part has old found bytes new whole is len read =
     let block = piece.block in
     let inside = piece.inside in
     let put : new ≡ with_bytes old at bytes = is ∙ laid old bytes at (omega arith) (omega arith) in
-    record {
-      inside = λ i few. ap (λ (b : List ℕ). get_or b (at + i) 0) put ∙ get_or-with_bytes_inside old at bytes i few;
-      outside = λ i few apart. elim (cases_lt part.span.len n) [
-        | inl less ↦
-            ap (λ (b : List ℕ). get_or b i 0) put ∙ get_or-with_bytes_outside old at bytes i apart ∙ sym (get_or-take n old i 0 few)
-            ∙ ap (λ (b : List ℕ). get_or b i 0) (read less)
-        | inr all ↦ absurd (elim apart [ inl before ↦ omega arith | inr behind ↦ omega arith ])
-      ];
-    }
+    λ i few apart. elim (cases_lt part.span.len n) [
+      | inl less ↦
+          ap (λ (b : List ℕ). get_or b i 0) put ∙ get_or-with_bytes_outside old at bytes i apart ∙ sym (get_or-take n old i 0 few)
+          ∙ ap (λ (b : List ℕ). get_or b i 0) (read less)
+      | inr all ↦ absurd (elim apart [ inl before ↦ omega arith | inr behind ↦ omega arith ])
+    ]
 
--- which has the bytes of the piece
+-- zeros at each place
+zeros_read : (n i : ℕ) → get_or (replicate {A = ℕ} n 0) i 0 ≡ 0
+zeros_read n i = let len = length-replicate {A = ℕ} n 0 in elim (cases_lt i n) [ inl below ↦ get_or-replicate n i 0 0 below | inr past ↦ get_or_past (replicate n 0) i 0 (omega arith) ]
+
+-- which has the bytes of the piece, and zeros behind the disk's end
 length-laid : (old bytes : List ℕ) (at : ℕ) → at + length bytes ≤ length old → length (with_bytes old at bytes) ≡ length old
 length-laid old [] at within = refl
 length-laid old (x ∷ xs) at within = length-overwritten old at (x ∷ xs) ∙ omega (arith, within)
 
 pub laid_part : (rows : List (Option Row)) (devices : List DeviceState) (part : Part) → HasPiece rows devices part → (old bytes new : List ℕ)
     → length old ≡ 65536 → new ≡ take (part.span.start % 65536) old ++ bytes ++ drop (part.span.start % 65536 + length bytes) old → length bytes ≡ part.span.len
-    → HasPart 65536 part.span bytes new
-laid_part rows devices part has old bytes new whole is len =
+    → drop part.whole.len old ≡ replicate (65536 - part.whole.len) 0 → IsLaid part.whole.len (part.span.start % 65536) bytes new
+laid_part rows devices part has old bytes new whole is len zeros =
     let image = has_image (row_in rows part.node) (IsPieceOf rows devices part) has in
     let piece : IsPieceOf rows devices part image.1 = image.4 in
     let at : ℕ = part.span.start % 65536 in
     let some = piece.some in
     let block = piece.block in
+    let inside = piece.inside in
+    let count = len_is rows devices part image.1 piece in
+    let n : ℕ = part.whole.len in
     let within : at + length bytes ≤ length old = omega (arith, whole, len, block) in
     let put : new ≡ with_bytes old at bytes = is ∙ laid old bytes at within (omega (arith, len, some)) in
     record {
       whole = ap length put ∙ length-laid old bytes at within ∙ whole;
-      holds = λ i few. ap (λ (b : List ℕ). get_or b (at + i) 0) put ∙ get_or-with_bytes_inside old at bytes i few;
+      inside = λ i few. ap (λ (b : List ℕ). get_or b (at + i) 0) put ∙ get_or-with_bytes_inside old at bytes i few;
+      behind = λ i past.
+          ap (λ (b : List ℕ). get_or b i 0) put ∙ get_or-with_bytes_outside old at bytes i (inr (omega (arith, past, count, inside, block, len)))
+          ∙ ap (λ (j : ℕ). get_or old j 0) (let e : i ≡ n + (i - n) = omega (arith, past) in e) ∙ sym (get_or-drop n old (i - n) 0)
+          ∙ ap (λ (b : List ℕ). get_or b (i - n) 0) zeros ∙ zeros_read (65536 - n) (i - n);
     }
 
 -- a call on the image of a piece
@@ -262,34 +319,35 @@ calls_as file fits own change to old new before after place bytes outcome call c
 }
 
 -- a cluster that was put together is put around the bytes of a part
-around : (part : Extent) (bytes cluster : List ℕ) (image now : Known) (before after : DeviceState) (outcome : Outcome) → HasPart (cluster_size_in image) part bytes cluster
-    → (number : ℕ) → number ≡ cluster_of image part → PutsCluster number cluster image now before after outcome → ChangesAround part bytes image now before after outcome
-around part bytes cluster image now before after outcome has number is puts =
+around : (IsDisk : List ℕ → Type 0) (part : Extent) (bytes cluster : List ℕ) (image now : Known) (before after : DeviceState) (outcome : Outcome)
+    → IsClusterAround IsDisk image part bytes cluster
+    → (number : ℕ) → number ≡ cluster_of image part → PutsCluster number cluster image now before after outcome → ChangesAround IsDisk part bytes image now before after outcome
+around IsDisk part bytes cluster image now before after outcome has number is puts =
     by outcome (subst (λ (n : ℕ). PutsCluster n cluster image now before after outcome) is puts)
   where
-    by : (o : Outcome) → PutsCluster (cluster_of image part) cluster image now before after o → ChangesAround part bytes image now before after o
-    by Good puts = (record { cluster = cluster; has = has; puts = puts.0 }, puts.1)
+    by : (o : Outcome) → PutsCluster (cluster_of image part) cluster image now before after o → ChangesAround IsDisk part bytes image now before after o
+    by Good puts = (record { cluster = cluster; around = has; puts = puts.0 }, puts.1)
     by (Torn done dev count) puts = puts
-    by (Io dev count) puts = inl record { cluster = cluster; has = has; puts = puts }
+    by (Io dev count) puts = inl record { cluster = cluster; around = has; puts = puts }
     by (NoSpace dev) puts = puts
 
 -- a put, of a cluster that was put together
 pub put_wrote : (rows left : List (Option Row)) (old new : List DeviceState) (part : Part) (bytes cluster : List ℕ) (outcome : Outcome) (slot : Option Row) → HasPiece rows old part
     → part.node < length rows
     → CallsRow part.file (λ image. PutFits image (part.span.start / 65536)) (λ _. None) (PutsCluster (part.span.start / 65536) cluster) (row_in rows part.node) slot old new (part.span.start / 65536 * 65536) cluster outcome
-    → left ≡ set rows part.node slot → length bytes ≡ part.span.len → HasPart 65536 part.span bytes cluster
-    → (AreTold old → IsGathered cluster (found_bytes old part.source part.whole.start part.whole.len) part.whole.len (part.span.start % 65536) bytes)
-    → WritesPart (λ image. PutFits image (part.span.start / 65536)) (λ _. None) (ChangesAround part.span bytes) rows left old new part bytes outcome
+    → left ≡ set rows part.node slot → length bytes ≡ part.span.len → IsLaid part.whole.len (part.span.start % 65536) bytes cluster
+    → (AreTold old → HasFound part.whole.len (part.span.start % 65536) bytes (found_bytes old part.source part.whole.start part.whole.len) cluster)
+    → WritesPart (λ image. PutFits image (part.span.start / 65536)) (λ _. None) (ChangesAround (IsDiskFound old part) part.span bytes) rows left old new part bytes outcome
 unfolding calls_as
 put_wrote rows left old new part bytes cluster outcome slot has below put is_left len holds rest_is =
     let fits : Known → ℕ → Type 0 = λ image. PutFits image (part.span.start / 65536) in
     let is : IsPieceOf rows old part put.image
     = piece rows left old new part bytes cluster outcome fits (λ _. None) (PutsCluster (part.span.start / 65536) cluster) (part.span.start / 65536 * 65536) slot has below put is_left in
-    let change : ImageChange = ChangesAround part.span bytes in
+    let change : ImageChange = ChangesAround (IsDiskFound old part) part.span bytes in
     let call : CallsRow part.file fits (λ _. None) change (row_in rows part.node) slot old new (part.span.start / 65536 * 65536) cluster outcome
     = calls_as part.file fits (λ _. None) (PutsCluster (part.span.start / 65536) cluster) change (row_in rows part.node) slot old new (part.span.start / 65536 * 65536) cluster outcome put
-    (around part.span bytes cluster put.image put.now put.call.before put.call.after outcome
-    (subst (λ (c : ℕ). HasPart c part.span bytes cluster) (sym (size_bits rows old part put.image is)) holds)
+    (around (IsDiskFound old part) part.span bytes cluster put.image put.now put.call.before put.call.after outcome
+    (around_is rows old part put.image is bytes cluster len holds rest_is)
     (part.span.start / 65536) (sym (cluster_is rows old part put.image is)) put.call.call.changed) in
     let good : AreTold old → (b b' : List ℕ) → call.call.before.content ≡ Some b → call.call.after.content ≡ Some b' → (header_of b).size ≡ call.image.header.size
     → IsDiskWith b b' (part.span.start - part.span.start % 65536) cluster → IsDiskAfter old part bytes b b'
@@ -301,7 +359,7 @@ put_wrote rows left old new part bytes cluster outcome slot has below put is_lef
     let found : List ℕ = found_bytes old part.source part.whole.start part.whole.len in
     let at_base : found ≡ bytes_at (image_disk b backing) (part.span.start - part.span.start % 65536) part.whole.len
     = rest ∙ ap (λ (k : ℕ). bytes_at (image_disk b backing) k part.whole.len) start in
-    disk_put b b' backing part.span.start part.whole.len bytes cluster found disk holds.whole (rest_is all) at_base
+    disk_put b b' backing part.span.start part.whole.len bytes cluster found disk holds (rest_is all) at_base
     (count ∙ ap (λ (s : ℕ). min 65536 (s - (part.span.start - part.span.start % 65536))) (sym size)) (omega arith) (omega arith) in
     cluster_wrote rows left old new part outcome fits change slot has below cluster bytes call is_left good
 
@@ -482,7 +540,7 @@ module _ (rows : List (Option Row)) (old : List DeviceState) (part : Part) (has 
       clear_wrote rows (set rows index slot) old new part outcome slot has below_node (subst P (sym there) call) (set_at slot) all
 
 -- A good outcome, and what was read by it.
-good_is : (o : Outcome) → is_good o ≡ true → o ≡ Good
+pub good_is : (o : Outcome) → is_good o ≡ true → o ≡ Good
 good_is Good is = refl
 good_is (Torn done dev count) is = absurd (cc is)
 good_is (Io dev count) is = absurd (cc is)
@@ -535,7 +593,7 @@ pub read_stopped : (rows : List (Option Row)) (old mid : List DeviceState) (part
     → index ≡ part.node → index < length rows → first ≡ get_or rows index first
     → OfImage first (λ image. HasRoomAt part.file old (PutFits image (part.span.start / 65536)) room) → is_good room ≡ true → is_good read ≡ false
     → IsReadFrom part.source old mid read ⊎ ((read ≡ Good) × (mid ≡ old)) → HaveRisen old mid
-    → WritesPart (λ image. PutFits image (part.span.start / 65536)) (λ _. None) (ChangesAround part.span bytes) rows rows old mid part bytes read
+    → WritesPart (λ image. PutFits image (part.span.start / 65536)) (λ _. None) (ChangesAround (IsDiskFound old part) part.span bytes) rows rows old mid part bytes read
 read_stopped rows old mid part bytes room read has index first same below is_first fits room_good read_bad outcome risen = by read refl read_bad outcome
   where
     row : (row : Row) × (image : Known) × (row_in rows part.node ≡ Some row) × (row.driver ≡ Qcow2 image) × IsPieceOf rows old part image
@@ -551,7 +609,7 @@ read_stopped rows old mid part bytes room read has index first same below is_fir
     device = some_device (device_in old part.file) row.4.held
 
     by : (o : Outcome) → read ≡ o → is_good o ≡ false → IsReadFrom part.source old mid o ⊎ ((o ≡ Good) × (mid ≡ old))
-        → WritesPart (λ image. PutFits image (part.span.start / 65536)) (λ _. None) (ChangesAround part.span bytes) rows rows old mid part bytes read
+        → WritesPart (λ image. PutFits image (part.span.start / 65536)) (λ _. None) (ChangesAround (IsDiskFound old part) part.span bytes) rows rows old mid part bytes read
     by Good is bad outcome = absurd (cc bad)
     by (Torn done dev count) is bad (inl at) = absurd (no_torn part.source old mid done dev count at)
     by (Torn done dev count) is bad (inr good) = absurd (cc good.0)
@@ -573,7 +631,7 @@ read_stopped rows old mid part bytes room read has index first same below is_fir
         read = subst (IsReadFrom part.source old mid) (sym is) at;
         risen = risen;
         rows_same = refl;
-        changed = λ after rose. subst (λ (o : Outcome). ChangesAround part.span bytes row.1 row.1 device.0 after o) (sym is) (inr (refl, rose));
+        changed = λ after rose. subst (λ (o : Outcome). ChangesAround (IsDiskFound old part) part.span bytes row.1 row.1 device.0 after o) (sym is) (inr (refl, rose));
       });
     }
 
@@ -581,9 +639,9 @@ pub put_at : (rows : List (Option Row)) (old mid new : List DeviceState) (part :
     → (index : ℕ) (found : Option Row) → index ≡ part.node → index < length rows → found ≡ get_or rows index found
     → CallsRow part.file (λ image. PutFits image (part.span.start / 65536)) (λ _. None) (PutsCluster (part.span.start / 65536) cluster) found slot mid new (part.span.start / 65536 * 65536) cluster outcome
     → length bytes ≡ part.span.len → cluster ≡ gathered_in → is_good read ≡ true → IsReadFrom part.source old mid read ⊎ ((read ≡ Good) × (mid ≡ old))
-    → (AreTold old → read ≡ Good → IsGathered gathered_in (found_bytes old part.source part.whole.start part.whole.len) part.whole.len (part.span.start % 65536) bytes)
-    → (read ≡ Good → HasPart 65536 part.span bytes gathered_in)
-    → WritesPart (λ image. PutFits image (part.span.start / 65536)) (λ _. None) (ChangesAround part.span bytes) rows (set rows index slot) old new part bytes outcome
+    → (AreTold old → read ≡ Good → HasFound part.whole.len (part.span.start % 65536) bytes (found_bytes old part.source part.whole.start part.whole.len) gathered_in)
+    → (read ≡ Good → IsLaid part.whole.len (part.span.start % 65536) bytes gathered_in)
+    → WritesPart (λ image. PutFits image (part.span.start / 65536)) (λ _. None) (ChangesAround (IsDiskFound old part) part.span bytes) rows (set rows index slot) old new part bytes outcome
 put_at rows old mid new part bytes cluster gathered_in read outcome slot has index found same below is call len is_cluster read_good read_is gathered holds =
     let good : read ≡ Good = good_is read read_good in
     let stays : mid ≡ old = good_read part.source old mid read good read_is in
@@ -595,5 +653,5 @@ put_at rows old mid new part bytes cluster gathered_in read outcome slot has ind
     let there_call : CallsRow part.file (λ image. PutFits image (part.span.start / 65536)) (λ _. None) (PutsCluster (part.span.start / 65536) cluster) (row_in rows part.node) slot old new (part.span.start / 65536 * 65536) cluster outcome
     = subst Q stays (subst P (sym found_is) call) in
     put_wrote rows (set rows index slot) old new part bytes cluster outcome slot has (omega (arith, same, below)) there_call
-    (ap (λ (k : ℕ). set rows k slot) same) len (subst (HasPart 65536 part.span bytes) (sym is_cluster) (holds good))
-    (λ all. subst (λ (b : List ℕ). IsGathered b (found_bytes old part.source part.whole.start part.whole.len) part.whole.len (part.span.start % 65536) bytes) (sym is_cluster) (gathered all good))
+    (ap (λ (k : ℕ). set rows k slot) same) len (subst (IsLaid part.whole.len (part.span.start % 65536) bytes) (sym is_cluster) (holds good))
+    (λ all. subst (HasFound part.whole.len (part.span.start % 65536) bytes (found_bytes old part.source part.whole.start part.whole.len)) (sym is_cluster) (gathered all good))

@@ -8,12 +8,12 @@ use Rattle.blk_base.specs.Pieces.{Extent}
 use Rattle.blk_base.specs.declared.fault.Outcome.{Outcome}
 use Rattle.blk_base.specs.declared.fault.Outcome.TheVariants.{Good, Torn, Io, NoSpace}
 use Rattle.blk_base.proofs.Contents.{bytes_at-by_place}
-use Rattle.raw_image.proofs.PartLemmas.{with_bytes-part}
+use Rattle.blk_nodes.proofs.RawParts.{with_bytes-part}
 use Rattle.q2_format.proofs.ByPlace.{length-bytes_at as length-format_bytes, get_or-bytes_at as get_or-format_bytes}
 use Rattle.q2_format.specs.Contents.{file_disk, raw_disk, image_disk}
 use Rattle.q2_image.specs.Image.{Known, IsImageOf}
 use Rattle.blk_graph.specs.declared.edge.Role.TheVariants.{File as FileRole, Backing}
-use Rattle.blk_nodes.specs.Contents.{told, below, disk_by, disk_in, disk_of, bytes_by, bytes_of, file_node_disk}
+use Rattle.blk_nodes.specs.Contents.{IsToldDisk, told, below, disk_by, disk_in, disk_of, bytes_by, bytes_of, file_node_disk}
 use Rattle.blk_nodes.specs.Changing.{ImageChange, IsWritten, IsZeroed, LeavesRow}
 use Rattle.blk_nodes.specs.Joined.{IsFile, HasSize, IsPartOfFile, IsOverlay, HasBelow, IsJoined}
 use Rattle.blk_nodes.specs.Nodes.{Nodes, DeviceState, AreTold, row_at, device_in, size_by, size_of, file_of, backing_of}
@@ -394,7 +394,7 @@ row_plain change CopyOnRead row old new node outcome is same = absurd is
 pub piece_plain : (old new : Nodes) (node : ℕ) (span : Extent) (bytes : List ℕ) (outcome : Outcome) (may : MayWrite old node) → IsPlain may.row.driver
     → WritesFile old new node span.start bytes outcome → row_at new node ≡ row_at old node → WritesPiece old new node span bytes outcome
 piece_plain old new node span bytes outcome may plain wrote same =
-    record { row = may.row; there = may.there; wrote = by may.row.driver plain; left = row_plain (IsWritten span bytes) may.row.driver may.row old new node outcome plain (same ∙ may.there) }
+    record { row = may.row; there = may.there; wrote = by may.row.driver plain; left = row_plain (IsWritten (IsToldDisk old node) span bytes) may.row.driver may.row old new node outcome plain (same ∙ may.there) }
   where
     by : (driver : Driver) → IsPlain driver → WritesBy driver old new node span bytes outcome
     by File is = wrote
@@ -405,7 +405,7 @@ piece_plain old new node span bytes outcome may plain wrote same =
 pub zeros_plain : (old new : Nodes) (node : ℕ) (span : Extent) (outcome : Outcome) (may : MayWrite old node) → IsPlain may.row.driver
     → WritesFile old new node span.start (replicate span.len 0) outcome → row_at new node ≡ row_at old node → ZerosPiece old new node span outcome
 zeros_plain old new node span outcome may plain wrote same =
-    record { row = may.row; there = may.there; wrote = by may.row.driver plain; left = row_plain (IsZeroed span) may.row.driver may.row old new node outcome plain (same ∙ may.there) }
+    record { row = may.row; there = may.there; wrote = by may.row.driver plain; left = row_plain (IsZeroed (IsToldDisk old node) span) may.row.driver may.row old new node outcome plain (same ∙ may.there) }
   where
     by : (driver : Driver) → IsPlain driver → ZerosBy driver old new node span outcome
     by File is = wrote

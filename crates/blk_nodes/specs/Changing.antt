@@ -1,6 +1,7 @@
 -- What the writing of a piece makes of the image in a node's row and of the device of its file: which writes, in their order, and
 -- what is known of the image behind them.
-use Rattle.std.specs.Prelude.{◌≡◌, ◌⊎◌, ℕ, ◌+◌, ◌*◌, ◌%◌, ◌<◌, Bool, true, false, List, [], length, replicate, slice_index, take, Option, Some, None}
+use Rattle.std.specs.Prelude.{◌≡◌, ◌⊎◌, ℕ, ◌+◌, ◌*◌, ◌%◌, ◌<◌, ◌≤◌, Bool, true, false, List, [], length, replicate, slice_index, take, Option, Some, None}
+use Rattle.blk_base.specs.Content.{bytes_at, with_bytes}
 use Rattle.blk_base.specs.Device.{AtEachStopOf}
 use Rattle.blk_base.specs.Pieces.{Extent}
 use Rattle.blk_base.specs.declared.device.Device.{Ghosts}
@@ -94,57 +95,68 @@ ChangesInPlace part bytes image now before after (Io dev count) =
 ChangesInPlace part bytes image now before after (NoSpace dev) =
     IsUnchanged image now before after
 
--- the bytes of a whole cluster of c bytes, in which these have their place
-pub record HasPart (c : ℕ) (part : Extent) (bytes cluster : List ℕ) : Type 0 where
-  pub whole : length cluster ≡ c
-  pub holds : (i : ℕ) → i < length bytes
-      → slice_index cluster (part.start % c + i) ≡ slice_index bytes i
+-- where the cluster of a part begins on the disk
+abbrev pub cluster_start : Known → Extent → ℕ
+cluster_start image part = cluster_of image part * cluster_size_in image
 
--- the whole cluster is put, with the bytes of the part
-pub record PutsAround (part : Extent) (bytes : List ℕ) (stop : Option DevStop)
-    (image now : Known) (before after : DeviceState) : Type 0 where
+-- The bytes of the whole cluster that is put around a part: those of the part in their place, zeros from the disk's end on, and
+-- else what the disk has there, by what is known of its bytes.
+pub record IsClusterAround (IsDisk : List ℕ → Type 0) (image : Known) (part : Extent)
+    (bytes cluster : List ℕ) : Type 0 where
+  pub whole : length cluster ≡ cluster_size_in image
+  pub holds : (i : ℕ) → i < length bytes
+      → slice_index cluster (part.start % cluster_size_in image + i) ≡ slice_index bytes i
+  pub behind : (i : ℕ) → image.header.size ≤ cluster_start image part + i
+      → slice_index cluster i ≡ 0
+  pub is : (disk : List ℕ) → IsDisk disk
+      → cluster ≡ bytes_at (with_bytes disk part.start bytes) (cluster_start image part)
+      (cluster_size_in image)
+
+-- that cluster is put
+pub record PutsAround (IsDisk : List ℕ → Type 0) (part : Extent) (bytes : List ℕ)
+    (stop : Option DevStop) (image now : Known) (before after : DeviceState) : Type 0 where
   pub cluster : List ℕ
-  pub has : HasPart (cluster_size_in image) part bytes cluster
+  pub around : IsClusterAround IsDisk image part bytes cluster
   pub puts : MakesChange (put_steps image (cluster_of image part) cluster)
-      (cluster_of image part * cluster_size_in image) cluster stop image now before after
+      (cluster_start image part) cluster stop image now before after
 
 -- the rest of the cluster is read before; where that stops it, nothing is written
-abbrev pub ChangesAround : Extent → List ℕ → ImageChange
-ChangesAround part bytes image now before after Good =
-    PutsAround part bytes None image now before after
+abbrev pub ChangesAround : (List ℕ → Type 0) → Extent → List ℕ → ImageChange
+ChangesAround IsDisk part bytes image now before after Good =
+    PutsAround IsDisk part bytes None image now before after
     × IsHost (entry_in now (cluster_of image part))
-ChangesAround part bytes image now before after (Torn done dev count) = ⊥
-ChangesAround part bytes image now before after (Io dev count) =
-    PutsAround part bytes (Some (stops.Io count)) image now before after
+ChangesAround IsDisk part bytes image now before after (Torn done dev count) = ⊥
+ChangesAround IsDisk part bytes image now before after (Io dev count) =
+    PutsAround IsDisk part bytes (Some (stops.Io count)) image now before after
     ⊎ ((now ≡ image) × HasRisen before after)
-ChangesAround part bytes image now before after (NoSpace dev) =
+ChangesAround IsDisk part bytes image now before after (NoSpace dev) =
     IsUnchanged image now before after
 
 -- by what its cluster is mapped to
-abbrev pub ChangesPart : L2Entry → Extent → List ℕ → ImageChange
-ChangesPart (entries.Host host) part bytes = ChangesInPlace part bytes
-ChangesPart entry part bytes = ChangesAround part bytes
+abbrev pub ChangesPart : (List ℕ → Type 0) → L2Entry → Extent → List ℕ → ImageChange
+ChangesPart IsDisk (entries.Host host) part bytes = ChangesInPlace part bytes
+ChangesPart IsDisk entry part bytes = ChangesAround IsDisk part bytes
 
--- Of a piece.
+-- Of a piece, by what is known of the disk.
 
 -- bytes are written
-abbrev pub IsWritten : Extent → List ℕ → ImageChange
-IsWritten part bytes image = ChangesPart (entry_for image part) part bytes image
+abbrev pub IsWritten : (List ℕ → Type 0) → Extent → List ℕ → ImageChange
+IsWritten IsDisk part bytes image = ChangesPart IsDisk (entry_for image part) part bytes image
 
 -- zeros are written to a part of a cluster, and nothing is tried where that reads as zeros
-abbrev pub ZeroesPart : L2Entry → Extent → ImageChange
-ZeroesPart (entries.Zero host) part image now before after outcome =
+abbrev pub ZeroesPart : (List ℕ → Type 0) → L2Entry → Extent → ImageChange
+ZeroesPart IsDisk (entries.Zero host) part image now before after outcome =
     IsUnchanged image now before after × (outcome ≡ Good)
-ZeroesPart entry part image now before after outcome =
-    ChangesPart entry part (replicate part.len 0) image now before after outcome
+ZeroesPart IsDisk entry part image now before after outcome =
+    ChangesPart IsDisk entry part (replicate part.len 0) image now before after outcome
 
 -- zeros are written to a whole cluster, or to a part
-abbrev pub ZeroesBy : Bool → Extent → ImageChange
-ZeroesBy true part image = ClearsCluster (cluster_of image part) image
-ZeroesBy false part image = ZeroesPart (entry_for image part) part image
+abbrev pub ZeroesBy : (List ℕ → Type 0) → Bool → Extent → ImageChange
+ZeroesBy IsDisk true part image = ClearsCluster (cluster_of image part) image
+ZeroesBy IsDisk false part image = ZeroesPart IsDisk (entry_for image part) part image
 
-abbrev pub IsZeroed : Extent → ImageChange
-IsZeroed part image = ZeroesBy (is_whole image part) part image
+abbrev pub IsZeroed : (List ℕ → Type 0) → Extent → ImageChange
+IsZeroed IsDisk part image = ZeroesBy IsDisk (is_whole image part) part image
 
 -- Of a node.
 

@@ -1,7 +1,7 @@
 -- What a node reads as: its disk, from the bytes of the devices and the edges of the graph.
 use Rattle.std.specs.Prelude.{◌≡◌, ℕ, zero, suc, List, [], Option, Some, None}
 use Rattle.q2_format.specs.Contents.{file_disk, raw_disk, image_disk}
-use Rattle.blk_nodes.specs.Nodes.{Nodes, DeviceState, row_at, device_in, size_of, file_of, backing_of}
+use Rattle.blk_nodes.specs.Nodes.{Nodes, DeviceState, AreTold, row_at, device_in, size_of, file_of, backing_of}
 use Rattle.blk_nodes.specs.declared.row.Driver.{Driver}
 use Rattle.blk_nodes.specs.declared.row.Row.{Row}
 use Rattle.blk_nodes.specs.declared.row.Driver.TheVariants.{File, Raw, Qcow2, CopyOnRead}
@@ -48,6 +48,10 @@ disk_in (suc turns) nodes node = elim (row_at nodes node) as (λ _. List ℕ) [
 -- there are at most 64 nodes, and no node reaches itself
 unfoldable pub disk_of : Nodes → ℕ → List ℕ
 disk_of nodes node = disk_in 64 nodes node
+
+-- the disk of a node, where all devices tell their bytes
+abbrev pub IsToldDisk : Nodes → ℕ → List ℕ → Type 0
+IsToldDisk nodes node disk = AreTold nodes.devices × (disk ≡ disk_of nodes node)
 
 -- the disk of each node is made of the disks below it
 abbrev pub Unfolds : Nodes → Type 0

@@ -15,3 +15,4 @@ pub mod Flushing
 pub mod Covering
 pub mod Handing
 pub mod Formatting
+pub mod Copying

@@ -130,7 +130,7 @@ abbrev pub image_stop : ImageStop → AddStop
 image_stop images.NoMemory = stops.NoMemory
 image_stop stop = stops.Image stop
 
--- why the image in a file isn't had, where its backing node has a disk of that size
+-- Why the image in a file isn't had, where its backing node has a disk of that size. Only a failed read raises a count.
 abbrev pub IsOpening : List DeviceState → List DeviceState → ℕ → Backing → ℕ → AddStop → Type 0
 IsOpening old new file backing size stops.NameTaken = ⊥
 IsOpening old new file backing size stops.TooManyNodes = ⊥
@@ -138,10 +138,10 @@ IsOpening old new file backing size (stops.Conflict pair) = ⊥
 IsOpening old new file backing size (stops.Image stop) =
     IsUnopened old new file stop × (stop ≢ images.NoMemory)
 IsOpening old new file backing size stops.BackingNeeded =
-    IsMisfit old file backing size stops.BackingNeeded
+    IsMisfit old file backing size stops.BackingNeeded × (new ≡ old)
 IsOpening old new file backing size stops.SizeDiffers =
-    IsMisfit old file backing size stops.SizeDiffers
-IsOpening old new file backing size stops.NoMemory = Unit {0}
+    IsMisfit old file backing size stops.SizeDiffers × (new ≡ old)
+IsOpening old new file backing size stops.NoMemory = new ≡ old
 
 -- the node is there, over the image in its file
 pub record IsQcow2Added (old new : Nodes) (asked : Asked) (id : ℕ) : Type 0 where
@@ -149,7 +149,7 @@ pub record IsQcow2Added (old new : Nodes) (asked : Asked) (id : ℕ) : Type 0 wh
   pub lowest : IsLowestFree (ids old.graph) id
   pub opened : IsOpened old.devices asked.file image
   pub fits : backing_stop image asked.backing (backing_size old asked.backing) ≡ None
-  pub is : new ≡ record (with_qcow2 old asked id image) { devices = new.devices }
+  pub is : new ≡ with_qcow2 old asked id image
 
 -- the name is free, and there is room for a node
 pub record HasPlace (nodes : Nodes) (name : List ℕ) : Type 0 where

@@ -59,11 +59,24 @@ row_in rows node = slice_index_or rows node None
 abbrev pub HasPiece : List (Option Row) → List DeviceState → Part → Type 0
 HasPiece rows devices part = OfImage (row_in rows part.node) (IsPieceOf rows devices part)
 
--- a cluster has these bytes from a place on, and else those that were found, of which there are n
-pub record IsGathered (cluster found : List ℕ) (n at : ℕ) (bytes : List ℕ) : Type 0 where
+-- a cluster of which the disk has n bytes: these from a place on, and zeros behind the disk's end
+pub record IsLaid (n at : ℕ) (bytes cluster : List ℕ) : Type 0 where
+  pub whole : length cluster ≡ 65536
   pub inside : (i : ℕ) → i < length bytes → slice_index cluster (at + i) ≡ slice_index bytes i
-  pub outside : (i : ℕ) → i < n → (i < at) ⊎ (at + length bytes ≤ i)
-      → slice_index cluster i ≡ slice_index found i
+  pub behind : (i : ℕ) → n ≤ i → slice_index cluster i ≡ 0
+
+-- and else those that were found
+abbrev pub HasFound : ℕ → ℕ → List ℕ → List ℕ → List ℕ → Type 0
+HasFound n at bytes found cluster = (i : ℕ) → i < n → (i < at) ⊎ (at + length bytes ≤ i)
+    → slice_index cluster i ≡ slice_index found i
+
+-- A disk of which the bytes of a piece's cluster were found, where the devices tell theirs. A cluster that isn't whole is the
+-- disk's last.
+pub record IsDiskFound (devices : List DeviceState) (part : Part) (disk : List ℕ) : Type 0 where
+  pub told : AreTold devices
+  pub found : found_bytes devices part.source part.whole.start part.whole.len
+      ≡ bytes_at disk part.whole.start part.whole.len
+  pub ends : part.whole.len < 65536 → length disk ≡ part.whole.start + part.whole.len
 
 -- a call of the image in a row, on the device of a `file` node
 pub record CallsRow (file : ℕ) (fits : Known → ℕ → Type 0) (own : Known → Option ℕ)

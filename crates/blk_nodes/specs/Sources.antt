@@ -4,7 +4,7 @@ use Rattle.std.specs.Prelude.{ℕ, zero, suc, ◌+◌, ◌/◌, slice_index, [],
 use Rattle.q2_format.specs.Contents.{guest_byte}
 use Rattle.q2_format.specs.declared.entries.L2Entry.{L2Entry}
 use Rattle.q2_format.specs.declared.entries.L2Entry.TheVariants as entries
-use Rattle.q2_image.specs.Image.{entry_in}
+use Rattle.q2_image.specs.Image.{cluster_size_in, entry_in}
 use Rattle.blk_nodes.specs.Nodes.{Nodes, row_at, file_of, backing_of}
 use Rattle.blk_nodes.specs.Contents.{bytes_of}
 use Rattle.blk_nodes.specs.declared.row.Driver.{Driver}
@@ -42,7 +42,7 @@ abbrev pub step_by : ℕ → Option ℕ → Option ℕ → ℕ → Driver → St
 step_by node file backing place drivers.File = Found (File node place)
 step_by node file backing place (drivers.Raw part) = in_file file (part.offset + place)
 step_by node file backing place (drivers.Qcow2 image) =
-    step_by_entry node file backing (entry_in image (place / 65536))
+    step_by_entry node file backing (entry_in image (place / cluster_size_in image))
 step_by node file backing place drivers.CopyOnRead = in_below file
 
 abbrev pub step_of : Nodes → ℕ → ℕ → Step

@@ -1,6 +1,6 @@
 -- What a walk down a chain keeps and ends with.
 use Rattle.std.specs.Prelude.{◌≡◌, ℕ, ◌/◌, ◌<◌, List, Option, Some, None, IsSome, slice_index_or}
-use Rattle.q2_image.specs.Image.{Known, IsImageOf, entry_in}
+use Rattle.q2_image.specs.Image.{Known, IsImageOf, cluster_size_in, entry_in}
 use Rattle.q2_image.specs.Reading.{IsHost}
 use Rattle.blk_nodes.specs.Nodes.{Nodes, DeviceState, device_in, size_of}
 use Rattle.blk_graph.specs.declared.edge.Edge.{Edge}
@@ -26,7 +26,7 @@ pub record IsPlaceMapped (rows : List (Option Row)) (devices : List DeviceState)
   pub there : slice_index_or rows node None ≡ Some row
   pub driver : row.driver ≡ Qcow2 image
   pub inside : place < image.header.size
-  pub host : IsHost (entry_in image (place / 65536))
+  pub host : IsHost (entry_in image (place / cluster_size_in image))
   pub held : IsSome (device_in devices file)
   pub known : IsKnownAt file devices image
 

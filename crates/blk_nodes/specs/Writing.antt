@@ -16,6 +16,7 @@ use Rattle.q2_image.specs.Image.{Known, IsImageOf, entry_in}
 use Rattle.q2_image.specs.Room.{WriteFits, ZerosFit, entry_for, is_whole}
 use Rattle.q2_image.specs.Writing.{IsDiskWith, HasHeaderOf, StaysTaken, own_place}
 use Rattle.blk_nodes.specs.Changing.{ImageChange, IsWritten, IsZeroed, LeavesRow}
+use Rattle.blk_nodes.specs.Contents.{IsToldDisk}
 use Rattle.blk_nodes.specs.Nodes.{Nodes, DeviceState, row_at, device_in, file_of, backing_of}
 use Rattle.blk_nodes.specs.Reading.{HaveRisen, OnlyAt, StoppedBy, StoppedBelow, LeadsTo}
 use Rattle.blk_nodes.specs.Sources.{source_of}
@@ -227,7 +228,8 @@ pub record WritesPiece (old new : Nodes) (node : ℕ) (span : Extent) (bytes : L
   pub row : Row
   pub there : row_at old node ≡ Some row
   pub wrote : WritesBy row.driver old new node span bytes outcome
-  pub left : LeavesRow (IsWritten span bytes) row.driver row old new node outcome
+  pub left : LeavesRow (IsWritten (IsToldDisk old node) span bytes) row.driver row old new node
+      outcome
 
 -- zeros are written in place where they are no whole cluster
 abbrev pub zeros_place : Bool → Known → Extent → Option ℕ
@@ -246,7 +248,7 @@ pub record ZerosPiece (old new : Nodes) (node : ℕ) (span : Extent)
   pub row : Row
   pub there : row_at old node ≡ Some row
   pub wrote : ZerosBy row.driver old new node span outcome
-  pub left : LeavesRow (IsZeroed span) row.driver row old new node outcome
+  pub left : LeavesRow (IsZeroed (IsToldDisk old node) span) row.driver row old new node outcome
 
 -- What stays.
 

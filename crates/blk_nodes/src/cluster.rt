@@ -1,9 +1,8 @@
 //! The bytes of a cluster while it is put together.
-ghost use Rattle.std.specs.Prelude.{◌≡◌, ◌⊎◌, ℕ, ◌+◌, ◌%◌, ◌<◌, ◌≤◌, List, ◌++◌, length, take, drop, slice_index, vec_len, IfOk};
-ghost use Rattle.blk_nodes.specs.Changing.{HasPart};
+ghost use Rattle.std.specs.Prelude.{◌≡◌, ◌⊎◌, ℕ, ◌+◌, ◌%◌, ◌-◌, ◌<◌, ◌≤◌, List, ◌++◌, length, take, drop, replicate, vec_len, IfOk};
 ghost use Rattle.blk_nodes.specs.Found.{found_bytes, IsReadFrom};
 ghost use Rattle.blk_nodes.specs.Nodes.{AreTold};
-ghost use Rattle.blk_nodes.specs.Parts.{HasPiece, IsGathered};
+ghost use Rattle.blk_nodes.specs.Parts.{HasPiece, HasFound, IsLaid};
 ghost use Rattle.blk_nodes.specs.Reading.{HaveRisen};
 
 use crate::devices::Devices;
@@ -62,6 +61,8 @@ impl Cluster {
         ensures read { AreTold devices.old → result ≡ Outcome.Good
             → take part.now.whole.len self.new
             ≡ found_bytes devices.old part.now.source part.now.whole.start part.now.whole.len }
+        ensures behind { drop part.now.whole.len self.new
+            ≡ replicate (65536 - part.now.whole.len) 0 }
         ensures outcome { IsReadFrom part.now.source devices.old devices.new result }
         ensures devices { HaveRisen devices.old devices.new }
     {
@@ -83,6 +84,8 @@ impl Cluster {
             → part.now.span.len < part.now.whole.len
             → take part.now.whole.len self.new
             ≡ found_bytes devices.old part.now.source part.now.whole.start part.now.whole.len }
+        ensures behind { drop part.now.whole.len self.new
+            ≡ replicate (65536 - part.now.whole.len) 0 }
         ensures outcome { IsReadFrom part.now.source devices.old devices.new result
             ⊎ ((result ≡ Outcome.Good) × (devices.new ≡ devices.old)) }
         ensures devices { HaveRisen devices.old devices.new }
@@ -117,10 +120,12 @@ impl Cluster {
         requires rows { length rows.now ≡ 64 }
         requires piece { HasPiece rows.now devices.old part.now }
         requires whole { length bytes.now ≡ part.now.span.len }
-        ensures bytes { AreTold devices.old → result ≡ Outcome.Good → IsGathered self.new
+        ensures laid { result ≡ Outcome.Good
+            → IsLaid part.now.whole.len (part.now.span.start % 65536) bytes.now self.new }
+        ensures found { AreTold devices.old → result ≡ Outcome.Good
+            → HasFound part.now.whole.len (part.now.span.start % 65536) bytes.now
             (found_bytes devices.old part.now.source part.now.whole.start part.now.whole.len)
-            part.now.whole.len (part.now.span.start % 65536) bytes.now }
-        ensures part { result ≡ Outcome.Good → HasPart 65536 part.now.span bytes.now self.new }
+            self.new }
         ensures outcome { IsReadFrom part.now.source devices.old devices.new result
             ⊎ ((result ≡ Outcome.Good) × (devices.new ≡ devices.old)) }
         ensures devices { HaveRisen devices.old devices.new }

@@ -6,7 +6,7 @@ ghost use Rattle.blk_base.specs.Content.{bytes_at};
 ghost use Rattle.q2_format.specs.Created.{creation_of, IsNewName, IsNewFormat};
 ghost use Rattle.q2_format.specs.declared.header.TheConstants.{MAX_DISK_SIZE};
 ghost use Rattle.q2_image.specs.Guest.{guest_bytes};
-ghost use Rattle.q2_image.specs.Image.{Known, IsImageOf, clusters_in, entry_in};
+ghost use Rattle.q2_image.specs.Image.{Known, IsImageOf, cluster_size_in, clusters_in, entry_in};
 ghost use Rattle.q2_image.specs.Reading.{IsHost, IsWithinCluster};
 ghost use Rattle.blk_nodes.specs.Contents.{bytes_by};
 ghost use Rattle.blk_nodes.specs.Dropping.{other_devices};
@@ -93,7 +93,7 @@ impl<D: Device> Held<D> {
         requires some { 0 < span.len }
         requires block { IsWithinCluster 65536 span }
         requires inside { span.start < image.now.header.size }
-        requires host { IsHost (entry_in image.now (span.start / 65536)) }
+        requires host { IsHost (entry_in image.now (span.start / cluster_size_in image.now)) }
         requires whole { length buffer.old ≡ span.len }
         ensures read { (bytes : List ℕ) → self.old.content ≡ Some bytes → IsImageOf bytes image.now
             → result ≡ Outcome.Good
@@ -267,7 +267,7 @@ impl<D: Device> Devices<D> {
         requires some { 0 < span.len }
         requires block { IsWithinCluster 65536 span }
         requires inside { span.start < image.now.header.size }
-        requires host { IsHost (entry_in image.now (span.start / 65536)) }
+        requires host { IsHost (entry_in image.now (span.start / cluster_size_in image.now)) }
         requires whole { length buffer.old ≡ span.len }
         requires known { (device : DeviceState) (bytes : List ℕ)
             → device_in self.old file ≡ Some device → device.content ≡ Some bytes

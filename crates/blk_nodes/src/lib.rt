@@ -4,6 +4,7 @@
 mod adding;
 mod backing;
 mod cluster;
+mod copying;
 mod devices;
 mod found;
 mod handing;

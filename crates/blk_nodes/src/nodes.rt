@@ -17,6 +17,7 @@ ghost use Rattle.blk_nodes.specs.Walk.{CanBeRead, GoesOn, LeadsToSource, LeadsOn
 ghost use Rattle.blk_nodes.specs.Sources.{step_of, source_in, source_of};
 ghost use Rattle.blk_nodes.specs.Reading.{HaveRisen, IsReadBelow, ReadsDisk};
 
+mod copying;
 mod covering;
 mod dropping;
 mod ending;
@@ -32,13 +33,12 @@ use crate::cluster::Cluster;
 use crate::devices::{Devices, Held};
 use crate::found::read_found;
 use crate::opening::open_over;
-use crate::row::{Driver, Row, node_kind, step};
+use crate::row::{Driver, RawImage, Row, node_kind, step};
 use crate::source::{Source, Step};
 use crate::stop::AddStop;
 use crate::zeros::Zeros;
 use blk_base::{DevNo, Device, NoMemory, Outcome, Span, Text};
 use blk_graph::{Conflict, Edge, EdgeList, Graph, Kind, MOST_NODES, NodeId, Parent, Role};
-use raw_image::RawImage;
 use std::alloc::Global;
 use std::marker::Model;
 

@@ -1,5 +1,5 @@
 //! The image of a new qcow2 node.
-ghost use Rattle.std.specs.Prelude.{◌≡◌, IsSome, IfErr, MatchOption, MatchResult, Some, None, Ok, Err};
+ghost use Rattle.std.specs.Prelude.{◌≡◌, IsSome, IfErr, OnOk, MatchOption, MatchResult, Some, None, Ok, Err};
 ghost use Rattle.blk_nodes.specs.Nodes.{device_in};
 ghost use Rattle.blk_nodes.specs.Overlays.{backing_stop, IsOpened, IsOpening, image_stop};
 ghost use Rattle.blk_nodes.specs.Reading.{HaveRisen};
@@ -55,6 +55,7 @@ pub(crate) fn open_over<D: Device>(
     ensures opened { MatchResult result
         (λ image. IsOpened devices.old file image × (backing_stop image backing.now size ≡ None))
         (IsOpening devices.old devices.new file backing.now size) }
+    ensures quiet { OnOk result (devices.new ≡ devices.old) }
     ensures risen { HaveRisen devices.old devices.new }
 {
     let image = match devices.open_image(alloc, file) {

@@ -7,7 +7,7 @@ ghost use Rattle.q2_image.specs.Writing.{PutFits, ZeroFits, own_end, own_place};
 ghost use Rattle.q2_tables.specs.Entries.{entry_of};
 ghost use Rattle.blk_nodes.specs.Changing.{ChangesAround, ChangesInPlace, ClearsCluster, IsWritten, IsZeroed, PutsCluster};
 ghost use Rattle.blk_nodes.specs.Nodes.{device_in};
-ghost use Rattle.blk_nodes.specs.Parts.{OfImage, HasPiece, CallsRow, WritesPart, row_in};
+ghost use Rattle.blk_nodes.specs.Parts.{OfImage, HasPiece, CallsRow, IsDiskFound, WritesPart, row_in};
 ghost use Rattle.blk_nodes.specs.Walk.{IsKnownAt};
 ghost use Rattle.blk_nodes.specs.Writing.{FitsAt, HasRoomAt, own_place_by, zeros_place};
 
@@ -32,7 +32,7 @@ fn mapping_of(row: &Option<Row>, cluster: u64) -> Mapping
 }
 
 /// Whether there is room to put a cluster of the image in a row: Good, or NoSpace.
-fn room_of<D: Device>(
+pub(crate) fn room_of<D: Device>(
     row: &Option<Row>,
     devices: &Devices<D>,
     file: NodeId,
@@ -172,8 +172,8 @@ fn put_part<D: Device>(
     requires piece { HasPiece rows.old devices.old part.now }
     requires whole { length bytes.now ≡ part.now.span.len }
     ensures { WritesPart (λ image. PutFits image (part.now.span.start / 65536)) (λ _. None)
-        (ChangesAround part.now.span bytes.now) rows.old rows.new devices.old devices.new part.now
-        bytes.now result }
+        (ChangesAround (IsDiskFound devices.old part.now) part.now.span bytes.now)
+        rows.old rows.new devices.old devices.new part.now bytes.now result }
 {
     let span = part.span;
     let at = part.node.index();
@@ -237,7 +237,7 @@ pub(crate) fn write_part<D: Device>(
     requires whole { length bytes.now ≡ part.now.span.len }
     ensures { WritesPart (λ image. WriteFits image part.now.span)
         (λ image. own_place_by (entry_for image part.now.span) image part.now.span)
-        (IsWritten part.now.span bytes.now)
+        (IsWritten (IsDiskFound devices.old part.now) part.now.span bytes.now)
         rows.old rows.new devices.old devices.new part.now bytes.now result }
 {
     let span = part.span;
@@ -260,7 +260,7 @@ pub(crate) fn zero_part<D: Device>(
     requires zeros { zeros.now ≡ replicate part.now.span.len 0 }
     ensures { WritesPart (λ image. ZerosFit image part.now.span)
         (λ image. zeros_place (is_whole image part.now.span) image part.now.span)
-        (IsZeroed part.now.span)
+        (IsZeroed (IsDiskFound devices.old part.now) part.now.span)
         rows.old rows.new devices.old devices.new part.now
         (replicate part.now.span.len 0) result }
 {

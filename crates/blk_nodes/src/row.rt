@@ -7,7 +7,13 @@ ghost use Rattle.blk_nodes.specs.Sources.{step_by};
 use crate::source::{Source, Step, in_below, in_file, in_mapped};
 use blk_graph::{Kind, NodeId, NodeKind};
 use q2_image::Image;
-use raw_image::RawImage;
+
+/// The part of a file that is a raw disk: `size` bytes from `offset` on.
+#[derive(Clone, Copy, Debug)]
+pub(crate) struct RawImage {
+    pub offset: u64,
+    pub size: u64,
+}
 
 /// How a node reads what is below it.
 #[derive(Debug, Drop)]

@@ -4,6 +4,7 @@ ghost use Rattle.blk_base.specs.Content.{with_bytes};
 ghost use Rattle.blk_base.specs.Pieces.{end_of};
 ghost use Rattle.q2_image.specs.Reading.{IsWithinCluster};
 ghost use Rattle.blk_nodes.specs.Contents.{disk_of};
+ghost use Rattle.blk_nodes.specs.Joined.{IsJoined};
 ghost use Rattle.blk_nodes.specs.Nodes.{AreTold, size_of, file_of};
 ghost use Rattle.blk_nodes.specs.Parts.{HasPiece, IsImage};
 ghost use Rattle.blk_nodes.specs.Sources.{source_of};
@@ -78,7 +79,7 @@ impl<D: Device> Nodes<D> {
     }
 
     /// Writes a piece of a qcow2 node.
-    fn write_in_image(&mut self, node: NodeId, span: Span, bytes: &[u8]) -> Outcome
+    pub(super) fn write_in_image(&mut self, node: NodeId, span: Span, bytes: &[u8]) -> Outcome
         requires block { IsWithinCluster 65536 span }
         requires inside { end_of span ≤ size_of self.old node }
         requires some { 0 < span.len }
@@ -92,6 +93,7 @@ impl<D: Device> Nodes<D> {
         ensures others { (other : ℕ) → IsApart self.old other node
             → disk_of self.new other ≡ disk_of self.old other }
         ensures kept { LeavesNodes self.old self.new node }
+        ensures joined { IsJoined self.new }
     {
         let part = self.part(node, span);
         write_part(

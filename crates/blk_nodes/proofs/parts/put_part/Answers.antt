@@ -34,7 +34,7 @@ returns g c =
     put_at c.args.rows.now c.args.devices.now c.gather-read.new.devices c.put_row.new.devices c.args.part.now c.args.bytes.now c.bytes.result.now c.gather-read.new.self c.gather-read.result c.put_row.result
     c.put_row.new.row c.requires.piece
     c.index-at.result row c.index-at.ensures.value within row_is (rw start at c.put_row.ensures) c.requires.whole
-    c.bytes.ensures.bytes (sym c.is_good-2.ensures ∙ c.if-not-is_good-2.false) c.gather-read.ensures.outcome c.gather-read.ensures.bytes c.gather-read.ensures.part
+    c.bytes.ensures.bytes (sym c.is_good-2.ensures ∙ c.if-not-is_good-2.false) c.gather-read.ensures.outcome c.gather-read.ensures.found c.gather-read.ensures.laid
 
 pub returns-then-not-is_good-2 : goal.returns-then-not-is_good-2
 returns-then-not-is_good-2 g c =

@@ -5,16 +5,17 @@ use Rattle.blk_base.specs.declared.fault.DevNo.{DevNo}
 use Rattle.blk_base.specs.declared.fault.Outcome.TheVariants.{NoSpace}
 use Rattle.q2_image.specs.Image.{Known}
 use Rattle.q2_image.specs.Room.{WriteFits, entry_for}
-use Rattle.blk_nodes.specs.Contents.{disk_of}
+use Rattle.blk_nodes.specs.Contents.{IsToldDisk, disk_of}
 use Rattle.blk_nodes.specs.Changing.{ImageChange, IsWritten}
 use Rattle.blk_nodes.specs.Nodes.{Nodes, DeviceState, file_of}
-use Rattle.blk_nodes.specs.Parts.{WritesPart}
+use Rattle.blk_nodes.specs.Parts.{IsDiskFound, WritesPart}
 use Rattle.blk_nodes.specs.Sources.{source_of}
 use Rattle.blk_nodes.specs.Walk.{LeadsToSource}
 use Rattle.blk_nodes.specs.Writing.{MayWrite, IsApart, LeavesNodes, WritesPiece, own_place_by, taken_by}
 use Rattle.blk_nodes.specs.declared.part.Part.{Part}
 use Rattle.blk_nodes.specs.declared.row.Row.{Row}
-use Rattle.blk_nodes.proofs.Imaged.{refuses_written, joined_piece, disk_piece, others_piece, leaves_piece, left_piece, wrote_piece, piece_image, sliced}
+use Rattle.blk_nodes.proofs.Imaged.{disk_found, refuses_written, joined_piece, disk_piece, others_piece, leaves_piece, left_piece, wrote_piece, piece_image, sliced}
+use Rattle.blk_nodes.proofs.ToldDisks.{row_written}
 use Rattle.blk_nodes.proofs.nodes.Nodes.write_in_image.Goals as goal
 
 pub invariant_of-self : goal.invariant_of-self
@@ -28,7 +29,7 @@ invariant_of-self g c =
     let devices : List DeviceState = c.write_part.new.devices in
     let outcome = c.write_part.result in
     let bytes : List ℕ = c.args.bytes.now in
-    let change : ImageChange = IsWritten part.span bytes in
+    let change : ImageChange = IsWritten (IsDiskFound nodes.devices part) part.span bytes in
     let may = subst (MayWrite nodes) (sym e.node) (rw (sym c.self.view_is) at c.requires.may) in
     let edge = subst (λ (n : ℕ). file_of nodes n ≡ Some part.file) (sym e.node) (rw (sym c.self.view_is) at e.file) in
     let source = subst (λ (n : ℕ). source_of nodes n part.whole.start ≡ part.source) (sym e.node) (rw (sym c.self.view_is) at e.source) in
@@ -37,7 +38,7 @@ invariant_of-self g c =
     let w : WritesPart fits own change nodes.rows rows nodes.devices devices part bytes outcome
     = subst (λ (rs : List (Option Row)). WritesPart fits own change rs rows nodes.devices devices part bytes outcome) c.deref_mut.ensures.value c.write_part.ensures in
     let refuses : (device : DeviceState) (dev : DevNo) → (fits w.image device.capacity → ⊥) → change w.image w.image device device (NoSpace dev)
-    = λ device dev full. refuses_written part.span bytes w.image device dev in
+    = λ device dev full. refuses_written (IsDiskFound nodes.devices part) part.span bytes w.image device dev in
     let whole : take c.self.inside.rows.len (rows ++ drop (length rows) nodes.rows) ≡ rows
     = sliced rows nodes.rows c.self.inside.rows.len (c.write_part.auto.rows ∙ ap length c.deref_mut.ensures.value) (omega (arith, c.self.inside.rows.ok.0)) in
     let new : Nodes = record nodes { rows = rows; devices = devices } in
@@ -54,7 +55,7 @@ returns-clause-wrote g c =
     let devices : List DeviceState = c.write_part.new.devices in
     let outcome = c.write_part.result in
     let bytes : List ℕ = c.args.bytes.now in
-    let change : ImageChange = IsWritten part.span bytes in
+    let change : ImageChange = IsWritten (IsDiskFound nodes.devices part) part.span bytes in
     let may = subst (MayWrite nodes) (sym e.node) (rw (sym c.self.view_is) at c.requires.may) in
     let edge = subst (λ (n : ℕ). file_of nodes n ≡ Some part.file) (sym e.node) (rw (sym c.self.view_is) at e.file) in
     let source = subst (λ (n : ℕ). source_of nodes n part.whole.start ≡ part.source) (sym e.node) (rw (sym c.self.view_is) at e.source) in
@@ -63,11 +64,13 @@ returns-clause-wrote g c =
     let w : WritesPart fits own change nodes.rows rows nodes.devices devices part bytes outcome
     = subst (λ (rs : List (Option Row)). WritesPart fits own change rs rows nodes.devices devices part bytes outcome) c.deref_mut.ensures.value c.write_part.ensures in
     let refuses : (device : DeviceState) (dev : DevNo) → (fits w.image device.capacity → ⊥) → change w.image w.image device device (NoSpace dev)
-    = λ device dev full. refuses_written part.span bytes w.image device dev in
+    = λ device dev full. refuses_written (IsDiskFound nodes.devices part) part.span bytes w.image device dev in
     let whole : take c.self.inside.rows.len (rows ++ drop (length rows) nodes.rows) ≡ rows
     = sliced rows nodes.rows c.self.inside.rows.len (c.write_part.auto.rows ∙ ap length c.deref_mut.ensures.value) (omega (arith, c.self.inside.rows.ok.0)) in
     let new : Nodes = record nodes { rows = rows; devices = devices } in
-    rw (sym c.self.view_is) (rw whole (subst (λ (n : ℕ). WritesPiece nodes new n c.args.span bytes outcome) e.node (subst (λ (s : Extent). WritesPiece nodes new part.node s bytes outcome) e.span (piece_image nodes new part.node part.span bytes outcome w.row w.image w.there w.driver (wrote_piece nodes c.self.invariant part may edge source leads piece rows devices fits own change bytes outcome w refuses) (left_piece nodes c.self.invariant part may edge source leads piece rows devices fits own change bytes outcome w refuses)))))
+    rw (sym c.self.view_is) (rw whole (subst (λ (n : ℕ). WritesPiece nodes new n c.args.span bytes outcome) e.node (subst (λ (s : Extent). WritesPiece nodes new part.node s bytes outcome) e.span (piece_image nodes new part.node part.span bytes outcome w.row w.image w.there w.driver (wrote_piece nodes c.self.invariant part may edge source leads piece rows devices fits own change bytes outcome w refuses) (row_written nodes new part.node w.row w.image outcome (IsDiskFound nodes.devices part) (IsToldDisk nodes part.node)
+    (disk_found nodes c.self.invariant part may edge source leads piece rows devices fits own change bytes outcome w refuses) part.span bytes
+    (left_piece nodes c.self.invariant part may edge source leads piece rows devices fits own change bytes outcome w refuses))))))
 
 pub returns-clause-disk : goal.returns-clause-disk
 returns-clause-disk g c =
@@ -80,7 +83,7 @@ returns-clause-disk g c =
     let devices : List DeviceState = c.write_part.new.devices in
     let outcome = c.write_part.result in
     let bytes : List ℕ = c.args.bytes.now in
-    let change : ImageChange = IsWritten part.span bytes in
+    let change : ImageChange = IsWritten (IsDiskFound nodes.devices part) part.span bytes in
     let may = subst (MayWrite nodes) (sym e.node) (rw (sym c.self.view_is) at c.requires.may) in
     let edge = subst (λ (n : ℕ). file_of nodes n ≡ Some part.file) (sym e.node) (rw (sym c.self.view_is) at e.file) in
     let source = subst (λ (n : ℕ). source_of nodes n part.whole.start ≡ part.source) (sym e.node) (rw (sym c.self.view_is) at e.source) in
@@ -89,7 +92,7 @@ returns-clause-disk g c =
     let w : WritesPart fits own change nodes.rows rows nodes.devices devices part bytes outcome
     = subst (λ (rs : List (Option Row)). WritesPart fits own change rs rows nodes.devices devices part bytes outcome) c.deref_mut.ensures.value c.write_part.ensures in
     let refuses : (device : DeviceState) (dev : DevNo) → (fits w.image device.capacity → ⊥) → change w.image w.image device device (NoSpace dev)
-    = λ device dev full. refuses_written part.span bytes w.image device dev in
+    = λ device dev full. refuses_written (IsDiskFound nodes.devices part) part.span bytes w.image device dev in
     let whole : take c.self.inside.rows.len (rows ++ drop (length rows) nodes.rows) ≡ rows
     = sliced rows nodes.rows c.self.inside.rows.len (c.write_part.auto.rows ∙ ap length c.deref_mut.ensures.value) (omega (arith, c.self.inside.rows.ok.0)) in
     let new : Nodes = record nodes { rows = rows; devices = devices } in
@@ -106,7 +109,7 @@ returns-clause-others g c =
     let devices : List DeviceState = c.write_part.new.devices in
     let outcome = c.write_part.result in
     let bytes : List ℕ = c.args.bytes.now in
-    let change : ImageChange = IsWritten part.span bytes in
+    let change : ImageChange = IsWritten (IsDiskFound nodes.devices part) part.span bytes in
     let may = subst (MayWrite nodes) (sym e.node) (rw (sym c.self.view_is) at c.requires.may) in
     let edge = subst (λ (n : ℕ). file_of nodes n ≡ Some part.file) (sym e.node) (rw (sym c.self.view_is) at e.file) in
     let source = subst (λ (n : ℕ). source_of nodes n part.whole.start ≡ part.source) (sym e.node) (rw (sym c.self.view_is) at e.source) in
@@ -115,7 +118,7 @@ returns-clause-others g c =
     let w : WritesPart fits own change nodes.rows rows nodes.devices devices part bytes outcome
     = subst (λ (rs : List (Option Row)). WritesPart fits own change rs rows nodes.devices devices part bytes outcome) c.deref_mut.ensures.value c.write_part.ensures in
     let refuses : (device : DeviceState) (dev : DevNo) → (fits w.image device.capacity → ⊥) → change w.image w.image device device (NoSpace dev)
-    = λ device dev full. refuses_written part.span bytes w.image device dev in
+    = λ device dev full. refuses_written (IsDiskFound nodes.devices part) part.span bytes w.image device dev in
     let whole : take c.self.inside.rows.len (rows ++ drop (length rows) nodes.rows) ≡ rows
     = sliced rows nodes.rows c.self.inside.rows.len (c.write_part.auto.rows ∙ ap length c.deref_mut.ensures.value) (omega (arith, c.self.inside.rows.ok.0)) in
     let new : Nodes = record nodes { rows = rows; devices = devices } in
@@ -132,7 +135,7 @@ returns-clause-kept g c =
     let devices : List DeviceState = c.write_part.new.devices in
     let outcome = c.write_part.result in
     let bytes : List ℕ = c.args.bytes.now in
-    let change : ImageChange = IsWritten part.span bytes in
+    let change : ImageChange = IsWritten (IsDiskFound nodes.devices part) part.span bytes in
     let may = subst (MayWrite nodes) (sym e.node) (rw (sym c.self.view_is) at c.requires.may) in
     let edge = subst (λ (n : ℕ). file_of nodes n ≡ Some part.file) (sym e.node) (rw (sym c.self.view_is) at e.file) in
     let source = subst (λ (n : ℕ). source_of nodes n part.whole.start ≡ part.source) (sym e.node) (rw (sym c.self.view_is) at e.source) in
@@ -141,8 +144,34 @@ returns-clause-kept g c =
     let w : WritesPart fits own change nodes.rows rows nodes.devices devices part bytes outcome
     = subst (λ (rs : List (Option Row)). WritesPart fits own change rs rows nodes.devices devices part bytes outcome) c.deref_mut.ensures.value c.write_part.ensures in
     let refuses : (device : DeviceState) (dev : DevNo) → (fits w.image device.capacity → ⊥) → change w.image w.image device device (NoSpace dev)
-    = λ device dev full. refuses_written part.span bytes w.image device dev in
+    = λ device dev full. refuses_written (IsDiskFound nodes.devices part) part.span bytes w.image device dev in
     let whole : take c.self.inside.rows.len (rows ++ drop (length rows) nodes.rows) ≡ rows
     = sliced rows nodes.rows c.self.inside.rows.len (c.write_part.auto.rows ∙ ap length c.deref_mut.ensures.value) (omega (arith, c.self.inside.rows.ok.0)) in
     let new : Nodes = record nodes { rows = rows; devices = devices } in
     rw (sym c.self.view_is) (rw whole (subst (LeavesNodes nodes new) e.node (leaves_piece nodes c.self.invariant part may edge source leads piece rows devices fits own change bytes outcome w refuses)))
+
+pub returns-clause-joined : goal.returns-clause-joined
+returns-clause-joined g c =
+    let nodes : Nodes = record { graph = c.self.inside.graph; rows = c.self.inside.rows.items; devices = c.self.inside.devices } in
+    let part : Part = c.part-part.result in
+    let e = c.part-part.ensures in
+    let fits : Known → ℕ → Type 0 = λ image. WriteFits image part.span in
+    let own : Known → Option ℕ = λ image. own_place_by (entry_for image part.span) image part.span in
+    let rows : List (Option Row) = c.write_part.new.rows in
+    let devices : List DeviceState = c.write_part.new.devices in
+    let outcome = c.write_part.result in
+    let bytes : List ℕ = c.args.bytes.now in
+    let change : ImageChange = IsWritten (IsDiskFound nodes.devices part) part.span bytes in
+    let may = subst (MayWrite nodes) (sym e.node) (rw (sym c.self.view_is) at c.requires.may) in
+    let edge = subst (λ (n : ℕ). file_of nodes n ≡ Some part.file) (sym e.node) (rw (sym c.self.view_is) at e.file) in
+    let source = subst (λ (n : ℕ). source_of nodes n part.whole.start ≡ part.source) (sym e.node) (rw (sym c.self.view_is) at e.source) in
+    let leads = subst (λ (n : ℕ). LeadsToSource nodes.graph.edges n part.source) (sym e.node) (rw (sym c.self.view_is) at e.leads) in
+    let piece = rw (sym c.self.view_is) at e.piece in
+    let w : WritesPart fits own change nodes.rows rows nodes.devices devices part bytes outcome
+    = subst (λ (rs : List (Option Row)). WritesPart fits own change rs rows nodes.devices devices part bytes outcome) c.deref_mut.ensures.value c.write_part.ensures in
+    let refuses : (device : DeviceState) (dev : DevNo) → (fits w.image device.capacity → ⊥) → change w.image w.image device device (NoSpace dev)
+    = λ device dev full. refuses_written (IsDiskFound nodes.devices part) part.span bytes w.image device dev in
+    let whole : take c.self.inside.rows.len (rows ++ drop (length rows) nodes.rows) ≡ rows
+    = sliced rows nodes.rows c.self.inside.rows.len (c.write_part.auto.rows ∙ ap length c.deref_mut.ensures.value) (omega (arith, c.self.inside.rows.ok.0)) in
+    let new : Nodes = record nodes { rows = rows; devices = devices } in
+    rw whole (joined_piece nodes c.self.invariant part may edge source leads piece rows devices fits own change bytes outcome w refuses)
