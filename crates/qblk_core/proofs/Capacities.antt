@@ -13,7 +13,7 @@ use Rattle.q2_image.specs.Room.{cluster_of, entry_for, is_whole}
 use Rattle.blk_nodes.specs.Changing.{seen, ChangesAround, ChangesBySteps, ChangesInPlace, ChangesPart, IsUnchanged, IsWritten, IsZeroed, MakesChange, PutsAround, ZeroesBy, ZeroesPart}
 use Rattle.blk_nodes.specs.Nodes.{DeviceState}
 
-module _ (image now : Known) (before after : DeviceState) where
+module _ (IsDisk : List ℕ → Type 0) (image now : Known) (before after : DeviceState) where
   abbrev HasCapacity : Type 0
   HasCapacity = after.capacity ≡ before.capacity
 
@@ -36,38 +36,38 @@ module _ (image now : Known) (before after : DeviceState) where
   in-place part bytes (Io dev count) is = own part _ is.wrote
   in-place part bytes (NoSpace dev) is = unchanged is
 
-  put-around : (part : Extent) (bytes : List ℕ) (stop : Option DevStop) → PutsAround part bytes stop image now before after → HasCapacity
+  put-around : (part : Extent) (bytes : List ℕ) (stop : Option DevStop) → PutsAround IsDisk part bytes stop image now before after → HasCapacity
   put-around part bytes stop is = is.puts.made.writes.wrote.capacity
 
-  around : (part : Extent) (bytes : List ℕ) (o : Outcome) → ChangesAround part bytes image now before after o → HasCapacity
+  around : (part : Extent) (bytes : List ℕ) (o : Outcome) → ChangesAround IsDisk part bytes image now before after o → HasCapacity
   around part bytes Good is = put-around part bytes _ is.0
   around part bytes (Torn done dev count) is = absurd is
   around part bytes (Io dev count) (inl puts) = put-around part bytes _ puts
   around part bytes (Io dev count) (inr read) = ap (λ (d : DeviceState). d.capacity) read.1.same
   around part bytes (NoSpace dev) is = unchanged is
 
-  of-part : (entry : L2Entry) (part : Extent) (bytes : List ℕ) (o : Outcome) → ChangesPart entry part bytes image now before after o → HasCapacity
+  of-part : (entry : L2Entry) (part : Extent) (bytes : List ℕ) (o : Outcome) → ChangesPart IsDisk entry part bytes image now before after o → HasCapacity
   of-part (entries.Host host) part bytes o is = in-place part bytes o is
   of-part entries.Unallocated part bytes o is = around part bytes o is
   of-part (entries.Zero host) part bytes o is = around part bytes o is
   of-part entries.Compressed part bytes o is = around part bytes o is
   of-part entries.Reserved part bytes o is = around part bytes o is
 
-  zeroes-part : (entry : L2Entry) (part : Extent) (o : Outcome) → ZeroesPart entry part image now before after o → HasCapacity
+  zeroes-part : (entry : L2Entry) (part : Extent) (o : Outcome) → ZeroesPart IsDisk entry part image now before after o → HasCapacity
   zeroes-part (entries.Zero host) part o is = unchanged is.0
   zeroes-part (entries.Host host) part o is = of-part (entries.Host host) part (replicate part.len 0) o is
   zeroes-part entries.Unallocated part o is = of-part entries.Unallocated part (replicate part.len 0) o is
   zeroes-part entries.Compressed part o is = of-part entries.Compressed part (replicate part.len 0) o is
   zeroes-part entries.Reserved part o is = of-part entries.Reserved part (replicate part.len 0) o is
 
-  zeroes-by : (whole : Bool) (part : Extent) (o : Outcome) → ZeroesBy whole part image now before after o → HasCapacity
+  zeroes-by : (whole : Bool) (part : Extent) (o : Outcome) → ZeroesBy IsDisk whole part image now before after o → HasCapacity
   zeroes-by true part o is =
       by-steps (zero_steps image (cluster_of image part)) (cluster_of image part * cluster_size_in image) (replicate (cluster_size_in image) 0)
       (λ k. entry_in k (cluster_of image part) ≡ entries.Zero (host_of (entry_in image (cluster_of image part)))) o is
   zeroes-by false part o is = zeroes-part (entry_for image part) part o is
 
-  pub written-capacity : (part : Extent) (bytes : List ℕ) (o : Outcome) → IsWritten part bytes image now before after o → HasCapacity
+  pub written-capacity : (part : Extent) (bytes : List ℕ) (o : Outcome) → IsWritten IsDisk part bytes image now before after o → HasCapacity
   written-capacity part bytes o is = of-part (entry_for image part) part bytes o is
 
-  pub zeroed-capacity : (part : Extent) (o : Outcome) → IsZeroed part image now before after o → HasCapacity
+  pub zeroed-capacity : (part : Extent) (o : Outcome) → IsZeroed IsDisk part image now before after o → HasCapacity
   zeroed-capacity part o is = zeroes-by (is_whole image part) part o is

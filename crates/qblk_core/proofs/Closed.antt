@@ -17,7 +17,8 @@ use Rattle.blk_nodes.specs.Reading.{StoppedBy}
 use Rattle.qblk_core.specs.ImageNodes.{only_device, HaveOneImage, HaveShapeOf, content_of, faults_of, capacity_of, told_disk}
 use Rattle.qblk_core.specs.Session.{fault_of, IsClosed}
 use Rattle.qblk_core.proofs.OneDevice.{head-same, content-is, faults-is, capacity-is}
-use Rattle.qblk_core.proofs.OneImage.{Goes, flush-goes, flush-size, rows-kept, shape-after, one-after, the-one}
+use Rattle.blk_pieces.proofs.Rows.{rows_kept}
+use Rattle.qblk_core.proofs.OneImage.{Goes, flush-goes, flush-size, shape-after, one-after, the-one}
 
 -- the last flush was good, or its fault is told
 abbrev pub IsFlushed : DeviceState → ℕ → Option FaultAt → Type 0
@@ -68,8 +69,8 @@ closed-facts left last flush n fault one closed tells =
       more = let least : f.before.faults ≤ n.faults = subst (λ (x : DeviceState). f.before.faults ≤ x.faults) after f.flush.faults in omega (arith, least, faults);
       content = content;
       capacity = capacity-is left one.device one.only one.node ∙ ap Some (sym capacity);
-      disk = ap (option_map (λ (_ : List ℕ). disk_of last 1)) (now ∙ sym content) ∙ ap (λ (d : List ℕ). option_map (λ (_ : List ℕ). d) (content_of left)) closed.flushed.disk;
-      shape = shape-after left last one n closed.given node capacity (rows-kept left last closed.flushed.kept);
+      disk = ap (option_map (λ (_ : List ℕ). disk_of last 1)) (now ∙ sym content) ∙ ap (λ (d : List ℕ). option_map (λ (_ : List ℕ). d) (content_of left)) (closed.flushed.disks 1);
+      shape = shape-after left last one n closed.given node capacity (rows_kept left last closed.flushed.kept);
     }
 
 -- the nodes that the last flush leaves
@@ -78,7 +79,7 @@ pub one-flushed : (left last : Nodes) (file : ℕ) (flush : Outcome) → HaveOne
 one-flushed left last file flush one flushed kept =
     let g = flush-goes left last one file flush flushed in
     one-after left last one g.device g.is g.steps.node g.steps.number
-    (λ p raw. flush-size left last one file flush g.device g.is flushed) (rows-kept left last kept)
+    (λ p raw. flush-size left last one file flush g.device g.is flushed) (rows_kept left last kept)
 
 pub closed-by : (left last : Nodes) (node : ℕ) (flush : Outcome) (back : DeviceState) (fault : Option FaultAt) → HaveOneImage left → node ≡ 1
     → IsFlushAt (base_of left node) left.devices last.devices flush → last ≡ record left { devices = last.devices } → ((other : ℕ) → disk_of last other ≡ disk_of left other)
@@ -86,7 +87,7 @@ pub closed-by : (left last : Nodes) (node : ℕ) (flush : Outcome) (back : Devic
 closed-by left last node flush back fault one image flushed kept disks joined whole told given =
     let at : IsFlushAt (base_of left 1) left.devices last.devices flush = subst (λ (n : ℕ). IsFlushAt (base_of left n) left.devices last.devices flush) image flushed in
     record {
-      flushed = record { flushed = at; kept = kept; disk = disks 1 };
+      flushed = record { flushed = at; kept = kept; disks = disks };
       told = told;
       joined = joined;
       disks = whole;

@@ -3,7 +3,8 @@ use Rattle.std.proofs.Common.{◌≡◌, ℕ, List, [], ◌∷◌, length, get_o
 use Rattle.std.specs.Prelude.{codes, bytes_eq}
 use Rattle.std.proofs.lemmas.Slice.Eq.{bytes_eq-Decides}
 use Rattle.blk_base.specs.Written.{Written}
-use Rattle.qblk_core.specs.Words.{is_file_name, format_of, format_word, IsIo, texts_of}
+use Rattle.qblk_inputs.specs.Words.{is_file_name, texts_of}
+use Rattle.qblk_core.specs.Words.{format_of, format_word, IsIo}
 use Rattle.qblk_core.specs.declared.words.Format.{Format}
 use Rattle.qblk_core.specs.declared.words.Format.TheVariants.{Raw, Qcow2}
 

@@ -110,7 +110,7 @@ comes-push first w v e comes adds = record {
 adds-admission : (first : Nodes) (w : Face) (op : Op) → Comes first w → w.guest.flight ≡ None → IsJudged w op None → Adds w (after_admission w op None) (Admit 0 w.guest.done op)
 adds-admission first w op comes idle judged = record {
   events = refl;
-  line = record { whose = refl; shown = omega arith };
+  line = record { whose = refl; shown = omega arith; small = tt };
   shape = shape-same w.nodes;
   on_image = refl;
   access = refl;
@@ -132,7 +132,7 @@ adds-admission first w op comes idle judged = record {
 adds-refusal : (first : Nodes) (w : Face) (op : Op) (why : Refused) → Comes first w → w.guest.flight ≡ None → IsJudged w op (Some why) → Adds w (after_admission w op (Some why)) (Refuse 0 w.guest.done op why)
 adds-refusal first w op why comes idle judged = record {
   events = refl;
-  line = record { whose = refl; shown = omega arith };
+  line = record { whose = refl; shown = omega arith; small = tt };
   shape = shape-same w.nodes;
   on_image = refl;
   access = refl;
@@ -159,7 +159,7 @@ adds-retirement w is =
     let found = over w.guest.flight is in
     record {
       events = refl;
-      line = record { whose = refl; shown = omega arith };
+      line = record { whose = refl; shown = omega arith; small = tt };
       shape = shape-same w.nodes;
       on_image = refl;
       access = refl;
@@ -194,7 +194,7 @@ state-after w v f outcome got on_image is puts =
 adds-piece : (first : Nodes) (w v : Face) (f : Flight) (outcome : Outcome) (got : List ℕ) → Comes first w → w.guest.flight ≡ Some f → CanPiece w.log f → PutsPiece w v f outcome got → Adds w v (Piece 0 w.guest.done f.next outcome got)
 adds-piece first w v f outcome got comes is can puts = record {
   events = ap (λ (l : Recorded). l.events) puts.made.log;
-  line = record { whose = refl; shown = puts.made.small };
+  line = record { whose = refl; shown = puts.made.small; small = puts.made.fits };
   shape = puts.made.shape;
   on_image = ap (λ (g : Guest). g.node) puts.guest;
   access = ap (λ (g : Guest). g.is_read_only) puts.guest;

@@ -14,3 +14,5 @@ pub mod Whole
 pub mod Forms
 pub mod Returned
 pub mod Quiet
+pub mod Numbered
+pub mod Completeness

@@ -31,7 +31,7 @@ use Rattle.q2_format.specs.Sound.{IsSound}
 use Rattle.q2_format.specs.declared.header.Header.{Header}
 use Rattle.q2_image.specs.Image.{Known, IsImageOf}
 use Rattle.q2_image.proofs.Guests.{length-image_disk}
-use Rattle.raw_image.specs.declared.image.RawImage.{RawImage}
+use Rattle.blk_nodes.specs.declared.row.RawImage.{RawImage}
 use Rattle.blk_nodes.specs.Adding.{with_node, with_device, with_below, file_edge, guest_edge, raw_row, kind_with, IsDenied, IsOverStop}
 use Rattle.blk_nodes.specs.Contents.{disk_of, disk_by, Unfolds, told, below, bytes_of, bytes_by, file_node_disk}
 use Rattle.blk_nodes.specs.Joined.{IsJoined, IsFile, IsOverlay, IsSized, HasBelow}

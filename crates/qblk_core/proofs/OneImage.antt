@@ -1,61 +1,45 @@
 -- What a piece leaves of the nodes of one image.
-use Rattle.std.proofs.Common.{◌≡◌, ◌≢◌, ◌⊎◌, ℕ, ◌+◌, ◌<◌, ◌≤◌, max, Bool, true, false, List, [], ◌∷◌, length, take, replicate, get_or, zero, suc, Option, Some, None, refl, sym, ◌∙◌, ap, subst, inl, inr, arith}
-use Rattle.std.specs.Prelude.{IsTrue, is_some, option_map}
+use Rattle.std.proofs.Common.{◌≡◌, ◌≢◌, ℕ, ◌+◌, ◌≤◌, List, [], ◌∷◌, length, take, replicate, zero, suc, Option, Some, None, refl, sym, ◌∙◌, ap, subst, inl, inr, arith}
+use Rattle.std.specs.Prelude.{is_some, option_map}
 use Rattle.std.proofs.lemmas.Bool.{false≢true, cases_eq}
-use Rattle.std.proofs.lemmas.List.{length-replicate, length-take, take_all}
+use Rattle.std.proofs.lemmas.List.{length-replicate, length-take}
 use Rattle.blk_base.specs.Content.{with_bytes, size_with}
 use Rattle.blk_base.specs.Counts.{Rose}
 use Rattle.blk_base.specs.Pieces.{Extent, end_of}
 use Rattle.blk_base.specs.declared.fault.DevNo.{DevNo}
 use Rattle.blk_base.specs.declared.fault.Outcome.{Outcome}
 use Rattle.blk_base.specs.declared.fault.Outcome.TheVariants.{Good, Torn, Io, NoSpace}
-use Rattle.blk_base.proofs.Contents.{length-bytes_at}
 use Rattle.trace_codec.specs.declared.op.Op.{Op}
 use Rattle.trace_codec.specs.declared.op.Op.TheVariants.{Read, Write, Zero, Flush, Discard}
-use Rattle.trace_codec.specs.declared.op.Payload.TheVariants.{Fill, Raw}
+use Rattle.trace_codec.specs.declared.op.Payload.TheVariants.{Raw}
 use Rattle.blk_graph.specs.Edits.{child_of}
 use Rattle.blk_graph.specs.Graph.{Graph, HasNode}
 use Rattle.blk_graph.specs.declared.edge.Parent.TheVariants.{Node}
 use Rattle.blk_graph.specs.declared.edge.Role.TheVariants.{File, Backing}
-use Rattle.blk_history.specs.Disk.{payload_in, shown_in, done_in, is_write}
+use Rattle.blk_history.specs.Disk.{payload_in, done_in}
 use Rattle.blk_history.specs.Legal.{Tells}
 use Rattle.blk_history.specs.Machine.{done_by}
 use Rattle.q2_format.specs.declared.header.Header.{Header}
-use Rattle.q2_image.specs.Image.{Known}
-use Rattle.raw_image.specs.declared.image.RawImage.{RawImage}
+use Rattle.blk_nodes.specs.declared.row.RawImage.{RawImage}
 use Rattle.blk_nodes.specs.Changing.{IsWritten, IsZeroed, LeavesRow}
-use Rattle.blk_nodes.specs.Contents.{disk_of}
+use Rattle.blk_nodes.specs.Contents.{IsToldDisk, disk_of}
 use Rattle.blk_nodes.specs.Flushing.{base_in, base_of, HasFlushCause, IsFlushAt}
 use Rattle.blk_nodes.specs.Joined.{IsJoined, IsSized}
-use Rattle.blk_nodes.specs.Nodes.{Nodes, DeviceState, AreTold, row_at, size_by, size_of, kind_in, kind_of, file_of, backing_of, device_in}
-use Rattle.blk_nodes.specs.Reading.{HasRisen, HaveRisen, OnlyAt, StoppedBy, StoppedAt, IsReadBelow, ReadsDisk}
-use Rattle.blk_nodes.specs.Writing.{IsDriverAfter, IsRowAfter, AreRowsAfter, LeavesNodes, HasCauseOf, HasPieceCause, IsTornAt, IsWriteOf, WritesFile, WritesImage, WritesBy, ZerosBy, WritesPiece, ZerosPiece, MayWrite, CanBeWritten, HasImageIn, own_file, own_start, taken_by}
+use Rattle.blk_nodes.specs.Nodes.{Nodes, DeviceState, AreTold, row_at, size_by, size_of, kind_in, kind_of, device_in}
+use Rattle.blk_nodes.specs.Reading.{HasRisen, HaveRisen, OnlyAt, StoppedBy, StoppedAt, IsReadBelow}
+use Rattle.blk_nodes.specs.Writing.{IsDriverAfter, IsRowAfter, AreRowsAfter, HasCauseOf, HasPieceCause, IsWriteOf, WritesFile, WritesImage, WritesBy, ZerosBy, MayWrite, CanBeWritten, own_start, taken_by}
 use Rattle.blk_nodes.specs.declared.row.Driver.{Driver}
 use Rattle.blk_nodes.specs.declared.row.Driver.TheVariants as drivers
 use Rattle.blk_nodes.specs.declared.row.Row.{Row}
-use Rattle.blk_nodes.proofs.Alike.{alike_but, row_refl}
+use Rattle.blk_pieces.specs.Pieces.{CanTransfer, Transfers, shown_of}
+use Rattle.blk_pieces.proofs.Payloads.{payload_length, taken_is}
+use Rattle.blk_pieces.proofs.Rows.{RowsAfter, rows_after}
+use Rattle.blk_pieces.proofs.Told.{tells, torn_by}
 use Rattle.qblk_core.specs.Along.{HasForm}
 use Rattle.qblk_core.specs.ImageNodes.{only_device, IsOnFile, HaveOneImage, HaveShapeOf, content_of, told_disk, faults_of}
-use Rattle.qblk_core.specs.Pieces.{CanTransfer, Transfers, shown_of}
 use Rattle.qblk_core.specs.Steps.{HasCause}
 use Rattle.qblk_core.proofs.Capacities.{written-capacity, zeroed-capacity}
 use Rattle.qblk_core.proofs.OneDevice.{first-found, head-same, only-one, risen-one, told-one, content-is, faults-is, capacity-is, stopped-by, stopped-at}
-
--- what puts bytes has as many of them as its part
-abbrev IsPutting : Op → Type 0
-IsPutting (Read span) = ⊥
-IsPutting (Write span payload) = Unit {0}
-IsPutting (Zero span) = Unit {0}
-IsPutting Flush = ⊥
-IsPutting (Discard span) = ⊥
-
-payload-length : (op : Op) (part : Extent) → IsPutting op → length (payload_in op part) ≡ part.len
-payload-length (Read span) part bad = absurd bad
-payload-length (Write span (Fill byte)) part is = length-replicate part.len byte
-payload-length (Write span (Raw bytes)) part is = length-bytes_at bytes _ part.len
-payload-length (Zero span) part is = length-replicate part.len 0
-payload-length Flush part bad = absurd bad
-payload-length (Discard span) part bad = absurd bad
 
 -- ---- what may be asked of the image's node
 
@@ -203,21 +187,21 @@ module _ (old new : Nodes) (one : HaveOneImage old) where
       )
 
   write-goes : (part : Extent) (bytes : List ℕ) (outcome : Outcome) (row : Row) (driver : Driver) → WritesBy driver old new 1 part bytes outcome
-      → LeavesRow (IsWritten part bytes) driver row old new 1 outcome → Goes one.device new.devices outcome
+      → LeavesRow (IsWritten (IsToldDisk old 1) part bytes) driver row old new 1 outcome → Goes one.device new.devices outcome
   write-goes part bytes outcome row drivers.File wrote left = file-goes part.start bytes outcome wrote
   write-goes part bytes outcome row (drivers.Raw p) wrote left = file-goes part.start bytes outcome wrote
   write-goes part bytes outcome row (drivers.Qcow2 image) wrote left =
       image-goes _ _ _ outcome wrote
-      (written-capacity image left.now wrote.before wrote.after part bytes outcome (left.changed wrote.file wrote.before wrote.after wrote.edge wrote.held wrote.left))
+      (written-capacity (IsToldDisk old 1) image left.now wrote.before wrote.after part bytes outcome (left.changed wrote.file wrote.before wrote.after wrote.edge wrote.held wrote.left))
   write-goes part bytes outcome row drivers.CopyOnRead wrote left = file-goes part.start bytes outcome wrote
 
-  zero-goes : (part : Extent) (outcome : Outcome) (row : Row) (driver : Driver) → ZerosBy driver old new 1 part outcome → LeavesRow (IsZeroed part) driver row old new 1 outcome
+  zero-goes : (part : Extent) (outcome : Outcome) (row : Row) (driver : Driver) → ZerosBy driver old new 1 part outcome → LeavesRow (IsZeroed (IsToldDisk old 1) part) driver row old new 1 outcome
       → Goes one.device new.devices outcome
   zero-goes part outcome row drivers.File wrote left = file-goes part.start (replicate part.len 0) outcome wrote
   zero-goes part outcome row (drivers.Raw p) wrote left = file-goes part.start (replicate part.len 0) outcome wrote
   zero-goes part outcome row (drivers.Qcow2 image) wrote left =
       image-goes _ _ _ outcome wrote
-      (zeroed-capacity image left.now wrote.before wrote.after part outcome (left.changed wrote.file wrote.before wrote.after wrote.edge wrote.held wrote.left))
+      (zeroed-capacity (IsToldDisk old 1) image left.now wrote.before wrote.after part outcome (left.changed wrote.file wrote.before wrote.after wrote.edge wrote.held wrote.left))
   zero-goes part outcome row drivers.CopyOnRead wrote left = file-goes part.start (replicate part.len 0) outcome wrote
 
   read-goes : (outcome : Outcome) → IsReadBelow old new 1 outcome → HaveRisen old.devices new.devices → Goes one.device new.devices outcome
@@ -274,26 +258,6 @@ module _ (old new : Nodes) (one : HaveOneImage old) where
       ∙ ap (λ (x : DeviceState). x.size) r.1
 
 -- ---- the rows
-
-pub record RowsAfter (old new : Nodes) : Type 0 where
-  pub graph : new.graph ≡ old.graph
-  pub rows : (n : ℕ) → AreRowsAfter (row_at old n) (row_at new n)
-
-pub rows-kept : (old new : Nodes) → new ≡ record old { devices = new.devices } → RowsAfter old new
-rows-kept old new kept = record {
-  graph = ap (λ (n : Nodes). n.graph) kept;
-  rows = λ n. subst (λ (rs : List (Option Row)). AreRowsAfter (row_at old n) (get_or rs n None)) (sym (ap (λ (n : Nodes). n.rows) kept)) (row_refl (row_at old n));
-}
-
-rows-left : (old new : Nodes) → LeavesNodes old new 1 → RowsAfter old new
-rows-left old new leaves = record { graph = leaves.graph; rows = alike_but old new 1 leaves.others leaves.own }
-
-pub rows-after : (old new : Nodes) (op : Op) (part : Extent) (outcome : Outcome) (buffer : List ℕ) → Transfers op old new 1 part outcome buffer → RowsAfter old new
-rows-after old new (Read span) part outcome buffer did = rows-kept old new did.kept
-rows-after old new (Write span payload) part outcome buffer did = rows-left old new did.1.kept
-rows-after old new (Zero span) part outcome buffer did = rows-left old new did.1.kept
-rows-after old new Flush part outcome buffer did = rows-kept old new did.kept
-rows-after old new (Discard span) part outcome buffer did = absurd did
 
 size-after : (a b : Option Row) → AreRowsAfter a b → size_by b ≡ size_by a
 size-after None b is = ap size_by is
@@ -395,7 +359,7 @@ module _ (old new : Nodes) (joined : IsJoined old) (one : HaveOneImage old) (p :
       ap (λ (x : DeviceState). x.size) (head-same e r.0 [] (sym is ∙ r.1)) ∙ ap (λ (x : DeviceState). x.size) r.2.same
   size-after-piece (Write span payload) part outcome buffer e is inside did =
       let bytes : List ℕ = payload_in (Write span payload) part in
-      file-size part bytes outcome e is (payload-length (Write span payload) part tt) inside
+      file-size part bytes outcome e is (payload_length (Write span payload) part tt) inside
       (subst (λ (d : Driver). WritesBy d old new 1 part bytes outcome) (same-row did.0.row did.0.there) did.0.wrote)
   size-after-piece (Zero span) part outcome buffer e is inside did =
       file-size part (replicate part.len 0) outcome e is (length-replicate part.len 0) inside
@@ -405,80 +369,11 @@ module _ (old new : Nodes) (joined : IsJoined old) (one : HaveOneImage old) (p :
 
 -- ---- what its outcome tells
 
-torn-file : (before after : DeviceState) (place n done : ℕ) (dev : DevNo) (count : ℕ) → HasCauseOf before after place n (Torn done dev count) → (0 < done) × (done < n)
-torn-file before after place n done dev count cause = (cause.1, cause.2)
-
-torn-image : (own : Option ℕ) (n done : ℕ) → IsTornAt own n done → (0 < done) × (done < n)
-torn-image None n done never = absurd never
-torn-image (Some place) n done is = (is.0, is.1)
-
-torn-write : (old new : Nodes) (part : Extent) (bytes : List ℕ) (done : ℕ) (dev : DevNo) (count : ℕ) (d : Driver) → WritesBy d old new 1 part bytes (Torn done dev count)
-    → (0 < done) × (done < length bytes)
-torn-write old new part bytes done dev count drivers.File wrote = torn-file wrote.at.before wrote.at.after wrote.start (length bytes) done dev count wrote.at.wrote.cause
-torn-write old new part bytes done dev count (drivers.Raw p) wrote = torn-file wrote.at.before wrote.at.after wrote.start (length bytes) done dev count wrote.at.wrote.cause
-torn-write old new part bytes done dev count (drivers.Qcow2 image) wrote = torn-image _ (length bytes) done wrote.cause.1
-torn-write old new part bytes done dev count drivers.CopyOnRead wrote = torn-file wrote.at.before wrote.at.after wrote.start (length bytes) done dev count wrote.at.wrote.cause
-
-torn-zero : (old new : Nodes) (part : Extent) (done : ℕ) (dev : DevNo) (count : ℕ) (d : Driver) → ZerosBy d old new 1 part (Torn done dev count)
-    → (0 < done) × (done < part.len)
-torn-zero old new part done dev count drivers.File wrote =
-    let is = torn-file wrote.at.before wrote.at.after wrote.start (length (replicate {A = ℕ} part.len 0)) done dev count wrote.at.wrote.cause in
-    let len = length-replicate {A = ℕ} part.len 0 in
-    (is.0, omega (arith, is.1, len))
-torn-zero old new part done dev count (drivers.Raw p) wrote =
-    let is = torn-file wrote.at.before wrote.at.after wrote.start (length (replicate {A = ℕ} part.len 0)) done dev count wrote.at.wrote.cause in
-    let len = length-replicate {A = ℕ} part.len 0 in
-    (is.0, omega (arith, is.1, len))
-torn-zero old new part done dev count (drivers.Qcow2 image) wrote = torn-image _ part.len done wrote.cause.1
-torn-zero old new part done dev count drivers.CopyOnRead wrote =
-    let is = torn-file wrote.at.before wrote.at.after wrote.start (length (replicate {A = ℕ} part.len 0)) done dev count wrote.at.wrote.cause in
-    let len = length-replicate {A = ℕ} part.len 0 in
-    (is.0, omega (arith, is.1, len))
-
--- only a write is torn, behind some of its bytes and not all
-torn-by : (old new : Nodes) (op : Op) (part : Extent) (done : ℕ) (dev : DevNo) (count : ℕ) (buffer : List ℕ) → Transfers op old new 1 part (Torn done dev count) buffer
-    → (is_write op ≡ true) × (0 < done) × (done < part.len)
-torn-by old new (Read span) part done dev count buffer did = absurd did.outcome_is
-torn-by old new (Write span payload) part done dev count buffer did =
-    let is = torn-write old new part (payload_in (Write span payload) part) done dev count did.0.row.driver did.0.wrote in
-    let len = payload-length (Write span payload) part tt in
-    (refl, is.0, omega (arith, is.1, len))
-torn-by old new (Zero span) part done dev count buffer did = let is = torn-zero old new part done dev count did.0.row.driver did.0.wrote in (refl, is.0, is.1)
-torn-by old new Flush part done dev count buffer did = absurd did.flushed.flush.cause
-torn-by old new (Discard span) part done dev count buffer did = absurd did
-
 pub has-form : (old new : Nodes) (op : Op) (part : Extent) (outcome : Outcome) (buffer : List ℕ) → Transfers op old new 1 part outcome buffer → HasForm outcome op part
 has-form old new op part Good buffer did = tt
-has-form old new op part (Torn done dev count) buffer did = torn-by old new op part done dev count buffer did
+has-form old new op part (Torn done dev count) buffer did = torn_by old new 1 op part done dev count buffer did
 has-form old new op part (Io dev count) buffer did = tt
 has-form old new op part (NoSpace dev) buffer did = tt
-
-shown-none : (op : Op) (outcome : Outcome) (buffer : List ℕ) → (outcome ≡ Good → ⊥) → shown_of op outcome buffer ≡ []
-shown-none (Read span) Good buffer none = absurd (none refl)
-shown-none (Read span) (Torn done dev count) buffer none = refl
-shown-none (Read span) (Io dev count) buffer none = refl
-shown-none (Read span) (NoSpace dev) buffer none = refl
-shown-none (Write span payload) outcome buffer none = refl
-shown-none (Zero span) outcome buffer none = refl
-shown-none Flush outcome buffer none = refl
-shown-none (Discard span) outcome buffer none = refl
-
-good-tells : (old new : Nodes) (op : Op) (part : Extent) (buffer : List ℕ) → AreTold old.devices → Transfers op old new 1 part Good buffer
-    → shown_of op Good buffer ≡ shown_in op part (disk_of old 1)
-good-tells old new (Read span) part buffer told did = did.read told
-good-tells old new (Write span payload) part buffer told did = refl
-good-tells old new (Zero span) part buffer told did = refl
-good-tells old new Flush part buffer told did = refl
-good-tells old new (Discard span) part buffer told did = absurd did
-
-tells-by : (old new : Nodes) (op : Op) (part : Extent) (outcome : Outcome) (buffer : List ℕ) → AreTold old.devices → Transfers op old new 1 part outcome buffer
-    → Tells outcome op part (Some (disk_of old 1)) (shown_of op outcome buffer)
-tells-by old new op part Good buffer told did = good-tells old new op part buffer told did
-tells-by old new op part (Torn done dev count) buffer told did =
-    let torn = torn-by old new op part done dev count buffer did in
-    (torn.0, torn.1, torn.2, shown-none op (Torn done dev count) buffer (λ bad. let e : ⊥ = cc bad in e))
-tells-by old new op part (Io dev count) buffer told did = shown-none op (Io dev count) buffer (λ bad. let e : ⊥ = cc bad in e)
-tells-by old new op part (NoSpace dev) buffer told did = shown-none op (NoSpace dev) buffer (λ bad. let e : ⊥ = cc bad in e)
 
 -- ---- the disk
 
@@ -486,20 +381,14 @@ nothing-taken : (disk : List ℕ) (at n : ℕ) → with_bytes disk at (take n []
 nothing-taken disk at zero = refl
 nothing-taken disk at (suc n) = refl
 
-taken-is : (op : Op) (part : Extent) (outcome : Outcome) → IsPutting op → taken_by outcome (payload_in op part) ≡ take (done_by outcome part) (payload_in op part)
-taken-is op part Good is = let len = payload-length op part is in sym (take_all part.len (payload_in op part) (omega (arith, len)))
-taken-is op part (Torn done dev count) is = refl
-taken-is op part (Io dev count) is = refl
-taken-is op part (NoSpace dev) is = refl
-
 disk-by : (old new : Nodes) (op : Op) (part : Extent) (outcome : Outcome) (buffer : List ℕ) → AreTold old.devices → Transfers op old new 1 part outcome buffer
     → disk_of new 1 ≡ done_in op part (done_by outcome part) (disk_of old 1)
-disk-by old new (Read span) part outcome buffer told did = did.disk ∙ sym (nothing-taken (disk_of old 1) part.start (done_by outcome part))
+disk-by old new (Read span) part outcome buffer told did = did.disks 1 ∙ sym (nothing-taken (disk_of old 1) part.start (done_by outcome part))
 disk-by old new (Write span payload) part outcome buffer told did =
-    did.1.disk told ∙ ap (with_bytes (disk_of old 1) part.start) (taken-is (Write span payload) part outcome tt)
+    did.1.disk told ∙ ap (with_bytes (disk_of old 1) part.start) (taken_is (Write span payload) part outcome tt)
 disk-by old new (Zero span) part outcome buffer told did =
-    did.1.disk told ∙ ap (with_bytes (disk_of old 1) part.start) (taken-is (Zero span) part outcome tt)
-disk-by old new Flush part outcome buffer told did = did.disk ∙ sym (nothing-taken (disk_of old 1) part.start (done_by outcome part))
+    did.1.disk told ∙ ap (with_bytes (disk_of old 1) part.start) (taken_is (Zero span) part outcome tt)
+disk-by old new Flush part outcome buffer told did = did.disks 1 ∙ sym (nothing-taken (disk_of old 1) part.start (done_by outcome part))
 disk-by old new (Discard span) part outcome buffer told did = absurd did
 
 by-content : (c k : Option (List ℕ)) (was is : List ℕ) (f : List ℕ → List ℕ) → is_some k ≡ is_some c → ((b : List ℕ) → c ≡ Some b → is ≡ f was)
@@ -527,7 +416,7 @@ module _ (old new : Nodes) (joined : IsJoined old) (one : HaveOneImage old) (op 
       let t = told-is (content_of old) (disk_of old 1) disk told in
       let content : one.device.content ≡ Some t.0 = sym (content-is old one.device one.only one.node) ∙ t.1 in
       subst (λ (d : List ℕ). Tells outcome op part (Some d) (shown_of op outcome buffer)) t.2
-      (tells-by old new op part outcome buffer (are-told t.0 content) did)
+      (tells old new 1 part buffer (are-told t.0 content) op outcome (Some (disk_of old 1)) refl did)
 
   pub piece-disk : told_disk new ≡ option_map (done_in op part (done_by outcome part)) (told_disk old)
   piece-disk =
@@ -555,10 +444,10 @@ module _ (old new : Nodes) (joined : IsJoined old) (one : HaveOneImage old) (op 
 
   pub piece-shape : HaveShapeOf old new
   piece-shape =
-      let g = gone in shape-after old new one g.device g.is g.steps.node g.steps.capacity (rows-after old new op part outcome buffer did)
+      let g = gone in shape-after old new one g.device g.is g.steps.node g.steps.capacity (rows_after old new 1 op part outcome buffer did)
 
   pub piece-one : end_of part ≤ size_of old 1 → HaveOneImage new
   piece-one inside =
       let g = gone in
       one-after old new one g.device g.is g.steps.node g.steps.number
-      (λ p raw. size-after-piece old new joined one p raw op part outcome buffer g.device g.is inside did) (rows-after old new op part outcome buffer did)
+      (λ p raw. size-after-piece old new joined one p raw op part outcome buffer g.device g.is inside did) (rows_after old new 1 op part outcome buffer did)

@@ -78,15 +78,15 @@ found-device d old file x over held = first-found d x file (subst (λ (n : Nodes
 
 named-stop : (d e : DeviceState) (stop : ImageStop) → ((bytes : List ℕ) → d.content ≡ Some bytes → Names (image_refusal bytes) stop) → HasCause d.faults e.faults stop
     → StopsAs Qcow2 d e (stop_by stop)
-named-stop d e (stops.Header stop) named cause = record { bytes = named; there = λ bad. absurd (let no : ⊥ = cc bad in no); cause = refl }
-named-stop d e (stops.Offset offset) named cause = record { bytes = named; there = λ bad. absurd (let no : ⊥ = cc bad in no); cause = refl }
-named-stop d e (stops.Reserved table index) named cause = record { bytes = named; there = λ bad. absurd (let no : ⊥ = cc bad in no); cause = refl }
-named-stop d e (stops.Compressed cluster) named cause = record { bytes = named; there = λ bad. absurd (let no : ⊥ = cc bad in no); cause = refl }
-named-stop d e (stops.Overlap cluster) named cause = record { bytes = named; there = λ bad. absurd (let no : ⊥ = cc bad in no); cause = refl }
-named-stop d e (stops.Refcount cluster) named cause = record { bytes = named; there = λ bad. absurd (let no : ⊥ = cc bad in no); cause = refl }
-named-stop d e stops.HeaderFull named cause = record { bytes = named; there = λ bad. absurd (let no : ⊥ = cc bad in no); cause = refl }
+named-stop d e (stops.Header stop) named cause = (record { bytes = named; there = λ bad. absurd (let no : ⊥ = cc bad in no); cause = refl }, cause)
+named-stop d e (stops.Offset offset) named cause = (record { bytes = named; there = λ bad. absurd (let no : ⊥ = cc bad in no); cause = refl }, cause)
+named-stop d e (stops.Reserved table index) named cause = (record { bytes = named; there = λ bad. absurd (let no : ⊥ = cc bad in no); cause = refl }, cause)
+named-stop d e (stops.Compressed cluster) named cause = (record { bytes = named; there = λ bad. absurd (let no : ⊥ = cc bad in no); cause = refl }, cause)
+named-stop d e (stops.Overlap cluster) named cause = (record { bytes = named; there = λ bad. absurd (let no : ⊥ = cc bad in no); cause = refl }, cause)
+named-stop d e (stops.Refcount cluster) named cause = (record { bytes = named; there = λ bad. absurd (let no : ⊥ = cc bad in no); cause = refl }, cause)
+named-stop d e stops.HeaderFull named cause = (record { bytes = named; there = λ bad. absurd (let no : ⊥ = cc bad in no); cause = refl }, cause)
 named-stop d e (stops.Io count) named cause = (refl, cause.0, cause.1)
-named-stop d e stops.NoMemory named cause = tt
+named-stop d e stops.NoMemory named cause = cause
 
 pub unopened : (d : DeviceState) (old new : Nodes) (file : ℕ) (stop : ImageStop) → IsFileOver d old → IsUnopened old.devices new.devices file stop → HaveRisen old.devices new.devices
     → IsOverStop Qcow2 old new (stop_by stop)

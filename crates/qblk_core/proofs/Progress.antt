@@ -1,15 +1,14 @@
 -- How far a request is after each of its pieces.
-use Rattle.std.proofs.Common.{◌≡◌, ℕ, ◌+◌, ◌<◌, ◌≤◌, true, false, not, List, [], ◌∷◌, ◌++◌, refl, sym, ◌∙◌, ap, subst, arith, inl, inr, Option, Some, None}
+use Rattle.std.proofs.Common.{◌≡◌, ℕ, ◌+◌, ◌<◌, true, false, not, List, [], ◌∷◌, ◌++◌, refl, sym, ◌∙◌, ap, subst, arith, inl, inr, Option, Some, None}
 use Rattle.std.specs.Prelude.{option_map}
 use Rattle.std.specs.Prelude.{is_some}
 use Rattle.std.proofs.lemmas.Bool.{false≢true}
 use Rattle.std.proofs.lemmas.List.{append-nil}
-use Rattle.blk_base.specs.Pieces.{count_of_pieces, piece_of}
 use Rattle.blk_base.specs.Outcomes.{is_good}
 use Rattle.blk_base.specs.declared.fault.Outcome.{Outcome}
 use Rattle.trace_codec.specs.declared.op.Op.{Op}
 use Rattle.trace_codec.specs.declared.op.Op.TheVariants.{Read, Write, Zero, Flush, Discard}
-use Rattle.trace_codec.specs.Request.{pieces_of, read_bytes_of}
+use Rattle.trace_codec.specs.Request.{pieces_of}
 use Rattle.blk_history.specs.Disk.{piece}
 use Rattle.blk_history.specs.Fold.{With}
 use Rattle.blk_history.specs.Machine.{Flight, Guest, one_further, past_piece}
@@ -21,26 +20,12 @@ use Rattle.blk_history.specs.declared.event.Event.TheVariants as events
 use Rattle.blk_history.specs.declared.entry.Refused.{Refused}
 use Rattle.blk_history.proofs.Folds.{asked-push}
 use Rattle.qblk_core.specs.Face.{Face}
-use Rattle.qblk_core.specs.Steps.{CanPiece, PutsPiece, shows_in, after_admission, after_retirement}
 use Rattle.blk_nodes.specs.Nodes.{Nodes}
+use Rattle.blk_pieces.specs.Pieces.{shown_before}
+use Rattle.blk_pieces.proofs.Shown.{shown_next, shown_within}
+use Rattle.qblk_core.specs.Steps.{CanPiece, PutsPiece, after_admission, after_retirement}
 use Rattle.qblk_core.specs.Comes.{Comes}
-use Rattle.qblk_core.specs.Requests.{shown_before, CanRun, AtPiece, PiecesDone, HasRoom, RequestDone}
-
--- a piece shows no more than lies between it and the next
-pub shown-next : (op : Op) (k : ℕ) → k < pieces_of op → shows_in op (piece op k).len + shown_before op k ≤ shown_before op (k + 1)
-unfolding count_of_pieces piece_of
-shown-next (Read span) k below = omega arith
-shown-next (Write span payload) k below = omega arith
-shown-next (Zero span) k below = omega arith
-shown-next Flush k below = omega arith
-shown-next (Discard span) k below = omega arith
-
-pub shown-within : (op : Op) (k : ℕ) → shown_before op k ≤ read_bytes_of op
-shown-within (Read span) k = omega arith
-shown-within (Write span payload) k = omega arith
-shown-within (Zero span) k = omega arith
-shown-within Flush k = omega arith
-shown-within (Discard span) k = omega arith
+use Rattle.qblk_core.specs.Requests.{CanRun, AtPiece, PiecesDone, HasRoom, RequestDone}
 
 shown-start : (op : Op) → shown_before op 0 ≡ 0
 shown-start (Read span) = omega arith
@@ -61,8 +46,8 @@ start-piece w pieces f is can = record {
 
 pub can-piece : (old now : Face) (pieces k : ℕ) (f : Flight) → CanRun old pieces f → AtPiece old now k f → k < pieces → CanPiece now.log (record f { next = k })
 can-piece old now pieces k f can at below =
-    let next = shown-next f.op k (omega arith) in
-    let within = shown-within f.op (k + 1) in
+    let next = shown_next f.op k (omega arith) in
+    let within = shown_within f.op (k + 1) in
     record { running = can.running; next = omega arith; numbered = can.numbered; room = omega arith; byte_room = omega arith }
 
 -- an entry of a piece asks for nothing
@@ -89,7 +74,7 @@ pub next-piece : (old now v : Face) (k : ℕ) (f : Flight) (outcome : Outcome) (
 next-piece old now v k f outcome got running below at puts good comes =
     let log = puts.made.log in
     let bound = puts.made.bound in
-    let shown = shown-next f.op k below in
+    let shown = shown_next f.op k below in
     let room = ap (λ (l : Recorded). l.room) log in
     let byte_room = ap (λ (l : Recorded). l.byte_room) log in
     let after = flight-after outcome now v (record f { next = k }) at.flight puts.guest in
@@ -107,8 +92,8 @@ pub last-piece : (old now v : Face) (k : ℕ) (f : Flight) (outcome : Outcome) (
 last-piece old now v k f outcome got below at puts bad comes =
     let log = puts.made.log in
     let bound = puts.made.bound in
-    let shown = shown-next f.op k below in
-    let within = shown-within f.op (k + 1) in
+    let shown = shown_next f.op k below in
+    let within = shown_within f.op (k + 1) in
     let room = ap (λ (l : Recorded). l.room) log in
     let byte_room = ap (λ (l : Recorded). l.byte_room) log in
     let after = flight-after outcome now v (record f { next = k }) at.flight puts.guest in
@@ -123,7 +108,7 @@ last-piece old now v k f outcome got below at puts bad comes =
 
 pub all-pieces : (old now : Face) (f : Flight) → AtPiece old now (pieces_of f.op) f → PiecesDone old now f
 all-pieces old now f at =
-    let within = shown-within f.op (pieces_of f.op) in
+    let within = shown_within f.op (pieces_of f.op) in
     record {
       over = over-with now.guest.flight _ at.flight (inl refl);
       done = at.done;

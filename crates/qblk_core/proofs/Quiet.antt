@@ -30,7 +30,7 @@ abbrev first-of : List ℕ → ℕ
 first-of [] = 0
 first-of (c ∷ cs) = c
 
-grows : (c count : ℕ) (h : List Event) → HaveRisen (c ∷ []) h → counted (c ∷ []) h ≡ count ∷ [] → min c 18446744073709551615 ≤ count
+pub grows : (c count : ℕ) (h : List Event) → HaveRisen (c ∷ []) h → counted (c ∷ []) h ≡ count ∷ [] → min c 18446744073709551615 ≤ count
 grows c count [] risen same = let is : c ≡ count = ap first-of same in omega arith
 grows c count (e ∷ es) risen same =
     let s = step-of c (named_in e) risen.0 in

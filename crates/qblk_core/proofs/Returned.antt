@@ -4,7 +4,7 @@ use Rattle.std.specs.Prelude.{◌&&◌, bytes_eq}
 use Rattle.blk_base.proofs.Openings.{back-opened}
 use Rattle.blk_base.specs.Files.{is_out, given_back}
 use Rattle.blk_base.specs.declared.file.Opened.{Opened}
-use Rattle.qblk_core.specs.Session.{NoneOut}
+use Rattle.qblk_inputs.specs.Reading.{NoneOut}
 
 -- a device that is back is out under no name
 and-false : (b : Bool) → (b && false) ≡ false

@@ -55,35 +55,43 @@ made-run format first last flush d n w log ops bytes fault made disks d-sized te
   sized = n-sized;
 }
 
+-- nodes that are left as they were made have the device that they were made over
+same-device : (format : Format) (first : Nodes) (d n : DeviceState) → AreMadeOf format d first → first.devices ≡ n ∷ [] → d ≡ n
+same-device format first d n made given = head-same d n [] (sym (made-devices format d first made) ∙ given)
+
+count-stands : (format : Format) (first : Nodes) (d n : DeviceState) → AreMadeOf format d first → first.devices ≡ n ∷ [] → n.faults ≡ d.faults
+count-stands format first d n made given = sym (ap (λ (x : DeviceState). x.faults) (same-device format first d n made given))
+
 -- the trace is refused, on nodes over a good image
 pub trace-stops : (format : Format) (image trace : List ℕ) (read : TraceRead) (first : Nodes) (d n : DeviceState) (status : Status) → AreMadeOf format d first → Unfolds first
-    → ((b : List ℕ) → d.content ≡ Some b → d.size ≡ length b) → IsTraceStop trace read status → IsRunStop format image trace read d n status
-trace-stops format image trace read first d n Done made disks sized stop = stop
-trace-stops format image trace read first d n Usage made disks sized stop = stop
-trace-stops format image trace read first d n (Input name line why) made disks sized stop =
-    inr ((λ bytes told. (made-good format d first bytes made disks told (sized bytes told)).0), stop.0, stop.1)
-trace-stops format image trace read first d n (Fault from count) made disks sized stop = absurd stop
-trace-stops format image trace read first d n (Stuck actor waits) made disks sized stop = stop
-trace-stops format image trace read first d n NoMemory made disks sized stop = tt
+    → ((b : List ℕ) → d.content ≡ Some b → d.size ≡ length b) → first.devices ≡ n ∷ [] → IsTraceStop trace read status → IsRunStop format image trace read d n status
+trace-stops format image trace read first d n Done made disks sized given stop = stop
+trace-stops format image trace read first d n Usage made disks sized given stop = stop
+trace-stops format image trace read first d n (Input name line why) made disks sized given stop = (
+  count-stands format first d n made given,
+  inr ((λ bytes told. (made-good format d first bytes made disks told (sized bytes told)).0), stop.0, stop.1),
+)
+trace-stops format image trace read first d n (Fault from count) made disks sized given stop = absurd stop
+trace-stops format image trace read first d n (Stuck actor waits) made disks sized given stop = stop
+trace-stops format image trace read first d n NoMemory made disks sized given stop = count-stands format first d n made given
 
 -- the image is
 pub image-stops : (format : Format) (image trace : List ℕ) (read : TraceRead) (d n : DeviceState) (stop : OpenStop) (status : Status) → IsStopped format d n stop → IsImageStatus image stop status
     → IsRunStop format image trace read d n status
 image-stops format image trace read d n (Refused why) (Input name line cause) stopped is =
-    inl (is.0, is.1, subst (λ (c : InputWhy). IsRefusedImage format c d.content) (sym is.2) stopped.cause)
-image-stops format image trace read d n (Refused why) NoMemory stopped is = tt
+    let stop = stopped.cause in
+    (stop.1, inl (is.0, is.1, subst (λ (c : InputWhy). IsRefusedImage format c d.content) (sym is.2) stop.0))
+image-stops format image trace read d n (Refused why) NoMemory stopped is = let stop = stopped.cause in stop.1
 image-stops format image trace read d n (Io count) (Fault from named) stopped is =
     let cause = stopped.cause in
     let rose : Rose d.faults named = subst (Rose d.faults) (sym is.1) cause.1 in
     (cause.0, is.0, rose, is.1 ∙ cause.2)
-image-stops format image trace read d n NoRoom NoMemory stopped is = tt
+image-stops format image trace read d n NoRoom NoMemory stopped is = stopped.cause
 image-stops format image trace read d n stop status stopped is = absurd is
 
--- nodes that are left as they were made have the device that they were made over
 pub left-untouched : (format : Format) (first : Nodes) (d n : DeviceState) → AreMadeOf format d first → first.devices ≡ n ∷ [] → IsUntouched d n
 left-untouched format first d n made given =
-    let same : d ≡ n = head-same d n [] (sym (made-devices format d first made) ∙ given) in
-    subst (IsUntouched d) same (record { content = refl; is_flushed = refl; capacity = refl })
+    subst (IsUntouched d) (same-device format first d n made given) (record { content = refl; is_flushed = refl; capacity = refl })
 
 pub only-made : (format : Format) (first : Nodes) (d : DeviceState) → AreMadeOf format d first → IsOnlyDevice first.devices d
 only-made format first d made = record { only = made-devices format d first made; node = made.node; number = made.number }

@@ -1,8 +1,9 @@
 -- A run seen from outside, from its parts.
 use Rattle.std.proofs.Common.{◌≡◌, ◌≢◌, ◌⊎◌, ℕ, zero, suc, ◌<◌, ◌≤◌, Bool, true, false, List, [], ◌∷◌, ◌++◌, length, take, refl, sym, ◌∙◌, ap, subst, arith, inl, inr, Option, Some, None, Ok}
-use Rattle.std.specs.Prelude.{IsUtf8, is_some, is_none, option_map, slice_index_or, IsSome}
+use Rattle.std.specs.Prelude.{All, IsUtf8, is_some, is_none, option_map, slice_index_or, IsSome}
 use Rattle.std.proofs.lemmas.Bool.{false≢true}
 use Rattle.std.proofs.lemmas.List.{take_at, take_all, append-nil}
+use Rattle.std.proofs.lemmas.List.Elements.{All-nil, All-cons}
 use Rattle.blk_base.specs.Counts.{Rose}
 use Rattle.blk_base.specs.Files.{file_at, put_file, IfTold, given_back, is_out}
 use Rattle.blk_base.specs.Stored.{IsDeviceOf, files_with_returned}
@@ -17,20 +18,25 @@ use Rattle.blk_history.specs.Machine.{State, Guest, disk_in, replay}
 use Rattle.blk_history.specs.Legal.{Legal}
 use Rattle.blk_history.specs.Owned.{asked_by}
 use Rattle.blk_history.specs.Licence.{RoseSince}
+use Rattle.blk_history.specs.Small.{IsSmall}
 use Rattle.blk_history.specs.Transcript.{transcript}
+use Rattle.blk_history.specs.declared.event.Event.{Event}
+use Rattle.trace_codec.specs.declared.stop.TraceStop.TheVariants as line_stops
+use Rattle.qblk_core.proofs.Numbered.{names-line}
 use Rattle.qblk_core.proofs.Quiet.{quiet}
 use Rattle.blk_nodes.specs.Contents.{disk_of as node_disk}
 use Rattle.blk_nodes.specs.Nodes.{DeviceState}
 use Rattle.qblk_core.specs.Format.{disk_of, IsGoodImage}
 use Rattle.qblk_core.specs.declared.words.Format.{Format}
 use Rattle.qblk_core.specs.declared.words.Format.TheVariants as formats
+use Rattle.qblk_core.specs.Comes.{HaveLines}
 use Rattle.qblk_core.specs.Face.{Face, state_of, machine_on}
 use Rattle.qblk_core.specs.ImageNodes.{content_of, faults_of, told_disk}
 use Rattle.qblk_core.proofs.Closed.{IsFlushed, HasClosed, closed-facts}
 use Rattle.qblk_core.proofs.Made.{made-one, made-kind, made-devices, image-as, told-as-disk}
 use Rattle.qblk_core.proofs.OneDevice.{head-same, faults-is, capacity-is}
 use Rattle.qblk_core.proofs.OneImage.{told-is}
-use Rattle.qblk_core.specs.Run.{Outside, machine_of, guest_names, IsRunOn, TellsDisk, IsImageCause, IsTraceCause, SpeaksOfInput, HasImage, HasTrace, IsBadTrace, IsBadBytes, IsBadImage, IsRefusedTrace, IsRefusedInput, WasRun, StoreStands, SinkStands, FailsToOpen, FailsToFlush, IsFaulty, Answers}
+use Rattle.qblk_core.specs.Run.{Outside, machine_of, guest_names, IsRunOn, TellsDisk, IsImageCause, IsTraceCause, IsOpenedQuietly, IsOpenedQuietlyFor, SpeaksOfInput, HasImage, HasTrace, IsBadTrace, IsBadBytes, IsBadImage, IsRefusedTrace, IsRefusedInput, WasRun, StoreStands, SinkStands, FailsToOpen, FailsToFlush, IsFaulty, Answers}
 use Rattle.qblk_core.specs.Session.{IsReadOf, IsStoreStop, IsOpenStop, IsMade, IsRefusedRead, IsRefusedImage, IsRunStop, IsUntouched, EndsAs}
 use Rattle.qblk_core.specs.declared.input.TraceRead.{TraceRead}
 use Rattle.qblk_core.specs.declared.input.TraceRead.TheVariants as reads
@@ -160,6 +166,11 @@ all-named : (n : DeviceState) (faults : ℕ) (fault : Option FaultAt) → IsFlus
 all-named n faults None flushed is = flushed.1
 all-named n faults (Some fault) flushed is = absurd (false≢true is)
 
+-- its numbers are of 64 bits
+all-small : (h : List Event) → HaveLines h → All IsSmall h
+all-small [] lines = All-nil IsSmall
+all-small (e ∷ es) lines = All-cons IsSmall e es lines.0.small (all-small es lines.1)
+
 -- the run, whatever of its transcript went out
 pub was-run : (format : Format) (image trace bytes : List ℕ) (read : TraceRead) (d n : DeviceState) (w : Face) (fault : Option FaultAt) (flushed : Bool) (old new : Outside) (k : ℕ)
     → is_none fault ≡ flushed
@@ -179,6 +190,7 @@ was-run format image trace bytes read d n w fault flushed old new k flag sized n
       inputs = on-told old.files (λ told is-told read-told. inputs format image trace bytes read d n w fault told (told-as image d told sized is-told).0 (told-as image d told sized is-told).1 is read-told made) device read-is;
       run = record {
         asked = refl;
+        small = all-small w.log.events made.comes.lines;
         opened = opened ∙ back-opened image old.opened d.faults n.faults none;
         risen = rw start at made.comes.licensed.risen;
         last = (faults_of w.nodes, rw start at last, facts.more, λ good. all-named n (faults_of w.nodes) fault facts.flushed (flag ∙ good));
@@ -348,20 +360,39 @@ trace-cause bytes line why.NeedsBacking is = absurd is
 trace-cause bytes line (why.Image stop) is = absurd is
 trace-cause bytes line why.TooLong is = is.0
 trace-cause bytes line why.NotUtf8 is = is.0
-trace-cause bytes line why.BadLine is = tt
-trace-cause bytes line why.TooMany is = tt
+trace-cause bytes line why.BadLine is = names-line bytes (line_stops.BadLine line) is.2
+trace-cause bytes line why.TooMany is = names-line bytes (line_stops.TooMany line) is.2
 
 read-cause : (read : TraceRead) (line : ℕ) (cause : InputWhy) → IsRefusedRead read cause line → IsTraceCause cause line
 read-cause (reads.Whole bytes) line cause is = trace-cause bytes line cause is
 read-cause reads.Absent line cause is = subst (λ (c : InputWhy). IsTraceCause c line) (sym is.1) is.0
 read-cause reads.TooLong line cause is = subst (λ (c : InputWhy). IsTraceCause c line) (sym is.1) is.0
 
+-- the image was opened, where it is there
+quietly-for : (image : List ℕ) (cause : InputWhy) → cause ≢ why.Absent → (old new : Outside) → IsOpenedQuietly image old new → IsOpenedQuietlyFor cause image old new
+quietly-for image why.Absent there old new opened = absurd (there refl)
+quietly-for image why.NotUtf8 there old new opened = opened
+quietly-for image why.TooLong there old new opened = opened
+quietly-for image why.BadLine there old new opened = opened
+quietly-for image why.TooMany there old new opened = opened
+quietly-for image why.TooLarge there old new opened = opened
+quietly-for image why.NeedsBacking there old new opened = opened
+quietly-for image (why.Image stop) there old new opened = opened
+
+-- its device is back, and its count stands
+opened-quietly : (image : List ℕ) (d n : DeviceState) (old new : Outside) → (is_out image old.opened ≡ true → ⊥) → n.faults ≡ d.faults
+    → new.opened ≡ given_back image n.faults (old.opened ++ record { name = image; faults = d.faults; returned = None } ∷ []) → IsOpenedQuietly image old new
+opened-quietly image d n old new none stands opened =
+    let R : ℕ → Type 0 = λ c. new.opened ≡ old.opened ++ record { name = image; faults = d.faults; returned = Some c } ∷ [] in
+    (d.faults, subst R stands (opened ∙ back-opened image old.opened d.faults n.faults none))
+
 speaks-of : (format : Format) (image trace : List ℕ) (read : TraceRead) (d : DeviceState) (name : List ℕ) (line : ℕ) (cause : InputWhy)
     → ((name ≡ image) × (line ≡ 0) × IsRefusedImage format cause d.content)
     ⊎ (((bytes : List ℕ) → d.content ≡ Some bytes → IsGoodImage format bytes) × (name ≡ trace) × IsRefusedRead read cause line)
-    → SpeaksOfInput format image trace name line cause
-speaks-of format image trace read d name line cause (inl bad) = inl (bad.0, bad.1, bad.2.cause)
-speaks-of format image trace read d name line cause (inr good) = inr (good.1, read-cause read line cause good.2)
+    → (old new : Outside) → IsOpenedQuietly image old new → SpeaksOfInput format image trace old new name line cause
+speaks-of format image trace read d name line cause (inl bad) old new opened =
+    inl (bad.0, bad.1, bad.2.cause, quietly-for image cause bad.2.there old new opened)
+speaks-of format image trace read d name line cause (inr good) old new opened = inr (good.1, read-cause read line cause good.2, opened)
 
 refused-by : (format : Format) (image trace : List ℕ) (read : TraceRead) (d : DeviceState) (files : List File) (name : List ℕ) (line : ℕ) (cause : InputWhy)
     → ((f : File) × IsToldAs image d files f) → IsReadOf trace read files
@@ -393,13 +424,17 @@ pub stops : (format : Format) (image trace : List ℕ) (read : TraceRead) (d n :
     → new.opened ≡ given_back image n.faults (old.opened ++ record { name = image; faults = d.faults; returned = None } ∷ [])
     → new.sent ≡ old.sent → new.sink_faults ≡ old.sink_faults
     → Answers format image trace old new status
-stops format image trace read d n old new NoMemory sized none device read-is stop same files opened sent sink = record { files = files ∙ left image d n old.files sized device same; sent = sent }
-stops format image trace read d n old new (Input name line cause) sized none device read-is stop same files opened sent sink =
-    (record { files = files ∙ left image d n old.files sized device same; sent = sent }, speaks-of format image trace read d name.bytes line cause stop, why-of old.files device read-is)
+stops format image trace read d n old new NoMemory sized none device read-is stop same files opened sent sink =
+    (record { files = files ∙ left image d n old.files sized device same; sent = sent }, inr (opened-quietly image d n old new none stop opened))
+stops format image trace read d n old new (Input name line cause) sized none device read-is stop same files opened sent sink = (
+  record { files = files ∙ left image d n old.files sized device same; sent = sent },
+  speaks-of format image trace read d name.bytes line cause stop.1 old new (opened-quietly image d n old new none stop.0 opened),
+  why-of old.files device read-is,
+)
   where
     why-of : (fs : Option (List File)) → IsDeviceOf fs image d.content d.capacity d.is_flushed → IfTold fs (IsReadOf trace read) → IfTold fs (IsRefusedInput format image trace name.bytes line cause)
     why-of None device read-is = tt
-    why-of (Some told) device read-is = refused-by format image trace read d told name.bytes line cause (told-as image d told sized device) read-is stop
+    why-of (Some told) device read-is = refused-by format image trace read d told name.bytes line cause (told-as image d told sized device) read-is stop.1
 stops format image trace read d n old new (Fault from count) sized none device read-is stop same files opened sent sink =
     let F : FaultFrom → Type 0 = λ f. IsFaulty format image trace old new f count in
     let R : ℕ → Type 0 = λ c. new.opened ≡ old.opened ++ record { name = image; faults = d.faults; returned = Some c } ∷ [] in
@@ -416,22 +451,29 @@ stops format image trace read d n old new (Fault from count) sized none device r
 stops format image trace read d n old new status sized none device read-is stop same files opened sent sink = absurd stop
 
 -- a store whose call failed, or want of memory
-pub store-stops : (format : Format) (image trace : List ℕ) (old new : Outside) (status : Status) → IsStoreStop old.store_faults new.store_faults status → new.files ≡ old.files → new.sent ≡ old.sent → Answers format image trace old new status
-store-stops format image trace old new NoMemory stop files sent = record { files = files; sent = sent }
-store-stops format image trace old new (Fault Store count) stop files sent = (record { files = files; sent = sent }, stop.0, stop.1)
-store-stops format image trace old new status stop files sent = absurd stop
+pub store-stops : (format : Format) (image trace : List ℕ) (old new : Outside) (status : Status) → IsStoreStop old.store_faults new.store_faults status
+    → new.files ≡ old.files → new.opened ≡ old.opened → new.sent ≡ old.sent → Answers format image trace old new status
+store-stops format image trace old new NoMemory stop files opened sent = (record { files = files; sent = sent }, inl opened)
+store-stops format image trace old new (Fault Store count) stop files opened sent = (record { files = files; sent = sent }, opened, stop.0, stop.1)
+store-stops format image trace old new status stop files opened sent = absurd stop
 
 -- an image that isn't opened
-pub open-stops : (format : Format) (image trace : List ℕ) (old new : Outside) (before : ℕ) (status : Status) → IsOpenStop image old.files before new.store_faults status → old.store_faults ≤ before → new.files ≡ old.files → new.sent ≡ old.sent → Answers format image trace old new status
-open-stops format image trace old new before NoMemory stop le files sent = record { files = files; sent = sent }
-open-stops format image trace old new before (Fault Store count) stop le files sent = (record { files = files; sent = sent }, (let rose = stop.0 in omega arith), stop.1)
-open-stops format image trace old new before (Input name line cause) stop le files sent = (record { files = files; sent = sent }, inl (stop.0, stop.1, absent-cause format cause stop.2), absent old.files stop.3)
+pub open-stops : (format : Format) (image trace : List ℕ) (old new : Outside) (before : ℕ) (status : Status) → IsOpenStop image old.files before new.store_faults status
+    → old.store_faults ≤ before → new.files ≡ old.files → new.opened ≡ old.opened → new.sent ≡ old.sent → Answers format image trace old new status
+open-stops format image trace old new before NoMemory stop le files opened sent = (record { files = files; sent = sent }, inl opened)
+open-stops format image trace old new before (Fault Store count) stop le files opened sent =
+    (record { files = files; sent = sent }, opened, (let rose = stop.0 in omega arith), stop.1)
+open-stops format image trace old new before (Input name line cause) stop le files opened sent =
+    (record { files = files; sent = sent }, inl (stop.0, stop.1, absent-cause format cause stop.2, not-opened), absent old.files stop.3)
   where
     absent-cause : (f : Format) (c : InputWhy) → c ≡ why.Absent → IsImageCause f c
     absent-cause formats.Raw c is = subst (IsImageCause formats.Raw) (sym is) tt
     absent-cause formats.Qcow2 c is = subst (IsImageCause formats.Qcow2) (sym is) tt
 
+    not-opened : IsOpenedQuietlyFor cause image old new
+    not-opened = subst (λ (c : InputWhy). IsOpenedQuietlyFor c image old new) (sym stop.2) opened
+
     absent : (fs : Option (List File)) → IfTold fs (LacksFile image) → IfTold fs (IsRefusedInput format image trace name.bytes line cause)
     absent None lacks = tt
     absent (Some told) lacks = let P : InputWhy → Type 0 = λ c. IsBadImage format c image told in inl (stop.0, stop.1, subst P (sym stop.2) lacks)
-open-stops format image trace old new before status stop le files sent = absurd stop
+open-stops format image trace old new before status stop le files opened sent = absurd stop

@@ -4,6 +4,7 @@ use Rattle.blk_history.specs.Line.{IsOfGuest, shown_by}
 use Rattle.blk_history.specs.Machine.{replay}
 use Rattle.blk_history.specs.Legal.{Legal}
 use Rattle.blk_history.specs.Licence.{counted, HaveRisen}
+use Rattle.blk_history.specs.Small.{IsSmall}
 use Rattle.blk_history.specs.declared.event.Event.{Event}
 use Rattle.blk_nodes.specs.Nodes.{Nodes}
 use Rattle.qblk_core.specs.Along.{HaveNodes, GoesInTurn}
@@ -15,10 +16,11 @@ pub record AreLicensed (first : Nodes) (w : Face) : Type 0 where
   pub risen : HaveRisen (faults_of first ∷ []) w.log.events
   pub last : counted (faults_of first ∷ []) w.log.events ≡ faults_of w.nodes ∷ []
 
--- an entry is the guest's, and shows at most one block
+-- an entry is the guest's, and shows at most one block; its numbers are of 64 bits
 pub record HasLine (e : Event) : Type 0 where
   pub whose : IsOfGuest 0 e
   pub shown : length (shown_by e) ≤ 65536
+  pub small : IsSmall e
 
 abbrev pub HaveLines : List Event → Type 0
 HaveLines [] = Unit {0}

@@ -1,26 +1,16 @@
 -- How far a run of requests is.
-use Rattle.std.specs.Prelude.{◌≡◌, ℕ, ◌+◌, ◌-◌, ◌*◌, ◌/◌, ◌^◌, ◌<◌, ◌≤◌, min, max, false, [], ◌∷◌, ◌++◌, Some, None, List, length}
-use Rattle.blk_base.specs.Pieces.{end_of}
+use Rattle.std.specs.Prelude.{◌≡◌, ℕ, ◌+◌, ◌-◌, ◌^◌, ◌<◌, ◌≤◌, false, [], ◌∷◌, ◌++◌, Some, None, List, length}
 use Rattle.blk_base.specs.declared.memory.Room.{Room}
 use Rattle.trace_codec.specs.declared.op.Op.{Op}
-use Rattle.trace_codec.specs.declared.op.Op.TheVariants.{Read, Write, Zero, Flush, Discard}
 use Rattle.trace_codec.specs.Request.{pieces_of, read_bytes_of}
 use Rattle.blk_history.specs.Fold.{With}
 use Rattle.blk_history.specs.Machine.{Flight}
 use Rattle.blk_history.specs.Legal.{IsOver}
 use Rattle.blk_history.specs.Owned.{asked_by}
-use Rattle.qblk_core.specs.Face.{Face}
 use Rattle.blk_nodes.specs.Nodes.{Nodes}
+use Rattle.blk_pieces.specs.Pieces.{shown_before}
+use Rattle.qblk_core.specs.Face.{Face}
 use Rattle.qblk_core.specs.Comes.{Comes}
-
--- how many bytes the first k pieces of a read show
-abbrev pub shown_before : Op → ℕ → ℕ
-shown_before (Read span) k =
-    min (max span.start ((span.start / 65536 + k) * 65536)) (end_of span) - span.start
-shown_before (Write span payload) k = 0
-shown_before (Zero span) k = 0
-shown_before Flush k = 0
-shown_before (Discard span) k = 0
 
 -- a request that was admitted, before its first piece, and room for what its pieces add and one entry more
 pub record CanRun (w : Face) (pieces : ℕ) (f : Flight) : Type 0 where

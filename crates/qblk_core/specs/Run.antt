@@ -1,5 +1,5 @@
 -- What a run of a trace on one image is, seen from outside.
-use Rattle.std.specs.Prelude.{◌≡◌, ◌⊎◌, ℕ, ◌<◌, ◌≤◌, Bool, true, false, ⊤, List, [], ◌∷◌, ◌++◌, length, take, IsUtf8, IsSome, Option, Some, option_map, Ok, Err}
+use Rattle.std.specs.Prelude.{◌≡◌, ◌⊎◌, ℕ, ◌<◌, ◌≤◌, Bool, true, false, ⊤, List, [], ◌∷◌, ◌++◌, length, take, All, IsUtf8, IsSome, Option, Some, option_map, Ok, Err}
 use Rattle.blk_base.specs.Counts.{Rose}
 use Rattle.blk_base.specs.Files.{file_at, put_file, IfTold}
 use Rattle.blk_base.specs.Answers.{HasFile, LacksFile}
@@ -15,6 +15,7 @@ use Rattle.blk_history.specs.Machine.{State, disk_in, replay}
 use Rattle.blk_history.specs.Legal.{Legal}
 use Rattle.blk_history.specs.Owned.{asked_by, IsIdle}
 use Rattle.blk_history.specs.Licence.{counted, RoseSince, HaveRisen, NameNone}
+use Rattle.blk_history.specs.Small.{IsSmall}
 use Rattle.blk_history.specs.Names.{RowNames}
 use Rattle.blk_history.specs.Transcript.{transcript}
 use Rattle.blk_history.specs.declared.event.Event.{Event}
@@ -30,7 +31,7 @@ use Rattle.blk_nodes.specs.Nodes.{Nodes, DeviceState}
 use Rattle.qblk_core.specs.Along.{HaveNodes, GoesInTurn}
 use Rattle.qblk_core.specs.Face.{state_with, new_guest, machine_on}
 use Rattle.qblk_core.specs.ImageNodes.{AreMadeOf}
-use Rattle.qblk_core.specs.Pieces.{FlushesPart}
+use Rattle.blk_pieces.specs.Pieces.{FlushesPart}
 use Rattle.qblk_core.specs.declared.status.InputWhy.{InputWhy}
 use Rattle.qblk_core.specs.declared.status.InputWhy.TheVariants.{Absent, NotUtf8, TooLong, BadLine, TooMany, TooLarge, NeedsBacking, Image}
 use Rattle.qblk_core.specs.declared.status.Status.{Status}
@@ -97,6 +98,8 @@ pub record TellsDisk (format : Format) (image : List ℕ) (h : List Event) (good
 pub record IsRun (format : Format) (image : List ℕ) (ops : List Op) (flushed : Bool)
     (old new : Outside) (h : List Event) (before now : ℕ) : Type 0 where
   pub asked : asked_by 0 h ≡ ops
+  -- so that its transcript is that of no other
+  pub small : All IsSmall h
   pub opened : new.opened
       ≡ old.opened ++ record { name = image; faults = before; returned = Some now } ∷ []
   pub risen : HaveRisen (before ∷ []) h
@@ -175,19 +178,34 @@ abbrev pub IsTraceCause : InputWhy → ℕ → Type 0
 IsTraceCause Absent line = line ≡ 0
 IsTraceCause NotUtf8 line = line ≡ 0
 IsTraceCause TooLong line = line ≡ 0
-IsTraceCause BadLine line = ⊤
-IsTraceCause TooMany line = ⊤
+IsTraceCause BadLine line = 0 < line
+IsTraceCause TooMany line = 0 < line
 IsTraceCause why line = ⊥
 
-abbrev pub SpeaksOfInput : Format → List ℕ → List ℕ → List ℕ → ℕ → InputWhy → Type 0
-SpeaksOfInput format image trace name line why =
-    ((name ≡ image) × (line ≡ 0) × IsImageCause format why)
-    ⊎ ((name ≡ trace) × IsTraceCause why line)
+-- the image was opened and is back, and no call of its device failed
+abbrev pub IsOpenedQuietly : List ℕ → Outside → Outside → Type 0
+IsOpenedQuietly image old new = (count : ℕ)
+    × (new.opened ≡ old.opened ++ record { name = image; faults = count; returned = Some count } ∷ [])
+
+abbrev pub IsOpenedQuietlyFor : InputWhy → List ℕ → Outside → Outside → Type 0
+IsOpenedQuietlyFor Absent image old new = new.opened ≡ old.opened
+IsOpenedQuietlyFor why image old new = IsOpenedQuietly image old new
+
+abbrev pub SpeaksOfInput : Format → List ℕ → List ℕ → Outside → Outside → List ℕ → ℕ → InputWhy
+    → Type 0
+SpeaksOfInput format image trace old new name line why =
+    ((name ≡ image) × (line ≡ 0) × IsImageCause format why × IsOpenedQuietlyFor why image old new)
+    ⊎ ((name ≡ trace) × IsTraceCause why line × IsOpenedQuietly image old new)
 
 -- nothing was written: neither to a file nor to the sink
 pub record NothingWritten (old new : Outside) : Type 0 where
   pub files : new.files ≡ old.files
   pub sent : new.sent ≡ old.sent
+
+-- and no call of a device failed
+abbrev pub NothingDone : List ℕ → Outside → Outside → Type 0
+NothingDone image old new = NothingWritten old new
+    × ((new.opened ≡ old.opened) ⊎ IsOpenedQuietly image old new)
 
 -- the requests were made, and of the transcript the first n bytes went out
 pub record WasRun (format : Format) (image trace : List ℕ) (flushed : Bool) (old new : Outside)
@@ -225,7 +243,8 @@ FailsToFlush format image trace old new count =
 -- the first fault: while the inputs were read, while the image was opened, in the last flush, or while the transcript went out
 abbrev pub IsFaulty : Format → List ℕ → List ℕ → Outside → Outside → FaultFrom → ℕ → Type 0
 IsFaulty format image trace old new Store count =
-    NothingWritten old new × Rose old.store_faults count × (count ≡ new.store_faults)
+    NothingWritten old new × (new.opened ≡ old.opened) × Rose old.store_faults count
+    × (count ≡ new.store_faults)
 IsFaulty format image trace old new (Dev dev) count =
     (dev.0 ≡ 0) × (FailsToOpen format image old new count
     ⊎ FailsToFlush format image trace old new count)
@@ -255,9 +274,9 @@ abbrev pub Answers : Format → List ℕ → List ℕ → Outside → Outside �
 Answers format image trace old new Done = IsDone format image trace old new
 Answers format image trace old new Usage = ⊥
 Answers format image trace old new (Input name line why) =
-    NothingWritten old new × SpeaksOfInput format image trace name.bytes line why
+    NothingWritten old new × SpeaksOfInput format image trace old new name.bytes line why
     × IfTold old.files (IsRefusedInput format image trace name.bytes line why)
 Answers format image trace old new (Fault from count) =
     IsFaulty format image trace old new from count
 Answers format image trace old new (Stuck actor waits) = ⊥
-Answers format image trace old new NoMemory = NothingWritten old new
+Answers format image trace old new NoMemory = NothingDone image old new

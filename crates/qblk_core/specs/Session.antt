@@ -1,10 +1,9 @@
 -- The parts of a run on an image, from its inputs to the transcript.
-use Rattle.std.specs.Prelude.{◌≡◌, ◌≢◌, ◌⊎◌, ℕ, ◌<◌, ◌≤◌, Bool, true, List, [], length, IsUtf8, Option, Some, None, is_some, Ok, ◌∷◌, ◌++◌, option_map}
+use Rattle.std.specs.Prelude.{◌≡◌, ◌≢◌, ◌⊎◌, ℕ, ◌<◌, ◌≤◌, true, List, [], length, IsUtf8, Option, Some, None, is_some, Ok, ◌∷◌, ◌++◌, option_map}
 use Rattle.blk_base.specs.Counts.{Rose}
-use Rattle.blk_base.specs.Files.{IfTold, is_out}
+use Rattle.blk_base.specs.Files.{IfTold}
 use Rattle.blk_base.specs.Answers.{HasFile, LacksFile}
 use Rattle.blk_base.specs.declared.file.File.{File}
-use Rattle.blk_base.specs.declared.file.Opened.{Opened}
 use Rattle.blk_base.specs.declared.fault.FaultAt.{FaultAt}
 use Rattle.blk_base.specs.declared.fault.FaultFrom.TheVariants.{Store, Dev, Sink}
 use Rattle.trace_codec.specs.Trace.{ops_of}
@@ -18,7 +17,7 @@ use Rattle.qblk_core.specs.Face.{Face, machine_on}
 use Rattle.qblk_core.specs.Comes.{Comes}
 use Rattle.qblk_core.specs.Format.{IsGoodImage}
 use Rattle.qblk_core.specs.ImageNodes.{AreMadeOf, HaveOneImage}
-use Rattle.qblk_core.specs.Pieces.{FlushesPart}
+use Rattle.blk_pieces.specs.Pieces.{FlushesPart}
 use Rattle.qblk_core.specs.declared.words.Format.{Format}
 use Rattle.qblk_core.specs.declared.words.Format.TheVariants.{Qcow2}
 use Rattle.qblk_core.specs.Run.{machine_of, IsBadTrace, IsBadBytes, IsImageCause}
@@ -29,10 +28,6 @@ use Rattle.qblk_core.specs.declared.status.InputWhy.{InputWhy}
 use Rattle.qblk_core.specs.declared.status.InputWhy.TheVariants.{Absent, TooLong}
 use Rattle.qblk_core.specs.declared.status.Status.{Status}
 use Rattle.qblk_core.specs.declared.status.Status.TheVariants.{Done, Usage, Input, Fault, Stuck, NoMemory}
-
--- no device is out
-abbrev pub NoneOut : List Opened → Type 0
-NoneOut opened = (name : List ℕ) → is_out name opened ≡ true → ⊥
 
 -- what reading the trace's file gave
 abbrev pub IsReadOf : List ℕ → TraceRead → List File → Type 0
@@ -129,14 +124,15 @@ abbrev pub IsRunStop : Format → List ℕ → List ℕ → TraceRead → Device
 IsRunStop format image trace read before now Done = ⊥
 IsRunStop format image trace read before now Usage = ⊥
 IsRunStop format image trace read before now (Input name line why) =
-    ((name.bytes ≡ image) × (line ≡ 0) × IsRefusedImage format why before.content)
+    (now.faults ≡ before.faults)
+    × (((name.bytes ≡ image) × (line ≡ 0) × IsRefusedImage format why before.content)
     ⊎ (((bytes : List ℕ) → before.content ≡ Some bytes → IsGoodImage format bytes)
-    × (name.bytes ≡ trace) × IsRefusedRead read why line)
+    × (name.bytes ≡ trace) × IsRefusedRead read why line))
 IsRunStop format image trace read before now (Fault from count) =
     (format ≡ Qcow2) × (from ≡ Dev (record { 0 = 0 })) × Rose before.faults count
     × (count ≡ now.faults)
 IsRunStop format image trace read before now (Stuck actor waits) = ⊥
-IsRunStop format image trace read before now NoMemory = Unit {0}
+IsRunStop format image trace read before now NoMemory = now.faults ≡ before.faults
 
 -- what an image that isn't opened leaves of its device
 pub record IsUntouched (before now : DeviceState) : Type 0 where

@@ -4,16 +4,17 @@ use Rattle.blk_base.specs.Counts.{Rose}
 use Rattle.blk_base.specs.declared.fault.Outcome.{Outcome}
 use Rattle.blk_base.specs.declared.fault.Outcome.TheVariants.{Good, Torn, Io, NoSpace}
 use Rattle.trace_codec.specs.declared.op.Op.{Op}
-use Rattle.trace_codec.specs.declared.op.Op.TheVariants.{Read, Write, Zero, Flush, Discard}
 use Rattle.trace_codec.specs.Request.{pieces_of}
 use Rattle.blk_history.specs.Disk.{piece, done_in}
 use Rattle.blk_history.specs.Machine.{Flight, done_by, admitted, finished, past_piece}
 use Rattle.blk_history.specs.Legal.{IsInside, IsForbidden, IsRefusedFor, Tells}
 use Rattle.blk_history.specs.Recorded.{Recorded}
+use Rattle.blk_history.specs.Small.{IsSmallOutcome}
 use Rattle.blk_history.specs.declared.entry.Refused.{Refused}
 use Rattle.blk_history.specs.declared.event.Event.{Event}
 use Rattle.blk_history.specs.declared.event.Event.TheVariants as events
 use Rattle.blk_nodes.specs.Nodes.{Nodes, size_of}
+use Rattle.blk_pieces.specs.Pieces.{shows_in}
 use Rattle.qblk_core.specs.Along.{HasForm}
 use Rattle.qblk_core.specs.Face.{Face, node_of}
 use Rattle.qblk_core.specs.ImageNodes.{told_disk, faults_of, HaveShapeOf}
@@ -62,14 +63,6 @@ HasCause before now (Torn done dev count) = (dev.0 ≡ 0) × Rose before count �
 HasCause before now (Io dev count) = (dev.0 ≡ 0) × Rose before count × (count ≡ now)
 HasCause before now (NoSpace dev) = (dev.0 ≡ 0) × (now ≡ before)
 
--- how many of n bytes a piece may show
-abbrev pub shows_in : Op → ℕ → ℕ
-shows_in (Read span) n = n
-shows_in (Write span payload) n = 0
-shows_in (Zero span) n = 0
-shows_in Flush n = 0
-shows_in (Discard span) n = 0
-
 -- the next piece can be made: there is one, and the history has room for what it adds
 pub record CanPiece (log : Recorded) (f : Flight) : Type 0 where
   pub running : f.is_stopped ≡ false
@@ -89,6 +82,7 @@ pub record MakesPiece (old new : Nodes) (before now : Recorded) (request : ℕ) 
       ≡ option_map (done_in f.op (piece f.op f.next) (done_by outcome (piece f.op f.next)))
       (told_disk old)
   pub form : HasForm outcome f.op (piece f.op f.next)
+  pub fits : IsSmallOutcome outcome
   pub cause : HasCause (faults_of old) (faults_of new) outcome
   pub faults : faults_of old ≤ faults_of new
   pub bound : length got ≤ shows_in f.op (piece f.op f.next).len

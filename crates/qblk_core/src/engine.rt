@@ -10,11 +10,12 @@ ghost use Rattle.blk_history.specs.declared.event.Event.{Event};
 
 use crate::closing::close;
 use crate::flight::InFlight;
-use crate::transfer::{request_piece, request_span, shown_part, transfer};
+use crate::transfer::transfer;
 use blk_base::{Device, FaultAt, Outcome};
 use blk_graph::NodeId;
 use blk_history::{Asked, Entry, History, Refused};
 use blk_nodes::Nodes;
+use blk_pieces::{request_piece, request_span, shown_part};
 use std::marker::Model;
 use trace_codec::Op;
 

@@ -5,6 +5,7 @@ mod closing;
 mod engine;
 mod flight;
 mod input;
+mod laws;
 mod opening;
 mod output;
 mod requests;
@@ -14,6 +15,7 @@ mod status;
 mod transfer;
 mod words;
 
+pub use laws::{runs_on_good_images_are_done, runs_on_images_have_one_history};
 pub use output::{CHUNK, send_transcript};
 pub use run::{qblk, run_io};
 pub use status::{InputWhy, Status};

@@ -1,9 +1,10 @@
 //! The calls of the program.
 ghost use Rattle.std.specs.Prelude.{◌≡◌, List, ℕ};
-ghost use Rattle.qblk_core.specs.Words.{IsIo, texts_of};
+ghost use Rattle.qblk_inputs.specs.Words.{texts_of};
+ghost use Rattle.qblk_core.specs.Words.{IsIo};
 ghost use Rattle.qblk_core.specs.Run.{Answers, TellsFaults};
 ghost use Rattle.qblk_core.specs.declared.words.Format.{Format};
-ghost use Rattle.qblk_core.specs.Session.{NoneOut};
+ghost use Rattle.qblk_inputs.specs.Reading.{NoneOut};
 
 use crate::session::run_on;
 use crate::status::Status;

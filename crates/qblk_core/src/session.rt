@@ -3,7 +3,8 @@ ghost use Rattle.std.specs.Prelude.{◌≡◌, ◌≤◌, List, ℕ, MatchResult
 ghost use Rattle.blk_base.specs.Files.{IfTold};
 ghost use Rattle.blk_base.specs.Stored.{IsDeviceOf};
 ghost use Rattle.blk_base.specs.declared.file.Opened.{Opened};
-ghost use Rattle.qblk_core.specs.Session.{NoneOut, IsReadOf, IsStoreStop, IsOpenStop, IsMade, IsRunStop, IsUntouched, EndsAs, ended_as, failed_as};
+ghost use Rattle.qblk_inputs.specs.Reading.{NoneOut};
+ghost use Rattle.qblk_core.specs.Session.{IsReadOf, IsStoreStop, IsOpenStop, IsMade, IsRunStop, IsUntouched, EndsAs, ended_as, failed_as};
 ghost use Rattle.qblk_core.specs.Opened.{IsImageStatus};
 ghost use Rattle.blk_history.specs.Transcript.{transcript};
 ghost use Rattle.qblk_core.specs.Comes.{HaveLines};

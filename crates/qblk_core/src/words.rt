@@ -1,9 +1,11 @@
 //! The words of the program.
 ghost use Rattle.std.specs.Prelude.{◌≡◌, List, ℕ, bytes_eq, MatchOption};
-ghost use Rattle.qblk_core.specs.Words.{is_file_name, format_of, IsIo, texts_of};
+ghost use Rattle.qblk_inputs.specs.Words.{texts_of};
+ghost use Rattle.qblk_core.specs.Words.{format_of, IsIo};
 ghost use Rattle.qblk_core.specs.declared.words.Format.{Format};
 
 use blk_base::Text;
+use qblk_inputs::names_file;
 
 /// How an image's file is read as a disk.
 #[derive(Clone, Copy, Debug, PartialEq, Eq)]
@@ -12,14 +14,6 @@ pub enum Format {
     Raw,
     /// The file is a qcow2 image of version 3.
     Qcow2,
-}
-
-/// Whether a word names a file: 1 to 1,023 bytes without a zero byte, the first no `-`.
-fn names_file(word: &str) -> bool
-    ensures { result ≡ is_file_name word.now }
-{
-    let bytes = word.as_bytes();
-    !bytes.is_empty() && bytes.len() < 1024 && bytes[0] != b'-' && !bytes.contains(&0)
 }
 
 /// Whether a word is this one.

@@ -9,7 +9,7 @@ pub returns-in-Err-judge-clause-stop : goal.returns-in-Err-judge-clause-stop
 returns-in-Err-judge-clause-stop g c =
     let opened = c.in-Ok.ensures.opened in
     trace-stops c.args.format c.args.image.now c.args.trace.now c.args.read c.in-Ok.opened.0 (seen g.D.Device c.args.device) (seen g.D.Device c.device_of.result) c.in-Err-judge.status opened.made opened.disks
-    (λ b told. g.met.D.Device.told_size c.args.device b told) c.in-Err-judge.ensures.err
+    (λ b told. g.met.D.Device.told_size c.args.device b told) c.device_of.ensures c.in-Err-judge.ensures.err
 
 pub returns-clause-made : goal.returns-clause-made
 returns-clause-made g c =

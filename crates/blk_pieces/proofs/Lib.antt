@@ -1,0 +1,4 @@
+pub mod Payloads
+pub mod Shown
+pub mod Told
+pub mod Rows

@@ -1,0 +1,96 @@
+-- What a piece of a guest's request does to the nodes, and what it answers.
+use Rattle.std.specs.Prelude.{◌≡◌, ℕ, ◌+◌, ◌-◌, ◌*◌, ◌/◌, ◌<◌, ◌≤◌, min, max, true, List, [], length, replicate}
+use Rattle.blk_base.specs.Content.{with_bytes}
+use Rattle.blk_base.specs.Pieces.{Extent, end_of}
+use Rattle.blk_base.specs.declared.fault.Outcome.{Outcome}
+use Rattle.blk_base.specs.declared.fault.Outcome.TheVariants.{Good, Torn, Io, NoSpace}
+use Rattle.trace_codec.specs.declared.op.Op.{Op}
+use Rattle.trace_codec.specs.declared.op.Op.TheVariants.{Read, Write, Zero, Flush, Discard}
+use Rattle.blk_graph.specs.Graph.{HasNode}
+use Rattle.blk_history.specs.Disk.{is_write, payload_in}
+use Rattle.blk_nodes.specs.Contents.{disk_of}
+use Rattle.blk_nodes.specs.Flushing.{base_of, IsFlushAt}
+use Rattle.blk_nodes.specs.Nodes.{Nodes, AreTold, size_of}
+use Rattle.blk_nodes.specs.Reading.{HaveRisen, IsReadBelow, ReadsDisk}
+use Rattle.blk_nodes.specs.Writing.{MayWrite, IsApart, LeavesNodes, WritesPiece, ZerosPiece, taken_by}
+
+-- ---- what a piece is
+
+-- a piece has bytes, of one block; that of a flush has none, and a discard has no piece
+abbrev pub IsPartAsked : Op → Extent → Type 0
+IsPartAsked Flush part = part.len ≡ 0
+IsPartAsked (Discard span) part = ⊥
+IsPartAsked op part = 0 < part.len
+
+-- a node can be asked for it
+pub record CanTransfer (nodes : Nodes) (node : ℕ) (op : Op) (part : Extent) : Type 0 where
+  pub there : HasNode nodes.graph node
+  pub inside : end_of part ≤ size_of nodes node
+  pub may : is_write op ≡ true → MayWrite nodes node
+
+-- what it shows, of what its read left in the buffer
+abbrev pub shown_of : Op → Outcome → List ℕ → List ℕ
+shown_of (Read span) Good buffer = buffer
+shown_of (Read span) (Torn done dev count) buffer = []
+shown_of (Read span) (Io dev count) buffer = []
+shown_of (Read span) (NoSpace dev) buffer = []
+shown_of (Write span payload) outcome buffer = []
+shown_of (Zero span) outcome buffer = []
+shown_of Flush outcome buffer = []
+shown_of (Discard span) outcome buffer = []
+
+-- how many of its n bytes it may show
+abbrev pub shows_in : Op → ℕ → ℕ
+shows_in (Read span) n = n
+shows_in (Write span payload) n = 0
+shows_in (Zero span) n = 0
+shows_in Flush n = 0
+shows_in (Discard span) n = 0
+
+-- how many bytes the first k pieces of a read show
+abbrev pub shown_before : Op → ℕ → ℕ
+shown_before (Read span) k =
+    min (max span.start ((span.start / 65536 + k) * 65536)) (end_of span) - span.start
+shown_before (Write span payload) k = 0
+shown_before (Zero span) k = 0
+shown_before Flush k = 0
+shown_before (Discard span) k = 0
+
+-- ---- what it does to nodes and devices
+
+-- it was read, and left these bytes in the buffer, as many as it has also where no device tells its bytes
+pub record ReadsPart (old new : Nodes) (node : ℕ) (part : Extent) (outcome : Outcome)
+    (buffer : List ℕ) : Type 0 where
+  pub whole : length buffer ≡ part.len
+  pub read : AreTold old.devices → ReadsDisk outcome (disk_of old node) part buffer
+  pub outcome_is : IsReadBelow old new node outcome
+  pub kept : new ≡ record old { devices = new.devices }
+  pub devices : HaveRisen old.devices new.devices
+  pub disks : (other : ℕ) → disk_of new other ≡ disk_of old other
+
+-- the node's disk has just what was written of these bytes, and disks apart from it are as before
+pub record PutsPart (old new : Nodes) (node : ℕ) (part : Extent) (outcome : Outcome)
+    (bytes : List ℕ) : Type 0 where
+  pub disk : AreTold old.devices
+      → disk_of new node ≡ with_bytes (disk_of old node) part.start (taken_by outcome bytes)
+  pub others : (other : ℕ) → IsApart old other node → disk_of new other ≡ disk_of old other
+  pub kept : LeavesNodes old new node
+
+-- what is under the node was flushed
+pub record FlushesPart (old new : Nodes) (node : ℕ) (outcome : Outcome) : Type 0 where
+  pub flushed : IsFlushAt (base_of old node) old.devices new.devices outcome
+  pub kept : new ≡ record old { devices = new.devices }
+  pub disks : (other : ℕ) → disk_of new other ≡ disk_of old other
+
+-- by what is asked
+abbrev pub Transfers : Op → Nodes → Nodes → ℕ → Extent → Outcome → List ℕ → Type 0
+Transfers (Read span) old new node part outcome buffer =
+    ReadsPart old new node part outcome buffer
+Transfers (Write span payload) old new node part outcome buffer =
+    WritesPiece old new node part (payload_in (Write span payload) part) outcome
+    × PutsPart old new node part outcome (payload_in (Write span payload) part)
+Transfers (Zero span) old new node part outcome buffer =
+    ZerosPiece old new node part outcome
+    × PutsPart old new node part outcome (replicate part.len 0)
+Transfers Flush old new node part outcome buffer = FlushesPart old new node outcome
+Transfers (Discard span) old new node part outcome buffer = ⊥

@@ -1,0 +1,23 @@
+//! What follows from the definitions, each law the contract of a function that does nothing.
+
+ghost use Rattle.std.specs.Prelude.{◌≡◌, ◌⊎◌, List, ℕ};
+ghost use Rattle.trace_codec.specs.declared.op.Op.{Op};
+ghost use Rattle.blk_history.specs.Alone.{PrintsOneHistory};
+ghost use Rattle.qblk_core.specs.Completeness.{HasInputs, NoneRises};
+ghost use Rattle.qblk_core.specs.Run.{Answers, Outside, machine_of, guest_names};
+ghost use Rattle.qblk_core.specs.declared.status.Status.{Status};
+ghost use Rattle.qblk_core.specs.declared.words.Format.{Format};
+
+/// With its trace, a transcript of a run on an image is that of at most one history.
+pub fn runs_on_images_have_one_history()
+    ensures { (format : Format) (bytes : List ℕ) (ops : List Op)
+        → PrintsOneHistory (machine_of format bytes) guest_names ops }
+{}
+
+/// A run on an image that can be opened, of a trace that is taken, is done or has no memory, where no count rises.
+pub fn runs_on_good_images_are_done()
+    ensures { (format : Format) (image trace : List ℕ) (ops : List Op) (old new : Outside)
+        (status : Status) → HasInputs format image trace ops old → NoneRises image old new
+        → Answers format image trace old new status
+        → (status ≡ Status.Done) ⊎ (status ≡ Status.NoMemory) }
+{}
