@@ -17,7 +17,8 @@ use Rattle.blk_nodes.specs.Nodes.{Nodes}
 use Rattle.world_parts.specs.Coherent.{IsCoherent, IsWhole}
 use Rattle.world_commands.specs.Comes.{Comes}
 use Rattle.world_parts.specs.Face.{Face}
-use Rattle.world_commands.specs.Piecing.{CanTransfer, IsMadeOn, IsPieceMade, HasPieceLicence, Transfers, part_of, shown_by, table_after}
+use Rattle.blk_pieces.specs.Pieces.{CanTransfer, Transfers}
+use Rattle.world_commands.specs.Piecing.{IsMadeOn, IsPieceMade, HasPieceLicence, part_of, shown_by, table_after}
 use Rattle.world_commands.specs.Recorded.{noted_after, written_in}
 use Rattle.world_parts.specs.Progress.{Progress, HasNext, flight_at, with_piece}
 use Rattle.world_commands.proofs.CountLemmas.{IsThere, there}

@@ -1,5 +1,5 @@
 -- A piece leaves a world that comes of the same opening.
-use Rattle.std.proofs.Common.{◌≡◌, ℕ, ◌<◌, ◌≤◌, ◌^◌, arith, Bool, true, false, List, Option, Some, None, refl, sym, ◌∙◌, ap, subst}
+use Rattle.std.proofs.Common.{◌≡◌, ℕ, ◌<◌, ◌≤◌, ◌^◌, arith, Bool, true, false, List, length, Option, Some, None, refl, sym, ◌∙◌, ap, subst}
 use Rattle.std.specs.Prelude.{is_some}
 use Rattle.std.proofs.lemmas.List.Elements.{All-nil}
 use Rattle.blk_base.specs.Pieces.{Extent}
@@ -9,7 +9,7 @@ use Rattle.blk_base.specs.declared.fault.FaultFrom.TheVariants.{Dev}
 use Rattle.blk_base.specs.declared.fault.Outcome.{Outcome}
 use Rattle.blk_base.specs.declared.fault.Outcome.TheVariants.{Good, Torn, Io, NoSpace}
 use Rattle.blk_graph.proofs.Members.{find-Some}
-use Rattle.blk_history.specs.Disk.{is_write}
+use Rattle.blk_history.specs.Disk.{is_write, payload_in}
 use Rattle.blk_history.specs.Fold.{With}
 use Rattle.blk_history.specs.Machine.{Flight}
 use Rattle.blk_history.specs.declared.event.Event.{Event}
@@ -17,13 +17,13 @@ use Rattle.trace_codec.specs.declared.op.Op.{Op}
 use Rattle.qmp_rules.specs.Chains.{disk_node}
 use Rattle.qmp_rules.specs.Table.{Table, device_at}
 use Rattle.qmp_rules.specs.declared.rows.Device.{Device}
-use Rattle.flat_machine.specs.EventLicence.{IsOnTheWay, ReachesDevice, RoseIn, WouldPass, full_by, changes_disk, device_in as device_named}
+use Rattle.flat_machine.specs.EventLicence.{IsOnTheWay, ReachesDevice, RoseIn, WouldPass, full_by, device_in as device_named}
 use Rattle.flat_machine.specs.Legal.{Fits, IsForbidden}
 use Rattle.flat_machine.specs.Licence.{fault_at, named_by}
 use Rattle.flat_machine.specs.Machine.{after}
 use Rattle.flat_machine.specs.Marks.{IsCalm}
 use Rattle.flat_machine.specs.State.{State, Guest, drive_of}
-use Rattle.flat_machine.specs.Unique.{IsSmallOutcome}
+use Rattle.blk_history.specs.Small.{IsSmallOutcome}
 use Rattle.flat_machine.specs.Writing.{CanWrite, ReadsWritten, written_file}
 use Rattle.flat_machine.specs.Imaging.{KeepsMapping}
 use Rattle.flat_machine.specs.declared.opening.Opening.{Opening}
@@ -37,7 +37,9 @@ use Rattle.world_parts.specs.Coherent.{IsCoherent, IsWhole, DevicesTell}
 use Rattle.world_commands.specs.Comes.{Comes, Shows}
 use Rattle.world_commands.specs.Counting.{RunsOn, IsReached, IsReachedBy, sources_of, counts_within, HidesNoFault}
 use Rattle.world_parts.specs.Face.{Face, dirty_of, held, counts_now, node_over, contents_of}
-use Rattle.world_commands.specs.Piecing.{Transfers, IsPieceMade, HasPieceLicence, CanTransfer, PassesBy, table_after, part_of, piece_entry, piece_passes, shown_by}
+use Rattle.blk_pieces.specs.Pieces.{Transfers, CanTransfer}
+use Rattle.blk_pieces.proofs.Payloads.{payload_length, putting_by}
+use Rattle.world_commands.specs.Piecing.{IsPieceMade, HasPieceLicence, PassesBy, table_after, part_of, piece_entry, piece_passes, shown_by}
 use Rattle.world_parts.specs.Progress.{Progress, HasNext, flight_at, done_at, ended_in, with_piece}
 use Rattle.flat_machine.specs.Bitmaps.{AreBitmapsOf}
 use Rattle.flat_machine.specs.Recording.{dirty_by}
@@ -51,7 +53,7 @@ use Rattle.world_commands.proofs.DeletedContents.{over-row}
 use Rattle.blk_world.proofs.ImageTold.{mapping_kept}
 use Rattle.world_parts.proofs.InStep.{ended-push}
 use Rattle.blk_world.proofs.PieceCounts.{AreCounted, piece-counted}
-use Rattle.blk_world.proofs.PieceContents.{content_after, else_by, over_same, held_after, payload_length}
+use Rattle.blk_world.proofs.PieceContents.{content_after, else_by, over_same, held_after}
 use Rattle.blk_world.proofs.PieceFits.{piece_fits, stop_reached, same_in}
 use Rattle.blk_world.proofs.PieceNodes.{AreAfter, nodes_after, StoppedOn, IsStop, stop_of, full_of}
 use Rattle.blk_world.proofs.PieceReady.{IsGuestDisk, disk_is, writer, can_transfer, is_apart}
@@ -192,7 +194,9 @@ module _ (w v : Face) (g : ℕ) (f : Flight) (outcome : Outcome) (made : IsPiece
   passes (NoSpace dev) is =
       let did : Transfers f.op w.nodes v.nodes node part (NoSpace dev) made.buffer =
       subst (λ (o : Outcome). Transfers f.op w.nodes v.nodes node part o made.buffer) is made.transferred in
-      let full = full_of w.nodes v.nodes node f.op part made.buffer dev (payload_length f.op part) can.may did in
+      let puts : is_write f.op ≡ true → length (payload_in f.op part) ≡ part.len =
+      λ writes. payload_length f.op part (putting_by f.op w.nodes v.nodes node part (NoSpace dev) made.buffer did writes) in
+      let full = full_of w.nodes v.nodes node f.op part made.buffer dev puts can.may did in
       subst
       (λ (row : Option Row). With row (λ r. With (own_file w.nodes node r.driver) (λ file. With (device_in w.nodes.devices file)
       (λ device. (device.number.0 ≡ dev.0) × PassesBy r.driver f.op part device.capacity)))) (sym full.there)
@@ -233,14 +237,14 @@ module _ (w v : Face) (g : ℕ) (f : Flight) (outcome : Outcome) (made : IsPiece
   over_kept : (name : List ℕ) → node_over v.table name ≡ node_over w.table name
   over_kept name = ap (λ (t : Table). node_over t name) table_kept ∙ over_same w.table (table_after f.op node w.table) (eased_after f.op node w.table) name
 
-  held_else : (name : List ℕ) → (changes_disk f.op ≡ true → written_file w.table node ≡ Some name → ⊥) → held v name ≡ held w name
+  held_else : (name : List ℕ) → (is_write f.op ≡ true → written_file w.table node ≡ Some name → ⊥) → held v name ≡ held w name
   held_else name none =
       held_after w v name (ap (λ (x : Face). x.files) made.kept) (over_kept name)
       (λ n is. content_after w.nodes v.nodes node n f.op part outcome made.buffer made.transferred
       (λ changes. else_by w.table w.nodes was.alike node disk.row disk.at disk.id_is disk.own disk.own_at disk.alike f.op n name
       (over-row w.table name n was.table.stands.apart is) (none changes) changes))
 
-  apart : changes_disk f.op ≡ true → (other : ℕ) → (ReadsWritten w.table node other → ⊥) → IsApart w.nodes other node
+  apart : is_write f.op ≡ true → (other : ℕ) → (ReadsWritten w.table node other → ⊥) → IsApart w.nodes other node
   apart changes other none =
       is_apart w.table w.nodes joined was.alike was.table.stands node disk.row disk.at disk.held disk.id_is disk.has disk.own disk.own_at disk.alike other none
 

@@ -1,38 +1,33 @@
 -- What nodes read as and what files hold after a piece.
-use Rattle.std.proofs.Common.{◌≡◌, ◌≢◌, ◌⊎◌, ℕ, true, false, Bool, List, [], ◌∷◌, length, take, replicate, Option, Some, None, refl, sym, ◌∙◌, ap, subst, inl, inr, arith, ◌==◌, cond}
+use Rattle.std.proofs.Common.{◌≡◌, ◌≢◌, ◌⊎◌, ℕ, true, false, Bool, List, [], ◌∷◌, replicate, Option, Some, None, refl, sym, ◌∙◌, ap, subst, inl, inr, ◌==◌, cond}
 use Rattle.std.specs.Prelude.{find, option_map, option_and_then}
-use Rattle.std.proofs.lemmas.Bool.{false≢true, cases_eq}
-use Rattle.std.proofs.lemmas.List.{length-replicate, take_all}
+use Rattle.std.proofs.lemmas.Bool.{cases_eq}
 use Rattle.blk_base.specs.Pieces.{Extent}
 use Rattle.blk_base.specs.declared.fault.Outcome.{Outcome}
-use Rattle.blk_base.specs.declared.fault.Outcome.TheVariants.{Good, Torn, Io, NoSpace}
-use Rattle.blk_base.proofs.Contents.{length-bytes_at}
 use Rattle.trace_codec.specs.declared.op.Op.{Op}
 use Rattle.trace_codec.specs.declared.op.Op.TheVariants.{Read, Write, Zero, Flush, Discard}
-use Rattle.trace_codec.specs.declared.op.Payload.TheVariants.{Fill, Raw}
+use Rattle.trace_codec.specs.declared.op.Payload.TheVariants.{Raw}
 use Rattle.blk_graph.specs.Edits.{child_of}
 use Rattle.blk_graph.specs.declared.edge.Parent.TheVariants.{Node}
 use Rattle.blk_graph.specs.declared.edge.Role.TheVariants.{File}
-use Rattle.blk_history.specs.Disk.{payload_in}
-use Rattle.blk_history.specs.Machine.{done_by}
+use Rattle.blk_history.specs.Disk.{payload_in, is_write}
 use Rattle.qmp_rules.specs.Asks.{stands_for}
 use Rattle.qmp_rules.specs.Table.{Table, node_at, child}
 use Rattle.qmp_rules.specs.declared.rows.NodeRecord.{NodeRecord}
 use Rattle.flat_machine.specs.Changed.{file_of as file_by}
-use Rattle.flat_machine.specs.EventLicence.{changes_disk}
 use Rattle.flat_machine.specs.State.{filename_of}
 use Rattle.flat_machine.specs.Writing.{written_file}
 use Rattle.flat_machine.proofs.Finds.{find-map}
 use Rattle.blk_nodes.specs.Flushing.{base_of, IsFlushAt}
 use Rattle.blk_nodes.specs.Nodes.{Nodes, DeviceState, row_at, device_in, file_of, kind_of}
 use Rattle.blk_nodes.specs.Reading.{HaveRisen, OnlyAt}
-use Rattle.blk_nodes.specs.Writing.{WritesFile, WritesImage, WritesBy, ZerosBy, own_file, taken_by}
+use Rattle.blk_nodes.specs.Writing.{WritesFile, WritesImage, WritesBy, ZerosBy, own_file}
 use Rattle.blk_nodes.specs.declared.row.Driver.{Driver}
 use Rattle.blk_nodes.specs.declared.row.Driver.TheVariants as drivers
 use Rattle.blk_nodes.specs.declared.row.Row.{Row}
 use Rattle.world_parts.specs.Coherent.{AreNodesOf, IsRowOf}
 use Rattle.world_parts.specs.Face.{Face, held, held_by, node_over, told_bytes}
-use Rattle.world_commands.specs.Piecing.{Transfers}
+use Rattle.blk_pieces.specs.Pieces.{Transfers}
 use Rattle.world_commands.proofs.EasedTables.{IsEased}
 use Rattle.blk_world.proofs.PieceTables.{row_same}
 
@@ -61,7 +56,7 @@ only_content file old new only n apart = ap (option_and_then (λ (d : DeviceStat
 
 -- a node is not over the file that a piece writes
 abbrev pub IsElse : Op → Nodes → ℕ → ℕ → Type 0
-IsElse op nodes node n = changes_disk op ≡ true → (row : Row) (file : ℕ) → row_at nodes node ≡ Some row → own_file nodes node row.driver ≡ Some file → n ≢ file
+IsElse op nodes node n = is_write op ≡ true → (row : Row) (file : ℕ) → row_at nodes node ≡ Some row → own_file nodes node row.driver ≡ Some file → n ≢ file
 
 module _ (old new : Nodes) (node n : ℕ) where
   abbrev NotItsFile : Type 0
@@ -157,19 +152,3 @@ held_after w v name files over same = ap (held_by v name) over ∙ by_node (node
     by_node : (found : Option ℕ) → node_over w.table name ≡ found → held_by v name found ≡ held_by w name found
     by_node None is = ap (λ (all : _). told_bytes all name) files
     by_node (Some n) is = same n is
-
--- ---- what was written
-
-pub payload_length : (op : Op) (part : Extent) → changes_disk op ≡ true → length (payload_in op part) ≡ part.len
-payload_length (Read span) part bad = absurd (false≢true bad)
-payload_length (Write span (Fill byte)) part is = length-replicate part.len byte
-payload_length (Write span (Raw bytes)) part is = length-bytes_at bytes _ part.len
-payload_length (Zero span) part is = length-replicate part.len 0
-payload_length Flush part bad = absurd (false≢true bad)
-payload_length (Discard span) part bad = absurd (false≢true bad)
-
-pub taken_is : (op : Op) (part : Extent) (outcome : Outcome) → changes_disk op ≡ true → taken_by outcome (payload_in op part) ≡ take (done_by outcome part) (payload_in op part)
-taken_is op part Good is = let len = payload_length op part is in sym (take_all part.len (payload_in op part) (omega (arith, len)))
-taken_is op part (Torn done dev count) is = refl
-taken_is op part (Io dev count) is = refl
-taken_is op part (NoSpace dev) is = refl

@@ -13,7 +13,7 @@ use Rattle.blk_nodes.specs.Reading.{IsReadBelow, StoppedAt}
 use Rattle.blk_nodes.specs.Writing.{IsWriteAt, WritesImage, WritesBy, ZerosBy, HasCauseOf, HasPieceCause}
 use Rattle.blk_nodes.specs.declared.row.Driver.{Driver}
 use Rattle.blk_nodes.specs.declared.row.Driver.TheVariants as drivers
-use Rattle.world_commands.specs.Piecing.{Transfers}
+use Rattle.blk_pieces.specs.Pieces.{Transfers}
 use Rattle.world_commands.proofs.CountsKept.{AreSame, faults_at, only-same}
 
 -- no count rose, or that of the device which stopped it

@@ -1,14 +1,9 @@
 -- The entry of a piece fits, and names a device that its guest's node reaches.
-use Rattle.std.proofs.Common.{◌≡◌, ◌⊎◌, ℕ, zero, suc, ◌<◌, ◌==◌, ◌||◌, Bool, true, false, cond, List, [], ◌∷◌, length, replicate, Option, Some, None, refl, sym, ◌∙◌, ap, subst, inl, inr, arith, eq-eqb}
-use Rattle.std.specs.Prelude.{IsTrue, Contains, slice_get, option_map, option_and_then, unwrap_or, ◌&&◌}
+use Rattle.std.proofs.Common.{◌≡◌, ◌⊎◌, ℕ, zero, suc, ◌<◌, ◌==◌, ◌||◌, Bool, true, false, cond, List, [], ◌∷◌, length, Option, Some, None, refl, sym, ◌∙◌, ap, subst, inl, inr, arith, eq-eqb}
+use Rattle.std.specs.Prelude.{Contains, slice_get, option_map, option_and_then, unwrap_or, ◌&&◌}
 use Rattle.std.specs.List.{list_any}
-use Rattle.std.proofs.lemmas.List.{length-replicate}
-use Rattle.blk_base.specs.Pieces.{Extent}
 use Rattle.blk_base.specs.declared.fault.DevNo.{DevNo}
 use Rattle.blk_base.specs.declared.fault.Outcome.{Outcome}
-use Rattle.blk_base.specs.declared.fault.Outcome.TheVariants.{Good, Torn, Io, NoSpace}
-use Rattle.trace_codec.specs.declared.op.Op.{Op}
-use Rattle.trace_codec.specs.declared.op.Op.TheVariants.{Read, Write, Zero, Flush, Discard}
 use Rattle.blk_graph.specs.Edges.{same_parent}
 use Rattle.blk_graph.specs.Paths.{IsPath, Reaches}
 use Rattle.blk_graph.specs.declared.edge.Edge.{Edge}
@@ -17,9 +12,8 @@ use Rattle.blk_graph.specs.declared.edge.Parent.TheVariants.{Node}
 use Rattle.blk_graph.proofs.InverseLemmas.{same_parent-refl}
 use Rattle.blk_graph.proofs.Members.{Contains-nil, Contains-cases}
 use Rattle.blk_graph.proofs.PathLemmas.{Reaches-edge}
-use Rattle.blk_history.specs.Disk.{payload_in, shown_in, is_write}
 use Rattle.blk_history.specs.Fold.{With}
-use Rattle.blk_history.specs.Legal.{Tells, IsNextPiece}
+use Rattle.blk_history.specs.Legal.{IsNextPiece}
 use Rattle.blk_history.specs.Machine.{Flight}
 use Rattle.qmp_rules.specs.Chains.{disk_node, is_settled, leads, reaches}
 use Rattle.qmp_rules.specs.Table.{Table, node_at}
@@ -35,92 +29,19 @@ use Rattle.blk_nodes.specs.Contents.{disk_of}
 use Rattle.blk_nodes.specs.Joined.{IsJoined}
 use Rattle.blk_nodes.specs.Nodes.{Nodes, DeviceState, AreTold, device_in}
 use Rattle.blk_nodes.specs.Reading.{LeadsTo}
-use Rattle.blk_nodes.specs.Writing.{WritesBy, ZerosBy, IsTornAt, HasCauseOf}
-use Rattle.blk_nodes.specs.declared.row.Driver.{Driver}
-use Rattle.blk_nodes.specs.declared.row.Driver.TheVariants as drivers
 use Rattle.blk_nodes.proofs.Leading.{leads_on}
 use Rattle.world_parts.specs.Coherent.{AreNodesOf}
 use Rattle.world_commands.specs.Comes.{Shows}
 use Rattle.world_commands.specs.Counting.{AreSameDevices, IsSameDevice, sources_of}
 use Rattle.world_parts.specs.Face.{Face}
-use Rattle.world_commands.specs.Piecing.{Transfers, part_of, shown_of, shown_by, piece_entry}
+use Rattle.blk_pieces.specs.Pieces.{Transfers}
+use Rattle.blk_pieces.proofs.Told.{tells}
+use Rattle.world_commands.specs.Piecing.{part_of, shown_by, piece_entry}
 use Rattle.world_parts.specs.Progress.{HasNext, flight_at, done_at}
-use Rattle.blk_world.proofs.PieceContents.{payload_length}
 use Rattle.blk_world.proofs.PieceNodes.{StoppedOn}
 use Rattle.blk_world.proofs.PiecePaths.{short, or-right}
 use Rattle.blk_world.proofs.PieceWriters.{filter_edge, down_disk}
 use Rattle.world_commands.proofs.Quiet.{in-flight}
-
--- ---- torn pieces
-
-torn_file : (before after : DeviceState) (place n done : ℕ) (dev : DevNo) (count : ℕ) → HasCauseOf before after place n (Torn done dev count) → (0 < done) × (done < n)
-torn_file before after place n done dev count cause = (cause.1, cause.2)
-
-torn_image : (own : Option ℕ) (n done : ℕ) → IsTornAt own n done → (0 < done) × (done < n)
-torn_image None n done never = absurd never
-torn_image (Some place) n done is = (is.0, is.1)
-
-torn_write : (old new : Nodes) (node : ℕ) (part : Extent) (bytes : List ℕ) (done : ℕ) (dev : DevNo) (count : ℕ) (d : Driver) → WritesBy d old new node part bytes (Torn done dev count)
-    → (0 < done) × (done < length bytes)
-torn_write old new node part bytes done dev count drivers.File wrote = torn_file wrote.at.before wrote.at.after wrote.start (length bytes) done dev count wrote.at.wrote.cause
-torn_write old new node part bytes done dev count (drivers.Raw p) wrote = torn_file wrote.at.before wrote.at.after wrote.start (length bytes) done dev count wrote.at.wrote.cause
-torn_write old new node part bytes done dev count (drivers.Qcow2 image) wrote = torn_image _ (length bytes) done wrote.cause.1
-torn_write old new node part bytes done dev count drivers.CopyOnRead wrote = torn_file wrote.at.before wrote.at.after wrote.start (length bytes) done dev count wrote.at.wrote.cause
-
-torn_zero : (old new : Nodes) (node : ℕ) (part : Extent) (done : ℕ) (dev : DevNo) (count : ℕ) (d : Driver) → ZerosBy d old new node part (Torn done dev count)
-    → (0 < done) × (done < part.len)
-torn_zero old new node part done dev count drivers.File wrote =
-    let is = torn_file wrote.at.before wrote.at.after wrote.start (length (replicate {A = ℕ} part.len 0)) done dev count wrote.at.wrote.cause in
-    let len = length-replicate {A = ℕ} part.len 0 in
-    (is.0, omega (arith, is.1, len))
-torn_zero old new node part done dev count (drivers.Raw p) wrote =
-    let is = torn_file wrote.at.before wrote.at.after wrote.start (length (replicate {A = ℕ} part.len 0)) done dev count wrote.at.wrote.cause in
-    let len = length-replicate {A = ℕ} part.len 0 in
-    (is.0, omega (arith, is.1, len))
-torn_zero old new node part done dev count (drivers.Qcow2 image) wrote = torn_image _ part.len done wrote.cause.1
-torn_zero old new node part done dev count drivers.CopyOnRead wrote =
-    let is = torn_file wrote.at.before wrote.at.after wrote.start (length (replicate {A = ℕ} part.len 0)) done dev count wrote.at.wrote.cause in
-    let len = length-replicate {A = ℕ} part.len 0 in
-    (is.0, omega (arith, is.1, len))
-
--- ---- what its outcome tells
-
-shown_none : (op : Op) (outcome : Outcome) (buffer : List ℕ) → (outcome ≡ Good → ⊥) → shown_of op outcome buffer ≡ []
-shown_none (Read span) Good buffer none = absurd (none refl)
-shown_none (Read span) (Torn done dev count) buffer none = refl
-shown_none (Read span) (Io dev count) buffer none = refl
-shown_none (Read span) (NoSpace dev) buffer none = refl
-shown_none (Write span payload) outcome buffer none = refl
-shown_none (Zero span) outcome buffer none = refl
-shown_none Flush outcome buffer none = refl
-shown_none (Discard span) outcome buffer none = refl
-
-module _ (old new : Nodes) (node : ℕ) (part : Extent) (buffer : List ℕ) (told : AreTold old.devices) where
-  good_tells : (op : Op) → Transfers op old new node part Good buffer → shown_of op Good buffer ≡ shown_in op part (disk_of old node)
-  good_tells (Read span) did = did.read told
-  good_tells (Write span payload) did = refl
-  good_tells (Zero span) did = refl
-  good_tells Flush did = refl
-  good_tells (Discard span) did = refl
-
-  torn_tells : (op : Op) (done : ℕ) (dev : DevNo) (count : ℕ) → Transfers op old new node part (Torn done dev count) buffer → IsTrue (is_write op) × (0 < done) × (done < part.len)
-  torn_tells (Read span) done dev count did = absurd did.outcome_is
-  torn_tells (Write span payload) done dev count did =
-      let is = torn_write old new node part (payload_in (Write span payload) part) done dev count did.0.row.driver did.0.wrote in
-      let len = payload_length (Write span payload) part refl in
-      (refl, is.0, omega (arith, is.1, len))
-  torn_tells (Zero span) done dev count did = let is = torn_zero old new node part done dev count did.0.row.driver did.0.wrote in (refl, is.0, is.1)
-  torn_tells Flush done dev count did = absurd did.flushed.flush.cause
-  torn_tells (Discard span) done dev count did = absurd did
-
-  pub tells : (op : Op) (outcome : Outcome) (disk : Option (List ℕ)) → disk ≡ Some (disk_of old node) → Transfers op old new node part outcome buffer
-      → Tells outcome op part disk (shown_of op outcome buffer)
-  tells op Good disk is did = subst (λ (d : Option (List ℕ)). With d (λ bytes. shown_of op Good buffer ≡ shown_in op part bytes)) (sym is) (good_tells op did)
-  tells op (Torn done dev count) disk is did =
-      let torn = torn_tells op done dev count did in
-      (torn.0, torn.1, torn.2, shown_none op (Torn done dev count) buffer (λ bad. let e : ⊥ = cc bad in e))
-  tells op (Io dev count) disk is did = shown_none op (Io dev count) buffer (λ bad. let e : ⊥ = cc bad in e)
-  tells op (NoSpace dev) disk is did = shown_none op (NoSpace dev) buffer (λ bad. let e : ⊥ = cc bad in e)
 
 -- ---- the guest's flat disk
 

@@ -1,5 +1,5 @@
 -- What a piece leaves of nodes and devices, and whose device stopped it.
-use Rattle.std.proofs.Common.{◌≡◌, ℕ, zero, suc, ◌+◌, ◌<◌, true, List, length, get_or, replicate, Option, Some, None, refl, sym, ◌∙◌, ap, subst, inl, inr, arith}
+use Rattle.std.proofs.Common.{◌≡◌, ℕ, zero, suc, ◌+◌, ◌<◌, true, List, length, replicate, Option, Some, None, refl, sym, ◌∙◌, ap, subst, inl, inr, arith}
 use Rattle.std.proofs.lemmas.List.{length-replicate}
 use Rattle.blk_base.specs.Pieces.{Extent}
 use Rattle.blk_base.specs.declared.fault.DevNo.{DevNo}
@@ -10,23 +10,24 @@ use Rattle.trace_codec.specs.declared.op.Payload.{Payload}
 use Rattle.trace_codec.specs.declared.op.Op.TheVariants.{Read, Write, Zero, Flush, Discard}
 use Rattle.blk_graph.specs.Graph.{Graph}
 use Rattle.blk_graph.specs.declared.edge.Role.TheVariants.{File as FileRole}
-use Rattle.blk_history.specs.Disk.{payload_in}
+use Rattle.blk_history.specs.Disk.{payload_in, is_write}
 use Rattle.qmp_rules.specs.Table.{Table, node_at}
 use Rattle.qmp_rules.specs.declared.rows.NodeRecord.{NodeRecord}
-use Rattle.flat_machine.specs.EventLicence.{changes_disk, device_in as device_named}
+use Rattle.flat_machine.specs.EventLicence.{device_in as device_named}
 use Rattle.blk_nodes.specs.Flushing.{base_in, base_of, HasFlushCause, IsFlushAt}
 use Rattle.blk_nodes.specs.Joined.{IsJoined}
 use Rattle.blk_nodes.specs.Nodes.{Nodes, DeviceState, row_at, device_in, file_of, kind_of}
 use Rattle.blk_nodes.specs.Reading.{IsReadBelow, LeadsTo, StoppedBy, StoppedBelow}
-use Rattle.blk_nodes.specs.Writing.{IsDriverAfter, AreRowsAfter, LeavesNodes, WritesFile, WritesImage, WritesBy, ZerosBy, HasCauseOf, HasPieceCause, MayWrite, CanBeWritten, own_file, own_start}
+use Rattle.blk_nodes.specs.Writing.{IsDriverAfter, AreRowsAfter, WritesFile, WritesImage, WritesBy, ZerosBy, HasCauseOf, HasPieceCause, MayWrite, CanBeWritten, own_file, own_start}
 use Rattle.blk_nodes.specs.declared.row.Driver.{Driver}
 use Rattle.blk_nodes.specs.declared.row.Driver.TheVariants as drivers
 use Rattle.blk_nodes.specs.declared.row.Row.{Row}
-use Rattle.blk_nodes.proofs.Alike.{alike_but, row_refl}
+use Rattle.blk_pieces.proofs.Rows.{RowsAfter, rows_kept, rows_after}
 use Rattle.blk_nodes.proofs.Leading.{leads_on, child_leads}
 use Rattle.world_parts.specs.Coherent.{AreNodesOf, AreAlike, IsRowOf, offset_of}
 use Rattle.world_commands.specs.Counting.{AreSameDevices}
-use Rattle.world_commands.specs.Piecing.{Transfers, PassesBy}
+use Rattle.blk_pieces.specs.Pieces.{Transfers}
+use Rattle.world_commands.specs.Piecing.{PassesBy}
 use Rattle.world_commands.proofs.CountLemmas.{same-risen, same-only}
 
 -- ---- nodes after it
@@ -36,22 +37,11 @@ pub record AreAfter (old new : Nodes) : Type 0 where
   pub rows : (n : ℕ) → AreRowsAfter (row_at old n) (row_at new n)
   pub devices : AreSameDevices old.devices new.devices
 
-rows_kept : (old new : Nodes) → new.rows ≡ old.rows → (n : ℕ) → AreRowsAfter (row_at old n) (row_at new n)
-rows_kept old new same n = subst (λ (rs : List (Option Row)). AreRowsAfter (row_at old n) (get_or rs n None)) (sym same) (row_refl (row_at old n))
+of_rows : (old new : Nodes) → RowsAfter old new → AreSameDevices old.devices new.devices → AreAfter old new
+of_rows old new rows devices = record { graph = rows.graph; rows = rows.rows; devices = devices }
 
 pub after_devices : (old new : Nodes) → new ≡ record old { devices = new.devices } → AreSameDevices old.devices new.devices → AreAfter old new
-after_devices old new kept devices = record {
-  graph = ap (λ (n : Nodes). n.graph) kept;
-  rows = rows_kept old new (ap (λ (n : Nodes). n.rows) kept);
-  devices = devices;
-}
-
-after_left : (old new : Nodes) (node : ℕ) → LeavesNodes old new node → AreSameDevices old.devices new.devices → AreAfter old new
-after_left old new node leaves devices = record {
-  graph = leaves.graph;
-  rows = alike_but old new node leaves.others leaves.own;
-  devices = devices;
-}
+after_devices old new kept devices = of_rows old new (rows_kept old new kept) devices
 
 module _ (old new : Nodes) (joined : IsJoined old) where
   file_devices : (node place : ℕ) (bytes : List ℕ) (outcome : Outcome) → WritesFile old new node place bytes outcome → AreSameDevices old.devices new.devices
@@ -88,13 +78,15 @@ module _ (old new : Nodes) (joined : IsJoined old) where
         faults = flushed.flush.faults;
       })
 
+  devices_after : (op : Op) (node : ℕ) (part : Extent) (outcome : Outcome) (buffer : List ℕ) → Transfers op old new node part outcome buffer → AreSameDevices old.devices new.devices
+  devices_after (Read span) node part outcome buffer did = same-risen old.devices new.devices did.devices
+  devices_after (Write span payload) node part outcome buffer did = write_devices node part (payload_in (Write span payload) part) outcome did.0.row.driver did.0.wrote
+  devices_after (Zero span) node part outcome buffer did = zero_devices node part outcome did.0.row.driver did.0.wrote
+  devices_after Flush node part outcome buffer did = flush_devices (base_of old node) outcome did.flushed
+  devices_after (Discard span) node part outcome buffer did = absurd did
+
   pub nodes_after : (op : Op) (node : ℕ) (part : Extent) (outcome : Outcome) (buffer : List ℕ) → Transfers op old new node part outcome buffer → AreAfter old new
-  nodes_after (Read span) node part outcome buffer did = after_devices old new did.kept (same-risen old.devices new.devices did.devices)
-  nodes_after (Write span payload) node part outcome buffer did =
-      after_left old new node did.1.kept (write_devices node part (payload_in (Write span payload) part) outcome did.0.row.driver did.0.wrote)
-  nodes_after (Zero span) node part outcome buffer did = after_left old new node did.1.kept (zero_devices node part outcome did.0.row.driver did.0.wrote)
-  nodes_after Flush node part outcome buffer did = after_devices old new did.kept (flush_devices (base_of old node) outcome did.flushed)
-  nodes_after (Discard span) node part outcome buffer did = absurd did
+  nodes_after op node part outcome buffer did = of_rows old new (rows_after old new node op part outcome buffer did) (devices_after op node part outcome buffer did)
 
 -- ---- the table speaks of them as before
 
@@ -287,7 +279,7 @@ module _ (old new : Nodes) (node : ℕ) where
   zeroed_stop part outcome dev row named there may drivers.CopyOnRead driver wrote = absurd (not_copying row there driver may)
 
   -- The device that a piece names is one that its node leads to.
-  pub stop_of : (op : Op) (part : Extent) (outcome : Outcome) (buffer : List ℕ) (dev : DevNo) → (changes_disk op ≡ true → MayWrite old node) → device_named outcome ≡ Some dev
+  pub stop_of : (op : Op) (part : Extent) (outcome : Outcome) (buffer : List ℕ) (dev : DevNo) → (is_write op ≡ true → MayWrite old node) → device_named outcome ≡ Some dev
       → Transfers op old new node part outcome buffer → StoppedOn old new node outcome dev
   stop_of (Read span) part outcome buffer dev may named did = read_stop old new node outcome dev named did.outcome_is
   stop_of (Write span payload) part outcome buffer dev may named did =
@@ -354,7 +346,7 @@ module _ (old new : Nodes) (node : ℕ) (part : Extent) (dev : DevNo) (row : Row
   zero_full span may (drivers.Qcow2 image) driver wrote = image_full (Zero span) _ _ _ (drivers.Qcow2 image) driver refl wrote wrote.cause.0
   zero_full span may drivers.CopyOnRead driver wrote = absurd (not_copying old new node row there driver may)
 
-pub full_of : (old new : Nodes) (node : ℕ) (op : Op) (part : Extent) (buffer : List ℕ) (dev : DevNo) → (changes_disk op ≡ true → length (payload_in op part) ≡ part.len) → (changes_disk op ≡ true → MayWrite old node)
+pub full_of : (old new : Nodes) (node : ℕ) (op : Op) (part : Extent) (buffer : List ℕ) (dev : DevNo) → (is_write op ≡ true → length (payload_in op part) ≡ part.len) → (is_write op ≡ true → MayWrite old node)
     → Transfers op old new node part (NoSpace dev) buffer → IsFull old node op part dev
 full_of old new node (Read span) part buffer dev len may did = absurd did.outcome_is
 full_of old new node (Write span payload) part buffer dev len may did =

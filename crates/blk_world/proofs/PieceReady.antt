@@ -21,7 +21,6 @@ use Rattle.blk_history.specs.Disk.{span_of, piece, is_write}
 use Rattle.blk_history.specs.Fold.{With}
 use Rattle.blk_history.specs.Machine.{Flight}
 use Rattle.flat_machine.specs.Agreement.{HasDisk}
-use Rattle.flat_machine.specs.EventLicence.{changes_disk}
 use Rattle.flat_machine.specs.Legal.{IsForbidden}
 use Rattle.flat_machine.specs.Machine.{copies_through}
 use Rattle.flat_machine.specs.State.{drive_of, disk_of_guest, size_of}
@@ -36,7 +35,8 @@ use Rattle.blk_nodes.specs.declared.row.Driver.TheVariants as drivers
 use Rattle.blk_nodes.specs.declared.row.Row.{Row}
 use Rattle.blk_nodes.proofs.Leading.{leads_on}
 use Rattle.world_parts.specs.Coherent.{AreNodesOf, IsRowOf, IsCoherent}
-use Rattle.world_commands.specs.Piecing.{CanTransfer, part_of}
+use Rattle.blk_pieces.specs.Pieces.{CanTransfer}
+use Rattle.world_commands.specs.Piecing.{part_of}
 use Rattle.world_parts.specs.Progress.{Progress, HasNext, flight_at}
 use Rattle.flat_machine.proofs.WritingKept.{RoleEdge, role_edge}
 use Rattle.world_parts.proofs.InStep.{with-at}
@@ -256,17 +256,10 @@ piece_inside (Zero span) k less = span_inside span k less
 piece_inside Flush k less = omega arith
 piece_inside (Discard span) k less = absurd (omega (arith, less))
 
--- what changes a disk asks for a device that may write
-writes_asks : (op : Op) → changes_disk op ≡ true → is_write op ≡ true
-writes_asks (Read span) is = is
-writes_asks (Write span payload) is = refl
-writes_asks (Zero span) is = refl
-writes_asks Flush is = is
-writes_asks (Discard span) is = refl
-
-pub not_forbidden : (op : Op) (read_only : Bool) → changes_disk op ≡ true → (IsForbidden op read_only → ⊥) → read_only ≡ false
+-- what writes asks for a device that may write
+pub not_forbidden : (op : Op) (read_only : Bool) → is_write op ≡ true → (IsForbidden op read_only → ⊥) → read_only ≡ false
 not_forbidden op false changes allowed = refl
-not_forbidden op true changes allowed = absurd (allowed (writes_asks op changes))
+not_forbidden op true changes allowed = absurd (allowed changes)
 
 -- ---- a guest's disk
 
@@ -328,7 +321,7 @@ module _ (t : Table) (nodes : Nodes) (joined : IsJoined nodes) (stands : TableSt
 
 -- A guest's disk can be asked for the next piece of its request in flight.
 module _ (t : Table) (nodes : Nodes) (p : Progress) (joined : IsJoined nodes) where
-  pub device_there : (g : ℕ) (f : Flight) (device : Option Device) → device_at t g ≡ device → With device (λ d. IsForbidden f.op d.read_only → ⊥) → changes_disk f.op ≡ true
+  pub device_there : (g : ℕ) (f : Flight) (device : Option Device) → device_at t g ≡ device → With device (λ d. IsForbidden f.op d.read_only → ⊥) → is_write f.op ≡ true
       → (d : Device) × (device_at t g ≡ Some d) × (d.read_only ≡ false)
   device_there g f None is never changes = absurd never
   device_there g f (Some device) is allowed changes = (device, is, not_forbidden f.op device.read_only changes allowed)
@@ -340,10 +333,10 @@ module _ (t : Table) (nodes : Nodes) (p : Progress) (joined : IsJoined nodes) wh
     pub node_on : disk_of_guest t g ≡ Some (disk_node t drive)
     node_on = ap (option_map (disk_node t)) on
 
-    pub writer : changes_disk f.op ≡ true → (d : Device) × (device_at t g ≡ Some d) × (d.read_only ≡ false)
+    pub writer : is_write f.op ≡ true → (d : Device) × (device_at t g ≡ Some d) × (d.read_only ≡ false)
     writer changes = device_there g f (device_at t g) refl (was.allowed g f flies) changes
 
-    pub writable_row : changes_disk f.op ≡ true → disk_is.row.read_only ≡ false
+    pub writable_row : is_write f.op ≡ true → disk_is.row.read_only ≡ false
     writable_row changes =
         let by = writer changes in
         disk_writable t nodes joined was.table.stands was.alike g (disk_node t drive) disk_is (was.writable g disk_is.drive by.0 by.1 by.2 disk_is.on)

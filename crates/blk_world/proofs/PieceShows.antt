@@ -5,7 +5,7 @@ use Rattle.blk_base.specs.Pieces.{Extent}
 use Rattle.blk_base.specs.declared.fault.Outcome.{Outcome}
 use Rattle.trace_codec.specs.declared.op.Op.{Op}
 use Rattle.trace_codec.specs.declared.op.Op.TheVariants.{Read, Write, Zero, Flush, Discard}
-use Rattle.blk_history.specs.Disk.{payload_in, done_in, piece}
+use Rattle.blk_history.specs.Disk.{payload_in, done_in, piece, is_write}
 use Rattle.blk_history.specs.Fold.{change}
 use Rattle.blk_history.specs.Machine.{Flight, done_by}
 use Rattle.blk_history.specs.declared.event.Event.{Event}
@@ -13,7 +13,6 @@ use Rattle.blk_history.specs.declared.event.Event.TheVariants.{Piece}
 use Rattle.qmp_rules.specs.Chains.{disk_node, written_under}
 use Rattle.qmp_rules.specs.Table.{Table}
 use Rattle.flat_machine.specs.Agreement.{Agrees}
-use Rattle.flat_machine.specs.EventLicence.{changes_disk}
 use Rattle.flat_machine.specs.Final.{bytes_named}
 use Rattle.flat_machine.specs.Jobs.{unsure}
 use Rattle.flat_machine.specs.Machine.{after, with_guest, with_part, with_piece, with_disk, past_piece, flight_of, note, noted, is_noted, path, written, read_through, copies_through}
@@ -32,9 +31,10 @@ use Rattle.world_commands.specs.Comes.{Shows}
 use Rattle.flat_machine.specs.Recording.{dirty_by}
 use Rattle.flat_machine.proofs.Recorded.{part-dirty}
 use Rattle.world_parts.specs.Face.{Face, dirty_of, held, contents_of}
-use Rattle.world_commands.specs.Piecing.{Transfers, PutsPart, table_after}
+use Rattle.blk_pieces.specs.Pieces.{Transfers, PutsPart}
+use Rattle.blk_pieces.proofs.Payloads.{IsPutting, taken_is}
+use Rattle.world_commands.specs.Piecing.{table_after}
 use Rattle.world_parts.specs.Progress.{ended_in}
-use Rattle.blk_world.proofs.PieceContents.{taken_is}
 use Rattle.world_commands.proofs.Quiet.{stands-onward}
 
 -- ---- what stands beside the disks
@@ -103,22 +103,22 @@ started_after (Discard span) node t = refl
 -- what a piece leaves of contents, by what is asked
 module _ (t : Table) (w v : Face) (drive : ℕ) (op : Op) (outcome : Outcome) (part : Extent) (buffer : List ℕ)
     (did : Transfers op w.nodes v.nodes (disk_node t drive) part outcome buffer)
-    (apart : changes_disk op ≡ true → (other : ℕ) → (ReadsWritten t (disk_node t drive) other → ⊥) → IsApart w.nodes other (disk_node t drive))
+    (apart : is_write op ≡ true → (other : ℕ) → (ReadsWritten t (disk_node t drive) other → ⊥) → IsApart w.nodes other (disk_node t drive))
     (told : AreTold w.nodes.devices)
-    (held_else : (name : List ℕ) → (changes_disk op ≡ true → written_file t (disk_node t drive) ≡ Some name → ⊥) → held v name ≡ held w name) where
+    (held_else : (name : List ℕ) → (is_write op ≡ true → written_file t (disk_node t drive) ≡ Some name → ⊥) → held v name ≡ held w name) where
   abbrev node : ℕ
   node = disk_node t drive
 
-  puts_done : (o : Op) → o ≡ op → changes_disk o ≡ true → PutsPart w.nodes v.nodes node part outcome (payload_in o part)
+  puts_done : (o : Op) → o ≡ op → is_write o ≡ true → IsPutting o → PutsPart w.nodes v.nodes node part outcome (payload_in o part)
       → (s : State) → s.table ≡ t → Writes s node o part (done_by outcome part) (contents_of w) (contents_of v)
-  puts_done o same changes puts s table = record {
-    written = puts.disk told ∙ ap (with_bytes (disk_of w.nodes node) part.start) (taken_is o part outcome changes);
+  puts_done o same changes putting puts s table = record {
+    written = puts.disk told ∙ ap (with_bytes (disk_of w.nodes node) part.start) (taken_is o part outcome putting);
     nodes = λ other none.
-        puts.others other (apart (ap changes_disk (sym same) ∙ changes) other (subst (λ (u : Table). ReadsWritten u node other → ⊥) table none));
+        puts.others other (apart (ap is_write (sym same) ∙ changes) other (subst (λ (u : Table). ReadsWritten u node other → ⊥) table none));
     files = λ name none. held_else name (λ c is. none (subst (λ (u : Table). written_file u node ≡ Some name) (sym table) is));
   }
 
-  quiet_done : ((other : ℕ) → disk_of v.nodes other ≡ disk_of w.nodes other) → (changes_disk op ≡ true → ⊥) → IsQuiet (contents_of w) (contents_of v)
+  quiet_done : ((other : ℕ) → disk_of v.nodes other ≡ disk_of w.nodes other) → (is_write op ≡ true → ⊥) → IsQuiet (contents_of w) (contents_of v)
   quiet_done disks none = record {
     nodes = λ other never. disks other;
     files = λ name never. held_else name (λ changes is. none changes);
@@ -126,18 +126,18 @@ module _ (t : Table) (w v : Face) (drive : ℕ) (op : Op) (outcome : Outcome) (p
 
 pub piece_done : (s : State) (t : Table) (w v : Face) (drive : ℕ) (op : Op) (outcome : Outcome) (part : Extent) (buffer : List ℕ) → s.table ≡ t
     → Transfers op w.nodes v.nodes (disk_node t drive) part outcome buffer
-    → (changes_disk op ≡ true → (other : ℕ) → (ReadsWritten t (disk_node t drive) other → ⊥) → IsApart w.nodes other (disk_node t drive))
+    → (is_write op ≡ true → (other : ℕ) → (ReadsWritten t (disk_node t drive) other → ⊥) → IsApart w.nodes other (disk_node t drive))
     → AreTold w.nodes.devices
-    → ((name : List ℕ) → (changes_disk op ≡ true → written_file t (disk_node t drive) ≡ Some name → ⊥) → held v name ≡ held w name)
+    → ((name : List ℕ) → (is_write op ≡ true → written_file t (disk_node t drive) ≡ Some name → ⊥) → held v name ≡ held w name)
     → PieceDone s drive op outcome part (contents_of w) (contents_of v)
 piece_done s t w v drive (Read span) outcome part buffer table did apart told held_else =
     inl (quiet_done t w v drive (Read span) outcome part buffer did apart told held_else did.disks (λ bad. let e : ⊥ = cc bad in e))
 piece_done s t w v drive (Write span payload) outcome part buffer table did apart told held_else =
     subst (λ (u : Table). Writes s (disk_node u drive) (Write span payload) part (done_by outcome part) (contents_of w) (contents_of v)) (sym table)
-    (puts_done t w v drive (Write span payload) outcome part buffer did apart told held_else (Write span payload) refl refl did.1 s table)
+    (puts_done t w v drive (Write span payload) outcome part buffer did apart told held_else (Write span payload) refl refl tt did.1 s table)
 piece_done s t w v drive (Zero span) outcome part buffer table did apart told held_else =
     subst (λ (u : Table). Writes s (disk_node u drive) (Zero span) part (done_by outcome part) (contents_of w) (contents_of v)) (sym table)
-    (puts_done t w v drive (Zero span) outcome part buffer did apart told held_else (Zero span) refl refl did.1 s table)
+    (puts_done t w v drive (Zero span) outcome part buffer did apart told held_else (Zero span) refl refl tt did.1 s table)
 piece_done s t w v drive Flush outcome part buffer table did apart told held_else =
     quiet_done t w v drive Flush outcome part buffer did apart told held_else did.disks (λ bad. let e : ⊥ = cc bad in e)
 piece_done s t w v drive (Discard span) outcome part buffer table did apart told held_else = absurd did

@@ -12,7 +12,7 @@ use Rattle.blk_graph.specs.declared.edge.Parent.TheVariants.{Node, Guest as Gues
 use Rattle.blk_graph.specs.declared.edge.Role.{Role}
 use Rattle.blk_graph.specs.declared.edge.Role.TheVariants.{Drive}
 use Rattle.blk_graph.proofs.Members.{find-Some}
-use Rattle.blk_history.specs.Disk.{span_of}
+use Rattle.blk_history.specs.Disk.{span_of, is_write}
 use Rattle.blk_history.specs.Fold.{With}
 use Rattle.qmp_rules.specs.Changes.{unsettled}
 use Rattle.qmp_rules.specs.Chains.{filter_role, filtered, disk_node, is_over, unsettled_over, written_under}
@@ -20,7 +20,6 @@ use Rattle.qmp_rules.specs.Table.{Table, node_at, device_at, child}
 use Rattle.qmp_rules.specs.declared.rows.Device.{Device}
 use Rattle.qmp_rules.specs.declared.rows.NodeRecord.{NodeRecord}
 use Rattle.flat_machine.specs.Agreement.{HasDisk}
-use Rattle.flat_machine.specs.EventLicence.{changes_disk}
 use Rattle.flat_machine.specs.Legal.{IsForbidden}
 use Rattle.flat_machine.specs.State.{drive_of, disk_of_guest, size_of}
 use Rattle.flat_machine.specs.Wiring.{TableAtRest}
@@ -169,7 +168,7 @@ module _ (t : Table) (nodes : Nodes) (opened : List Opened) (p : Progress) (join
       (subst (λ (row : Option NodeRecord). With row HasDisk) (sym (eased_at t (written_under node t) e (disk_node t other)))
       (kept_at t node (disk_node t other) apart (node_at t (disk_node t other)) refl (was.disks g other is)))
 
-  pub disks_after : (op : Op) → (changes_disk op ≡ true → (d : Device) × (device_at t writer ≡ Some d) × (d.read_only ≡ false)) → AreOnDisks (table_after op (disk_node t drive) t)
+  pub disks_after : (op : Op) → (is_write op ≡ true → (d : Device) × (device_at t writer ≡ Some d) × (d.read_only ≡ false)) → AreOnDisks (table_after op (disk_node t drive) t)
   disks_after (Read span) by = was.disks
   disks_after (Write span payload) by = let d = by refl in written_disks d.0 d.1 d.2
   disks_after (Zero span) by = let d = by refl in written_disks d.0 d.1 d.2

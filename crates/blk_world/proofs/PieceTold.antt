@@ -17,7 +17,7 @@ use Rattle.blk_nodes.specs.Writing.{WritesFile, WritesImage, WritesBy, ZerosBy}
 use Rattle.blk_nodes.specs.declared.row.Driver.{Driver}
 use Rattle.blk_nodes.specs.declared.row.Driver.TheVariants as drivers
 use Rattle.world_commands.specs.Counting.{AreSameDevices}
-use Rattle.world_commands.specs.Piecing.{Transfers}
+use Rattle.blk_pieces.specs.Pieces.{Transfers}
 use Rattle.world_commands.proofs.CountLemmas.{found-before}
 use Rattle.blk_world.proofs.PieceContents.{content_in, risen_content, only_content}
 use Rattle.blk_world.proofs.PieceNodes.{nodes_after}

@@ -2,7 +2,8 @@
 ghost use Rattle.std.specs.Prelude.{◌≡◌, IfOk, Some, vec_len};
 ghost use Rattle.blk_history.specs.Fold.{With};
 ghost use Rattle.blk_history.specs.Machine.{Flight};
-ghost use Rattle.world_commands.specs.Piecing.{CanTransfer, IsMadeOn, part_of};
+ghost use Rattle.blk_pieces.specs.Pieces.{CanTransfer};
+ghost use Rattle.world_commands.specs.Piecing.{IsMadeOn, part_of};
 ghost use Rattle.world_parts.specs.Progress.{HasNext, flight_at};
 
 use crate::transfer::make_next;

@@ -9,10 +9,10 @@ ghost use Rattle.world_commands.specs.Piecing.{part_of};
 ghost use Rattle.world_parts.specs.Progress.{HasNext, flight_at};
 ghost use Rattle.world_commands.specs.Recorded.{noted_after, noted_where, written_in};
 
-use crate::transfer::request_piece;
 use blk_base::{Outcome, Span};
 use blk_bitmaps::Bitmaps;
 use blk_graph::{Kind, NodeId, Role};
+use blk_pieces::request_piece;
 use qmp_rules::Names;
 use trace_codec::Op;
 use world_parts::Progress;

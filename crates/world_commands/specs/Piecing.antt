@@ -1,97 +1,30 @@
--- What a piece of a guest's request does to nodes and devices, and what it leaves of the world.
-use Rattle.std.specs.Prelude.{◌≡◌, ◌+◌, ◌<◌, ◌≤◌, ℕ, true, List, [], length, replicate, Some}
-use Rattle.blk_base.specs.Content.{with_bytes}
-use Rattle.blk_base.specs.Pieces.{Extent, end_of}
+-- What a piece of a guest's request leaves of the world, and when it would pass a device's capacity.
+use Rattle.std.specs.Prelude.{◌≡◌, ◌+◌, ◌<◌, ◌≤◌, ℕ, List, length, Some}
+use Rattle.blk_base.specs.Pieces.{Extent}
 use Rattle.blk_base.specs.declared.fault.Outcome.{Outcome}
-use Rattle.blk_base.specs.declared.fault.Outcome.TheVariants.{Good, Torn, Io, NoSpace}
 use Rattle.trace_codec.specs.declared.op.Op.{Op}
-use Rattle.trace_codec.specs.declared.op.Op.TheVariants.{Read, Write, Zero, Flush, Discard}
-use Rattle.blk_graph.specs.Graph.{HasNode}
+use Rattle.trace_codec.specs.declared.op.Op.TheVariants.{Write, Zero}
 use Rattle.q2_image.specs.Room.{WriteFits, ZerosFit}
-use Rattle.blk_history.specs.Disk.{piece, payload_in}
+use Rattle.blk_history.specs.Disk.{piece}
 use Rattle.blk_history.specs.Fold.{With}
 use Rattle.blk_history.specs.Machine.{Flight}
 use Rattle.blk_history.specs.declared.event.Event.{Event}
 use Rattle.blk_history.specs.declared.event.Event.TheVariants.{Piece}
-use Rattle.blk_nodes.specs.Contents.{disk_of}
-use Rattle.blk_nodes.specs.Flushing.{base_of, IsFlushAt}
-use Rattle.blk_nodes.specs.Nodes.{Nodes, AreTold, device_in, row_at, size_of}
-use Rattle.blk_nodes.specs.Reading.{HaveRisen, IsReadBelow, ReadsDisk}
-use Rattle.blk_nodes.specs.Writing.{MayWrite, IsApart, LeavesNodes, WritesPiece, ZerosPiece, own_file, own_start, taken_by}
+use Rattle.blk_nodes.specs.Nodes.{Nodes, device_in, row_at}
+use Rattle.blk_nodes.specs.Writing.{own_file, own_start}
 use Rattle.blk_nodes.specs.declared.row.Driver.{Driver}
 use Rattle.blk_nodes.specs.declared.row.Driver.TheVariants as drivers
+use Rattle.blk_pieces.specs.Pieces.{Transfers, shown_of, shows_in}
 use Rattle.qmp_rules.specs.Chains.{disk_node, written_under}
 use Rattle.qmp_rules.specs.Table.{Table}
-use Rattle.flat_machine.specs.EventLicence.{IsLicensedBy, changes_disk}
+use Rattle.flat_machine.specs.EventLicence.{IsLicensedBy}
 use Rattle.flat_machine.specs.State.{drive_of}
-use Rattle.flat_machine.specs.Unique.{IsSmallOutcome}
+use Rattle.blk_history.specs.Small.{IsSmallOutcome}
 use Rattle.world_commands.specs.Counting.{RunsOn, sources_of, counts_within, HidesNoFault}
 use Rattle.world_parts.specs.Face.{Face, counts_now, seen_state}
 use Rattle.world_commands.specs.Recorded.{noted_after, written_in}
 use Rattle.flat_machine.specs.Licence.{named_by}
-use Rattle.world_parts.specs.Progress.{Progress, with_piece, done_at, shows_in}
-
--- ---- what a piece is
-
--- a piece has bytes, of one block; that of a flush has none, and a discard has no piece
-abbrev pub IsPartAsked : Op → Extent → Type 0
-IsPartAsked Flush part = part.len ≡ 0
-IsPartAsked (Discard span) part = ⊥
-IsPartAsked op part = 0 < part.len
-
--- a node can be asked for it
-pub record CanTransfer (nodes : Nodes) (node : ℕ) (op : Op) (part : Extent) : Type 0 where
-  pub there : HasNode nodes.graph node
-  pub inside : end_of part ≤ size_of nodes node
-  pub may : changes_disk op ≡ true → MayWrite nodes node
-
--- what it shows, of what its read left in the buffer
-abbrev pub shown_of : Op → Outcome → List ℕ → List ℕ
-shown_of (Read span) Good buffer = buffer
-shown_of (Read span) (Torn done dev count) buffer = []
-shown_of (Read span) (Io dev count) buffer = []
-shown_of (Read span) (NoSpace dev) buffer = []
-shown_of (Write span payload) outcome buffer = []
-shown_of (Zero span) outcome buffer = []
-shown_of Flush outcome buffer = []
-shown_of (Discard span) outcome buffer = []
-
--- ---- what it does to nodes and devices
-
--- it was read, and left these bytes in the buffer
-pub record ReadsPart (old new : Nodes) (node : ℕ) (part : Extent) (outcome : Outcome)
-    (buffer : List ℕ) : Type 0 where
-  pub read : AreTold old.devices → ReadsDisk outcome (disk_of old node) part buffer
-  pub outcome_is : IsReadBelow old new node outcome
-  pub kept : new ≡ record old { devices = new.devices }
-  pub devices : HaveRisen old.devices new.devices
-  pub disks : (other : ℕ) → disk_of new other ≡ disk_of old other
-
--- the node's disk has just what was written of these bytes, and disks apart from it are as before
-pub record PutsPart (old new : Nodes) (node : ℕ) (part : Extent) (outcome : Outcome)
-    (bytes : List ℕ) : Type 0 where
-  pub disk : AreTold old.devices
-      → disk_of new node ≡ with_bytes (disk_of old node) part.start (taken_by outcome bytes)
-  pub others : (other : ℕ) → IsApart old other node → disk_of new other ≡ disk_of old other
-  pub kept : LeavesNodes old new node
-
-pub record FlushesPart (old new : Nodes) (node : ℕ) (outcome : Outcome) : Type 0 where
-  pub flushed : IsFlushAt (base_of old node) old.devices new.devices outcome
-  pub disks : (other : ℕ) → disk_of new other ≡ disk_of old other
-  pub kept : new ≡ record old { devices = new.devices }
-
--- by what is asked
-abbrev pub Transfers : Op → Nodes → Nodes → ℕ → Extent → Outcome → List ℕ → Type 0
-Transfers (Read span) old new node part outcome buffer =
-    ReadsPart old new node part outcome buffer
-Transfers (Write span payload) old new node part outcome buffer =
-    WritesPiece old new node part (payload_in (Write span payload) part) outcome
-    × PutsPart old new node part outcome (payload_in (Write span payload) part)
-Transfers (Zero span) old new node part outcome buffer =
-    ZerosPiece old new node part outcome
-    × PutsPart old new node part outcome (replicate part.len 0)
-Transfers Flush old new node part outcome buffer = FlushesPart old new node outcome
-Transfers (Discard span) old new node part outcome buffer = ⊥
+use Rattle.world_parts.specs.Progress.{Progress, with_piece, done_at}
 
 -- ---- when it would pass a device's capacity
 

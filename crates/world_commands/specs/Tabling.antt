@@ -4,18 +4,19 @@ use Rattle.blk_base.specs.declared.fault.Outcome.{Outcome}
 use Rattle.blk_history.specs.Disk.{piece}
 use Rattle.blk_history.specs.Machine.{Flight}
 use Rattle.blk_history.specs.declared.event.Event.{Event}
-use Rattle.blk_history.specs.declared.event.Event.TheVariants.{Piece, Reply}
+use Rattle.blk_history.specs.declared.event.Event.TheVariants.{Piece, Reply, Start, Ready, End}
 use Rattle.qmp_rules.specs.Answers.{line_answer, line_text}
 use Rattle.qmp_rules.specs.Chains.{disk_node}
 use Rattle.qmp_rules.specs.Changes.{all_changed}
 use Rattle.qmp_rules.specs.Table.{Table, opening_table}
 use Rattle.qmp_rules.specs.declared.told.Told.{Told}
 use Rattle.flat_machine.specs.Comes.{guest_step}
+use Rattle.flat_machine.specs.Machine.{after}
 use Rattle.flat_machine.specs.Marking.{dirty_bytes}
-use Rattle.flat_machine.specs.Marks.{AreCalm, reply_marks}
-use Rattle.flat_machine.specs.Opening.{new_guest}
+use Rattle.flat_machine.specs.Marks.{AreCalm, marks_of, reply_marks}
+use Rattle.flat_machine.specs.Opening.{new_guest, state_over}
 use Rattle.flat_machine.specs.Recording.{dirty_after, dirty_by}
-use Rattle.flat_machine.specs.State.{Dirty, Guest, drive_of}
+use Rattle.flat_machine.specs.State.{State, Dirty, Guest, drive_of}
 use Rattle.world_commands.specs.Piecing.{table_after}
 use Rattle.world_parts.specs.Progress.{flight_at}
 
@@ -45,12 +46,28 @@ pub record IsAnsweredBy (guests : List Guest) (t : Table) (ds : List Dirty) (giv
   pub changes : now ≡ all_changed t (line_answer t told given).changes
   pub dirty : left ≡ dirty_after t ds (line_answer t told given).changes
 
--- of guests that have so far got
+-- a state with this table, and so much dirty, over no files
+abbrev pub tabled : Table → List Dirty → State
+tabled t ds = record (state_over [] 0 t []) { dirty = ds }
+
+-- An entry of a job: table and dirty granules are those of the flat machine, in which disks and files have no part. On no disk
+-- that it marks had a guest a request in flight.
+pub record IsJobsBy (guests : List Guest) (t : Table) (ds : List Dirty) (e : Event) (now : Table)
+    (left : List Dirty) : Type 0 where
+  pub calm : AreCalm t guests (marks_of (tabled t ds) e)
+  pub table : now ≡ (after (tabled t ds) e).table
+  pub dirty : left ≡ (after (tabled t ds) e).dirty
+
+-- of guests that have so far got; other entries change neither
 abbrev pub IsTableBy : List Guest → Table → List Dirty → Event → Table → List Dirty → Type 0
 IsTableBy guests t ds (Piece g r k outcome got) now left =
     IsPieceBy (drive_of t g) (flight_at guests g) k outcome t ds now left
 IsTableBy guests t ds (Reply line given command text) now left =
     IsAnsweredBy guests t ds given text now left
+IsTableBy guests t ds (Start job) now left = IsJobsBy guests t ds (Start job) now left
+IsTableBy guests t ds (Ready job) now left = IsJobsBy guests t ds (Ready job) now left
+IsTableBy guests t ds (End job outcome offset) now left =
+    IsJobsBy guests t ds (End job outcome offset) now left
 IsTableBy guests t ds e now left = (now ≡ t) × (left ≡ ds)
 
 abbrev pub AreTablesBy : List Guest → Table → List Dirty → List Event → Table → List Dirty → Type 0

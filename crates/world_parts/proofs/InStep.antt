@@ -4,11 +4,9 @@ use Rattle.std.specs.Prelude.{slice_get, option_and_then, option_map, unwrap_or}
 use Rattle.std.proofs.lemmas.List.{append-nil, length-append}
 use Rattle.std.proofs.lemmas.List.Elements.{filter_map-append}
 use Rattle.blk_base.specs.declared.memory.Room.{Room}
-use Rattle.blk_base.specs.Pieces.{count_of_pieces, piece_of}
 use Rattle.blk_base.specs.Outcomes.{is_good}
 use Rattle.blk_base.specs.declared.fault.Outcome.{Outcome}
 use Rattle.trace_codec.specs.declared.op.Op.{Op}
-use Rattle.trace_codec.specs.declared.op.Op.TheVariants.{Read, Write, Zero, Flush, Discard}
 use Rattle.blk_history.specs.Disk.{piece}
 use Rattle.trace_codec.specs.Request.{pieces_of, read_bytes_of}
 use Rattle.qmp_rules.specs.Chains.{has_id}
@@ -17,12 +15,14 @@ use Rattle.blk_history.specs.Machine.{Flight}
 use Rattle.blk_history.specs.Recorded.{Recorded}
 use Rattle.blk_history.specs.declared.event.Event.{Event}
 use Rattle.blk_history.specs.declared.event.Event.TheVariants.{Admit, Done}
+use Rattle.blk_pieces.specs.Pieces.{shown_before}
+use Rattle.blk_pieces.proofs.Shown.{shown_next, shown_within}
 use Rattle.flat_machine.specs.State.{Guest}
 use Rattle.flat_machine.specs.Opening.{new_guest}
 use Rattle.flat_machine.specs.Machine.{admitted, finished, past_piece}
 use Rattle.world_parts.specs.declared.row.InFlight.{InFlight}
 use Rattle.world_parts.specs.declared.row.GuestProgress.{GuestProgress}
-use Rattle.world_parts.specs.Progress.{no_log, new_row, guest_in, guests_in, flight_as, flight_in, flight_at, IsPlaced, IsPlacedIn, shown_before, shows_in, CanShow, log_with, ArePlaced, AreMarked, IsInStep, owed, owed_by, owed_bytes, owed_bytes_by, done_by, ended_in, answered_by, answered_in, log_of, less, done_at, IsFree, HasRoomFor}
+use Rattle.world_parts.specs.Progress.{no_log, new_row, guest_in, guests_in, flight_as, flight_in, flight_at, IsPlaced, IsPlacedIn, CanShow, log_with, ArePlaced, AreMarked, IsInStep, owed, owed_by, owed_bytes, owed_bytes_by, done_by, ended_in, answered_by, answered_in, log_of, less, done_at, IsFree, HasRoomFor}
 use Rattle.world_parts.proofs.Rows.{request-push, request-append, guests-append, guest-append, placed-append, placed-put, placed-at, guests-put, guests-at, marked-put, owed-change, owed-bytes-change, owed-at, owed-bytes-at}
 
 -- what holds of what is there
@@ -79,24 +79,6 @@ module _ (log log' : Recorded) (spare spare' : Room) (rows : List GuestProgress)
         room = rw now (omega arith);
         bytes = rw now (omega arith);
       }
-
--- ---- pieces
-
--- a piece shows no more than lies between it and the next
-pub shown-next : (op : Op) (k : ℕ) → k < pieces_of op → shows_in op (piece op k).len + shown_before op k ≤ shown_before op (k + 1)
-unfolding count_of_pieces piece_of
-shown-next (Read span) k below = omega arith
-shown-next (Write span payload) k below = omega arith
-shown-next (Zero span) k below = omega arith
-shown-next Flush k below = omega arith
-shown-next (Discard span) k below = omega arith
-
-pub shown-within : (op : Op) (k : ℕ) → shown_before op k ≤ read_bytes_of op
-shown-within (Read span) k = omega arith
-shown-within (Write span payload) k = omega arith
-shown-within (Zero span) k = omega arith
-shown-within Flush k = omega arith
-shown-within (Discard span) k = omega arith
 
 -- ---- each entry
 
@@ -182,8 +164,8 @@ puts-piece log log' spare rows g row f outcome got e is ends answers some room t
     let now = request-append log.events (e ∷ []) f.place placed.op placed.at in
     let next = can.next in
     let shown = can.shown in
-    let more = shown-next placed.op f.next can.next in
-    let within = shown-within placed.op (f.next + 1) in
+    let more = shown_next placed.op f.next can.next in
+    let within = shown_within placed.op (f.next + 1) in
     record {
       there = there;
       events = ap (λ (l : Recorded). l.events) is;
@@ -287,8 +269,8 @@ module _ (log : Recorded) (spare : Room) (rows : List GuestProgress) (is_done : 
       let owes : owed_bytes (guest_in log.events row).flight ≡ read_bytes_of f.op - shown_before f.op f.next = rw sees refl in
       let bytes = was.bytes in
       let shown = can.shown in
-      let more = shown-next f.op f.next can.next in
-      let within = shown-within f.op (f.next + 1) in
+      let more = shown_next f.op f.next can.next in
+      let within = shown_within f.op (f.next + 1) in
       omega arith
 
 pub same-flight : {flight : Option InFlight} {a b : InFlight} → flight ≡ Some a → flight ≡ Some b → a ≡ b

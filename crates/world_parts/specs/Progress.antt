@@ -1,11 +1,9 @@
 -- The history of a run, and how far each guest is by it.
-use Rattle.std.specs.Prelude.{◌≡◌, ℕ, ◌+◌, ◌-◌, ◌*◌, ◌/◌, ◌^◌, ◌<◌, ◌≤◌, min, max, Bool, false, List, [], ◌∷◌, ◌++◌, length, map, replicate, slice_get, Option, Some, None, option_map, option_and_then, unwrap_or}
+use Rattle.std.specs.Prelude.{◌≡◌, ℕ, ◌+◌, ◌-◌, ◌^◌, ◌<◌, ◌≤◌, Bool, false, List, [], ◌∷◌, ◌++◌, length, map, replicate, slice_get, Option, Some, None, option_map, option_and_then, unwrap_or}
 use Rattle.std.specs.List.{filter_map}
-use Rattle.blk_base.specs.Pieces.{end_of}
 use Rattle.blk_base.specs.declared.memory.Room.{Room}
 use Rattle.blk_base.specs.declared.fault.Outcome.{Outcome}
 use Rattle.trace_codec.specs.declared.op.Op.{Op}
-use Rattle.trace_codec.specs.declared.op.Op.TheVariants.{Read, Write, Zero, Flush, Discard}
 use Rattle.trace_codec.specs.Request.{pieces_of, read_bytes_of}
 use Rattle.qmp_rules.specs.Chains.{has_id}
 use Rattle.blk_history.specs.Fold.{change}
@@ -16,6 +14,7 @@ use Rattle.blk_history.specs.Recorded.{Recorded}
 use Rattle.blk_history.specs.declared.entry.Refused.{Refused}
 use Rattle.blk_history.specs.declared.event.Event.{Event}
 use Rattle.blk_history.specs.declared.event.Event.TheVariants.{Admit, Refuse, Piece, Retire, Reply, Reached, Done}
+use Rattle.blk_pieces.specs.Pieces.{shown_before, shows_in}
 use Rattle.flat_machine.specs.State.{Guest}
 use Rattle.flat_machine.specs.Opening.{new_guest}
 use Rattle.flat_machine.specs.Machine.{admitted, finished, past_piece}
@@ -70,15 +69,6 @@ abbrev pub flight_at : List Guest → ℕ → Option Flight
 flight_at guests g = option_and_then (λ row. row.flight) (slice_get guests g)
 
 -- ---- room
-
--- how many bytes the first k pieces of a read show
-abbrev pub shown_before : Op → ℕ → ℕ
-shown_before (Read span) k =
-    min (max span.start ((span.start / 65536 + k) * 65536)) (end_of span) - span.start
-shown_before (Write span payload) k = 0
-shown_before (Zero span) k = 0
-shown_before Flush k = 0
-shown_before (Discard span) k = 0
 
 -- what a request in flight still adds: an entry for each piece that is left and one for its end, and the bytes of its reads
 abbrev pub owed : Option Flight → ℕ
@@ -203,13 +193,6 @@ pub record IsFree (row : Guest) : Type 0 where
   pub numbered : row.done + 1 < 2 ^ 32
 
 -- The next piece of a request in flight can be made, and shows no more than it has bytes to show.
-abbrev pub shows_in : Op → ℕ → ℕ
-shows_in (Read span) n = n
-shows_in (Write span payload) n = 0
-shows_in (Zero span) n = 0
-shows_in Flush n = 0
-shows_in (Discard span) n = 0
-
 pub record HasNext (f : Flight) : Type 0 where
   pub running : f.is_stopped ≡ false
   pub next : f.next < pieces_of f.op

@@ -1,6 +1,6 @@
 //! What becomes of a request that a guest asks.
 ghost use Rattle.std.specs.Prelude.{◌≡◌, MatchOption};
-ghost use Rattle.blk_history.specs.Disk.{span_of, is_write};
+ghost use Rattle.blk_history.specs.Disk.{is_write};
 ghost use Rattle.blk_history.specs.Fold.{With};
 ghost use Rattle.flat_machine.specs.Legal.{CanAdmit, IsRefusedFor};
 ghost use Rattle.flat_machine.specs.State.{disk_of_guest, size_of};
@@ -8,8 +8,8 @@ ghost use Rattle.qmp_rules.specs.Table.{device_at};
 ghost use Rattle.world_parts.specs.Coherent.{HaveDrives};
 ghost use Rattle.world_parts.specs.Steps.{IsSeat};
 
-use blk_base::Span;
 use blk_history::Refused;
+use blk_pieces::request_span;
 use qmp_rules::Names;
 use trace_codec::Op;
 
@@ -30,16 +30,6 @@ pub enum Admission {
 pub struct Seat {
     pub read_only: bool,
     pub size: u64,
-}
-
-/// The bytes that a request speaks of.
-pub fn request_span(op: &Op) -> Span
-    ensures { result ≡ span_of op.now }
-{
-    match op {
-        Op::Read(span) | Op::Write(span, _) | Op::Zero(span) | Op::Discard(span) => *span,
-        Op::Flush => Span { start: 0, len: 0 },
-    }
 }
 
 /// Whether only a guest that may write can ask for it.
