@@ -20,7 +20,7 @@ use Rattle.flat_machine.specs.Machine.{replay}
 use Rattle.flat_machine.specs.Opening.{start}
 use Rattle.flat_machine.specs.Blocked.{IsStuck, ActorWaits}
 use Rattle.flat_machine.specs.Courses.{Course, KeepsOrder, course_of, course_after, onward}
-use Rattle.flat_machine.specs.Unique.{IsSmall}
+use Rattle.blk_history.specs.Small.{IsSmall}
 use Rattle.blk_history.specs.declared.event.Event.{Event}
 use Rattle.blk_history.specs.declared.event.Event.TheVariants.{Piece, End}
 use Rattle.flat_machine.specs.Licence.{Counts, AreLicensed}

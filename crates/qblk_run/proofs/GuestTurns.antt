@@ -22,13 +22,14 @@ use Rattle.blk_history.specs.declared.event.Event.TheVariants.{Admit, Refuse, Pi
 use Rattle.flat_machine.specs.State.{Guest}
 use Rattle.flat_machine.specs.Machine.{admitted, finished, past_piece}
 use Rattle.flat_machine.specs.Courses.{past_waits}
+use Rattle.blk_pieces.specs.Pieces.{shows_in}
 use Rattle.flat_machine.specs.Legal.{IsNotDone}
 use Rattle.flat_machine.specs.Blocked.{TraceWaits}
 use Rattle.flat_machine.specs.Marks.{is_held}
 use Rattle.world_parts.specs.declared.admission.Admission.TheVariants.{Admitted, Refused as NotAdmitted, Away}
 use Rattle.world_parts.specs.Face.{Face, seen_state}
 use Rattle.world_commands.specs.Piecing.{IsPieceMade, HasPieceLicence, shown_by}
-use Rattle.world_parts.specs.Progress.{Progress, ended_in, answered_in, done_at, flight_at, with_piece, with_retirement, IsFree, HasNext, CanShow, HasRoomFor, shows_in}
+use Rattle.world_parts.specs.Progress.{Progress, ended_in, answered_in, done_at, flight_at, with_piece, with_retirement, IsFree, HasNext, CanShow, HasRoomFor}
 use Rattle.world_parts.specs.Steps.{onward, after_admission, after_end, IsAnswered, IsIdle}
 use Rattle.qblk_inputs.specs.Room.{entries_for, bytes_for, HaveNumbers}
 use Rattle.qblk_run.specs.Tasks.{Task, IsTaskOf, IsTaskIn, HasLeft, IsFlying, in_flight, entries_of, steps_of, end_of}

@@ -24,3 +24,4 @@ pub mod Answering
 pub mod Runs
 pub mod Completes
 pub mod Unharmed
+pub mod Falling

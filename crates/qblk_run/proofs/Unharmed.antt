@@ -21,7 +21,8 @@ use Rattle.world_parts.specs.Face.{Face, counts_now}
 use Rattle.qblk_core.specs.declared.status.Status.{Status}
 use Rattle.qblk_core.specs.declared.status.Status.TheVariants.{Done, Usage, Input, Fault, Stuck, NoMemory}
 use Rattle.qblk_inputs.specs.Words.{Cast}
-use Rattle.qblk_run.specs.Completeness.{HasSpaceFor, HaveSpace, NamesNoFault, NoneHasRisen, HasStood, full_in}
+use Rattle.qblk_core.specs.Completeness.{HasStood}
+use Rattle.qblk_run.specs.Completeness.{HasSpaceFor, HaveSpace, NamesNoFault, NoneHasRisen, full_in}
 use Rattle.qblk_run.specs.Run.{Setting, Answers, IsFaulty}
 use Rattle.qblk_run.specs.Worlds.{GoesThrough, IsEventOf}
 use Rattle.qblk_run.proofs.Lists.{is-get, below-get, with-at, with-some}

@@ -27,6 +27,7 @@ use Rattle.world_commands.specs.Counting.{sources_of}
 use Rattle.world_parts.specs.Face.{Face}
 use Rattle.world_commands.specs.Piecing.{piece_passes, part_of}
 use Rattle.world_parts.specs.Progress.{flight_at}
+use Rattle.qblk_core.specs.Completeness.{HasStood}
 use Rattle.qblk_core.specs.declared.status.Status.{Status}
 use Rattle.qblk_core.specs.declared.status.Status.TheVariants.{Fault}
 use Rattle.qblk_inputs.specs.Inputs.{Work}
@@ -95,10 +96,6 @@ abbrev pub HaveSpace : (o : Opening) (c : Course) (w : Face) (h : List Event) (v
 HaveSpace o c w [] v through = Unit {0}
 HaveSpace o c w (e ∷ h) v through =
     HasSpaceFor through.0 e × HaveSpace o (onward c e) through.1 h v through.5
-
--- a count has not risen, and can
-abbrev pub HasStood : ℕ → ℕ → Type 0
-HasStood before now = (before < 18446744073709551615) × (now ≡ before)
 
 -- no count has risen: of the store, of a device that was opened, or of the sink
 pub record NoneHasRisen (old new : Setting) : Type 0 where

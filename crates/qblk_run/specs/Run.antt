@@ -23,7 +23,7 @@ use Rattle.flat_machine.specs.Courses.{Course, course_of, course_after}
 use Rattle.flat_machine.specs.Blocked.{IsStuck}
 use Rattle.flat_machine.specs.Licence.{Counts, AreLicensed, count_of, fault_at, faults_of}
 use Rattle.flat_machine.specs.Final.{AreLeftBy, bytes_named}
-use Rattle.flat_machine.specs.Unique.{IsSmall}
+use Rattle.blk_history.specs.Small.{IsSmall}
 use Rattle.flat_machine.specs.Imaging.{ImagesAreSound}
 use Rattle.flat_machine.specs.declared.opening.Opening.{Opening}
 use Rattle.world_commands.specs.Closing.{IsClosed, IsFlushedIn, count_back}

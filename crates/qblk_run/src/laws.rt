@@ -1,11 +1,13 @@
 //! What follows from the statement of a run, as the contract of a function that does nothing.
-ghost use Rattle.std.specs.Prelude.{ℕ, Bool, List, Option, length};
+ghost use Rattle.std.specs.Prelude.{◌≡◌, ℕ, Bool, true, List, Option, is_some, length};
 ghost use Rattle.blk_base.specs.Written.{Written};
 ghost use Rattle.blk_base.specs.declared.fault.FaultAt.{FaultAt};
 ghost use Rattle.blk_history.specs.Fold.{With};
 ghost use Rattle.trace_codec.specs.declared.waits.Waits.{Waits};
 ghost use Rattle.flat_machine.specs.Comes.{IsInOrder};
 ghost use Rattle.flat_machine.specs.Courses.{course_of};
+ghost use Rattle.flat_machine.specs.Entries.{FallsIntoEvents};
+ghost use Rattle.flat_machine.specs.Opening.{start};
 ghost use Rattle.world_parts.specs.Steps.{StoreSeen, new_world};
 ghost use Rattle.qblk_core.specs.declared.status.InputWhy.{InputWhy};
 ghost use Rattle.qblk_core.specs.declared.status.Status.{Status};
@@ -49,4 +51,13 @@ pub fn runs_with_space_are_good()
         (new_world old a.opening.guests (history_room work)) a.events run.worlds.near
         run.worlds.through
         → MeetsNone a.events }
+{}
+
+/// Where the store tells its files, the entries of a run are those of one event after another: each call makes just the entries of
+/// its event, a reply with the starts of the jobs of its command directly behind it.
+pub fn runs_fall_into_events()
+    ensures { (cast : Cast) (work : Work) (had : Bool) (fault : Option FaultAt)
+        (old new : StoreSeen) (a : Account)
+        → IsRun cast work had fault old new a → is_some old.files ≡ true
+        → FallsIntoEvents (start a.opening) a.events }
 {}

@@ -17,7 +17,8 @@ mod task;
 mod transcript;
 
 pub use laws::{
-    runs_that_await_nothing_are_whole, runs_with_space_are_good, runs_without_a_rise_name_no_fault,
+    good_inputs_are_taken, runs_fall_into_events, runs_that_await_nothing_are_whole,
+    runs_with_space_are_good, runs_without_a_rise_name_no_fault,
 };
 pub use program::qblk;
 pub use run::run_script;

@@ -1,7 +1,7 @@
 //! Commands that are refused, line by line: none of them changes a node, a bitmap or a file, or takes a file.
 
 use crate::files::Edits;
-use crate::rows::{Left, ROW, Row, START, Said, check_answers};
+use crate::rows::{Left, QUERIES, ROW, Row, START, Said, check_answers};
 use std::test::Fail;
 
 /// Values of members.
@@ -505,7 +505,7 @@ static BITMAPS: [Said<'static>; 34] = [
 
 /// Both bitmaps are as they were added.
 const BITMAPS_STAY: Row<'static> = Row {
-    tail: b"{\"execute\":\"query-named-block-nodes\"}\n",
+    tail: QUERIES,
     rest: "reply 36 {\"return\":[\
         {\"dirty-bitmaps\":[],\"drv\":\"file\",\"node-name\":\"#d\",\"ro\":false,\"size\":393216},\
         {\"dirty-bitmaps\":[\
@@ -515,6 +515,7 @@ const BITMAPS_STAY: Row<'static> = Row {
         {\"dirty-bitmaps\":[\
         {\"busy\":false,\"count\":0,\"granularity\":512,\"name\":\"s\",\"persistent\":false,\"recording\":true}],\
         \"drv\":\"raw\",\"node-name\":\"small\",\"ro\":false,\"size\":4}]}\n\
+        reply 37 {\"return\":[]}\n\
         done script\n",
     ..IMAGES
 };
@@ -540,8 +541,27 @@ const IMAGES: Row<'static> = Row {
     ..ROW
 };
 
-const ONE_NAMES_A_FILE: Row<'static> = Row {
+/// No node was added.
+const MEMBERS_STAY: Row<'static> = Row {
+    tail: QUERIES,
+    rest: "reply 29 {\"return\":[]}\n\
+        reply 30 {\"return\":[]}\n\
+        done script\n",
+    ..IMAGES
+};
+
+/// The nodes are those that were accepted.
+const NODES_STAY: Row<'static> = Row {
     b: Some(NAMES_A_FILE),
+    tail: QUERIES,
+    rest: "reply 19 {\"return\":[\
+        {\"dirty-bitmaps\":[],\"drv\":\"file\",\"node-name\":\"storage\",\"ro\":false,\"size\":393216},\
+        {\"dirty-bitmaps\":[],\"drv\":\"qcow2\",\"node-name\":\"d\",\"ro\":false,\"size\":1048576},\
+        {\"dirty-bitmaps\":[],\"drv\":\"copy-on-read\",\"node-name\":\"filter\",\"ro\":false,\"size\":1048576},\
+        {\"dirty-bitmaps\":[],\"drv\":\"file\",\"node-name\":\"#e\",\"ro\":false,\"size\":393216},\
+        {\"dirty-bitmaps\":[],\"drv\":\"qcow2\",\"node-name\":\"e\",\"ro\":false,\"size\":1048576}]}\n\
+        reply 20 {\"return\":[]}\n\
+        done script\n",
     left: &[
         ("a.img", Left::Image(&[])),
         ("b.img", Left::Image(NAMES_A_FILE)),
@@ -549,20 +569,47 @@ const ONE_NAMES_A_FILE: Row<'static> = Row {
     ..IMAGES
 };
 
+const SNAPSHOTS_STAY: Row<'static> = Row {
+    tail: QUERIES,
+    rest: "reply 23 {\"return\":[\
+        {\"dirty-bitmaps\":[],\"drv\":\"file\",\"node-name\":\"storage\",\"ro\":false,\"size\":393216},\
+        {\"dirty-bitmaps\":[],\"drv\":\"qcow2\",\"node-name\":\"base\",\"ro\":false,\"size\":1048576},\
+        {\"dirty-bitmaps\":[],\"drv\":\"file\",\"node-name\":\"#ov\",\"ro\":false,\"size\":393216},\
+        {\"dirty-bitmaps\":[],\"drv\":\"qcow2\",\"node-name\":\"ov\",\"ro\":false,\"size\":1048576},\
+        {\"dirty-bitmaps\":[],\"drv\":\"file\",\"node-name\":\"#small\",\"ro\":false,\"size\":4},\
+        {\"dirty-bitmaps\":[],\"drv\":\"raw\",\"node-name\":\"small\",\"ro\":false,\"size\":4},\
+        {\"dirty-bitmaps\":[],\"drv\":\"copy-on-read\",\"node-name\":\"filter\",\"ro\":false,\"size\":1048576}]}\n\
+        reply 24 {\"return\":[]}\n\
+        done script\n",
+    ..IMAGES
+};
+
+const READ_ONLY_STAYS: Row<'static> = Row {
+    tail: QUERIES,
+    rest: "reply 5 {\"return\":[\
+        {\"dirty-bitmaps\":[],\"drv\":\"file\",\"node-name\":\"#base\",\"ro\":false,\"size\":393216},\
+        {\"dirty-bitmaps\":[],\"drv\":\"qcow2\",\"node-name\":\"base\",\"ro\":false,\"size\":1048576},\
+        {\"dirty-bitmaps\":[],\"drv\":\"file\",\"node-name\":\"#ov\",\"ro\":false,\"size\":393216},\
+        {\"dirty-bitmaps\":[],\"drv\":\"qcow2\",\"node-name\":\"ov\",\"ro\":true,\"size\":1048576}]}\n\
+        reply 6 {\"return\":[]}\n\
+        done script\n",
+    ..IMAGES
+};
+
 #[test]
 fn members_are_refused(rt: HostRuntime) -> Result<(), Fail> {
-    check_answers(&rt, &IMAGES, &MEMBERS)
+    check_answers(&rt, &MEMBERS_STAY, &MEMBERS)
 }
 
 #[test]
 fn nodes_are_refused(rt: HostRuntime) -> Result<(), Fail> {
-    check_answers(&rt, &ONE_NAMES_A_FILE, &NODES)
+    check_answers(&rt, &NODES_STAY, &NODES)
 }
 
 #[test]
 fn snapshots_are_refused(rt: HostRuntime) -> Result<(), Fail> {
-    check_answers(&rt, &IMAGES, &SNAPSHOTS)?;
-    check_answers(&rt, &IMAGES, &READ_ONLY)
+    check_answers(&rt, &SNAPSHOTS_STAY, &SNAPSHOTS)?;
+    check_answers(&rt, &READ_ONLY_STAYS, &READ_ONLY)
 }
 
 #[test]

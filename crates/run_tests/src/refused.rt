@@ -1,7 +1,7 @@
 //! Commands that are refused: each is told why, and leaves nodes and files as they were.
 
 use crate::files::Edits;
-use crate::rows::{Left, Line, ROW, Row, START, Said, all_come_out, check_answers};
+use crate::rows::{Left, Line, QUERIES, ROW, Row, START, Said, all_come_out, check_answers};
 use std::test::Fail;
 
 /// An image in `a.img`, and a guest on it.
@@ -25,6 +25,7 @@ const HALF: Edits<'static> = &[(24, &[0, 0, 0, 0, 0, 8, 0, 0])];
 const NODES_STAY: &str = "reply 16 {\"return\":[\
     {\"dirty-bitmaps\":[],\"drv\":\"file\",\"node-name\":\"#d\",\"ro\":false,\"size\":393216},\
     {\"dirty-bitmaps\":[],\"drv\":\"qcow2\",\"node-name\":\"d\",\"ro\":false,\"size\":1048576}]}\n\
+    reply 17 {\"return\":[]}\n\
     done script\n";
 
 static TABLE: [Said<'static>; 12] = [
@@ -142,10 +143,10 @@ static ADDITIONS: [Said<'static>; 12] = [
 ];
 
 /// Commands that are refused leave nodes and files as they were.
-static LEFT: Row<'static> = Row {
+const LEFT: Row<'static> = Row {
     lines: &[START, IMAGE, GUEST],
     causes: &["", "", ""],
-    tail: b"{\"execute\":\"query-named-block-nodes\"}\n",
+    tail: QUERIES,
     a: Some(&[]),
     b: Some(HALF),
     rest: NODES_STAY,
@@ -161,6 +162,60 @@ fn each_refusal_has_its_cause(rt: HostRuntime) -> Result<(), Fail> {
 #[test]
 fn each_refusal_of_an_addition_has_its_cause(rt: HostRuntime) -> Result<(), Fail> {
     check_answers(&rt, &LEFT, &ADDITIONS)
+}
+
+/// An overlay over a disk that a guest writes: nobody reads it yet, and no guest may. Where one does, nobody writes below it.
+static OVER_A_WRITER: [Said<'static>; 7] = [
+    (
+        "blockdev-add",
+        r#""driver":"qcow2","node-name":"e","backing":"d","file":{"driver":"file","filename":"b.img"}"#,
+        "",
+    ),
+    (
+        "device_add",
+        r#""driver":"ide-hd","id":"vdb","drive":"e""#,
+        "permission conflict on node d: vda asks write, e does not share it",
+    ),
+    (
+        "device_add",
+        r#""driver":"ide-hd","id":"vdb","drive":"e","share-rw":true"#,
+        "permission conflict on node d: vda asks write, e does not share it",
+    ),
+    ("device_del", r#""id":"vda""#, ""),
+    (
+        "device_add",
+        r#""driver":"ide-hd","id":"vdb","drive":"e""#,
+        "",
+    ),
+    (
+        "device_add",
+        r#""driver":"ide-hd","id":"vda","drive":"d""#,
+        "permission conflict on node d: vda asks write, e does not share it",
+    ),
+    (
+        "device_add",
+        r#""driver":"ide-hd","id":"vda","drive":"d","share-rw":true"#,
+        "permission conflict on node d: vda asks write, e does not share it",
+    ),
+];
+
+/// The overlay is there.
+static OVERLAY_STAYS: Row<'static> = Row {
+    b: Some(&[]),
+    rest: "reply 11 {\"return\":[\
+        {\"dirty-bitmaps\":[],\"drv\":\"file\",\"node-name\":\"#d\",\"ro\":false,\"size\":393216},\
+        {\"dirty-bitmaps\":[],\"drv\":\"qcow2\",\"node-name\":\"d\",\"ro\":false,\"size\":1048576},\
+        {\"dirty-bitmaps\":[],\"drv\":\"file\",\"node-name\":\"#e\",\"ro\":false,\"size\":393216},\
+        {\"dirty-bitmaps\":[],\"drv\":\"qcow2\",\"node-name\":\"e\",\"ro\":false,\"size\":1048576}]}\n\
+        reply 12 {\"return\":[]}\n\
+        done script\n",
+    left: &[("a.img", Left::Image(&[])), ("b.img", Left::Image(&[]))],
+    ..LEFT
+};
+
+#[test]
+fn nobody_writes_below_what_a_guest_reads(rt: HostRuntime) -> Result<(), Fail> {
+    check_answers(&rt, &OVERLAY_STAYS, &OVER_A_WRITER)
 }
 
 /// A refused file can be opened by the next command.

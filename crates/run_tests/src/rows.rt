@@ -11,6 +11,10 @@ pub(crate) type Line<'a> = (&'a str, &'a str);
 /// The first line of a script.
 pub(crate) const START: Line<'static> = ("qmp_capabilities", "");
 
+/// What nodes and jobs there are is asked.
+pub(crate) const QUERIES: &[u8] =
+    b"{\"execute\":\"query-named-block-nodes\"}\n{\"execute\":\"query-block-jobs\"}\n";
+
 /// A line of a script with its command, its arguments, and why it is refused: no cause, where it is accepted.
 pub(crate) type Said<'a> = (&'a str, &'a str, &'a str);
 
