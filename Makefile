@@ -30,5 +30,5 @@ build: out/example/script.txt
 	cd crates/qblk && rt run -- $(ARGUMENTS)
 
 test:
-	@echo 'Proving everything from nothing, with the tests and the wrong edits: about three hours on four processors the first time.'
+	@echo 'Proving everything from nothing, with the tests and the wrong edits: about two hours on four processors the first time.'
 	bash .ci/run
