@@ -14,6 +14,7 @@ use Rattle.blk_nodes.specs.Flushing.{base_of, HasFlushCause, IsFlushAt}
 use Rattle.blk_nodes.specs.Joined.{IsJoined}
 use Rattle.blk_nodes.specs.Nodes.{Nodes, DeviceState}
 use Rattle.blk_nodes.specs.Reading.{StoppedBy}
+use Rattle.qblk_core.specs.Along.{CountsOutcome}
 use Rattle.qblk_core.specs.ImageNodes.{only_device, HaveOneImage, HaveShapeOf, content_of, faults_of, capacity_of, told_disk}
 use Rattle.qblk_core.specs.Session.{fault_of, IsClosed}
 use Rattle.qblk_core.proofs.OneDevice.{head-same, content-is, faults-is, capacity-is}
@@ -29,6 +30,7 @@ pub record HasClosed (left last : Nodes) (flush : Outcome) (n : DeviceState) (fa
   pub flushed : IsFlushed n (faults_of left) fault
   pub good : is_good flush ≡ is_none fault
   pub more : faults_of left ≤ n.faults
+  pub counts : CountsOutcome (faults_of left) n.faults flush
   pub content : content_of left ≡ n.content
   pub capacity : capacity_of left ≡ Some n.capacity
   pub disk : told_disk last ≡ told_disk left
@@ -67,6 +69,10 @@ closed-facts left last flush n fault one closed tells =
       flushed = subst (IsFlushed n (faults_of left)) (sym closed.told) (subst (λ (k : ℕ). IsFlushed n k (fault_of flush)) faults by.0);
       good = by.1 ∙ ap is_none (sym closed.told);
       more = let least : f.before.faults ≤ n.faults = subst (λ (x : DeviceState). f.before.faults ≤ x.faults) after f.flush.faults in omega (arith, least, faults);
+      counts =
+          let g = flush-goes left last one (base_of left 1) flush f in
+          subst (λ (k : ℕ). CountsOutcome k n.faults flush) (sym (faults-is left one.device one.only one.node))
+          (subst (λ (x : DeviceState). CountsOutcome one.device.faults x.faults flush) (head-same g.device n [] (sym g.is ∙ closed.given)) g.steps.cause);
       content = content;
       capacity = capacity-is left one.device one.only one.node ∙ ap Some (sym capacity);
       disk = ap (option_map (λ (_ : List ℕ). disk_of last 1)) (now ∙ sym content) ∙ ap (λ (d : List ℕ). option_map (λ (_ : List ℕ). d) (content_of left)) (closed.flushed.disks 1);

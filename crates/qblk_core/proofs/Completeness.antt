@@ -10,11 +10,12 @@ use Rattle.blk_base.specs.declared.file.File.{File}
 use Rattle.trace_codec.specs.Trace.{ops_of}
 use Rattle.trace_codec.specs.declared.op.Op.{Op}
 use Rattle.blk_history.specs.Fold.{With}
-use Rattle.blk_history.specs.Licence.{RoseSince}
+use Rattle.blk_history.specs.Licence.{RoseSince, counted}
 use Rattle.q2_format.specs.Sound.{Refusal, image_refusal}
 use Rattle.q2_image.specs.Opening.{refusal_of}
 use Rattle.qblk_core.specs.Completeness.{HasInputs, HasStood, NoneRises}
 use Rattle.qblk_core.specs.Format.{IsGoodImage}
+use Rattle.qblk_core.specs.ImageNodes.{faults_of}
 use Rattle.qblk_core.specs.Run.{Outside, HasImage, HasTrace, IsBadBytes, IsBadImage, IsBadTrace, IsRefusedInput, IsRefusedTrace, FailsToFlush, FailsToOpen, Answers}
 use Rattle.qblk_core.specs.declared.status.InputWhy.{InputWhy}
 use Rattle.qblk_core.specs.declared.status.InputWhy.TheVariants as why
@@ -126,7 +127,8 @@ not-rose : (before now count : ℕ) → HasStood before now → Rose before coun
 not-rose before now count stood rose is = let below = stood.0 in let same = stood.1 in omega arith
 
 opening-fails : (format : Format) (image : List ℕ) (old new : Outside) (count : ℕ) → NoneRises image old new → FailsToOpen format image old new count → ⊥
-opening-fails format image old new count none fails = not-rose fails.before count count (none.device fails.before count fails.opened) fails.rose refl
+opening-fails format image old new count none fails =
+    not-rose fails.device.faults fails.behind.faults count (none.device fails.device.faults fails.behind.faults fails.opened) fails.stopped.rose fails.stopped.now
 
 flush-fails : (format : Format) (image trace : List ℕ) (old new : Outside) (count : ℕ) → NoneRises image old new → FailsToFlush format image trace old new count → ⊥
 flush-fails format image trace old new count none fails =
@@ -135,10 +137,14 @@ flush-fails format image trace old new count none fails =
     let stood = none.device before count run.opened in
     let below : before < 18446744073709551615 = stood.0 in
     let same : count ≡ before = stood.1 in
-    let least = grows before run.last.0 fails.1 run.risen run.last.1 in
-    let rose : RoseSince (run.last.0 ∷ []) (Some (record { dev = 0; count = count })) =
-    subst (λ (counts : List ℕ). RoseSince counts (Some (record { dev = 0; count = count }))) run.last.1 fails.5 in
-    let above : Rose run.last.0 count = rose.1 in
+    let counts = run.counts in
+    let opened : faults_of run.first ≡ before = counts.opening in
+    let least = grows (faults_of run.first) (faults_of run.left) fails.1 counts.risen counts.last in
+    let last : counted (before ∷ []) fails.1 ≡ faults_of run.left ∷ [] =
+    subst (λ (k : ℕ). counted (k ∷ []) fails.1 ≡ faults_of run.left ∷ []) opened counts.last in
+    let rose : RoseSince (faults_of run.left ∷ []) (Some (record { dev = 0; count = count })) =
+    subst (λ (cs : List ℕ). RoseSince cs (Some (record { dev = 0; count = count }))) last fails.5 in
+    let above : Rose (faults_of run.left) count = rose.1 in
     omega arith
 
 pub is-done : (format : Format) (image trace : List ℕ) (ops : List Op) (old new : Outside) (status : Status) → HasInputs format image trace ops old

@@ -1,5 +1,5 @@
 -- Each step of a run leaves a history from the same opening.
-use Rattle.std.proofs.Common.{◌≡◌, ℕ, ◌≤◌, Bool, List, [], ◌∷◌, ◌++◌, refl, sym, ◌∙◌, ap, subst, arith, Option, Some, None, IsSome}
+use Rattle.std.proofs.Common.{◌≡◌, ℕ, ◌≤◌, Bool, List, [], ◌∷◌, ◌++◌, length, refl, sym, ◌∙◌, ap, subst, arith, Option, Some, None, IsSome}
 use Rattle.std.specs.Prelude.{option_map}
 use Rattle.std.proofs.lemmas.Bool.{false≢true}
 use Rattle.blk_base.specs.Counts.{Rose}
@@ -7,6 +7,11 @@ use Rattle.blk_history.specs.Recorded.{Recorded}
 use Rattle.blk_base.specs.declared.fault.Outcome.{Outcome}
 use Rattle.blk_base.specs.declared.fault.Outcome.TheVariants.{Good, Torn, Io, NoSpace}
 use Rattle.trace_codec.specs.declared.op.Op.{Op}
+use Rattle.trace_codec.specs.declared.op.Op.TheVariants.{Read, Write, Zero, Flush, Discard}
+use Rattle.blk_base.specs.Pieces.{Extent}
+use Rattle.blk_history.specs.Disk.{piece}
+use Rattle.blk_pieces.proofs.Told.{shown_none}
+use Rattle.qblk_core.specs.Pieces.{IsPieceOn}
 use Rattle.blk_history.specs.Machine.{State, Guest, Flight, after, replay}
 use Rattle.blk_history.specs.Legal.{Fits, IsOver}
 use Rattle.blk_history.specs.Fold.{With}
@@ -16,10 +21,10 @@ use Rattle.blk_history.specs.declared.event.Event.{Event}
 use Rattle.blk_history.specs.declared.event.Event.TheVariants.{Admit, Refuse, Piece, Retire}
 use Rattle.blk_history.proofs.Folds.{run-push, each-push}
 use Rattle.blk_nodes.specs.Nodes.{Nodes, kind_in, size_of}
-use Rattle.qblk_core.specs.Along.{IsStepOf, HaveNodes, FitsUnread}
+use Rattle.qblk_core.specs.Along.{CountsOutcome, IsStepOf, HaveNodes, ShowsOf, FitsUnread}
 use Rattle.qblk_core.specs.Face.{Face, new_guest, state_with, state_of, machine_on}
 use Rattle.qblk_core.specs.ImageNodes.{told_disk, faults_of, HaveShapeOf}
-use Rattle.qblk_core.specs.Steps.{after_admission, IsJudged, after_retirement, CanPiece, PutsPiece, HasCause}
+use Rattle.qblk_core.specs.Steps.{after_admission, IsJudged, after_retirement, CanPiece, PutsPiece}
 use Rattle.qblk_core.specs.Comes.{AreLicensed, HasLine, HaveLines, Comes}
 
 -- a fault that an entry names is one of the only device, and rose; where none is named the count stands
@@ -175,7 +180,7 @@ adds-retirement w is =
 pub retirement-kept : (w : Face) → With w.guest.flight IsOver → (first : Nodes) → Comes first w → Comes first (after_retirement w)
 retirement-kept w is first comes = comes-push first w _ _ comes (adds-retirement w is)
 
-licensed-piece : (before now : ℕ) (outcome : Outcome) → HasCause before now outcome → IsLicensed before now (named_by outcome)
+licensed-piece : (before now : ℕ) (outcome : Outcome) → CountsOutcome before now outcome → IsLicensed before now (named_by outcome)
 licensed-piece before now Good cause = cause
 licensed-piece before now (Torn done dev count) cause = cause
 licensed-piece before now (Io dev count) cause = cause
@@ -191,6 +196,17 @@ state-after w v f outcome got on_image is puts =
     let shape = puts.made.shape in
     rw (puts.guest, shape.file, shape.image, puts.made.disk, is, on_image) refl
 
+-- what a piece shows
+shows-of : (op : Op) (old new : Nodes) (part : Extent) (outcome : Outcome) (got : List ℕ) → IsPieceOn op old new 1 part outcome got → ShowsOf outcome op part got
+shows-of (Read span) old new part Good got on = ap length on.shown ∙ on.did.whole
+shows-of (Write span payload) old new part Good got on = ap length on.shown
+shows-of (Zero span) old new part Good got on = ap length on.shown
+shows-of Flush old new part Good got on = ap length on.shown
+shows-of (Discard span) old new part Good got on = ap length on.shown
+shows-of op old new part (Torn done dev count) got on = on.shown ∙ shown_none op (Torn done dev count) on.buffer (λ bad. let e : ⊥ = cc bad in e)
+shows-of op old new part (Io dev count) got on = on.shown ∙ shown_none op (Io dev count) on.buffer (λ bad. let e : ⊥ = cc bad in e)
+shows-of op old new part (NoSpace dev) got on = on.shown ∙ shown_none op (NoSpace dev) on.buffer (λ bad. let e : ⊥ = cc bad in e)
+
 adds-piece : (first : Nodes) (w v : Face) (f : Flight) (outcome : Outcome) (got : List ℕ) → Comes first w → w.guest.flight ≡ Some f → CanPiece w.log f → PutsPiece w v f outcome got → Adds w v (Piece 0 w.guest.done f.next outcome got)
 adds-piece first w v f outcome got comes is can puts = record {
   events = ap (λ (l : Recorded). l.events) puts.made.log;
@@ -200,10 +216,10 @@ adds-piece first w v f outcome got comes is can puts = record {
   access = ap (λ (g : Guest). g.is_read_only) puts.guest;
   faults = puts.made.faults;
   licensed = licensed-piece (faults_of w.nodes) (faults_of v.nodes) outcome puts.made.cause;
-  step = rw (is, comes.on_image) puts.made.on;
+  step = rw (is, comes.on_image) (record { made = puts.made.on; count = puts.made.cause });
   state = state-after w v f outcome got comes.on_image is puts;
   told = still-tells _ w.nodes v.nodes puts.made.disk;
-  turn = rw is (refl, record { running = can.running; next = refl; within = can.next; form = puts.made.form });
+  turn = rw is (refl, record { running = can.running; next = refl; within = can.next; form = puts.made.form; shown = shows-of f.op w.nodes v.nodes (piece f.op f.next) outcome got puts.made.on });
   fits = λ disk told. rw is (
     refl,
     record {

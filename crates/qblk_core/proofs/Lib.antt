@@ -15,4 +15,5 @@ pub mod Forms
 pub mod Returned
 pub mod Quiet
 pub mod Numbered
+pub mod OneTranscript
 pub mod Completeness

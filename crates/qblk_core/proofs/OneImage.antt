@@ -35,9 +35,8 @@ use Rattle.blk_pieces.specs.Pieces.{CanTransfer, Transfers, shown_of}
 use Rattle.blk_pieces.proofs.Payloads.{payload_length, taken_is}
 use Rattle.blk_pieces.proofs.Rows.{RowsAfter, rows_after}
 use Rattle.blk_pieces.proofs.Told.{tells, torn_by}
-use Rattle.qblk_core.specs.Along.{HasForm}
+use Rattle.qblk_core.specs.Along.{CountsOutcome, HasForm}
 use Rattle.qblk_core.specs.ImageNodes.{only_device, IsOnFile, HaveOneImage, HaveShapeOf, content_of, told_disk, faults_of}
-use Rattle.qblk_core.specs.Steps.{HasCause}
 use Rattle.qblk_core.proofs.Capacities.{written-capacity, zeroed-capacity}
 use Rattle.qblk_core.proofs.OneDevice.{first-found, head-same, only-one, risen-one, told-one, content-is, faults-is, capacity-is, stopped-by, stopped-at}
 
@@ -88,7 +87,7 @@ pub record StepsTo (d e : DeviceState) (outcome : Outcome) : Type 0 where
   pub told : is_some e.content ≡ is_some d.content
   pub capacity : e.capacity ≡ d.capacity
   pub faults : d.faults ≤ e.faults
-  pub cause : HasCause d.faults e.faults outcome
+  pub cause : CountsOutcome d.faults e.faults outcome
 
 pub record Goes (d : DeviceState) (new : List DeviceState) (outcome : Outcome) : Type 0 where
   pub device : DeviceState
@@ -99,13 +98,13 @@ some-mapped : (f : List ℕ → List ℕ) (content : Option (List ℕ)) → is_s
 some-mapped f None = refl
 some-mapped f (Some bytes) = refl
 
-write-cause : (d e : DeviceState) (place n : ℕ) (outcome : Outcome) → d.number ≡ only_device → HasCauseOf d e place n outcome → HasCause d.faults e.faults outcome
+write-cause : (d e : DeviceState) (place n : ℕ) (outcome : Outcome) → d.number ≡ only_device → HasCauseOf d e place n outcome → CountsOutcome d.faults e.faults outcome
 write-cause d e place n Good number cause = cause.1
 write-cause d e place n (Torn done dev count) number cause = stopped-by d e dev count number cause.4
 write-cause d e place n (Io dev count) number cause = stopped-by d e dev count number cause.1
 write-cause d e place n (NoSpace dev) number cause = (ap (λ (k : DevNo). k.0) (cause.1 ∙ number), cause.2)
 
-flush-cause : (d e : DeviceState) (outcome : Outcome) → d.number ≡ only_device → HasFlushCause d e outcome → HasCause d.faults e.faults outcome
+flush-cause : (d e : DeviceState) (outcome : Outcome) → d.number ≡ only_device → HasFlushCause d e outcome → CountsOutcome d.faults e.faults outcome
 flush-cause d e Good number cause = cause
 flush-cause d e (Torn done dev count) number cause = absurd cause
 flush-cause d e (Io dev count) number cause = stopped-by d e dev count number cause
@@ -176,7 +175,7 @@ module _ (old new : Nodes) (one : HaveOneImage old) where
             )
       ]
 
-      by_cause : (o : Outcome) → HasPieceCause (fits wrote.before.capacity) own n wrote.file old new 1 wrote.before wrote.after o → HasCause one.device.faults wrote.after.faults o
+      by_cause : (o : Outcome) → HasPieceCause (fits wrote.before.capacity) own n wrote.file old new 1 wrote.before wrote.after o → CountsOutcome one.device.faults wrote.after.faults o
       by_cause Good cause = cause.1 ∙ ap (λ (x : DeviceState). x.faults) r.1
       by_cause (Torn done dev count) cause =
           stopped-by one.device wrote.after dev count one.number (subst (λ (x : DeviceState). StoppedBy x wrote.after dev count) r.1 cause.2)
@@ -221,7 +220,7 @@ module _ (old new : Nodes) (one : HaveOneImage old) where
         };
       }
     where
-      by_outcome : (e : DeviceState) → new.devices ≡ e ∷ [] → (o : Outcome) → IsReadBelow old new 1 o → HasCause one.device.faults e.faults o
+      by_outcome : (e : DeviceState) → new.devices ≡ e ∷ [] → (o : Outcome) → IsReadBelow old new 1 o → CountsOutcome one.device.faults e.faults o
       by_outcome e is Good same = ap (λ (x : DeviceState). x.faults) (the-same e is same)
       by_outcome e is (Torn done dev count) bad = absurd bad
       by_outcome e is (Io dev count) stopped = the-stop stopped.file e dev count is stopped.stopped
@@ -239,7 +238,7 @@ module _ (old new : Nodes) (one : HaveOneImage old) where
           told = ap (λ (x : DeviceState). is_some x.content) flushed.flush.is ∙ ap (λ (x : DeviceState). is_some x.content) r.1;
           capacity = ap (λ (x : DeviceState). x.capacity) flushed.flush.is ∙ ap (λ (x : DeviceState). x.capacity) r.1;
           faults = subst (λ (x : DeviceState). x.faults ≤ flushed.after.faults) r.1 flushed.flush.faults;
-          cause = subst (λ (x : DeviceState). HasCause x.faults flushed.after.faults outcome) r.1
+          cause = subst (λ (x : DeviceState). CountsOutcome x.faults flushed.after.faults outcome) r.1
               (flush-cause flushed.before flushed.after outcome (ap (λ (x : DeviceState). x.number) r.1 ∙ one.number) flushed.flush.cause);
         };
       }
@@ -428,11 +427,11 @@ module _ (old new : Nodes) (joined : IsJoined old) (one : HaveOneImage old) (op 
       (λ b told. disk-by old new op part outcome buffer (are-told b told) did)
       ∙ ap (λ (c : Option (List ℕ)). option_map (done_in op part (done_by outcome part)) (option_map (λ (_ : List ℕ). disk_of old 1) c)) (sym was)
 
-  pub piece-cause : HasCause (faults_of old) (faults_of new) outcome
+  pub piece-cause : CountsOutcome (faults_of old) (faults_of new) outcome
   piece-cause =
       let g = gone in
-      subst (λ (n : ℕ). HasCause n (faults_of new) outcome) (sym (faults-is old one.device one.only one.node))
-      (subst (λ (n : ℕ). HasCause one.device.faults n outcome) (sym (faults-is new g.device g.is (g.steps.node ∙ one.node))) g.steps.cause)
+      subst (λ (n : ℕ). CountsOutcome n (faults_of new) outcome) (sym (faults-is old one.device one.only one.node))
+      (subst (λ (n : ℕ). CountsOutcome one.device.faults n outcome) (sym (faults-is new g.device g.is (g.steps.node ∙ one.node))) g.steps.cause)
 
   pub piece-faults : faults_of old ≤ faults_of new
   piece-faults =

@@ -29,7 +29,7 @@ use Rattle.qblk_core.specs.Closing.{IsOnlyDevice}
 use Rattle.qblk_core.specs.Face.{machine_on}
 use Rattle.qblk_core.specs.ImageNodes.{file_name, image_name, only_device, with_file, with_raw, asked_image, IsOver, AreMadeOf}
 use Rattle.qblk_core.specs.Opened.{IsFileOver, IsOpenedAs, StopsAs, IsOverStop, IsStopped, stop_by}
-use Rattle.qblk_core.specs.Session.{IsRefusedImage, IsUntouched}
+use Rattle.qblk_core.specs.Session.{IsRefusedImage}
 use Rattle.qblk_core.specs.declared.opening.OpenStop.{OpenStop}
 use Rattle.qblk_core.specs.declared.opening.OpenStop.TheVariants.{Refused, Io, NoMemory}
 use Rattle.qblk_core.specs.declared.status.InputWhy.TheVariants.{TooLarge, NeedsBacking, Image, Absent}
@@ -107,11 +107,7 @@ unopened d old new file stop over is risen =
       };
       cause = named-stop d r.0 stop (λ bytes told. is.on.named bytes (ap (λ (x : DeviceState). x.content) before ∙ told))
           (subst (λ (x : DeviceState). HasCause d.faults x.faults stop) after (subst (λ (x : DeviceState). HasCause x.faults is.after.faults stop) before is.on.cause));
-      untouched = record {
-        content = ap (λ (x : DeviceState). x.content) same;
-        is_flushed = ap (λ (x : DeviceState). x.is_flushed) same;
-        capacity = ap (λ (x : DeviceState). x.capacity) same;
-      };
+      kept = r.2;
     }
 
 -- ---- the guest's drive

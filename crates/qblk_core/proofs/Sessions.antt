@@ -1,5 +1,5 @@
 -- The parts of a run put together.
-use Rattle.std.proofs.Common.{◌≡◌, ℕ, true, List, [], ◌∷◌, ◌++◌, refl, sym, ◌∙◌, ap, subst, inl, inr, Option, Some, Ok}
+use Rattle.std.proofs.Common.{◌≡◌, ℕ, true, List, [], ◌∷◌, ◌++◌, refl, sym, ◌∙◌, ap, subst, arith, inl, inr, Option, Some, Ok}
 use Rattle.std.specs.Prelude.{IsUtf8, is_some, length}
 use Rattle.blk_base.specs.declared.fault.FaultAt.{FaultAt}
 use Rattle.blk_base.specs.declared.fault.Outcome.{Outcome}
@@ -9,6 +9,7 @@ use Rattle.blk_history.specs.Owned.{asked_by}
 use Rattle.blk_history.specs.Recorded.{Recorded}
 use Rattle.blk_nodes.specs.Contents.{Unfolds}
 use Rattle.blk_nodes.specs.Nodes.{Nodes, DeviceState}
+use Rattle.blk_nodes.specs.Reading.{HasRisen}
 use Rattle.qblk_core.specs.declared.words.Format.{Format}
 use Rattle.qblk_core.specs.Face.{Face, new_guest}
 use Rattle.qblk_core.specs.ImageNodes.{AreMadeOf, HaveOneImage}
@@ -16,7 +17,7 @@ use Rattle.qblk_core.specs.Requests.{RequestsDone}
 use Rattle.blk_base.specs.Counts.{Rose}
 use Rattle.qblk_core.specs.Closing.{IsOnlyDevice}
 use Rattle.qblk_core.specs.Opened.{IsStopped, IsImageStatus}
-use Rattle.qblk_core.specs.Session.{IsClosed, IsMade, IsTraceStop, IsRunStop, IsRefusedImage, IsUntouched}
+use Rattle.qblk_core.specs.Session.{IsClosed, IsMade, IsTraceStop, IsRunStop, IsRefusedImage}
 use Rattle.qblk_core.specs.declared.input.TraceRead.{TraceRead}
 use Rattle.qblk_core.specs.declared.opening.OpenStop.{OpenStop}
 use Rattle.qblk_core.specs.declared.opening.OpenStop.TheVariants.{Refused, Io, NoMemory as NoRoom}
@@ -89,9 +90,9 @@ image-stops format image trace read d n (Io count) (Fault from named) stopped is
 image-stops format image trace read d n NoRoom NoMemory stopped is = stopped.cause
 image-stops format image trace read d n stop status stopped is = absurd is
 
-pub left-untouched : (format : Format) (first : Nodes) (d n : DeviceState) → AreMadeOf format d first → first.devices ≡ n ∷ [] → IsUntouched d n
-left-untouched format first d n made given =
-    subst (IsUntouched d) (same-device format first d n made given) (record { content = refl; is_flushed = refl; capacity = refl })
+pub left-alone : (format : Format) (first : Nodes) (d n : DeviceState) → AreMadeOf format d first → first.devices ≡ n ∷ [] → HasRisen d n
+left-alone format first d n made given =
+    subst (HasRisen d) (same-device format first d n made given) (record { same = refl; faults = omega arith })
 
 pub only-made : (format : Format) (first : Nodes) (d : DeviceState) → AreMadeOf format d first → IsOnlyDevice first.devices d
 only-made format first d made = record { only = made-devices format d first made; node = made.node; number = made.number }

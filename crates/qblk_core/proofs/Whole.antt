@@ -7,7 +7,7 @@ use Rattle.std.proofs.lemmas.List.Elements.{All-nil, All-cons}
 use Rattle.blk_base.specs.Counts.{Rose}
 use Rattle.blk_base.specs.Files.{file_at, put_file, IfTold, given_back, is_out}
 use Rattle.blk_base.specs.Stored.{IsDeviceOf, files_with_returned}
-use Rattle.blk_base.specs.Answers.{LacksFile}
+use Rattle.blk_base.specs.Answers.{HasFile, LacksFile}
 use Rattle.blk_base.specs.declared.file.File.{File}
 use Rattle.blk_base.specs.declared.fault.FaultAt.{FaultAt}
 use Rattle.blk_base.specs.declared.fault.FaultFrom.{FaultFrom}
@@ -22,22 +22,24 @@ use Rattle.blk_history.specs.Small.{IsSmall}
 use Rattle.blk_history.specs.Transcript.{transcript}
 use Rattle.blk_history.specs.declared.event.Event.{Event}
 use Rattle.trace_codec.specs.declared.stop.TraceStop.TheVariants as line_stops
+use Rattle.qblk_inputs.specs.declared.stop.InputFlaw.TheVariants as flaws
 use Rattle.qblk_core.proofs.Numbered.{names-line}
 use Rattle.qblk_core.proofs.Quiet.{quiet}
 use Rattle.blk_nodes.specs.Contents.{disk_of as node_disk}
 use Rattle.blk_nodes.specs.Nodes.{DeviceState}
+use Rattle.blk_nodes.specs.Reading.{HasRisen}
 use Rattle.qblk_core.specs.Format.{disk_of, IsGoodImage}
 use Rattle.qblk_core.specs.declared.words.Format.{Format}
 use Rattle.qblk_core.specs.declared.words.Format.TheVariants as formats
 use Rattle.qblk_core.specs.Comes.{HaveLines}
 use Rattle.qblk_core.specs.Face.{Face, state_of, machine_on}
-use Rattle.qblk_core.specs.ImageNodes.{content_of, faults_of, told_disk}
+use Rattle.qblk_core.specs.ImageNodes.{only_device, content_of, faults_of, told_disk}
 use Rattle.qblk_core.proofs.Closed.{IsFlushed, HasClosed, closed-facts}
 use Rattle.qblk_core.proofs.Made.{made-one, made-kind, made-devices, image-as, told-as-disk}
 use Rattle.qblk_core.proofs.OneDevice.{head-same, faults-is, capacity-is}
 use Rattle.qblk_core.proofs.OneImage.{told-is}
-use Rattle.qblk_core.specs.Run.{Outside, machine_of, guest_names, IsRunOn, TellsDisk, IsImageCause, IsTraceCause, IsOpenedQuietly, IsOpenedQuietlyFor, SpeaksOfInput, HasImage, HasTrace, IsBadTrace, IsBadBytes, IsBadImage, IsRefusedTrace, IsRefusedInput, WasRun, StoreStands, SinkStands, FailsToOpen, FailsToFlush, IsFaulty, Answers}
-use Rattle.qblk_core.specs.Session.{IsReadOf, IsStoreStop, IsOpenStop, IsMade, IsRefusedRead, IsRefusedImage, IsRunStop, IsUntouched, EndsAs}
+use Rattle.qblk_core.specs.Run.{Outside, machine_of, guest_names, IsRunOn, IsOverFile, TellsDisk, IsImageCause, IsTraceCause, IsOpenedQuietly, IsOpenedQuietlyFor, SpeaksOfInput, HasImage, HasTrace, IsBadTrace, IsBadBytes, IsBadImage, IsRefusedTrace, IsRefusedInput, WasRun, StoreStands, SinkStands, FailsToOpen, FailsToFlush, IsFaulty, Answers}
+use Rattle.qblk_core.specs.Session.{IsReadOf, IsStoreStop, IsOpenStop, IsMade, IsRefusedRead, IsRefusedImage, IsRunStop, EndsAs}
 use Rattle.qblk_core.specs.declared.input.TraceRead.{TraceRead}
 use Rattle.qblk_core.specs.declared.input.TraceRead.TheVariants as reads
 use Rattle.qblk_core.specs.declared.status.InputWhy.{InputWhy}
@@ -161,11 +163,6 @@ inputs format image trace bytes read d n w fault files f told is read-is made =
     let text = subst U same (made.text, made.ops) in
     ((f, told.file, (made.good f.bytes told.content).0), (whole.0, whole.1, (whole.2.0, text.0, text.1)))
 
--- where the last flush was good, the count is as it was before it
-all-named : (n : DeviceState) (faults : ℕ) (fault : Option FaultAt) → IsFlushed n faults fault → is_none fault ≡ true → n.faults ≡ faults
-all-named n faults None flushed is = flushed.1
-all-named n faults (Some fault) flushed is = absurd (false≢true is)
-
 -- its numbers are of 64 bits
 all-small : (h : List Event) → HaveLines h → All IsSmall h
 all-small [] lines = All-nil IsSmall
@@ -192,8 +189,6 @@ was-run format image trace bytes read d n w fault flushed old new k flag sized n
         asked = refl;
         small = all-small w.log.events made.comes.lines;
         opened = opened ∙ back-opened image old.opened d.faults n.faults none;
-        risen = rw start at made.comes.licensed.risen;
-        last = (faults_of w.nodes, rw start at last, facts.more, λ good. all-named n (faults_of w.nodes) fault facts.flushed (flag ∙ good));
         quiet = λ same below. quiet d.faults (faults_of w.nodes) w.log.events (rw start at made.comes.licensed.risen) (rw start at last) (let more = facts.more in omega arith) below;
         device = d;
         back = n;
@@ -203,8 +198,14 @@ was-run format image trace bytes read d n w fault flushed old new k flag sized n
         flush = made.flush;
         on = runs-on format bytes d n w fault made;
         good = facts.good ∙ flag;
-        counts = (refl, refl);
+        ends = (refl, refl);
         given = made.closed.given;
+        counts = record {
+          opening = start;
+          risen = made.comes.licensed.risen;
+          last = made.comes.licensed.last;
+          flushed = facts.counts;
+        };
         told = on-run old.files files device;
       };
       sent = sent;
@@ -358,15 +359,15 @@ trace-cause bytes line why.Absent is = absurd is
 trace-cause bytes line why.TooLarge is = absurd is
 trace-cause bytes line why.NeedsBacking is = absurd is
 trace-cause bytes line (why.Image stop) is = absurd is
-trace-cause bytes line why.TooLong is = is.0
-trace-cause bytes line why.NotUtf8 is = is.0
-trace-cause bytes line why.BadLine is = names-line bytes (line_stops.BadLine line) is.2
-trace-cause bytes line why.TooMany is = names-line bytes (line_stops.TooMany line) is.2
+trace-cause bytes line why.TooLong is = (flaws.TooLong, refl, is.0)
+trace-cause bytes line why.NotUtf8 is = (flaws.NotUtf8, refl, is.0)
+trace-cause bytes line why.BadLine is = (flaws.BadLine, refl, names-line bytes (line_stops.BadLine line) is.2)
+trace-cause bytes line why.TooMany is = (flaws.TooMany, refl, names-line bytes (line_stops.TooMany line) is.2)
 
 read-cause : (read : TraceRead) (line : ℕ) (cause : InputWhy) → IsRefusedRead read cause line → IsTraceCause cause line
 read-cause (reads.Whole bytes) line cause is = trace-cause bytes line cause is
-read-cause reads.Absent line cause is = subst (λ (c : InputWhy). IsTraceCause c line) (sym is.1) is.0
-read-cause reads.TooLong line cause is = subst (λ (c : InputWhy). IsTraceCause c line) (sym is.1) is.0
+read-cause reads.Absent line cause is = (flaws.Absent, is.1, is.0)
+read-cause reads.TooLong line cause is = (flaws.TooLong, is.1, is.0)
 
 -- the image was opened, where it is there
 quietly-for : (image : List ℕ) (cause : InputWhy) → cause ≢ why.Absent → (old new : Outside) → IsOpenedQuietly image old new → IsOpenedQuietlyFor cause image old new
@@ -407,26 +408,27 @@ refused-by format image trace read d files name line cause told is (inr good) =
 
 -- an image that is given back as it was leaves all files as they were
 pub left : (image : List ℕ) (d n : DeviceState) (files : Option (List File)) → ((bytes : List ℕ) → d.content ≡ Some bytes → d.size ≡ length bytes)
-    → IsDeviceOf files image d.content d.capacity d.is_flushed → IsUntouched d n → files_with_returned image n.content n.capacity n.is_flushed files ≡ files
+    → IsDeviceOf files image d.content d.capacity d.is_flushed → HasRisen d n → files_with_returned image n.content n.capacity n.is_flushed files ≡ files
 left image d n files sized is same =
-    let content = same.content in
-    let capacity = same.capacity in
-    let flushed = same.is_flushed in
+    let content = ap (λ (x : DeviceState). x.content) same.same in
+    let capacity = ap (λ (x : DeviceState). x.capacity) same.same in
+    let flushed = ap (λ (x : DeviceState). x.is_flushed) same.same in
     rw (content, capacity, flushed) (untouched image d files sized is)
 
 -- why a run was stopped before its requests
 pub stops : (format : Format) (image trace : List ℕ) (read : TraceRead) (d n : DeviceState) (old new : Outside) (status : Status)
+    → d.number ≡ only_device
     → ((b : List ℕ) → d.content ≡ Some b → d.size ≡ length b)
     → (is_out image old.opened ≡ true → ⊥)
     → IsDeviceOf old.files image d.content d.capacity d.is_flushed
-    → IfTold old.files (IsReadOf trace read) → IsRunStop format image trace read d n status → IsUntouched d n
+    → IfTold old.files (IsReadOf trace read) → IsRunStop format image trace read d n status → HasRisen d n
     → new.files ≡ files_with_returned image n.content n.capacity n.is_flushed old.files
     → new.opened ≡ given_back image n.faults (old.opened ++ record { name = image; faults = d.faults; returned = None } ∷ [])
     → new.sent ≡ old.sent → new.sink_faults ≡ old.sink_faults
     → Answers format image trace old new status
-stops format image trace read d n old new NoMemory sized none device read-is stop same files opened sent sink =
+stops format image trace read d n old new NoMemory number sized none device read-is stop same files opened sent sink =
     (record { files = files ∙ left image d n old.files sized device same; sent = sent }, inr (opened-quietly image d n old new none stop opened))
-stops format image trace read d n old new (Input name line cause) sized none device read-is stop same files opened sent sink = (
+stops format image trace read d n old new (Input name line cause) number sized none device read-is stop same files opened sent sink = (
   record { files = files ∙ left image d n old.files sized device same; sent = sent },
   speaks-of format image trace read d name.bytes line cause stop.1 old new (opened-quietly image d n old new none stop.0 opened),
   why-of old.files device read-is,
@@ -435,20 +437,28 @@ stops format image trace read d n old new (Input name line cause) sized none dev
     why-of : (fs : Option (List File)) → IsDeviceOf fs image d.content d.capacity d.is_flushed → IfTold fs (IsReadOf trace read) → IfTold fs (IsRefusedInput format image trace name.bytes line cause)
     why-of None device read-is = tt
     why-of (Some told) device read-is = refused-by format image trace read d told name.bytes line cause (told-as image d told sized device) read-is stop.1
-stops format image trace read d n old new (Fault from count) sized none device read-is stop same files opened sent sink =
+stops format image trace read d n old new (Fault from count) number sized none device read-is stop same files opened sent sink =
     let F : FaultFrom → Type 0 = λ f. IsFaulty format image trace old new f count in
-    let R : ℕ → Type 0 = λ c. new.opened ≡ old.opened ++ record { name = image; faults = d.faults; returned = Some c } ∷ [] in
     let fails : FailsToOpen format image old new count = record {
       reads = stop.0;
       nothing = record { files = files ∙ left image d n old.files sized device same; sent = sent };
-      before = d.faults;
-      opened = subst R (sym stop.3) (opened ∙ back-opened image old.opened d.faults n.faults none);
-      rose = stop.2;
+      device = d;
+      behind = n;
+      opened = opened ∙ back-opened image old.opened d.faults n.faults none;
+      stopped = record { named = sym number; rose = stop.2; now = stop.3 };
+      kept = same;
+      told = over-file old.files device;
       sink = sink;
     } in
     let faulty : IsFaulty format image trace old new (Dev (record { 0 = 0 })) count = (refl, inl fails) in
     subst F (sym stop.1) faulty
-stops format image trace read d n old new status sized none device read-is stop same files opened sent sink = absurd stop
+  where
+    over-file : (fs : Option (List File)) → IsDeviceOf fs image d.content d.capacity d.is_flushed → IfTold fs (λ files. HasFile image (IsOverFile d) files)
+    over-file None is = tt
+    over-file (Some files) is =
+        let f = told-as image d files sized is in
+        (f.0, f.1.file, record { content = f.1.content; is_flushed = f.1.flushed; size = f.1.size; capacity = f.1.capacity })
+stops format image trace read d n old new status number sized none device read-is stop same files opened sent sink = absurd stop
 
 -- a store whose call failed, or want of memory
 pub store-stops : (format : Format) (image trace : List ℕ) (old new : Outside) (status : Status) → IsStoreStop old.store_faults new.store_faults status

@@ -8,6 +8,7 @@ pub mod Running
 pub mod Comes
 pub mod Requests
 pub mod Run
+pub mod Printed
 pub mod Completeness
 pub mod Inputs
 pub mod Ready

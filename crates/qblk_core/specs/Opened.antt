@@ -4,11 +4,12 @@ use Rattle.blk_base.specs.Counts.{Rose}
 use Rattle.blk_base.specs.declared.fault.FaultFrom.TheVariants.{Dev}
 use Rattle.blk_nodes.specs.Contents.{Unfolds}
 use Rattle.blk_nodes.specs.Nodes.{Nodes, DeviceState}
+use Rattle.blk_nodes.specs.Reading.{HasRisen}
 use Rattle.q2_image.specs.declared.stop.ImageStop.{ImageStop}
 use Rattle.q2_image.specs.declared.stop.ImageStop.TheVariants as stops
 use Rattle.qblk_core.specs.Closing.{IsOnlyDevice}
 use Rattle.qblk_core.specs.ImageNodes.{AreMadeOf, HaveOneImage, only_device, with_file}
-use Rattle.qblk_core.specs.Session.{IsRefusedImage, IsUntouched}
+use Rattle.qblk_core.specs.Session.{IsRefusedImage}
 use Rattle.qblk_core.specs.declared.words.Format.{Format}
 use Rattle.qblk_core.specs.declared.words.Format.TheVariants.{Qcow2}
 use Rattle.qblk_core.specs.declared.opening.OpenStop.{OpenStop}
@@ -47,11 +48,11 @@ pub record IsOverStop (format : Format) (old new : Nodes) (stop : OpenStop) : Ty
   pub was : old.devices ≡ before ∷ []
   pub is : IsOnlyDevice new.devices now
   pub cause : StopsAs format before now stop
-  pub untouched : IsUntouched before now
+  pub kept : HasRisen before now
 
 pub record IsStopped (format : Format) (before now : DeviceState) (stop : OpenStop) : Type 0 where
   pub cause : StopsAs format before now stop
-  pub untouched : IsUntouched before now
+  pub kept : HasRisen before now
 
 -- the stop that an image's is
 abbrev pub stop_by : ImageStop → OpenStop

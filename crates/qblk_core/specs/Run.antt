@@ -28,9 +28,13 @@ use Rattle.qblk_core.specs.declared.words.Format.TheVariants.{Raw, Qcow2}
 use Rattle.blk_base.specs.declared.fault.Outcome.{Outcome}
 use Rattle.blk_base.specs.Outcomes.{is_good}
 use Rattle.blk_nodes.specs.Nodes.{Nodes, DeviceState}
-use Rattle.qblk_core.specs.Along.{HaveNodes, GoesInTurn}
+use Rattle.blk_nodes.specs.Reading.{HasRisen, StoppedBy}
+use Rattle.qblk_inputs.specs.Inputs.{IsTraceFlaw}
+use Rattle.qblk_inputs.specs.declared.stop.InputFlaw.{InputFlaw}
+use Rattle.qblk_inputs.specs.declared.stop.InputFlaw.TheVariants as flaws
+use Rattle.qblk_core.specs.Along.{CountsOutcome, HaveNodes, GoesInTurn}
 use Rattle.qblk_core.specs.Face.{state_with, new_guest, machine_on}
-use Rattle.qblk_core.specs.ImageNodes.{AreMadeOf}
+use Rattle.qblk_core.specs.ImageNodes.{AreMadeOf, faults_of, only_device}
 use Rattle.blk_pieces.specs.Pieces.{FlushesPart}
 use Rattle.qblk_core.specs.declared.status.InputWhy.{InputWhy}
 use Rattle.qblk_core.specs.declared.status.InputWhy.TheVariants.{Absent, NotUtf8, TooLong, BadLine, TooMany, TooLarge, NeedsBacking, Image}
@@ -93,8 +97,17 @@ pub record TellsDisk (format : Format) (image : List ℕ) (h : List Event) (good
     is_flushed = is_flushed;
   }) old)
 
--- A history of these requests on that image: each stands once, in order, and the faults it names are rises of the
--- device's count, each named once; and where the last flush was good, each rise is named.
+-- The counts of the image's device: where it was opened, behind the opening, behind the last request, and where it is given
+-- back. The opening raised none. From then on to the last flush each rise is named by one entry, which gives the count that
+-- is there then. The last flush raised one where it failed, and else none.
+pub record HaveCounts (h : List Event) (flush : Outcome) (before opened left now : ℕ) : Type 0
+  where
+    pub opening : opened ≡ before
+    pub risen : HaveRisen (opened ∷ []) h
+    pub last : counted (opened ∷ []) h ≡ left ∷ []
+    pub flushed : CountsOutcome left now flush
+
+-- a history of these requests on that image: each stands once, in order
 pub record IsRun (format : Format) (image : List ℕ) (ops : List Op) (flushed : Bool)
     (old new : Outside) (h : List Event) (before now : ℕ) : Type 0 where
   pub asked : asked_by 0 h ≡ ops
@@ -102,9 +115,6 @@ pub record IsRun (format : Format) (image : List ℕ) (ops : List Op) (flushed :
   pub small : All IsSmall h
   pub opened : new.opened
       ≡ old.opened ++ record { name = image; faults = before; returned = Some now } ∷ []
-  pub risen : HaveRisen (before ∷ []) h
-  pub last : (count : ℕ) × (counted (before ∷ []) h ≡ count ∷ []) × (count ≤ now)
-      × (flushed ≡ true → now ≡ count)
   -- where the count has not risen, no piece was stopped by a fault
   pub quiet : now ≡ before → before < 18446744073709551615 → NameNone h
   -- the device as it was opened and as it is given back, and the nodes over it
@@ -116,8 +126,9 @@ pub record IsRun (format : Format) (image : List ℕ) (ops : List Op) (flushed :
   pub flush : Outcome
   pub on : IsRunOn format h device first left end flush
   pub good : is_good flush ≡ flushed
-  pub counts : (device.faults ≡ before) × (back.faults ≡ now)
+  pub ends : (device.faults ≡ before) × (back.faults ≡ now)
   pub given : end.devices ≡ back ∷ []
+  pub counts : HaveCounts h flush before (faults_of first) (faults_of left) now
   pub told : IfTold old.files (λ files. (f : File)
       × TellsDisk format image h flushed device first back files new.files f)
 
@@ -166,6 +177,14 @@ IsRefusedInput format image trace name line why files =
     ((name ≡ image) × (line ≡ 0) × IsBadImage format why image files)
     ⊎ ((name ≡ trace) × HasImage format image files × IsRefusedTrace why line trace files)
 
+-- what is wrong with a script or a trace, as a status says it
+abbrev pub why_of : InputFlaw → InputWhy
+why_of flaws.Absent = Absent
+why_of flaws.NotUtf8 = NotUtf8
+why_of flaws.TooLong = TooLong
+why_of flaws.BadLine = BadLine
+why_of flaws.TooMany = TooMany
+
 -- what a refusal says where files aren't told: it speaks of the image or of the trace, with a cause of that
 abbrev pub IsImageCause : Format → InputWhy → Type 0
 IsImageCause format Absent = ⊤
@@ -175,12 +194,7 @@ IsImageCause Qcow2 (Image stop) = IsSome (refusal_of stop)
 IsImageCause format why = ⊥
 
 abbrev pub IsTraceCause : InputWhy → ℕ → Type 0
-IsTraceCause Absent line = line ≡ 0
-IsTraceCause NotUtf8 line = line ≡ 0
-IsTraceCause TooLong line = line ≡ 0
-IsTraceCause BadLine line = 0 < line
-IsTraceCause TooMany line = 0 < line
-IsTraceCause why line = ⊥
+IsTraceCause why line = (flaw : InputFlaw) × (why ≡ why_of flaw) × IsTraceFlaw flaw line
 
 -- the image was opened and is back, and no call of its device failed
 abbrev pub IsOpenedQuietly : List ℕ → Outside → Outside → Type 0
@@ -220,15 +234,19 @@ IsDone format image trace old new =
     (ops : List Op) × (h : List Event) × (before : ℕ) × (now : ℕ)
     × WasRun format image trace true old new ops h before now (length (transcript guest_names h))
 
--- the device failed while a qcow2 image was opened
+-- The device failed while a qcow2 image was opened. It was opened so, and is given back as the opening left it, which only read:
+-- its count rose, and all else stayed.
 pub record FailsToOpen (format : Format) (image : List ℕ) (old new : Outside) (count : ℕ) : Type 0
   where
     pub reads : format ≡ Qcow2
     pub nothing : NothingWritten old new
-    pub before : ℕ
+    pub device : DeviceState
+    pub behind : DeviceState
     pub opened : new.opened ≡ old.opened
-        ++ record { name = image; faults = before; returned = Some count } ∷ []
-    pub rose : Rose before count
+        ++ record { name = image; faults = device.faults; returned = Some behind.faults } ∷ []
+    pub stopped : StoppedBy device behind only_device count
+    pub kept : HasRisen device behind
+    pub told : IfTold old.files (λ files. HasFile image (IsOverFile device) files)
     pub sink : new.sink_faults ≡ old.sink_faults
 
 -- the device failed in the last flush, after which the transcript goes out nevertheless: a rise that no entry names

@@ -134,12 +134,6 @@ IsRunStop format image trace read before now (Fault from count) =
 IsRunStop format image trace read before now (Stuck actor waits) = ⊥
 IsRunStop format image trace read before now NoMemory = now.faults ≡ before.faults
 
--- what an image that isn't opened leaves of its device
-pub record IsUntouched (before now : DeviceState) : Type 0 where
-  pub content : now.content ≡ before.content
-  pub is_flushed : now.is_flushed ≡ before.is_flushed
-  pub capacity : now.capacity ≡ before.capacity
-
 -- A transcript went out whole, or a front of it did, and a put failed. The fault of the last flush is named before that.
 abbrev pub EndsAs : Option FaultAt → Option (List ℕ) → Option (List ℕ) → List ℕ → ℕ → ℕ → Status
     → Type 0

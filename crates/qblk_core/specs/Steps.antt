@@ -1,8 +1,6 @@
 -- What each step of a run leaves.
 use Rattle.std.specs.Prelude.{◌≡◌, ℕ, ◌-◌, ◌^◌, ◌<◌, ◌≤◌, List, [], ◌∷◌, ◌++◌, length, Option, Some, None, option_map, false}
-use Rattle.blk_base.specs.Counts.{Rose}
 use Rattle.blk_base.specs.declared.fault.Outcome.{Outcome}
-use Rattle.blk_base.specs.declared.fault.Outcome.TheVariants.{Good, Torn, Io, NoSpace}
 use Rattle.trace_codec.specs.declared.op.Op.{Op}
 use Rattle.trace_codec.specs.Request.{pieces_of}
 use Rattle.blk_history.specs.Disk.{piece, done_in}
@@ -15,7 +13,7 @@ use Rattle.blk_history.specs.declared.event.Event.{Event}
 use Rattle.blk_history.specs.declared.event.Event.TheVariants as events
 use Rattle.blk_nodes.specs.Nodes.{Nodes, size_of}
 use Rattle.blk_pieces.specs.Pieces.{shows_in}
-use Rattle.qblk_core.specs.Along.{HasForm}
+use Rattle.qblk_core.specs.Along.{CountsOutcome, HasForm}
 use Rattle.qblk_core.specs.Face.{Face, node_of}
 use Rattle.qblk_core.specs.ImageNodes.{told_disk, faults_of, HaveShapeOf}
 use Rattle.qblk_core.specs.Pieces.{IsPieceOn}
@@ -55,14 +53,6 @@ after_retirement w = record w {
   log = log_of w.log (events.Retire 0 w.guest.done);
 }
 
--- why a piece went so, from the count of faults before and after: a fault is a rise of the count, which it names, and where
--- there is none the count stands
-abbrev pub HasCause : ℕ → ℕ → Outcome → Type 0
-HasCause before now Good = now ≡ before
-HasCause before now (Torn done dev count) = (dev.0 ≡ 0) × Rose before count × (count ≡ now)
-HasCause before now (Io dev count) = (dev.0 ≡ 0) × Rose before count × (count ≡ now)
-HasCause before now (NoSpace dev) = (dev.0 ≡ 0) × (now ≡ before)
-
 -- the next piece can be made: there is one, and the history has room for what it adds
 pub record CanPiece (log : Recorded) (f : Flight) : Type 0 where
   pub running : f.is_stopped ≡ false
@@ -83,7 +73,7 @@ pub record MakesPiece (old new : Nodes) (before now : Recorded) (request : ℕ) 
       (told_disk old)
   pub form : HasForm outcome f.op (piece f.op f.next)
   pub fits : IsSmallOutcome outcome
-  pub cause : HasCause (faults_of old) (faults_of new) outcome
+  pub cause : CountsOutcome (faults_of old) (faults_of new) outcome
   pub faults : faults_of old ≤ faults_of new
   pub bound : length got ≤ shows_in f.op (piece f.op f.next).len
   pub small : length got ≤ 65536

@@ -3,7 +3,11 @@
 ghost use Rattle.std.specs.Prelude.{◌≡◌, ◌⊎◌, List, ℕ};
 ghost use Rattle.trace_codec.specs.declared.op.Op.{Op};
 ghost use Rattle.blk_history.specs.Alone.{PrintsOneHistory};
+ghost use Rattle.blk_history.specs.declared.event.Event.{Event};
+ghost use Rattle.blk_nodes.specs.Nodes.{Nodes};
 ghost use Rattle.qblk_core.specs.Completeness.{HasInputs, NoneRises};
+ghost use Rattle.qblk_core.specs.Face.{machine_on};
+ghost use Rattle.qblk_core.specs.Printed.{PrintsInTurn};
 ghost use Rattle.qblk_core.specs.Run.{Answers, Outside, machine_of, guest_names};
 ghost use Rattle.qblk_core.specs.declared.status.Status.{Status};
 ghost use Rattle.qblk_core.specs.declared.words.Format.{Format};
@@ -12,6 +16,13 @@ ghost use Rattle.qblk_core.specs.declared.words.Format.{Format};
 pub fn runs_on_images_have_one_history()
     ensures { (format : Format) (bytes : List ℕ) (ops : List Op)
         → PrintsOneHistory (machine_of format bytes) guest_names ops }
+{}
+
+/// The same where no device tells its bytes, and whatever the images.
+pub fn runs_in_turn_have_one_history()
+    ensures { (first other : Nodes) (ops : List Op) (text : List ℕ) (h k : List Event)
+        → PrintsInTurn (machine_on first) ops text h
+        → PrintsInTurn (machine_on other) ops text k → h ≡ k }
 {}
 
 /// A run on an image that can be opened, of a trace that is taken, is done or has no memory, where no count rises.

@@ -15,7 +15,9 @@ mod status;
 mod transfer;
 mod words;
 
-pub use laws::{runs_on_good_images_are_done, runs_on_images_have_one_history};
+pub use laws::{
+    runs_in_turn_have_one_history, runs_on_good_images_are_done, runs_on_images_have_one_history,
+};
 pub use output::{CHUNK, send_transcript};
 pub use run::{qblk, run_io};
 pub use status::{InputWhy, Status};

@@ -59,7 +59,8 @@ fn send_line<K: Sink>(
     send(line, out)
 }
 
-/// Writes all lines of a history, and puts them. The text comes empty, with room for 64 KiB and the longest line.
+/// Writes all lines of a history, and puts them. The text comes empty, with room for 64 KiB and the longest line, so that no
+/// memory is taken. Where a put fails, a beginning of the transcript went out.
 pub fn send_transcript<K: Sink>(
     history: &History,
     names: &Rows,

@@ -12,7 +12,8 @@ use crate::words::io_words;
 use blk_base::{Sink, Store, Text};
 use std::alloc::Global;
 
-/// Runs the trace of `io FORMAT IMAGE TRACE` on the image, and puts the transcript.
+/// Runs the trace of `io FORMAT IMAGE TRACE` on the image, and puts the transcript. The words are of that form. The store comes
+/// back with no device out.
 pub fn run_io<S: Store, K: Sink>(
     alloc: Global,
     words: &[Text],
@@ -66,7 +67,8 @@ pub fn run_io<S: Store, K: Sink>(
     (status, store)
 }
 
-/// Does what the words say, on the files of a store. They come without the program's name.
+/// Does what words of the form `io FORMAT IMAGE TRACE` say, on the files of a store; all others are Usage. They come without the
+/// program's name. The store comes back with no device out.
 pub fn qblk<S: Store, K: Sink>(alloc: Global, words: &[Text], store: S, out: &mut K) -> (Status, S)
     requires { NoneOut (S.opened store) }
 

@@ -4,7 +4,8 @@ ghost use Rattle.blk_base.specs.Files.{IfTold};
 ghost use Rattle.blk_base.specs.Stored.{IsDeviceOf};
 ghost use Rattle.blk_base.specs.declared.file.Opened.{Opened};
 ghost use Rattle.qblk_inputs.specs.Reading.{NoneOut};
-ghost use Rattle.qblk_core.specs.Session.{IsReadOf, IsStoreStop, IsOpenStop, IsMade, IsRunStop, IsUntouched, EndsAs, ended_as, failed_as};
+ghost use Rattle.qblk_core.specs.Session.{IsReadOf, IsStoreStop, IsOpenStop, IsMade, IsRunStop, EndsAs, ended_as, failed_as};
+ghost use Rattle.blk_nodes.specs.Reading.{HasRisen};
 ghost use Rattle.qblk_core.specs.Opened.{IsImageStatus};
 ghost use Rattle.blk_history.specs.Transcript.{transcript};
 ghost use Rattle.qblk_core.specs.Comes.{HaveLines};
@@ -119,8 +120,8 @@ fn make_run<D: Device>(
         × (393476 ≤ made.line.spare)) }
     ensures stop { IfErr result.0 (IsRunStop format image.now trace.now read
         (seen D.Device device) (seen D.Device result.1)) }
-    ensures untouched { OnErr result.0
-        (IsUntouched (seen D.Device device) (seen D.Device result.1)) }
+    ensures kept { OnErr result.0
+        (HasRisen (seen D.Device device) (seen D.Device result.1)) }
 {
     let (nodes, node) = match open_nodes(alloc, format, device) {
         Ok(opened) => opened,

@@ -12,13 +12,13 @@ use trace_codec::Waits;
 pub enum InputWhy {
     /// There is no such file.
     Absent,
-    /// It isn't UTF-8.
+    /// A script or a trace isn't UTF-8.
     NotUtf8,
-    /// It is longer than 64 MiB.
+    /// A script or a trace is longer than 64 MiB.
     TooLong,
     /// The line is none that a trace may have.
     BadLine,
-    /// A trace asks for more than a run takes.
+    /// At this line a script has more lines, or a trace asks for more, than a run takes.
     TooMany,
     /// A raw image is larger than 256 GiB.
     TooLarge,
@@ -31,28 +31,30 @@ pub enum InputWhy {
 /// How a run ended.
 #[derive(Debug, Drop)]
 pub enum Status {
-    /// The job was done to its end, and the transcript is out.
+    /// Script and traces were carried out whole, the files of the nodes that are there are flushed, and the transcript is out.
     Done,
-    /// The words are of no form.
+    /// The words are of no form. Nothing was done.
     Usage,
-    /// A file was refused. Line 0 speaks of the whole file.
+    /// A file was refused, at this line; line 0 speaks of the whole file. Nothing was written.
     Input {
         name: Text,
         line: u32,
         why: InputWhy,
     },
-    /// The first fault of the store, a device or the sink, and its count afterwards.
+    /// The first fault that no entry tells, and its count afterwards: of the store, at an input or at the image of `io`; of a
+    /// device, where `io` opened an image or in the last flush; of the sink.
     Fault {
         from: FaultFrom,
         count: u64,
     },
-    /// The script or a guest has more to do, and each of those can go no further. The script is actor 0, and guest g is actor
-    /// g + 1: the first of them, and what it waits for.
+    /// Each actor that isn't done can go no further: the first of them, and what it waits for. The script is actor 0, and guest
+    /// g is actor g + 1. The transcript so far is out.
     Stuck {
         actor: u32,
         waits: Waits,
     },
-    /// Want of memory. Nothing was put to the sink.
+    /// Want of memory. Nothing was put to the sink, and by `io` nothing written; of a run of a script, what was done so far
+    /// stays.
     NoMemory,
 }
 

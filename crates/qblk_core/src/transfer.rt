@@ -8,9 +8,8 @@ ghost use Rattle.blk_history.specs.Legal.{Tells};
 ghost use Rattle.blk_nodes.specs.Joined.{IsJoined};
 ghost use Rattle.blk_nodes.specs.Nodes.{size_of};
 ghost use Rattle.blk_pieces.specs.Pieces.{IsPartAsked, Transfers, shown_of};
-ghost use Rattle.qblk_core.specs.Along.{HasForm};
+ghost use Rattle.qblk_core.specs.Along.{CountsOutcome, HasForm};
 ghost use Rattle.qblk_core.specs.ImageNodes.{HaveOneImage, HaveShapeOf, told_disk, faults_of};
-ghost use Rattle.qblk_core.specs.Steps.{HasCause};
 
 use blk_base::{Device, Outcome, Span};
 use blk_graph::NodeId;
@@ -41,7 +40,7 @@ pub(crate) fn transfer<D: Device>(
     ensures disk { told_disk nodes.new
         ≡ option_map (done_in op.now part (done_by result part)) (told_disk nodes.old) }
     ensures form { HasForm result op.now part }
-    ensures cause { HasCause (faults_of nodes.old) (faults_of nodes.new) result }
+    ensures cause { CountsOutcome (faults_of nodes.old) (faults_of nodes.new) result }
     ensures faults { faults_of nodes.old ≤ faults_of nodes.new }
 {
     let _ = nodes.edges();

@@ -1,3 +1,4 @@
+pub mod LineNumbers
 pub mod Stops
 pub mod TraceLists
 pub mod PlayerWords

@@ -14,8 +14,9 @@ use Rattle.qblk_inputs.specs.declared.stop.InputFlaw.{InputFlaw}
 use Rattle.qblk_inputs.specs.declared.stop.InputFlaw.TheVariants.{Absent, NotUtf8, TooLong, BadLine, TooMany}
 use Rattle.qblk_inputs.specs.declared.stop.InputStop.{InputStop}
 use Rattle.qblk_inputs.specs.declared.stop.InputStop.TheVariants.{Refused, Failed, NoMemory}
-use Rattle.qblk_inputs.specs.Inputs.{IsText, IsScript, IsTrace, IsBadText, IsRefusedScript, IsRefusedTrace}
-use Rattle.qblk_inputs.specs.Reading.{IsReadOfFile, IsUnread, IsInputRefusal, StopsFor, OfFile}
+use Rattle.qblk_inputs.specs.Inputs.{IsText, IsScript, IsTrace, IsBadText, IsRefusedScript, IsRefusedTrace, IsScriptFlaw, IsTraceFlaw}
+use Rattle.qblk_inputs.specs.Reading.{IsReadOfFile, IsUnread, IsUnreadFlaw, IsInputRefusal, StopsFor, OfFile}
+use Rattle.qblk_inputs.proofs.LineNumbers.{wishes_at_line}
 
 pub told_map : {A : Type 0} (o : Option A) (P Q : A → Type 0) → ((a : A) → P a → Q a) → IfTold o P → IfTold o Q
 told_map None P Q f h = tt
@@ -45,10 +46,10 @@ pub stops_at : (P : List ℕ → InputFlaw → ℕ → Type 0) (a b now : ℕ) (
 stops_at P a b now stop is h = let Q : ℕ → Type 0 = λ n. StopsFor P n now stop in subst Q is h
 
 -- another word for the files
-pub stops_of : (P : InputFlaw → ℕ → List ℕ → List File → Type 0) (name : List ℕ) (a b : Option (List File)) (before now : ℕ) (stop : InputStop) → a ≡ b
-    → StopsFor (OfFile a name P) before now stop → StopsFor (OfFile b name P) before now stop
-stops_of P name a b before now stop is h =
-    let Q : Option (List File) → Type 0 = λ o. StopsFor (OfFile o name P) before now stop in subst Q is h
+pub stops_of : (Q : InputFlaw → ℕ → Type 0) (P : InputFlaw → ℕ → List ℕ → List File → Type 0) (name : List ℕ) (a b : Option (List File)) (before now : ℕ) (stop : InputStop) → a ≡ b
+    → StopsFor (OfFile a name Q P) before now stop → StopsFor (OfFile b name Q P) before now stop
+stops_of Q P name a b before now stop is h =
+    let R : Option (List File) → Type 0 = λ o. StopsFor (OfFile o name Q P) before now stop in subst R is h
 
 -- ---- a file that isn't read
 
@@ -65,17 +66,27 @@ unread_trace before name Absent line files h = h
 unread_trace before name TooLong line files h = has_map name _ _ files (λ f long. (h.0, long)) h.1
 unread_trace before name why line files h = absurd h
 
+script_flaw : (why : InputFlaw) (line : ℕ) → IsUnreadFlaw why line → IsScriptFlaw why line
+script_flaw Absent line h = h
+script_flaw TooLong line h = h
+script_flaw why line h = absurd h
+
+trace_flaw : (why : InputFlaw) (line : ℕ) → IsUnreadFlaw why line → IsTraceFlaw why line
+trace_flaw Absent line h = h
+trace_flaw TooLong line h = h
+trace_flaw why line h = absurd h
+
 pub script_unread : (told : Option (List File)) (name : List ℕ) (before now : ℕ) (stop : InputStop)
-    → StopsFor (OfFile told name IsUnread) before now stop → StopsFor (OfFile told name IsRefusedScript) before now stop
+    → StopsFor (OfFile told name IsUnreadFlaw IsUnread) before now stop → StopsFor (OfFile told name IsScriptFlaw IsRefusedScript) before now stop
 script_unread told name before now stop h =
-    stops_more (OfFile told name IsUnread) (OfFile told name IsRefusedScript) before now stop
-    (λ given why line p. (p.0, told_map told _ _ (λ files. unread_script name why line files) p.1)) h
+    stops_more (OfFile told name IsUnreadFlaw IsUnread) (OfFile told name IsScriptFlaw IsRefusedScript) before now stop
+    (λ given why line p. (p.0, script_flaw why line p.1, told_map told _ _ (λ files. unread_script name why line files) p.2)) h
 
 pub trace_unread : (asked : Amounts) (told : Option (List File)) (name : List ℕ) (before now : ℕ) (stop : InputStop)
-    → StopsFor (OfFile told name IsUnread) before now stop → StopsFor (OfFile told name (IsRefusedTrace asked)) before now stop
+    → StopsFor (OfFile told name IsUnreadFlaw IsUnread) before now stop → StopsFor (OfFile told name IsTraceFlaw (IsRefusedTrace asked)) before now stop
 trace_unread asked told name before now stop h =
-    stops_more (OfFile told name IsUnread) (OfFile told name (IsRefusedTrace asked)) before now stop
-    (λ given why line p. (p.0, told_map told _ _ (λ files. unread_trace asked name why line files) p.1)) h
+    stops_more (OfFile told name IsUnreadFlaw IsUnread) (OfFile told name IsTraceFlaw (IsRefusedTrace asked)) before now stop
+    (λ given why line p. (p.0, trace_flaw why line p.1, told_map told _ _ (λ files. unread_trace asked name why line files) p.2)) h
 
 -- ---- a file that is read
 
@@ -98,9 +109,9 @@ script_read told name bytes guests orders h text few is =
     reads told name bytes (IsScript guests orders) h (λ short. record { text = record { short = short; text = text }; few = few; orders_are = is })
 
 pub script_long : (told : Option (List File)) (name bytes : List ℕ) → IfTold told (IsReadOfFile name bytes)
-    → IsUtf8 bytes → 4096 < count_of_lines (lines_of bytes) → OfFile told name IsRefusedScript name TooMany 4097
+    → IsUtf8 bytes → 4096 < count_of_lines (lines_of bytes) → OfFile told name IsScriptFlaw IsRefusedScript name TooMany 4097
 script_long told name bytes h text many =
-    (refl, reads told name bytes (λ bs. IsText bs × (4097 ≡ 4097) × (4096 < count_of_lines (lines_of bs))) h (λ short. (record { short = short; text = text }, refl, many)))
+    (refl, refl, reads told name bytes (λ bs. IsText bs × (4097 ≡ 4097) × (4096 < count_of_lines (lines_of bs))) h (λ short. (record { short = short; text = text }, refl, many)))
 
 pub trace_read : (told : Option (List File)) (name bytes : List ℕ) (before asked : Amounts) (wishes : List Wish) → IfTold told (IsReadOfFile name bytes)
     → IsUtf8 bytes → wishes_in before bytes ≡ Ok (wishes, asked) → IfTold told (HasFile name (λ f. IsTrace before wishes asked f.bytes))
@@ -108,11 +119,11 @@ trace_read told name bytes before asked wishes h text is =
     reads told name bytes (IsTrace before wishes asked) h (λ short. record { text = record { short = short; text = text }; read = is })
 
 pub trace_bad : (told : Option (List File)) (name bytes : List ℕ) (before : Amounts) (line : ℕ) → IfTold told (IsReadOfFile name bytes)
-    → IsUtf8 bytes → wishes_in before bytes ≡ Err (stops.BadLine line) → OfFile told name (IsRefusedTrace before) name BadLine line
+    → IsUtf8 bytes → wishes_in before bytes ≡ Err (stops.BadLine line) → OfFile told name IsTraceFlaw (IsRefusedTrace before) name BadLine line
 trace_bad told name bytes before line h text is =
-    (refl, reads told name bytes (λ bs. IsText bs × (wishes_in before bs ≡ Err (stops.BadLine line))) h (λ short. (record { short = short; text = text }, is)))
+    (refl, wishes_at_line before bytes (stops.BadLine line) is, reads told name bytes (λ bs. IsText bs × (wishes_in before bs ≡ Err (stops.BadLine line))) h (λ short. (record { short = short; text = text }, is)))
 
 pub trace_long : (told : Option (List File)) (name bytes : List ℕ) (before : Amounts) (line : ℕ) → IfTold told (IsReadOfFile name bytes)
-    → IsUtf8 bytes → wishes_in before bytes ≡ Err (stops.TooMany line) → OfFile told name (IsRefusedTrace before) name TooMany line
+    → IsUtf8 bytes → wishes_in before bytes ≡ Err (stops.TooMany line) → OfFile told name IsTraceFlaw (IsRefusedTrace before) name TooMany line
 trace_long told name bytes before line h text is =
-    (refl, reads told name bytes (λ bs. IsText bs × (wishes_in before bs ≡ Err (stops.TooMany line))) h (λ short. (record { short = short; text = text }, is)))
+    (refl, wishes_at_line before bytes (stops.TooMany line) is, reads told name bytes (λ bs. IsText bs × (wishes_in before bs ≡ Err (stops.TooMany line))) h (λ short. (record { short = short; text = text }, is)))

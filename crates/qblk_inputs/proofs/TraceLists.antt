@@ -1,5 +1,7 @@
 -- Traces that are read one after another.
-use Rattle.std.proofs.Common.{ℕ, List, [], ◌∷◌, ◌++◌, sym, subst, append_assoc, append-nil, inl, inr, Option, Some, None}
+use Rattle.std.proofs.Common.{◌≡◌, ℕ, arith, List, [], ◌∷◌, ◌++◌, sym, subst, append_assoc, append-nil, inl, inr, Option, Some, None}
+use Rattle.std.specs.Prelude.{map, Contains}
+use Rattle.std.proofs.lemmas.List.Elements.{Contains-append_right}
 use Rattle.blk_base.specs.Answers.{HasFile}
 use Rattle.blk_base.specs.Files.{IfTold}
 use Rattle.blk_base.specs.declared.file.File.{File}
@@ -8,16 +10,20 @@ use Rattle.trace_codec.specs.declared.wish.Wish.{Wish}
 use Rattle.qblk_inputs.specs.declared.stop.InputFlaw.{InputFlaw}
 use Rattle.trace_codec.specs.Script.{Order}
 use Rattle.qblk_inputs.specs.Words.{Player, Cast, guests_of}
-use Rattle.qblk_inputs.specs.Inputs.{IsScript, IsTrace, HasTraces, HasWork, IsRefusedScript, IsRefusedTrace, IsFirstRefused, IsRefusedInput}
-use Rattle.qblk_inputs.specs.Reading.{OfFile}
+use Rattle.qblk_inputs.specs.Inputs.{IsScript, IsTrace, HasTraces, HasWork, IsRefusedScript, IsRefusedTrace, IsFirstRefused, IsRefusedInput, IsScriptFlaw, IsTraceFlaw}
+use Rattle.qblk_inputs.specs.Reading.{OfFile, OfTraces, OfInputs}
+
+abbrev traces_of : List Player → List (List ℕ)
+traces_of players = map (λ p. p.trace) players
 
 -- what the traces of the guests that are left say of all, behind those that were read
 pub record IsAhead (told : Option (List File)) (players : List Player) (asked : Amounts) (rest : List Player) (done : List (List Wish)) : Type 0 where
   pub good : (more : List (List Wish)) → IfTold told (HasTraces asked rest more) → IfTold told (HasTraces nothing players (done ++ more))
   pub bad : (name : List ℕ) (why : InputFlaw) (line : ℕ) → IfTold told (IsFirstRefused asked rest name line why) → IfTold told (IsFirstRefused nothing players name line why)
+  pub names : (name : List ℕ) → Contains (traces_of rest) name → Contains (traces_of players) name
 
 pub ahead-first : (told : Option (List File)) (players : List Player) → IsAhead told players nothing players []
-ahead-first told players = record { good = λ more h. h; bad = λ name why line h. h }
+ahead-first told players = record { good = λ more h. h; bad = λ name why line h. h; names = λ name h. h }
 
 more-traces : (told : Option (List File)) (before asked : Amounts) (p : Player) (rest : List Player) (wishes : List Wish) (more : List (List Wish))
     → IfTold told (HasFile p.trace (λ f. IsTrace before wishes asked f.bytes)) → IfTold told (HasTraces asked rest more) → IfTold told (HasTraces before (p ∷ rest) (wishes ∷ more))
@@ -34,6 +40,7 @@ pub ahead-next : (told : Option (List File)) (players : List Player) (before ask
 ahead-next told players before asked p rest done wishes here a = record {
   good = λ more h. subst (λ ts. IfTold told (HasTraces nothing players ts)) (sym (append_assoc done (wishes ∷ []) more)) (a.good (wishes ∷ more) (more-traces told before asked p rest wishes more here h));
   bad = λ name why line h. a.bad name why line (more-refused told before asked p rest wishes name why line here h);
+  names = λ name h. a.names name (Contains-append_right (p.trace ∷ []) (traces_of rest) name h);
 }
 
 none-left : (told : Option (List File)) (asked : Amounts) → IfTold told (HasTraces asked [] [])
@@ -44,13 +51,17 @@ pub ahead-end : (told : Option (List File)) (players : List Player) (asked : Amo
 ahead-end told players asked done a = subst (λ ts. IfTold told (HasTraces nothing players ts)) (append-nil done) (a.good [] (none-left told asked))
 
 first-refused : (told : Option (List File)) (asked : Amounts) (p : Player) (rest : List Player) (name : List ℕ) (why : InputFlaw) (line : ℕ)
-    → OfFile told p.trace (IsRefusedTrace asked) name why line → IfTold told (IsFirstRefused asked (p ∷ rest) name line why)
+    → OfFile told p.trace IsTraceFlaw (IsRefusedTrace asked) name why line → IfTold told (IsFirstRefused asked (p ∷ rest) name line why)
 first-refused None asked p rest name why line h = tt
-first-refused (Some files) asked p rest name why line h = inl (h.0, h.1)
+first-refused (Some files) asked p rest name why line h = inl (h.0, h.2)
+
+first-trace : (p : Player) (rest : List Player) (name : List ℕ) → name ≡ p.trace → Contains (traces_of (p ∷ rest)) name
+first-trace p rest name is = (0, omega arith, sym is)
 
 pub ahead-stops : (told : Option (List File)) (players : List Player) (asked : Amounts) (p : Player) (rest : List Player) (done : List (List Wish)) (name : List ℕ) (why : InputFlaw) (line : ℕ)
-    → IsAhead told players asked (p ∷ rest) done → OfFile told p.trace (IsRefusedTrace asked) name why line → IfTold told (IsFirstRefused nothing players name line why)
-ahead-stops told players asked p rest done name why line a h = a.bad name why line (first-refused told asked p rest name why line h)
+    → IsAhead told players asked (p ∷ rest) done → OfFile told p.trace IsTraceFlaw (IsRefusedTrace asked) name why line → OfTraces told players name why line
+ahead-stops told players asked p rest done name why line a h =
+    ((a.names name (first-trace p rest name h.0), h.1), a.bad name why line (first-refused told asked p rest name why line h))
 
 -- ---- the script before the traces
 
@@ -60,13 +71,21 @@ pub has_work : (told : Option (List File)) (cast : Cast) (orders : List Order) (
 has_work None cast orders traces s t = tt
 has_work (Some files) cast orders traces s t = record { script = s; traces = t }
 
-pub script_refused : (told : Option (List File)) (cast : Cast) (name : List ℕ) (why : InputFlaw) (line : ℕ)
-    → OfFile told cast.script IsRefusedScript name why line → IfTold told (IsRefusedInput cast name line why)
-script_refused None cast name why line h = tt
-script_refused (Some files) cast name why line h = inl (h.0, h.1)
+told-script : (told : Option (List File)) (cast : Cast) (name : List ℕ) (why : InputFlaw) (line : ℕ)
+    → name ≡ cast.script → IfTold told (IsRefusedScript why line cast.script) → IfTold told (IsRefusedInput cast name line why)
+told-script None cast name why line is h = tt
+told-script (Some files) cast name why line is h = inl (is, h)
 
-pub trace_refused : (told : Option (List File)) (cast : Cast) (orders : List Order) (name : List ℕ) (why : InputFlaw) (line : ℕ)
+told-traces : (told : Option (List File)) (cast : Cast) (orders : List Order) (name : List ℕ) (why : InputFlaw) (line : ℕ)
     → IfTold told (HasFile cast.script (λ f. IsScript (guests_of cast) orders f.bytes)) → IfTold told (IsFirstRefused nothing cast.players name line why)
     → IfTold told (IsRefusedInput cast name line why)
-trace_refused None cast orders name why line s t = tt
-trace_refused (Some files) cast orders name why line s t = inr (orders, s, t)
+told-traces None cast orders name why line s t = tt
+told-traces (Some files) cast orders name why line s t = inr (orders, s, t)
+
+pub script_refused : (told : Option (List File)) (cast : Cast) (name : List ℕ) (why : InputFlaw) (line : ℕ)
+    → OfFile told cast.script IsScriptFlaw IsRefusedScript name why line → OfInputs told cast name why line
+script_refused told cast name why line h = (inl (h.0, h.1), told-script told cast name why line h.0 h.2)
+
+pub trace_refused : (told : Option (List File)) (cast : Cast) (orders : List Order) (name : List ℕ) (why : InputFlaw) (line : ℕ)
+    → IfTold told (HasFile cast.script (λ f. IsScript (guests_of cast) orders f.bytes)) → OfTraces told cast.players name why line → OfInputs told cast name why line
+trace_refused told cast orders name why line s t = (inr t.0, told-traces told cast orders name why line s t.1)

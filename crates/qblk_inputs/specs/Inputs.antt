@@ -1,5 +1,5 @@
 -- The inputs of a run: a script, and then a trace for each guest.
-use Rattle.std.specs.Prelude.{◌≡◌, ◌⊎◌, ◌<◌, ◌≤◌, ℕ, List, [], ◌∷◌, length, IsUtf8, Ok, Err}
+use Rattle.std.specs.Prelude.{◌≡◌, ◌⊎◌, ◌<◌, ◌≤◌, ℕ, List, [], ◌∷◌, length, map, Contains, IsUtf8, Ok, Err}
 use Rattle.blk_base.specs.Answers.{HasFile, LacksFile}
 use Rattle.blk_base.specs.declared.file.File.{File}
 use Rattle.trace_codec.specs.Amounts.{Amounts, nothing}
@@ -93,3 +93,31 @@ IsRefusedInput cast name line why files =
     ⊎ ((orders : List Order)
     × HasFile cast.script (λ f. IsScript (guests_of cast) orders f.bytes) files
     × IsFirstRefused nothing cast.players name line why files)
+
+-- ---- what a refusal says, whatever files hold
+
+-- the flaws that a script may have, each with its line; line 0 speaks of the whole file
+abbrev pub IsScriptFlaw : InputFlaw → ℕ → Type 0
+IsScriptFlaw Absent line = line ≡ 0
+IsScriptFlaw NotUtf8 line = line ≡ 0
+IsScriptFlaw TooLong line = line ≡ 0
+IsScriptFlaw BadLine line = ⊥
+IsScriptFlaw TooMany line = line ≡ 4097
+
+-- those that a trace may have
+abbrev pub IsTraceFlaw : InputFlaw → ℕ → Type 0
+IsTraceFlaw Absent line = line ≡ 0
+IsTraceFlaw NotUtf8 line = line ≡ 0
+IsTraceFlaw TooLong line = line ≡ 0
+IsTraceFlaw BadLine line = 0 < line
+IsTraceFlaw TooMany line = 0 < line
+
+-- it speaks of one of the traces, with a flaw of a trace
+abbrev pub SpeaksOfTrace : List Player → List ℕ → ℕ → InputFlaw → Type 0
+SpeaksOfTrace players name line why =
+    Contains (map (λ p. p.trace) players) name × IsTraceFlaw why line
+
+-- of the script or of one of the traces
+abbrev pub SpeaksOfCast : Cast → List ℕ → ℕ → InputFlaw → Type 0
+SpeaksOfCast cast name line why =
+    ((name ≡ cast.script) × IsScriptFlaw why line) ⊎ SpeaksOfTrace cast.players name line why

@@ -5,6 +5,9 @@ use Rattle.blk_base.specs.Counts.{Rose}
 use Rattle.blk_base.specs.Files.{IfTold, is_out}
 use Rattle.blk_base.specs.declared.file.File.{File}
 use Rattle.blk_base.specs.declared.file.Opened.{Opened}
+use Rattle.trace_codec.specs.Amounts.{nothing}
+use Rattle.qblk_inputs.specs.Inputs.{IsFirstRefused, IsRefusedInput, SpeaksOfTrace, SpeaksOfCast}
+use Rattle.qblk_inputs.specs.Words.{Player, Cast}
 use Rattle.qblk_inputs.specs.declared.stop.InputFlaw.{InputFlaw}
 use Rattle.qblk_inputs.specs.declared.stop.InputFlaw.TheVariants.{Absent, TooLong}
 use Rattle.qblk_inputs.specs.declared.stop.InputStop.{InputStop}
@@ -37,7 +40,24 @@ IsUnread Absent line name files = (line ≡ 0) × LacksFile name files
 IsUnread TooLong line name files = (line ≡ 0) × HasFile name (λ f. 67108864 < length f.bytes) files
 IsUnread why line name files = ⊥
 
--- a refusal of this file for a cause
-abbrev pub OfFile : Option (List File) → List ℕ → (InputFlaw → ℕ → List ℕ → List File → Type 0)
-    → List ℕ → InputFlaw → ℕ → Type 0
-OfFile told name P given why line = (given ≡ name) × IfTold told (P why line name)
+-- what is said of it, whatever files hold
+abbrev pub IsUnreadFlaw : InputFlaw → ℕ → Type 0
+IsUnreadFlaw Absent line = line ≡ 0
+IsUnreadFlaw TooLong line = line ≡ 0
+IsUnreadFlaw why line = ⊥
+
+-- a refusal of this file: for a flaw that such a file may have, and where files are told, has
+abbrev pub OfFile : Option (List File) → List ℕ → (InputFlaw → ℕ → Type 0)
+    → (InputFlaw → ℕ → List ℕ → List File → Type 0) → List ℕ → InputFlaw → ℕ → Type 0
+OfFile told name Q P given why line = (given ≡ name) × Q why line × IfTold told (P why line name)
+
+-- a refusal of one of the traces, where files are told of the first that is refused
+abbrev pub OfTraces : Option (List File) → List Player → List ℕ → InputFlaw → ℕ → Type 0
+OfTraces told players name why line =
+    SpeaksOfTrace players name line why
+    × IfTold told (IsFirstRefused nothing players name line why)
+
+-- a refusal of one of the inputs, where files are told of the first that is refused
+abbrev pub OfInputs : Option (List File) → Cast → List ℕ → InputFlaw → ℕ → Type 0
+OfInputs told cast name why line =
+    SpeaksOfCast cast name line why × IfTold told (IsRefusedInput cast name line why)

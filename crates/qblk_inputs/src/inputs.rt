@@ -5,8 +5,8 @@ ghost use Rattle.blk_base.specs.Files.{IfTold};
 ghost use Rattle.trace_codec.specs.Amounts.{nothing};
 ghost use Rattle.trace_codec.specs.Script.{seen_order};
 ghost use Rattle.qblk_inputs.specs.Words.{texts_of, player_of, names_of, guests_of, cast_of};
-ghost use Rattle.qblk_inputs.specs.Inputs.{IsScript, IsTrace, HasTraces, IsRefusedScript, IsRefusedTrace, IsFirstRefused, HasWork, IsRefusedInput};
-ghost use Rattle.qblk_inputs.specs.Reading.{NoneOut, IsReadOfFile, IsUnread, IsInputRefusal, StopsFor, OfFile};
+ghost use Rattle.qblk_inputs.specs.Inputs.{IsScript, IsTrace, HasTraces, IsRefusedScript, IsRefusedTrace, HasWork, IsScriptFlaw, IsTraceFlaw};
+ghost use Rattle.qblk_inputs.specs.Reading.{NoneOut, IsReadOfFile, IsUnread, IsUnreadFlaw, IsInputRefusal, StopsFor, OfFile, OfTraces, OfInputs};
 
 use crate::stop::{InputFlaw, InputStop};
 use crate::words::player_of;
@@ -43,7 +43,8 @@ fn refused(alloc: Global, name: &str, line: u32, why: InputFlaw) -> InputStop
 fn read_file<S: Store>(alloc: Global, store: &mut S, name: &str) -> Result<Bytes, InputStop>
     requires { NoneOut (S.opened store.old) }
     ensures read { IfOk result (λ bytes. IfTold (S.files store.old) (IsReadOfFile name.now bytes)) }
-    ensures stop { IfErr result (StopsFor (OfFile (S.files store.old) name.now IsUnread)
+    ensures stop { IfErr result (StopsFor
+        (OfFile (S.files store.old) name.now IsUnreadFlaw IsUnread)
         (S.faults store.old) (S.faults store.new)) }
     ensures files { S.files store.new ≡ S.files store.old }
     ensures opened { S.opened store.new ≡ S.opened store.old }
@@ -73,7 +74,8 @@ fn read_orders<S: Store>(
     requires guests { length guests.now < 2 ^ 32 }
     ensures read { IfOk result (λ script. IfTold (S.files store.old) (HasFile name.now
         (λ f. IsScript guests.now (map seen_order script.items) f.bytes))) }
-    ensures stop { IfErr result (StopsFor (OfFile (S.files store.old) name.now IsRefusedScript)
+    ensures stop { IfErr result (StopsFor
+        (OfFile (S.files store.old) name.now IsScriptFlaw IsRefusedScript)
         (S.faults store.old) (S.faults store.new)) }
     ensures files { S.files store.new ≡ S.files store.old }
     ensures opened { S.opened store.new ≡ S.opened store.old }
@@ -105,7 +107,7 @@ fn read_trace<S: Store>(
     ensures read { IfOk result (λ wishes. IfTold (S.files store.old) (HasFile name.now
         (λ f. IsTrace asked.old wishes.items asked.new f.bytes))) }
     ensures stop { IfErr result (StopsFor
-        (OfFile (S.files store.old) name.now (IsRefusedTrace asked.old))
+        (OfFile (S.files store.old) name.now IsTraceFlaw (IsRefusedTrace asked.old))
         (S.faults store.old) (S.faults store.new)) }
     ensures files { S.files store.new ≡ S.files store.old }
     ensures opened { S.opened store.new ≡ S.opened store.old }
@@ -137,8 +139,8 @@ fn read_traces<S: Store>(
     ensures read { IfOk result (λ traces. IfTold (S.files store.old) (HasTraces nothing
         (map player_of (texts_of players.now)) (map (λ t. t.items) traces.items))) }
     ensures count { IfOk result (λ traces. vec_len traces ≡ length players.now) }
-    ensures stop { IfErr result (StopsFor (λ name why line. IfTold (S.files store.old)
-        (IsFirstRefused nothing (map player_of (texts_of players.now)) name line why))
+    ensures stop { IfErr result (StopsFor
+        (OfTraces (S.files store.old) (map player_of (texts_of players.now)))
         (S.faults store.old) (S.faults store.new)) }
     ensures files { S.files store.new ≡ S.files store.old }
     ensures opened { S.opened store.new ≡ S.opened store.old }
@@ -189,8 +191,8 @@ pub fn read_inputs<S: Store>(
           script = map seen_order i.script.items;
           traces = map (λ t. t.items) i.traces.items;
         }))) }
-    ensures stop { IfErr result (StopsFor (λ name why line. IfTold (S.files store.old)
-        (IsRefusedInput (cast_of script.now (texts_of players.now)) name line why))
+    ensures stop { IfErr result (StopsFor
+        (OfInputs (S.files store.old) (cast_of script.now (texts_of players.now)))
         (S.faults store.old) (S.faults store.new)) }
     ensures files { S.files store.new ≡ S.files store.old }
     ensures opened { S.opened store.new ≡ S.opened store.old }

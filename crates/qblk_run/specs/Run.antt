@@ -32,16 +32,14 @@ use Rattle.world_commands.specs.Counting.{HaveNotFallen}
 use Rattle.world_parts.specs.Face.{Face, counts_now}
 use Rattle.world_parts.specs.Steps.{StoreSeen, IsOpeningOf, new_world, seen_store}
 use Rattle.world_commands.specs.Tabling.{IsTableAfter}
-use Rattle.qblk_inputs.specs.Inputs.{Work, HasWork, IsRefusedInput}
+use Rattle.qblk_inputs.specs.Inputs.{Work, HasWork, IsRefusedInput, SpeaksOfCast}
 use Rattle.qblk_inputs.specs.Room.{bytes_for_all, entries_for_all}
 use Rattle.qblk_inputs.specs.Words.{Cast, guests_of}
 use Rattle.qblk_inputs.specs.declared.stop.InputFlaw.{InputFlaw}
-use Rattle.qblk_inputs.specs.declared.stop.InputFlaw.TheVariants as flaws
 use Rattle.qblk_inputs.specs.declared.stop.InputStop.{InputStop}
 use Rattle.qblk_inputs.specs.declared.stop.InputStop.TheVariants as stops
-use Rattle.qblk_core.specs.Run.{Outside}
+use Rattle.qblk_core.specs.Run.{Outside, why_of}
 use Rattle.qblk_core.specs.declared.status.InputWhy.{InputWhy}
-use Rattle.qblk_core.specs.declared.status.InputWhy.TheVariants as whys
 use Rattle.qblk_core.specs.declared.status.Status.{Status}
 use Rattle.qblk_run.specs.Devices.{HaveDevices}
 use Rattle.qblk_run.specs.Worlds.{GoesThrough, IsLast}
@@ -258,15 +256,7 @@ IsFaulty cast old new Sink count = (work : Work) × (a : Account) × (n : ℕ)
 
 -- ---- statuses
 
--- as a status says it
-abbrev pub why_of : InputFlaw → InputWhy
-why_of flaws.Absent = whys.Absent
-why_of flaws.NotUtf8 = whys.NotUtf8
-why_of flaws.TooLong = whys.TooLong
-why_of flaws.BadLine = whys.BadLine
-why_of flaws.TooMany = whys.TooMany
-
--- its texts as bytes
+-- a wait, its texts as bytes
 abbrev pub seen_waits : Waits Written → Waits (List ℕ)
 seen_waits waits.Attached = waits.Attached
 seen_waits (waits.Line line) = waits.Line line
@@ -274,11 +264,11 @@ seen_waits (waits.Guest guest requests) = waits.Guest guest requests
 seen_waits (waits.Ready id) = waits.Ready id.bytes
 seen_waits (waits.Ended id) = waits.Ended id.bytes
 
--- an input is refused
+-- an input is refused: the script or a trace, for a flaw that it may have; and where files are told, the first that has one
 abbrev pub IsInputRefused : Cast → Setting → Setting → List ℕ → ℕ → InputWhy → Type 0
 IsInputRefused cast old new name line why =
     NothingWritten old new × (new.store.faults ≡ old.store.faults)
-    × ((flaw : InputFlaw) × (why ≡ why_of flaw)
+    × ((flaw : InputFlaw) × (why ≡ why_of flaw) × SpeaksOfCast cast name line flaw
     × IfTold old.store.files (IsRefusedInput cast name line flaw))
 
 -- memory wasn't had: nothing went out, and the store is as it was, or as the events so far left it

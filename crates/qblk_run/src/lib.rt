@@ -1,5 +1,5 @@
-//! A run of a script and of the traces of guests on one thread: the rounds of its actors over a world, the transcript, and how
-//! it ended.
+//! The program's call, `qblk`: one trace on one image, by `qblk_core`; or a script and the traces of guests on one thread, as the
+//! rounds of its actors over a world, with the transcript, and how it ended.
 #![tactic(auto)]
 
 mod events;

@@ -13,7 +13,8 @@ use qblk_core::Status;
 use qblk_inputs::run_words;
 use std::alloc::Global;
 
-/// Does what the words say, on the files of a store. They come without the program's name.
+/// Does what words of the forms `io FORMAT IMAGE TRACE` and `run 1 SCRIPT GUEST=TRACE ..` say, on the files of a store; all
+/// others are Usage. They come without the program's name. The store comes back with no device out.
 pub fn qblk<S: Store, K: Sink>(alloc: Global, words: &[Text], store: S, out: &mut K) -> (Status, S)
     requires { NoneOut (S.opened store) }
 

@@ -5,7 +5,8 @@ ghost use Rattle.trace_codec.specs.Script.{seen_order};
 ghost use Rattle.qblk_inputs.specs.Inputs.{HasWork};
 ghost use Rattle.qblk_inputs.specs.Reading.{NoneOut};
 ghost use Rattle.qblk_inputs.specs.Words.{Cast, IsRunOf, texts_of, guests_of};
-ghost use Rattle.qblk_run.specs.Run.{Answers, setting, why_of, status_of};
+ghost use Rattle.qblk_core.specs.Run.{why_of};
+ghost use Rattle.qblk_run.specs.Run.{Answers, setting, status_of};
 
 use crate::output::write_out;
 use crate::preparing::{Ready, make_ready};
@@ -93,7 +94,8 @@ fn run_inputs<S: Store, K: Sink>(
     }
 }
 
-/// Runs the script and the traces of `run 1 SCRIPT GUEST=TRACE ..` on the files of a store, and puts the transcript.
+/// Runs the script and the traces of `run 1 SCRIPT GUEST=TRACE ..` on the files of a store, and puts the transcript. The words
+/// are of that form. The store comes back with no device out.
 pub fn run_script<S: Store, K: Sink>(
     alloc: Global,
     words: &[Text],

@@ -65,10 +65,10 @@ returns-in-Err-made-clause-ended g c =
     let P : Option (List File) → Type 0 = λ fs. IsDeviceOf fs c.args.image.now d.content d.capacity d.is_flushed in
     let device = subst P files1 c.in-Ok-open_image.ensures.device in
     let stop = rw c.in-Err-made.is at c.make_run-made.ensures.stop in
-    let same = rw c.in-Err-made.is at c.make_run-made.ensures.untouched in
+    let same = rw c.in-Err-made.is at c.make_run-made.ensures.kept in
     let files = c.give_back.ensures.files ∙ ap (files_with_returned c.args.image.now n.content n.capacity n.is_flushed) files2 in
     let opened = c.give_back.ensures.opened ∙ ap (given_back c.args.image.now n.faults) opened1 in
-    stops c.args.format c.args.image.now c.args.trace.now c.in-Ok.read d n old new c.in-Err-made.status sized none device c.in-Ok.ensures.read stop same files opened refl refl
+    stops c.args.format c.args.image.now c.args.trace.now c.in-Ok.read d n old new c.in-Err-made.status refl sized none device c.in-Ok.ensures.read stop same files opened refl refl
 
 pub returns-in-Ok-made-clause-back : goal.returns-in-Ok-made-clause-back
 returns-in-Ok-made-clause-back g c =

@@ -1,5 +1,4 @@
-use Rattle.std.proofs.Common.{◌≡◌, ◌+◌, drop, take}
-use Rattle.qblk_inputs.specs.Room.{entries_for, bytes_for, HaveNumbers}
+use Rattle.std.proofs.Common.{take}
 use Rattle.qblk_inputs.proofs.Rooms.{SoFar}
 use Rattle.qblk_inputs.proofs.room.with_trace.Given as goal
 

@@ -17,7 +17,7 @@ told-taken cast work name line flaw (Some files) good refused = inputs-taken cas
 
 not-refused : (cast : Cast) (work : Work) (old new : Setting) (name : List ℕ) (line : ℕ) (why : InputWhy) → With old.store.files (HasWork cast work)
     → IsInputRefused cast old new name line why → ⊥
-not-refused cast work old new name line why good (written, same, (flaw, is, refused)) = told-taken cast work name line flaw old.store.files good refused
+not-refused cast work old new name line why good (written, same, (flaw, is, speaks, refused)) = told-taken cast work name line flaw old.store.files good refused
 
 pub returns : goal.returns
 returns c = λ cast work old new name line why good refused. not-refused cast work old new name.bytes line why good refused
