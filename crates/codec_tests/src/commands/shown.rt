@@ -10,11 +10,11 @@ use qmp_codec::{
 use std::alloc::Global;
 use std::test::Fail;
 
-/// What is written so far.
+/// What is written so far, and whether there was memory for all of it.
 #[derive(Drop)]
 struct Words {
-    alloc: Global,
     out: String,
+    is_whole: bool,
 }
 
 fn on_error(policy: Option<OnError>) -> Option<&'static str> {
@@ -151,267 +151,273 @@ fn command_name(command: &Command) -> &'static str {
 }
 
 impl Words {
-    fn push(&mut self, text: &str) -> Result<(), Fail> {
-        self.out.push_str(text)?;
-        Ok(())
+    fn push(&mut self, text: &str) {
+        if self.out.push_str(text).is_err() {
+            self.is_whole = false;
+        }
     }
 
-    fn put(&mut self, name: &str, value: &str) -> Result<(), Fail> {
-        self.push(" ")?;
-        self.push(name)?;
-        self.push("=")?;
-        self.push(value)
+    fn number(&mut self, number: u64) {
+        let mut digits = itoa::Buffer::new();
+        self.push(digits.format(number));
     }
 
-    fn word(&mut self, name: &str, value: Option<&str>) -> Result<(), Fail> {
+    fn put(&mut self, name: &str, value: &str) {
+        self.push(" ");
+        self.push(name);
+        self.push("=");
+        self.push(value);
+    }
+
+    fn word(&mut self, name: &str, value: Option<&str>) {
         match value {
             Some(word) => self.put(name, word),
-            None => Ok(()),
+            None => {}
         }
     }
 
-    fn text(&mut self, name: &str, value: &Option<String>) -> Result<(), Fail> {
+    fn text(&mut self, name: &str, value: &Option<String>) {
         match value {
             Some(text) => self.put(name, text.as_str()),
-            None => Ok(()),
+            None => {}
         }
     }
 
-    fn flag(&mut self, name: &str, value: Option<bool>) -> Result<(), Fail> {
+    fn flag(&mut self, name: &str, value: Option<bool>) {
         match value {
             Some(true) => self.put(name, "true"),
             Some(false) => self.put(name, "false"),
-            None => Ok(()),
+            None => {}
         }
     }
 
-    fn amount(&mut self, name: &str, value: Option<Amount>) -> Result<(), Fail> {
+    fn amount(&mut self, name: &str, value: Option<Amount>) {
         match value {
             Some(Amount::Number(n)) => {
-                let text = format!(in self.alloc; "{n}")?;
-                self.put(name, text.as_str())
+                self.put(name, "");
+                self.number(n);
             }
             Some(Amount::Negative) => self.put(name, "negative"),
-            None => Ok(()),
+            None => {}
         }
     }
 
-    fn texts(&mut self, name: &str, texts: &Vec<String>) -> Result<(), Fail> {
-        self.put(name, "[")?;
+    fn texts(&mut self, name: &str, texts: &Vec<String>) {
+        self.put(name, "[");
         for text in texts {
-            self.push(text.as_str())?;
-            self.push(";")?;
+            self.push(text.as_str());
+            self.push(";");
         }
-        self.push("]")
+        self.push("]");
     }
 
-    fn job_options(&mut self, c: &JobOptions) -> Result<(), Fail> {
-        self.amount("speed", c.speed)?;
-        self.flag("auto-finalize", c.auto_finalize)?;
-        self.flag("auto-dismiss", c.auto_dismiss)
+    fn job_options(&mut self, c: &JobOptions) {
+        self.amount("speed", c.speed);
+        self.flag("auto-finalize", c.auto_finalize);
+        self.flag("auto-dismiss", c.auto_dismiss);
     }
 
-    fn stream(&mut self, c: &Stream) -> Result<(), Fail> {
-        self.put("job-id", c.job_id.as_str())?;
-        self.put("device", c.device.as_str())?;
-        self.text("base-node", &c.base_node)?;
-        self.text("backing-file", &c.backing_file)?;
-        self.word("on-error", on_error(c.on_error))?;
-        self.job_options(&c.options)
+    fn stream(&mut self, c: &Stream) {
+        self.put("job-id", c.job_id.as_str());
+        self.put("device", c.device.as_str());
+        self.text("base-node", &c.base_node);
+        self.text("backing-file", &c.backing_file);
+        self.word("on-error", on_error(c.on_error));
+        self.job_options(&c.options);
     }
 
-    fn commit(&mut self, c: &Commit) -> Result<(), Fail> {
-        self.put("job-id", c.job_id.as_str())?;
-        self.put("device", c.device.as_str())?;
-        self.text("base-node", &c.base_node)?;
-        self.text("top-node", &c.top_node)?;
-        self.text("backing-file", &c.backing_file)?;
-        self.word("on-error", on_error(c.on_error))?;
-        self.job_options(&c.options)
+    fn commit(&mut self, c: &Commit) {
+        self.put("job-id", c.job_id.as_str());
+        self.put("device", c.device.as_str());
+        self.text("base-node", &c.base_node);
+        self.text("top-node", &c.top_node);
+        self.text("backing-file", &c.backing_file);
+        self.word("on-error", on_error(c.on_error));
+        self.job_options(&c.options);
     }
 
-    fn mirror(&mut self, c: &Mirror) -> Result<(), Fail> {
-        self.put("job-id", c.job_id.as_str())?;
-        self.put("device", c.device.as_str())?;
-        self.put("target", c.target.as_str())?;
-        self.put("sync", sync(c.sync))?;
-        self.word("copy-mode", copy_mode(c.copy_mode))?;
-        self.word("on-source-error", on_error(c.on_source_error))?;
-        self.word("on-target-error", on_error(c.on_target_error))?;
-        self.job_options(&c.options)
+    fn mirror(&mut self, c: &Mirror) {
+        self.put("job-id", c.job_id.as_str());
+        self.put("device", c.device.as_str());
+        self.put("target", c.target.as_str());
+        self.put("sync", sync(c.sync));
+        self.word("copy-mode", copy_mode(c.copy_mode));
+        self.word("on-source-error", on_error(c.on_source_error));
+        self.word("on-target-error", on_error(c.on_target_error));
+        self.job_options(&c.options);
     }
 
-    fn backup(&mut self, c: &Backup) -> Result<(), Fail> {
-        self.put("job-id", c.job_id.as_str())?;
-        self.put("device", c.device.as_str())?;
-        self.put("target", c.target.as_str())?;
-        self.put("sync", sync(c.sync))?;
-        self.text("bitmap", &c.bitmap)?;
-        self.word("bitmap-mode", bitmap_mode(c.bitmap_mode))?;
-        self.word("on-source-error", on_error(c.on_source_error))?;
-        self.word("on-target-error", on_error(c.on_target_error))?;
-        self.job_options(&c.options)
+    fn backup(&mut self, c: &Backup) {
+        self.put("job-id", c.job_id.as_str());
+        self.put("device", c.device.as_str());
+        self.put("target", c.target.as_str());
+        self.put("sync", sync(c.sync));
+        self.text("bitmap", &c.bitmap);
+        self.word("bitmap-mode", bitmap_mode(c.bitmap_mode));
+        self.word("on-source-error", on_error(c.on_source_error));
+        self.word("on-target-error", on_error(c.on_target_error));
+        self.job_options(&c.options);
     }
 
-    fn cache(&mut self, cache: Option<Cache>) -> Result<(), Fail> {
+    fn cache(&mut self, cache: Option<Cache>) {
         let Some(cache) = cache else {
-            return Ok(());
+            return;
         };
-        self.put("cache", "{")?;
-        self.flag("direct", cache.direct)?;
-        self.flag("no-flush", cache.no_flush)?;
-        self.push("}")
+        self.put("cache", "{");
+        self.flag("direct", cache.direct);
+        self.flag("no-flush", cache.no_flush);
+        self.push("}");
     }
 
-    fn node_options(&mut self, c: &NodeOptions) -> Result<(), Fail> {
-        self.flag("read-only", c.read_only)?;
-        self.flag("auto-read-only", c.auto_read_only)?;
-        self.word("discard", discard(c.discard))?;
-        self.cache(c.cache)
+    fn node_options(&mut self, c: &NodeOptions) {
+        self.flag("read-only", c.read_only);
+        self.flag("auto-read-only", c.auto_read_only);
+        self.word("discard", discard(c.discard));
+        self.cache(c.cache);
     }
 
-    fn inline_file(&mut self, c: &InlineFile) -> Result<(), Fail> {
-        self.put("driver", driver(c.driver))?;
-        self.put("filename", c.filename.as_str())?;
-        self.text("node-name", &c.node_name)?;
-        self.node_options(&c.options)
+    fn inline_file(&mut self, c: &InlineFile) {
+        self.put("driver", driver(c.driver));
+        self.put("filename", c.filename.as_str());
+        self.text("node-name", &c.node_name);
+        self.node_options(&c.options);
     }
 
-    fn file_ref(&mut self, file: &FileRef) -> Result<(), Fail> {
+    fn file_ref(&mut self, file: &FileRef) {
         match file {
             FileRef::Name(name) => self.put("file", name.as_str()),
             FileRef::Inline(inline) => {
-                self.put("file", "{")?;
-                self.inline_file(inline)?;
-                self.push("}")
+                self.put("file", "{");
+                self.inline_file(inline);
+                self.push("}");
             }
         }
     }
 
-    fn backing(&mut self, backing: &Option<Backing>) -> Result<(), Fail> {
+    fn backing(&mut self, backing: &Option<Backing>) {
         match backing {
             Some(Backing::Null) => self.push(" backing"),
             Some(Backing::Name(name)) => self.put("backing", name.as_str()),
-            None => Ok(()),
+            None => {}
         }
     }
 
-    fn add_raw(&mut self, c: &AddRaw) -> Result<(), Fail> {
-        self.put("driver", "raw")?;
-        self.file_ref(&c.file)?;
-        self.amount("offset", c.offset)?;
-        self.amount("size", c.size)
+    fn add_raw(&mut self, c: &AddRaw) {
+        self.put("driver", "raw");
+        self.file_ref(&c.file);
+        self.amount("offset", c.offset);
+        self.amount("size", c.size);
     }
 
-    fn add_qcow2(&mut self, c: &AddQcow2) -> Result<(), Fail> {
-        self.put("driver", "qcow2")?;
-        self.file_ref(&c.file)?;
-        self.backing(&c.backing)
+    fn add_qcow2(&mut self, c: &AddQcow2) {
+        self.put("driver", "qcow2");
+        self.file_ref(&c.file);
+        self.backing(&c.backing);
     }
 
-    fn added(&mut self, added: &Added) -> Result<(), Fail> {
+    fn added(&mut self, added: &Added) {
         match added {
             Added::File(name) => {
-                self.put("driver", "file")?;
-                self.put("filename", name.as_str())
+                self.put("driver", "file");
+                self.put("filename", name.as_str());
             }
             Added::Raw(c) => self.add_raw(c),
             Added::Qcow2(c) => self.add_qcow2(c),
             Added::CopyOnRead(name) => {
-                self.put("driver", "copy-on-read")?;
-                self.put("file", name.as_str())
+                self.put("driver", "copy-on-read");
+                self.put("file", name.as_str());
             }
             Added::Unknown => self.put("driver", "?"),
         }
     }
 
-    fn blockdev_add(&mut self, c: &BlockdevAdd) -> Result<(), Fail> {
-        self.put("node-name", c.node_name.as_str())?;
-        self.node_options(&c.options)?;
-        self.added(&c.driver)
+    fn blockdev_add(&mut self, c: &BlockdevAdd) {
+        self.put("node-name", c.node_name.as_str());
+        self.node_options(&c.options);
+        self.added(&c.driver);
     }
 
-    fn create_qcow2(&mut self, c: &CreateQcow2) -> Result<(), Fail> {
-        self.put("driver", "qcow2")?;
-        self.put("file", c.file.as_str())?;
-        self.amount("size", Some(c.size))?;
-        self.text("backing-file", &c.backing_file)?;
-        self.word("backing-fmt", image_format(c.backing_fmt))?;
-        self.amount("cluster-size", c.cluster_size)?;
-        self.amount("refcount-bits", c.refcount_bits)?;
-        self.word("version", version(c.version))
+    fn create_qcow2(&mut self, c: &CreateQcow2) {
+        self.put("driver", "qcow2");
+        self.put("file", c.file.as_str());
+        self.amount("size", Some(c.size));
+        self.text("backing-file", &c.backing_file);
+        self.word("backing-fmt", image_format(c.backing_fmt));
+        self.amount("cluster-size", c.cluster_size);
+        self.amount("refcount-bits", c.refcount_bits);
+        self.word("version", version(c.version));
     }
 
-    fn created(&mut self, created: &Created) -> Result<(), Fail> {
+    fn created(&mut self, created: &Created) {
         match created {
             Created::File(c) => {
-                self.put("driver", "file")?;
-                self.put("filename", c.filename.as_str())?;
-                self.amount("size", Some(c.size))
+                self.put("driver", "file");
+                self.put("filename", c.filename.as_str());
+                self.amount("size", Some(c.size));
             }
             Created::Qcow2(c) => self.create_qcow2(c),
             Created::Unknown => self.put("driver", "?"),
         }
     }
 
-    fn blockdev_create(&mut self, c: &BlockdevCreate) -> Result<(), Fail> {
-        self.put("job-id", c.job_id.as_str())?;
-        self.created(&c.options)
+    fn blockdev_create(&mut self, c: &BlockdevCreate) {
+        self.put("job-id", c.job_id.as_str());
+        self.created(&c.options);
     }
 
-    fn snapshot(&mut self, c: &Snapshot) -> Result<(), Fail> {
-        self.put("node", c.node.as_str())?;
-        self.put("overlay", c.overlay.as_str())
+    fn snapshot(&mut self, c: &Snapshot) {
+        self.put("node", c.node.as_str());
+        self.put("overlay", c.overlay.as_str());
     }
 
-    fn device_add(&mut self, c: &DeviceAdd) -> Result<(), Fail> {
-        self.put("driver", device_driver(c.driver))?;
-        self.put("id", c.id.as_str())?;
-        self.put("drive", c.drive.as_str())?;
-        self.word("share-rw", sharing(c.share_rw))?;
-        self.text("bus", &c.bus)?;
-        self.text("addr", &c.addr)?;
-        self.text("serial", &c.serial)?;
-        self.text("write-cache", &c.write_cache)?;
-        self.amount("bootindex", c.bootindex)
+    fn device_add(&mut self, c: &DeviceAdd) {
+        self.put("driver", device_driver(c.driver));
+        self.put("id", c.id.as_str());
+        self.put("drive", c.drive.as_str());
+        self.word("share-rw", sharing(c.share_rw));
+        self.text("bus", &c.bus);
+        self.text("addr", &c.addr);
+        self.text("serial", &c.serial);
+        self.text("write-cache", &c.write_cache);
+        self.amount("bootindex", c.bootindex);
     }
 
-    fn bitmap_add(&mut self, c: &BitmapAdd) -> Result<(), Fail> {
-        self.put("node", c.node.as_str())?;
-        self.put("name", c.name.as_str())?;
-        self.amount("granularity", c.granularity)?;
-        self.flag("persistent", c.persistent)?;
-        self.flag("disabled", c.disabled)
+    fn bitmap_add(&mut self, c: &BitmapAdd) {
+        self.put("node", c.node.as_str());
+        self.put("name", c.name.as_str());
+        self.amount("granularity", c.granularity);
+        self.flag("persistent", c.persistent);
+        self.flag("disabled", c.disabled);
     }
 
-    fn bitmap_name(&mut self, c: &BitmapName) -> Result<(), Fail> {
-        self.put("node", c.node.as_str())?;
-        self.put("name", c.name.as_str())
+    fn bitmap_name(&mut self, c: &BitmapName) {
+        self.put("node", c.node.as_str());
+        self.put("name", c.name.as_str());
     }
 
-    fn source(&mut self, source: &Source) -> Result<(), Fail> {
+    fn source(&mut self, source: &Source) {
         match source {
             Source::Name(name) => self.put("name", name.as_str()),
             Source::Of(bitmap) => self.bitmap_name(bitmap),
         }
     }
 
-    fn bitmap_merge(&mut self, c: &BitmapMerge) -> Result<(), Fail> {
-        self.put("node", c.node.as_str())?;
-        self.put("target", c.target.as_str())?;
-        self.put("bitmaps", "[")?;
+    fn bitmap_merge(&mut self, c: &BitmapMerge) {
+        self.put("node", c.node.as_str());
+        self.put("target", c.target.as_str());
+        self.put("bitmaps", "[");
         for source in &c.bitmaps {
-            self.source(source)?;
-            self.push(";")?;
+            self.source(source);
+            self.push(";");
         }
-        self.push("]")
+        self.push("]");
     }
 
-    fn action(&mut self, action: &Action) -> Result<(), Fail> {
-        self.push(" ")?;
-        self.push(action_name(action))?;
+    fn action(&mut self, action: &Action) {
+        self.push(" ");
+        self.push(action_name(action));
         match action {
-            Action::Abort | Action::Unknown => Ok(()),
+            Action::Abort | Action::Unknown => {}
             Action::Snapshot(c) => self.snapshot(c),
             Action::Backup(c) => self.backup(c),
             Action::BitmapAdd(c) => self.bitmap_add(c),
@@ -423,20 +429,20 @@ impl Words {
         }
     }
 
-    fn transaction(&mut self, c: &Transaction) -> Result<(), Fail> {
-        self.put("actions", "[")?;
+    fn transaction(&mut self, c: &Transaction) {
+        self.put("actions", "[");
         for action in &c.actions {
-            self.action(action)?;
-            self.push(";")?;
+            self.action(action);
+            self.push(";");
         }
-        self.push("]")?;
-        self.word("completion-mode", completion_mode(c.completion_mode))
+        self.push("]");
+        self.word("completion-mode", completion_mode(c.completion_mode));
     }
 
-    fn members(&mut self, command: &Command) -> Result<(), Fail> {
+    fn members(&mut self, command: &Command) {
         match command {
             Command::Capabilities(Some(texts)) => self.texts("enable", texts),
-            Command::Capabilities(None) | Command::QueryBlockJobs => Ok(()),
+            Command::Capabilities(None) | Command::QueryBlockJobs => {}
             Command::BlockdevCreate(c) => self.blockdev_create(c),
             Command::JobDismiss(id) | Command::DeviceDel(id) => self.put("id", id.as_str()),
             Command::BlockdevAdd(c) => self.blockdev_add(c),
@@ -449,8 +455,8 @@ impl Words {
             Command::BlockdevMirror(c) => self.mirror(c),
             Command::BlockdevBackup(c) => self.backup(c),
             Command::BlockJobCancel(job, force) => {
-                self.put("device", job.as_str())?;
-                self.flag("force", *force)
+                self.put("device", job.as_str());
+                self.flag("force", *force);
             }
             Command::BlockJobComplete(job) => self.put("device", job.as_str()),
             Command::QueryNamedBlockNodes(flat) => self.flag("flat", *flat),
@@ -467,7 +473,13 @@ impl Words {
 /// A command in words.
 pub(super) fn shown(alloc: Global, command: &Command) -> Result<String, Fail> {
     let out = String::from_str(alloc, command_name(command))?;
-    let mut words = Words { alloc, out };
-    words.members(command)?;
+    let mut words = Words {
+        out,
+        is_whole: true,
+    };
+    words.members(command);
+    if !words.is_whole {
+        return Err(Fail::new("no memory"));
+    }
     Ok(words.out)
 }
