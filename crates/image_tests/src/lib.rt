@@ -15,6 +15,8 @@ mod naming;
 #[cfg(test)]
 mod opening;
 #[cfg(test)]
+mod reads;
+#[cfg(test)]
 mod tables;
 #[cfg(test)]
 mod writing;

@@ -1,7 +1,6 @@
-//! A small image that is opened and read, images that are refused, and failed reads.
+//! A small image that is opened, and images that are refused.
 
 use crate::bytes::{Edits, HEADER, NEVER, device, put};
-use blk_fakes::FailAt;
 use q2_format::HeaderStop;
 use q2_image::{Image, ImageStop, open_image};
 use std::alloc::{AllocError, Global};
@@ -27,10 +26,10 @@ fn image(alloc: Global, edits: Edits) -> Result<Vec<u8>, AllocError> {
     Ok(bytes)
 }
 
-/// Opens the image with these edits, on a device of which a call fails.
-fn open(alloc: Global, edits: Edits, fails: FailAt) -> Result<Image, ImageStop> {
+/// Opens the image with these edits.
+fn open(alloc: Global, edits: Edits) -> Result<Image, ImageStop> {
     let bytes = image(alloc, edits)?;
-    let Ok(mut dev) = device(alloc, &bytes, 0, fails) else {
+    let Ok(mut dev) = device(alloc, &bytes, 0, NEVER) else {
         return Err(ImageStop::NoMemory);
     };
     open_image(alloc, &mut dev)
@@ -38,7 +37,7 @@ fn open(alloc: Global, edits: Edits, fails: FailAt) -> Result<Image, ImageStop> 
 
 /// Whether the image with these edits is opened, and maps no cluster or some.
 fn opens(alloc: Global, edits: Edits, is_empty: bool) -> bool {
-    match open(alloc, edits, NEVER) {
+    match open(alloc, edits) {
         Ok(image) => {
             image.size() == 1_048_576
                 && image.cluster_size() == 65_536
@@ -92,8 +91,8 @@ const REFUSED: [(Edits, ImageStop); 12] = [
 ];
 
 /// Whether the image with these edits is refused for this.
-fn is_refused(alloc: Global, edits: Edits, fails: FailAt, why: ImageStop) -> bool {
-    match open(alloc, edits, fails) {
+fn is_refused(alloc: Global, edits: Edits, why: ImageStop) -> bool {
+    match open(alloc, edits) {
         Ok(_) => false,
         Err(stop) => stop == why,
     }
@@ -102,15 +101,6 @@ fn is_refused(alloc: Global, edits: Edits, fails: FailAt, why: ImageStop) -> boo
 #[test]
 fn refuses_the_first_that_is_wrong(rt: HostRuntime) {
     for (edits, why) in &REFUSED {
-        assert!(rt; is_refused(rt.alloc(), *edits, NEVER, *why), "{why}");
-    }
-}
-
-#[test]
-fn tells_a_failed_read(rt: HostRuntime) {
-    for call in 0..5 {
-        let fails = FailAt { call, done: 0 };
-        let why = ImageStop::Io { count: 1 };
-        assert!(rt; is_refused(rt.alloc(), &[], fails, why), "{call}");
+        assert!(rt; is_refused(rt.alloc(), *edits, *why), "{why}");
     }
 }
