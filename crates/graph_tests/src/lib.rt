@@ -5,13 +5,21 @@
 #[cfg(test)]
 mod bitmaps;
 #[cfg(test)]
+mod calls;
+#[cfg(test)]
+mod chains;
+#[cfg(test)]
 mod edits;
 #[cfg(test)]
 mod graphs;
 #[cfg(test)]
 mod limits;
 #[cfg(test)]
+mod mixtures;
+#[cfg(test)]
 mod nodes;
+#[cfg(test)]
+mod overlays;
 #[cfg(test)]
 mod permissions;
 #[cfg(test)]
