@@ -11,6 +11,10 @@ mod failing;
 #[cfg(test)]
 mod files;
 #[cfg(test)]
+mod flawed;
+#[cfg(test)]
+mod full;
+#[cfg(test)]
 mod lines;
 #[cfg(test)]
 mod managing;

@@ -2,7 +2,6 @@
 
 use crate::files::{Edits, ROOM, Ran, bytes_of, image, run};
 use blk_fakes::FailAt;
-use qblk_core::Status;
 use std::test::Fail;
 
 /// A line of a script: a command with its arguments. Without a command it is text as it stands.
@@ -21,6 +20,8 @@ pub(crate) type Said<'a> = (&'a str, &'a str, &'a str);
 /// What is in a file behind a run.
 #[derive(Clone, Copy)]
 pub(crate) enum Left<'a> {
+    /// What was in it.
+    Kept,
     /// A created image with these edits.
     Image(Edits<'a>),
     /// So many bytes.
@@ -150,19 +151,26 @@ fn transcript_of(rt: &HostRuntime, row: &Row) -> Result<Vec<u8>, Fail> {
     Ok(transcript)
 }
 
+/// What a row has in one of its images.
+fn edits_of<'a>(row: &Row<'a>, name: &str) -> Edits<'a> {
+    let edits = if name == "a.img" { row.a } else { row.b };
+    edits.unwrap_or(&[])
+}
+
 /// Whether a file is left so.
-fn is_left(rt: &HostRuntime, ran: &Ran, name: &str, left: Left) -> Result<bool, Fail> {
+fn is_left(rt: &HostRuntime, ran: &Ran, row: &Row, name: &str, left: Left) -> Result<bool, Fail> {
     let bytes = bytes_of(ran, name)?;
     match left {
+        Left::Kept => Ok(bytes == image(rt, edits_of(row, name))?.as_slice()),
         Left::Image(edits) => Ok(bytes == image(rt, edits)?.as_slice()),
         Left::Bytes(len) => Ok(bytes.len() == len),
     }
 }
 
-/// Whether each of the files is left so.
-fn all_left(rt: &HostRuntime, ran: &Ran, left: &[(&str, Left)]) -> Result<bool, Fail> {
-    for (name, bytes) in left {
-        if !is_left(rt, ran, name, *bytes)? {
+/// Whether each of the files is left as its row says.
+fn all_left(rt: &HostRuntime, ran: &Ran, row: &Row) -> Result<bool, Fail> {
+    for (name, left) in row.left {
+        if !is_left(rt, ran, row, name, *left)? {
             return Ok(false);
         }
     }
@@ -179,11 +187,12 @@ fn is_so(rt: &HostRuntime, ran: &Ran, row: &Row, transcript: &[u8]) -> Result<bo
     )
 }
 
-/// How the run of a row ends.
-pub(crate) fn ended(rt: &HostRuntime, row: &Row) -> Result<Status, Fail> {
+/// Whether the run of a row ends with a status that is written so.
+pub(crate) fn is_ended_so(rt: &HostRuntime, row: &Row, status: &str) -> Result<bool, Fail> {
     let script = script_of(rt, row)?;
     let ran = run(rt, row, script.as_slice())?;
-    Ok(ran.status)
+    let text = format!(in rt.alloc(); "{:?}", ran.status)?;
+    Ok(text.as_str() == status)
 }
 
 /// Whether a row comes out so.
@@ -191,7 +200,7 @@ pub(crate) fn comes_out(rt: &HostRuntime, row: &Row) -> Result<bool, Fail> {
     let script = script_of(rt, row)?;
     let transcript = transcript_of(rt, row)?;
     let ran = run(rt, row, script.as_slice())?;
-    Ok(is_so(rt, &ran, row, transcript.as_slice())? && all_left(rt, &ran, row.left)?)
+    Ok(is_so(rt, &ran, row, transcript.as_slice())? && all_left(rt, &ran, row)?)
 }
 
 /// Carries out rows. The first that doesn't come out so is the failure.

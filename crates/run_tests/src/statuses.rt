@@ -1,9 +1,7 @@
 //! How runs end, and what is then in the files.
 
-use crate::rows::{ROW, Row, START, all_come_out, comes_out, ended};
-use qblk_core::Status;
+use crate::rows::{ROW, Row, START, all_come_out, comes_out, is_ended_so};
 use std::test::Fail;
-use trace_codec::Waits;
 
 const USAGE: Row<'static> = Row {
     exit: 1,
@@ -226,40 +224,20 @@ fn a_trace_that_is_too_long_is_refused(rt: HostRuntime) -> Result<(), Fail> {
     Ok(())
 }
 
+/// Runs that are stuck, and what their statuses say.
+static STUCK: [(Row<'static>, &str); 3] = [
+    (
+        AWAITS_A_GUEST,
+        "Stuck { actor: 0, waits: Guest { guest: 0, requests: 1 } }",
+    ),
+    (AWAITS_ITS_DEVICE, "Stuck { actor: 1, waits: Attached }"),
+    (AWAITS_A_LINE, "Stuck { actor: 1, waits: Line(2) }"),
+];
+
 #[test]
 fn what_is_waited_for_is_told(rt: HostRuntime) -> Result<(), Fail> {
-    let status = ended(&rt, &AWAITS_A_GUEST)?;
-    assert!(rt;
-        matches!(
-            &status,
-            Status::Stuck {
-                actor: 0,
-                waits: Waits::Guest {
-                    guest: 0,
-                    requests: 1
-                }
-            }
-        )
-    );
-    let status = ended(&rt, &AWAITS_ITS_DEVICE)?;
-    assert!(rt;
-        matches!(
-            &status,
-            Status::Stuck {
-                actor: 1,
-                waits: Waits::Attached
-            }
-        )
-    );
-    let status = ended(&rt, &AWAITS_A_LINE)?;
-    assert!(rt;
-        matches!(
-            &status,
-            Status::Stuck {
-                actor: 1,
-                waits: Waits::Line(2)
-            }
-        )
-    );
+    for (row, status) in &STUCK {
+        assert!(rt; is_ended_so(&rt, row, status)?);
+    }
     Ok(())
 }
