@@ -1,9 +1,9 @@
-mod HeldDevices
+pub mod HeldDevices
 mod Rows
 mod Joints
 mod Chains
 pub mod Leading
-mod Disks
+pub mod Disks
 mod Additions
 pub mod KeptDisks
 mod Unfolding

@@ -287,13 +287,13 @@ module _ (old : Nodes) (images : List ℕ) (node : ℕ) (span : Extent) (room : 
   room_for_all good = subst (IsRoomInEach images old span) good has
 
 pub read_stopped_unread : (old new : Nodes) (node : ℕ) (outcome : Outcome) → (outcome ≡ Good → ⊥) → IsReadBelow old new node outcome → new ≡ record old { devices = new.devices }
-    → StopsUnread old new node outcome
-read_stopped_unread old new node outcome bad read kept = by outcome refl read
+    → HaveRisen old.devices new.devices → StopsUnread old new node outcome
+read_stopped_unread old new node outcome bad read kept risen = by outcome refl read
   where
     by : (o : Outcome) → outcome ≡ o → IsReadBelow old new node o → StopsUnread old new node outcome
     by Good is read = absurd (bad is)
     by (Torn done dev count) is read = absurd read
-    by (Io dev count) is read = record { dev = dev; count = count; is = is; stopped = read; kept = kept }
+    by (Io dev count) is read = record { dev = dev; count = count; is = is; stopped = read; kept = kept; devices = risen }
     by (NoSpace dev) is read = absurd read
 
 pub reads_unless : (outcome : Outcome) (disk : List ℕ) (span : Extent) (buffer : List ℕ) → (outcome ≡ Good → ⊥) → ReadsDisk outcome disk span buffer

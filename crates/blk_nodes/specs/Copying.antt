@@ -14,7 +14,7 @@ use Rattle.q2_image.specs.Room.{WriteFits}
 use Rattle.blk_nodes.specs.Contents.{bytes_of}
 use Rattle.blk_nodes.specs.Nodes.{Nodes, DeviceState, AreTold, row_at, device_in, size_of, file_of}
 use Rattle.blk_nodes.specs.Parts.{OfImage}
-use Rattle.blk_nodes.specs.Reading.{LeadsTo, StoppedBelow}
+use Rattle.blk_nodes.specs.Reading.{HaveRisen, LeadsTo, StoppedBelow}
 use Rattle.blk_nodes.specs.Sources.{step_of}
 use Rattle.blk_nodes.specs.Writing.{FitsAt, HasImageIn, WritesPiece, LeavesNodes}
 use Rattle.blk_nodes.specs.declared.row.Driver.{Driver}
@@ -139,6 +139,7 @@ pub record StopsUnread (old new : Nodes) (node : ℕ) (outcome : Outcome) : Type
   pub is : outcome ≡ Io dev count
   pub stopped : StoppedBelow old new node dev count
   pub kept : new ≡ record old { devices = new.devices }
+  pub devices : HaveRisen old.devices new.devices
 
 -- there was room, and all was read or the read was stopped
 pub record ReadsAndMaps (images : List ℕ) (old new : Nodes) (node : ℕ) (span : Extent)

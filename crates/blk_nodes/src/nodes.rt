@@ -461,7 +461,7 @@ impl<D: Device> Nodes<D> {
 
     /// Reads a piece of a node's disk, which lies in one block of 65,536 bytes. It is Good, or Io of a device that the node
     /// leads to, with that device's count of faults; `buffer` then holds any bytes. Takes no memory.
-    pub fn read_piece(&mut self, node: NodeId, span: Span, buffer: &mut [u8]) -> Outcome
+    pub fn peek_piece(&mut self, node: NodeId, span: Span, buffer: &mut [u8]) -> Outcome
         requires block { IsWithinCluster 65536 span }
         requires inside { end_of span ≤ size_of self.old node }
         requires whole { length buffer.old ≡ span.len }

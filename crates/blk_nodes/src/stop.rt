@@ -26,7 +26,8 @@ pub enum AddStop {
 /// Why no image is created in the file of a node.
 #[derive(Clone, Copy, Debug, PartialEq, Eq)]
 pub enum FormatStop {
-    /// A write failed: of which device, and its count of faults afterwards.
+    /// A fault stopped a write: `dev` is the number of the file's device, and `count` its count of faults afterwards, which rose.
+    /// The file is as it was, or no image.
     Io { dev: DevNo, count: u64 },
     /// The image would end above the device's capacity. Nothing was written.
     NoSpace { dev: DevNo },

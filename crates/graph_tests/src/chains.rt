@@ -257,7 +257,7 @@ impl Chain {
 
     fn read(&mut self, node: NodeId, start: u64, buffer: &mut [u8]) -> Option<Outcome> {
         let span = piece_in(&self.nodes, node, start, buffer.len())?;
-        Some(self.nodes.read_piece(node, span, buffer))
+        Some(self.nodes.peek_piece(node, span, buffer))
     }
 
     /// Whether a level reads so from a place on.

@@ -34,7 +34,7 @@ fn read(
     if start % 65_536 + len > 65_536 || start + len > nodes.size(node) {
         return None;
     }
-    Some(nodes.read_piece(node, Span { start, len }, buffer))
+    Some(nodes.peek_piece(node, Span { start, len }, buffer))
 }
 
 #[test]

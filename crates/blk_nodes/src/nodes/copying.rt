@@ -112,7 +112,7 @@ impl<D: Device> Nodes<D> {
     /// them, and then nothing was tried; or Io, where a fault stopped the read or one of the writes: `buffer` then holds any
     /// bytes. The disk of the node stays, whatever the outcome. Takes no memory.
     #[tactic(auto, unfolding(crate::specs::Copying::images_met))]
-    pub fn read_copying(&mut self, node: NodeId, span: Span, buffer: &mut [u8]) -> Outcome
+    pub fn read_piece(&mut self, node: NodeId, span: Span, buffer: &mut [u8]) -> Outcome
         requires block { IsWithinCluster 65536 span }
         requires inside { end_of span ≤ size_of self.old node }
         requires whole { length buffer.old ≡ span.len }
@@ -137,7 +137,7 @@ impl<D: Device> Nodes<D> {
         if !room.is_good() {
             return room;
         }
-        let outcome = self.read_piece(node, span, buffer);
+        let outcome = self.peek_piece(node, span, buffer);
         if !outcome.is_good() {
             return outcome;
         }

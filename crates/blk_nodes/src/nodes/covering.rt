@@ -11,9 +11,11 @@ use blk_graph::{GraphStop, NodeId};
 
 impl<D: Device> Nodes<D> {
     /// Puts an overlay over a node: all parents of the node but jobs have the overlay as child, and the overlay has the node as
-    /// backing node, both or neither. Refused are a cycle and a list of edges that breaks the permission rule. A format node's
-    /// edge to its file never moves. No device is called: an overlay that maps no cluster reads as the node did from then on,
-    /// and each other node as before.
+    /// backing node. The node is no format node's file, since such an edge never moves. It is Cycle where a node would then reach
+    /// itself, which can't be where no edge leads to the overlay and it doesn't reach the node; else Conflict, with the first
+    /// pair of edges that would break the permission rule. After an error nothing has changed. No device is called: where all
+    /// devices tell their bytes, an overlay that maps no cluster and that no edge led to reads as the node did from then on, and
+    /// each other node, the covered one too, as before.
     pub fn put_over(&mut self, node: NodeId, overlay: NodeId) -> Result<(), GraphStop>
         requires node { HasNode self.old.graph node }
         requires overlay { IsCover self.old node overlay }

@@ -11,7 +11,9 @@ use blk_base::Device;
 use blk_graph::{GraphStop, NodeId};
 
 impl<D: Device> Nodes<D> {
-    /// Drops a node that no edge leads to, with the edges that it makes, and gives a `file` node's device back.
+    /// Drops a node that no edge leads to, with the edges that it makes, and gives its device back, as it was: Some for a `file`
+    /// node, None for any other. The other nodes read as before. While an edge leads to it, it is InUse, with the parent of the
+    /// first such edge, and nothing has changed.
     pub fn drop_node(&mut self, node: NodeId) -> Result<Option<D>, GraphStop>
         requires { HasNode self.old.graph node }
         ensures answer { MatchOption (first_parent node self.old.graph.edges) (IsOk result)

@@ -20,6 +20,7 @@ impl<D: Device> Nodes<D> {
         self.graph.nodes()
     }
 
+    /// The name of a node that is there.
     pub fn name(&self, node: NodeId) -> &str
         requires { HasNode self.now.graph node }
         ensures { Contains self.now.graph.nodes (record { id = node; name = result.now }) }

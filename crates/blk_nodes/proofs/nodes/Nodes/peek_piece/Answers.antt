@@ -1,0 +1,46 @@
+use Rattle.std.proofs.Common.{◌≡◌, sym, ◌∙◌, ap, arith}
+use Rattle.blk_base.specs.Pieces.{Extent}
+use Rattle.blk_base.proofs.Contents.{bytes_at-by_place}
+use Rattle.blk_nodes.specs.Contents.{disk_of}
+use Rattle.blk_nodes.specs.Nodes.{Nodes}
+use Rattle.blk_nodes.proofs.Chains.{reads_found, when_good}
+use Rattle.blk_nodes.proofs.Disks.{disks_risen}
+use Rattle.blk_nodes.proofs.HeldDevices.{HaveRisen-refl}
+use Rattle.blk_nodes.proofs.Joints.{joined_after}
+use Rattle.blk_nodes.proofs.Leading.{read_below}
+use Rattle.blk_nodes.proofs.nodes.Nodes.peek_piece.Goals as goal
+
+pub returns-then-span-eq0-clause-read : goal.returns-then-span-eq0-clause-read
+returns-then-span-eq0-clause-read g c = λ all.
+    let empty : c.args.span.len ≡ 0 = sym (ap (λ (s : Extent). s.len) c.span.view_is) ∙ c.if-span-eq0.true in
+    bytes_at-by_place (disk_of c.args.self.now c.args.node) c.args.buffer.now c.args.span.start c.args.span.len c.requires.whole (λ k below. absurd (omega (arith, empty, below)))
+
+pub returns-then-span-eq0-clause-devices : goal.returns-then-span-eq0-clause-devices
+returns-then-span-eq0-clause-devices g c = HaveRisen-refl c.args.self.now.devices
+
+pub invariant_of-self : goal.invariant_of-self
+invariant_of-self g c =
+    let nodes : Nodes = record { graph = c.self.inside.graph; rows = c.self.inside.rows.items; devices = c.self.inside.devices } in
+    joined_after nodes c.read_found.new.devices c.read_found.ensures.devices c.self.invariant
+
+pub returns-clause-read : goal.returns-clause-read
+returns-clause-read g c =
+    let nodes : Nodes = record { graph = c.self.inside.graph; rows = c.self.inside.rows.items; devices = c.self.inside.devices } in
+    let start : c.span.inside.start ≡ c.args.span.start = ap (λ (s : Extent). s.start) c.span.view_is in
+    let source = rw (sym c.self.view_is) at (rw start at (sym c.source-source.ensures.source)) in
+    let inside = rw (sym c.self.view_is) at c.requires.inside in
+    rw (sym c.self.view_is)
+    (λ all. when_good c.read_found.result (disk_of nodes c.args.node) c.args.span c.read_found.new.buffer
+    (λ good. reads_found nodes c.self.invariant all c.args.node c.args.span.start c.args.span.len inside c.requires.block c.read_found.new.buffer c.source-source.result source
+    (c.read_found.ensures.read all good)))
+
+pub returns-clause-outcome : goal.returns-clause-outcome
+returns-clause-outcome g c =
+    let nodes : Nodes = record { graph = c.self.inside.graph; rows = c.self.inside.rows.items; devices = c.self.inside.devices } in
+    let leads = rw (sym c.self.view_is) at c.source-source.ensures.leads in
+    rw (sym c.self.view_is) (read_below nodes c.read_found.new.devices c.args.node c.source-source.result c.read_found.result leads c.read_found.ensures.outcome)
+
+pub returns-clause-disks : goal.returns-clause-disks
+returns-clause-disks g c =
+    let nodes : Nodes = record { graph = c.self.inside.graph; rows = c.self.inside.rows.items; devices = c.self.inside.devices } in
+    rw (sym c.self.view_is) (disks_risen nodes c.read_found.new.devices c.read_found.ensures.devices)
