@@ -2,3 +2,4 @@ pub mod Payloads
 pub mod Shown
 pub mod Told
 pub mod Rows
+pub mod Kept

@@ -38,10 +38,10 @@ taken_is op part (Io dev count) is = refl
 taken_is op part (NoSpace dev) is = refl
 
 -- a write that was made puts bytes
-pub putting_by : (op : Op) (old new : Nodes) (node : ℕ) (part : Extent) (outcome : Outcome) (buffer : List ℕ) → Transfers op old new node part outcome buffer
-    → is_write op ≡ true → IsPutting op
-putting_by (Read span) old new node part outcome buffer did bad = absurd (false≢true bad)
-putting_by (Write span payload) old new node part outcome buffer did is = tt
-putting_by (Zero span) old new node part outcome buffer did is = tt
-putting_by Flush old new node part outcome buffer did bad = absurd (false≢true bad)
-putting_by (Discard span) old new node part outcome buffer did is = absurd did
+pub putting_by : (op : Op) (old new : Nodes) (drive node : ℕ) (part : Extent) (outcome : Outcome) (buffer : List ℕ)
+    → Transfers op old new drive node part outcome buffer → is_write op ≡ true → IsPutting op
+putting_by (Read span) old new drive node part outcome buffer did bad = absurd (false≢true bad)
+putting_by (Write span payload) old new drive node part outcome buffer did is = tt
+putting_by (Zero span) old new drive node part outcome buffer did is = tt
+putting_by Flush old new drive node part outcome buffer did bad = absurd (false≢true bad)
+putting_by (Discard span) old new drive node part outcome buffer did is = absurd did

@@ -9,9 +9,10 @@ use Rattle.trace_codec.specs.declared.op.Op.TheVariants.{Read, Write, Zero, Flus
 use Rattle.blk_graph.specs.Graph.{HasNode}
 use Rattle.blk_history.specs.Disk.{is_write, payload_in}
 use Rattle.blk_nodes.specs.Contents.{disk_of}
+use Rattle.blk_nodes.specs.Copying.{AtEach, IsBeside, IsMappedAt, LeavesRest, ReadsPiece, images_met}
 use Rattle.blk_nodes.specs.Flushing.{base_of, IsFlushAt}
 use Rattle.blk_nodes.specs.Nodes.{Nodes, AreTold, size_of}
-use Rattle.blk_nodes.specs.Reading.{HaveRisen, IsReadBelow, ReadsDisk}
+use Rattle.blk_nodes.specs.Reading.{ReadsDisk}
 use Rattle.blk_nodes.specs.Writing.{MayWrite, IsApart, LeavesNodes, WritesPiece, ZerosPiece, taken_by}
 
 -- ---- what a piece is
@@ -22,10 +23,21 @@ IsPartAsked Flush part = part.len ≡ 0
 IsPartAsked (Discard span) part = ⊥
 IsPartAsked op part = 0 < part.len
 
--- a node can be asked for it
-pub record CanTransfer (nodes : Nodes) (node : ℕ) (op : Op) (part : Extent) : Type 0 where
+-- A read goes in at the node that a guest is on, and may put what it reads into images below; all else is asked of the node
+-- that this one reads as.
+pub record CanRead (nodes : Nodes) (drive : ℕ) (part : Extent) : Type 0 where
+  pub inside : end_of part ≤ size_of nodes drive
+  pub may : AtEach (MayWrite nodes) (images_met nodes drive part.start)
+
+abbrev pub CanReadFor : Op → Nodes → ℕ → Extent → Type 0
+CanReadFor (Read span) nodes drive part = CanRead nodes drive part
+CanReadFor op nodes drive part = Unit {0}
+
+-- the nodes can be asked for it
+pub record CanTransfer (nodes : Nodes) (drive node : ℕ) (op : Op) (part : Extent) : Type 0 where
   pub there : HasNode nodes.graph node
   pub inside : end_of part ≤ size_of nodes node
+  pub read : CanReadFor op nodes drive part
   pub may : is_write op ≡ true → MayWrite nodes node
 
 -- what it shows, of what its read left in the buffer
@@ -58,15 +70,20 @@ shown_before (Discard span) k = 0
 
 -- ---- what it does to nodes and devices
 
--- it was read, and left these bytes in the buffer, as many as it has also where no device tells its bytes
-pub record ReadsPart (old new : Nodes) (node : ℕ) (part : Extent) (outcome : Outcome)
+-- It was read, and left these bytes in the buffer, as many as it has also where no device tells its bytes. Each image that it met
+-- below a copy-on-read has the cluster where it was good, and no disk but those of files under such images changed.
+pub record ReadsPart (old new : Nodes) (drive : ℕ) (part : Extent) (outcome : Outcome)
     (buffer : List ℕ) : Type 0 where
   pub whole : length buffer ≡ part.len
-  pub read : AreTold old.devices → ReadsDisk outcome (disk_of old node) part buffer
-  pub outcome_is : IsReadBelow old new node outcome
-  pub kept : new ≡ record old { devices = new.devices }
-  pub devices : HaveRisen old.devices new.devices
-  pub disks : (other : ℕ) → disk_of new other ≡ disk_of old other
+  pub read : AreTold old.devices → ReadsDisk outcome (disk_of old drive) part buffer
+  pub went : ReadsPiece old new drive part buffer outcome
+  pub mapped : outcome ≡ Good
+      → AtEach (IsMappedAt new part.start) (images_met old drive part.start)
+  pub rest : LeavesRest (images_met old drive part.start) old new outcome
+  pub disk : AreTold old.devices → disk_of new drive ≡ disk_of old drive
+  pub disks : AreTold old.devices → (other : ℕ)
+      → AtEach (IsBeside old other) (images_met old drive part.start)
+      → disk_of new other ≡ disk_of old other
 
 -- the node's disk has just what was written of these bytes, and disks apart from it are as before
 pub record PutsPart (old new : Nodes) (node : ℕ) (part : Extent) (outcome : Outcome)
@@ -82,15 +99,15 @@ pub record FlushesPart (old new : Nodes) (node : ℕ) (outcome : Outcome) : Type
   pub kept : new ≡ record old { devices = new.devices }
   pub disks : (other : ℕ) → disk_of new other ≡ disk_of old other
 
--- by what is asked
-abbrev pub Transfers : Op → Nodes → Nodes → ℕ → Extent → Outcome → List ℕ → Type 0
-Transfers (Read span) old new node part outcome buffer =
-    ReadsPart old new node part outcome buffer
-Transfers (Write span payload) old new node part outcome buffer =
+-- by what is asked, of a drive and of the node that it reads as
+abbrev pub Transfers : Op → Nodes → Nodes → ℕ → ℕ → Extent → Outcome → List ℕ → Type 0
+Transfers (Read span) old new drive node part outcome buffer =
+    ReadsPart old new drive part outcome buffer
+Transfers (Write span payload) old new drive node part outcome buffer =
     WritesPiece old new node part (payload_in (Write span payload) part) outcome
     × PutsPart old new node part outcome (payload_in (Write span payload) part)
-Transfers (Zero span) old new node part outcome buffer =
+Transfers (Zero span) old new drive node part outcome buffer =
     ZerosPiece old new node part outcome
     × PutsPart old new node part outcome (replicate part.len 0)
-Transfers Flush old new node part outcome buffer = FlushesPart old new node outcome
-Transfers (Discard span) old new node part outcome buffer = ⊥
+Transfers Flush old new drive node part outcome buffer = FlushesPart old new node outcome
+Transfers (Discard span) old new drive node part outcome buffer = ⊥

@@ -2,6 +2,7 @@
 ghost use Rattle.std.specs.Prelude.{◌≡◌, length};
 ghost use Rattle.blk_base.specs.Content.{bytes_at};
 ghost use Rattle.q2_image.specs.Reading.{IsWithinCluster};
+ghost use Rattle.blk_history.specs.Small.{IsSmallOutcome};
 ghost use Rattle.blk_pieces.specs.Pieces.{IsPartAsked, CanTransfer, Transfers};
 
 use blk_base::{Device, Outcome, Span};
@@ -21,9 +22,11 @@ fn load_bytes(bytes: &[u8], from: u64, buffer: &mut [u8])
     back.fill(0);
 }
 
-/// Makes one piece of a request on a node. A good read leaves its bytes in the buffer. Takes no memory.
+/// Makes one piece of a request of a guest on `drive`, which reads as `node`. A read goes in at the drive, so that a copy-on-read
+/// there keeps what it reads; all else is asked of the node. A good read leaves its bytes in the buffer. Takes no memory.
 pub fn transfer<D: Device>(
     nodes: &mut Nodes<D>,
+    drive: NodeId,
     node: NodeId,
     op: &Op,
     part: Span,
@@ -32,12 +35,13 @@ pub fn transfer<D: Device>(
     requires whole { length buffer.old ≡ part.len }
     requires part { IsPartAsked op.now part }
     requires block { IsWithinCluster 65536 part }
-    requires can { CanTransfer nodes.old node op.now part }
+    requires can { CanTransfer nodes.old drive node op.now part }
     ensures length { length buffer.new ≡ part.len }
-    ensures done { Transfers op.now nodes.old nodes.new node part result buffer.new }
+    ensures done { Transfers op.now nodes.old nodes.new drive node part result buffer.new }
+    ensures fits { IsSmallOutcome result }
 {
     match op {
-        Op::Read(_) => nodes.read_piece(node, part, buffer),
+        Op::Read(_) => nodes.read_piece(drive, part, buffer),
         Op::Write(_, Payload::Fill(byte)) => {
             buffer.fill(*byte);
             nodes.write_piece(node, part, buffer)

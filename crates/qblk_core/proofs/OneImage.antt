@@ -1,5 +1,5 @@
 -- What a piece leaves of the nodes of one image.
-use Rattle.std.proofs.Common.{◌≡◌, ◌≢◌, ℕ, ◌+◌, ◌≤◌, List, [], ◌∷◌, length, take, replicate, zero, suc, Option, Some, None, refl, sym, ◌∙◌, ap, subst, inl, inr, arith}
+use Rattle.std.proofs.Common.{◌≡◌, ℕ, ◌+◌, ◌/◌, ◌≤◌, List, [], ◌∷◌, length, take, replicate, zero, suc, Option, Some, None, refl, sym, ◌∙◌, ap, subst, inl, inr, arith}
 use Rattle.std.specs.Prelude.{is_some, option_map}
 use Rattle.std.proofs.lemmas.Bool.{false≢true, cases_eq}
 use Rattle.std.proofs.lemmas.List.{length-replicate, length-take}
@@ -11,7 +11,6 @@ use Rattle.blk_base.specs.declared.fault.Outcome.{Outcome}
 use Rattle.blk_base.specs.declared.fault.Outcome.TheVariants.{Good, Torn, Io, NoSpace}
 use Rattle.trace_codec.specs.declared.op.Op.{Op}
 use Rattle.trace_codec.specs.declared.op.Op.TheVariants.{Read, Write, Zero, Flush, Discard}
-use Rattle.trace_codec.specs.declared.op.Payload.TheVariants.{Raw}
 use Rattle.blk_graph.specs.Edits.{child_of}
 use Rattle.blk_graph.specs.Graph.{Graph, HasNode}
 use Rattle.blk_graph.specs.declared.edge.Parent.TheVariants.{Node}
@@ -19,20 +18,26 @@ use Rattle.blk_graph.specs.declared.edge.Role.TheVariants.{File, Backing}
 use Rattle.blk_history.specs.Disk.{payload_in, done_in}
 use Rattle.blk_history.specs.Legal.{Tells}
 use Rattle.blk_history.specs.Machine.{done_by}
+use Rattle.q2_format.specs.declared.entries.L2Entry.{L2Entry}
+use Rattle.q2_format.specs.declared.entries.L2Entry.TheVariants as entries
 use Rattle.q2_format.specs.declared.header.Header.{Header}
+use Rattle.q2_image.specs.Image.{Known, cluster_size_in, entry_in}
 use Rattle.blk_nodes.specs.declared.row.RawImage.{RawImage}
 use Rattle.blk_nodes.specs.Changing.{IsWritten, IsZeroed, LeavesRow}
 use Rattle.blk_nodes.specs.Contents.{IsToldDisk, disk_of}
+use Rattle.blk_nodes.specs.Copying.{AtEach, images_met, images_met_in}
 use Rattle.blk_nodes.specs.Flushing.{base_in, base_of, HasFlushCause, IsFlushAt}
 use Rattle.blk_nodes.specs.Joined.{IsJoined, IsSized}
 use Rattle.blk_nodes.specs.Nodes.{Nodes, DeviceState, AreTold, row_at, size_by, size_of, kind_in, kind_of, device_in}
 use Rattle.blk_nodes.specs.Reading.{HasRisen, HaveRisen, OnlyAt, StoppedBy, StoppedAt, IsReadBelow}
+use Rattle.blk_nodes.specs.Sources.{step_of}
 use Rattle.blk_nodes.specs.Writing.{IsDriverAfter, IsRowAfter, AreRowsAfter, HasCauseOf, HasPieceCause, IsWriteOf, WritesFile, WritesImage, WritesBy, ZerosBy, MayWrite, CanBeWritten, own_start, taken_by}
 use Rattle.blk_nodes.specs.declared.row.Driver.{Driver}
 use Rattle.blk_nodes.specs.declared.row.Driver.TheVariants as drivers
 use Rattle.blk_nodes.specs.declared.row.Row.{Row}
-use Rattle.blk_pieces.specs.Pieces.{CanTransfer, Transfers, shown_of}
+use Rattle.blk_pieces.specs.Pieces.{CanReadFor, CanTransfer, ReadsPart, Transfers, shown_of}
 use Rattle.blk_pieces.proofs.Payloads.{payload_length, taken_is}
+use Rattle.blk_pieces.proofs.Kept.{ReadsOnly, none_met}
 use Rattle.blk_pieces.proofs.Rows.{RowsAfter, rows_after}
 use Rattle.blk_pieces.proofs.Told.{tells, torn_by}
 use Rattle.qblk_core.specs.Along.{CountsOutcome, HasForm}
@@ -67,9 +72,41 @@ may-write nodes one = record {
   ];
 }
 
+-- No copy-on-read is over it, and so a read is kept nowhere: the way down ends at its own file, since it has no backing node.
+module _ (nodes : Nodes) (one : HaveOneImage nodes) (place turns : ℕ) where
+  none-by-entry : (image : Known) → one.row.driver ≡ drivers.Qcow2 image → (e : L2Entry) → entry_in image (place / cluster_size_in image) ≡ e
+      → images_met_in (suc turns) nodes 1 place ≡ []
+  none-by-entry image is entries.Unallocated at = rw (one.there, is, at, one.bare, images_met_in, step_of) refl
+  none-by-entry image is (entries.Zero host) at = rw (one.there, is, at, images_met_in, step_of) refl
+  none-by-entry image is (entries.Host host) at = rw (one.there, is, at, one.file, images_met_in, step_of) refl
+  none-by-entry image is entries.Compressed at = rw (one.there, is, at, images_met_in, step_of) refl
+  none-by-entry image is entries.Reserved at = rw (one.there, is, at, images_met_in, step_of) refl
+
+  none-by : (d : Driver) (was now : ℕ) → one.row.driver ≡ d → IsOnFile d was now → images_met_in (suc turns) nodes 1 place ≡ []
+  none-by drivers.File was now is on = absurd on
+  none-by (drivers.Raw part) was now is on = rw (one.there, is, one.file, images_met_in, step_of) refl
+  none-by (drivers.Qcow2 image) was now is on = none-by-entry image is (entry_in image (place / cluster_size_in image)) refl
+  none-by drivers.CopyOnRead was now is on = absurd on
+
+pub none-kept : (nodes : Nodes) → HaveOneImage nodes → (place : ℕ) → images_met nodes 1 place ≡ []
+unfolding images_met
+none-kept nodes one place = none-by nodes one place 63 one.row.driver (size_of nodes 0) one.device.size refl one.on_file
+
+can-read : (nodes : Nodes) → HaveOneImage nodes → (op : Op) (part : Extent) → end_of part ≤ size_of nodes 1 → CanReadFor op nodes 1 part
+can-read nodes one (Read span) part inside = record { inside = inside; may = subst (AtEach (MayWrite nodes)) (sym (none-kept nodes one part.start)) tt }
+can-read nodes one (Write span payload) part inside = tt
+can-read nodes one (Zero span) part inside = tt
+can-read nodes one Flush part inside = tt
+can-read nodes one (Discard span) part inside = tt
+
 pub can-transfer : (nodes : Nodes) (op : Op) (part : Extent) → IsJoined nodes → HaveOneImage nodes → end_of part ≤ size_of nodes 1
-    → CanTransfer nodes 1 op part
-can-transfer nodes op part joined one inside = record { there = node-there nodes joined one; inside = inside; may = λ writes. may-write nodes one }
+    → CanTransfer nodes 1 1 op part
+can-transfer nodes op part joined one inside = record {
+  there = node-there nodes joined one;
+  inside = inside;
+  read = can-read nodes one op part inside;
+  may = λ writes. may-write nodes one;
+}
 
 -- the image's node is flushed by its file's device
 pub base-is : (nodes : Nodes) → HaveOneImage nodes → base_of nodes 1 ≡ 0
@@ -243,8 +280,13 @@ module _ (old new : Nodes) (one : HaveOneImage old) where
         };
       }
 
-  pub goes : (op : Op) (part : Extent) (outcome : Outcome) (buffer : List ℕ) → Transfers op old new 1 part outcome buffer → Goes one.device new.devices outcome
-  goes (Read span) part outcome buffer did = read-goes outcome did.outcome_is did.devices
+  pub reads-only : (part : Extent) (outcome : Outcome) (buffer : List ℕ) → ReadsPart old new 1 part outcome buffer → ReadsOnly old new 1 outcome
+  reads-only part outcome buffer did = none_met old new 1 part outcome buffer did (none-kept old one part.start)
+
+  pub goes : (op : Op) (part : Extent) (outcome : Outcome) (buffer : List ℕ) → Transfers op old new 1 1 part outcome buffer → Goes one.device new.devices outcome
+  goes (Read span) part outcome buffer did =
+      let read = reads-only part outcome buffer did in
+      read-goes outcome read.outcome_is read.devices
   goes (Write span payload) part outcome buffer did = write-goes part (payload_in (Write span payload) part) outcome did.0.row did.0.row.driver did.0.wrote did.0.left
   goes (Zero span) part outcome buffer did = zero-goes part outcome did.0.row did.0.row.driver did.0.wrote did.0.left
   goes Flush part outcome buffer did = flush-goes (base_of old 1) outcome did.flushed
@@ -352,9 +394,9 @@ module _ (old new : Nodes) (joined : IsJoined old) (one : HaveOneImage old) (p :
       ∙ size-within one.device.size wrote.start (taken_by outcome bytes) (omega (arith, start, first, now, whole, len, inside, most))
 
   pub size-after-piece : (op : Op) (part : Extent) (outcome : Outcome) (buffer : List ℕ) (e : DeviceState) → new.devices ≡ e ∷ [] → end_of part ≤ size_of old 1
-      → Transfers op old new 1 part outcome buffer → e.size ≡ one.device.size
+      → Transfers op old new 1 1 part outcome buffer → e.size ≡ one.device.size
   size-after-piece (Read span) part outcome buffer e is inside did =
-      let r = the-risen old new one did.devices in
+      let r = the-risen old new one (reads-only old new one part outcome buffer did).devices in
       ap (λ (x : DeviceState). x.size) (head-same e r.0 [] (sym is ∙ r.1)) ∙ ap (λ (x : DeviceState). x.size) r.2.same
   size-after-piece (Write span payload) part outcome buffer e is inside did =
       let bytes : List ℕ = payload_in (Write span payload) part in
@@ -368,9 +410,9 @@ module _ (old new : Nodes) (joined : IsJoined old) (one : HaveOneImage old) (p :
 
 -- ---- what its outcome tells
 
-pub has-form : (old new : Nodes) (op : Op) (part : Extent) (outcome : Outcome) (buffer : List ℕ) → Transfers op old new 1 part outcome buffer → HasForm outcome op part
+pub has-form : (old new : Nodes) (op : Op) (part : Extent) (outcome : Outcome) (buffer : List ℕ) → Transfers op old new 1 1 part outcome buffer → HasForm outcome op part
 has-form old new op part Good buffer did = tt
-has-form old new op part (Torn done dev count) buffer did = torn_by old new 1 op part done dev count buffer did
+has-form old new op part (Torn done dev count) buffer did = torn_by old new 1 1 op part done dev count buffer did
 has-form old new op part (Io dev count) buffer did = tt
 has-form old new op part (NoSpace dev) buffer did = tt
 
@@ -380,9 +422,9 @@ nothing-taken : (disk : List ℕ) (at n : ℕ) → with_bytes disk at (take n []
 nothing-taken disk at zero = refl
 nothing-taken disk at (suc n) = refl
 
-disk-by : (old new : Nodes) (op : Op) (part : Extent) (outcome : Outcome) (buffer : List ℕ) → AreTold old.devices → Transfers op old new 1 part outcome buffer
+disk-by : (old new : Nodes) (op : Op) (part : Extent) (outcome : Outcome) (buffer : List ℕ) → AreTold old.devices → Transfers op old new 1 1 part outcome buffer
     → disk_of new 1 ≡ done_in op part (done_by outcome part) (disk_of old 1)
-disk-by old new (Read span) part outcome buffer told did = did.disks 1 ∙ sym (nothing-taken (disk_of old 1) part.start (done_by outcome part))
+disk-by old new (Read span) part outcome buffer told did = did.disk told ∙ sym (nothing-taken (disk_of old 1) part.start (done_by outcome part))
 disk-by old new (Write span payload) part outcome buffer told did =
     did.1.disk told ∙ ap (with_bytes (disk_of old 1) part.start) (taken_is (Write span payload) part outcome tt)
 disk-by old new (Zero span) part outcome buffer told did =
@@ -403,7 +445,7 @@ told-is None node_disk disk is = absurd (let bad : ⊥ = cc is in bad)
 told-is (Some b) node_disk disk is = (b, refl, cc is)
 
 module _ (old new : Nodes) (joined : IsJoined old) (one : HaveOneImage old) (op : Op) (part : Extent) (outcome : Outcome) (buffer : List ℕ)
-    (did : Transfers op old new 1 part outcome buffer) where
+    (did : Transfers op old new 1 1 part outcome buffer) where
   gone : Goes one.device new.devices outcome
   gone = goes old new one op part outcome buffer did
 
@@ -415,7 +457,7 @@ module _ (old new : Nodes) (joined : IsJoined old) (one : HaveOneImage old) (op 
       let t = told-is (content_of old) (disk_of old 1) disk told in
       let content : one.device.content ≡ Some t.0 = sym (content-is old one.device one.only one.node) ∙ t.1 in
       subst (λ (d : List ℕ). Tells outcome op part (Some d) (shown_of op outcome buffer)) t.2
-      (tells old new 1 part buffer (are-told t.0 content) op outcome (Some (disk_of old 1)) refl did)
+      (tells old new 1 1 part buffer (are-told t.0 content) op outcome (Some (disk_of old 1)) refl did)
 
   pub piece-disk : told_disk new ≡ option_map (done_in op part (done_by outcome part)) (told_disk old)
   piece-disk =
@@ -443,10 +485,10 @@ module _ (old new : Nodes) (joined : IsJoined old) (one : HaveOneImage old) (op 
 
   pub piece-shape : HaveShapeOf old new
   piece-shape =
-      let g = gone in shape-after old new one g.device g.is g.steps.node g.steps.capacity (rows_after old new 1 op part outcome buffer did)
+      let g = gone in shape-after old new one g.device g.is g.steps.node g.steps.capacity (rows_after old new 1 1 op part outcome buffer did)
 
   pub piece-one : end_of part ≤ size_of old 1 → HaveOneImage new
   piece-one inside =
       let g = gone in
       one-after old new one g.device g.is g.steps.node g.steps.number
-      (λ p raw. size-after-piece old new joined one p raw op part outcome buffer g.device g.is inside did) (rows_after old new 1 op part outcome buffer did)
+      (λ p raw. size-after-piece old new joined one p raw op part outcome buffer g.device g.is inside did) (rows_after old new 1 1 op part outcome buffer did)

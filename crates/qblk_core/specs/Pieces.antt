@@ -12,5 +12,5 @@ pub record IsPieceOn (op : Op) (old new : Nodes) (node : ℕ) (part : Extent) (o
     (got : List ℕ) : Type 0 where
   pub buffer : List ℕ
   pub shown : got ≡ shown_of op outcome buffer
-  pub did : Transfers op old new node part outcome buffer
+  pub did : Transfers op old new node node part outcome buffer
   pub joined : IsJoined new

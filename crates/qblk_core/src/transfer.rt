@@ -31,7 +31,7 @@ pub(crate) fn transfer<D: Device>(
     requires block { IsWithinCluster 65536 part }
     requires inside { end_of part ≤ size_of nodes.old 1 }
     ensures length { length buffer.new ≡ part.len }
-    ensures done { Transfers op.now nodes.old nodes.new 1 part result buffer.new }
+    ensures done { Transfers op.now nodes.old nodes.new 1 1 part result buffer.new }
     ensures joined { IsJoined nodes.new }
     ensures one { HaveOneImage nodes.new }
     ensures shape { HaveShapeOf nodes.old nodes.new }
@@ -44,7 +44,7 @@ pub(crate) fn transfer<D: Device>(
     ensures faults { faults_of nodes.old ≤ faults_of nodes.new }
 {
     let _ = nodes.edges();
-    let outcome = blk_pieces::transfer(nodes, image, op, part, buffer);
+    let outcome = blk_pieces::transfer(nodes, image, image, op, part, buffer);
     let _ = nodes.edges();
     outcome
 }

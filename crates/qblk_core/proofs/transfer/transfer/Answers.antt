@@ -7,12 +7,12 @@ use Rattle.qblk_core.proofs.transfer.transfer.Goals as goal
 pub transfer-outcome-requires-clause-can : goal.transfer-outcome-requires-clause-can
 transfer-outcome-requires-clause-can g c =
     let one = c.requires.one in
-    subst (λ (n : ℕ). CanTransfer c.args.nodes.now n c.args.op.now c.args.part) (sym c.requires.image)
+    subst (λ (n : ℕ). CanTransfer c.args.nodes.now n n c.args.op.now c.args.part) (sym c.requires.image)
     (can-transfer c.args.nodes.now c.args.op.now c.args.part c.edges.ensures.joined one c.requires.inside)
 
-did : (g : given.Over) (c : goal.After-edges-2 g) → Transfers c.args.op.now c.args.nodes.now c.transfer-outcome.new.nodes 1 c.args.part c.transfer-outcome.result c.transfer-outcome.new.buffer
+did : (g : given.Over) (c : goal.After-edges-2 g) → Transfers c.args.op.now c.args.nodes.now c.transfer-outcome.new.nodes 1 1 c.args.part c.transfer-outcome.result c.transfer-outcome.new.buffer
 did g c =
-    subst (λ (n : ℕ). Transfers c.args.op.now c.args.nodes.now c.transfer-outcome.new.nodes n c.args.part c.transfer-outcome.result c.transfer-outcome.new.buffer)
+    subst (λ (n : ℕ). Transfers c.args.op.now c.args.nodes.now c.transfer-outcome.new.nodes n n c.args.part c.transfer-outcome.result c.transfer-outcome.new.buffer)
     c.requires.image c.transfer-outcome.ensures.done
 
 pub returns-clause-done : goal.returns-clause-done
