@@ -1,7 +1,7 @@
 -- What calls of the table of bitmaps make of its rows is what the changes and the pieces of a run make of the table of names
 -- and of dirty granules.
-use Rattle.std.proofs.Common.{◌≡◌, ℕ, ◌+◌, append-nil, ◌*◌, ◌<◌, ◌≤◌, ◌^◌, inl, inr, Bool, true, false, cond, List, [], ◌∷◌, ◌++◌, length, map, take, refl, sym, ap, subst, ◌∙◌, arith, Option, Some, None, option_map}
-use Rattle.std.specs.Prelude.{◌==◌, ◌&&◌, ◌||◌, not, bytes_eq, count_by, unwrap_or}
+use Rattle.std.proofs.Common.{◌≡◌, ℕ, append-nil, ◌*◌, ◌<◌, ◌≤◌, ◌^◌, inl, inr, Bool, true, false, cond, List, [], ◌∷◌, ◌++◌, length, map, take, refl, sym, ap, subst, ◌∙◌, arith, Option, Some, None, option_map}
+use Rattle.std.specs.Prelude.{◌==◌, ◌&&◌, ◌||◌, not, count_by}
 use Rattle.std.specs.List.{find, filter, list_any, list_all, Contains}
 use Rattle.std.proofs.lemmas.List.{map-append, length-replicate}
 use Rattle.std.proofs.Math.Seq.{take-length}
@@ -10,16 +10,15 @@ use Rattle.std.proofs.lemmas.List.Sums.{count_by-le-length}
 use Rattle.std.proofs.Math.Nat.{mul-le-mul_right, mul_comm}
 use Rattle.blk_graph.proofs.Members.{Contains-here, Contains-there, Contains-cases, Contains-nil, Contains-filter}
 use Rattle.blk_base.specs.Pieces.{Extent}
-use Rattle.blk_base.specs.Written.{Written}
-use Rattle.blk_bits.specs.Granules.{contains, those_below}
+use Rattle.blk_bits.specs.Granules.{those_below}
 use Rattle.blk_bitmaps.specs.declared.row.Bitmap.{Bitmap}
-use Rattle.blk_bitmaps.specs.Rows.{is_named, added, turned, emptied, written, joined, records, dirty_below, AreSingle, IsCountable}
+use Rattle.blk_bitmaps.specs.Rows.{is_named, turned, emptied, written, joined, records, dirty_below}
 use Rattle.blk_bitmaps.specs.Refusals.{first}
 use Rattle.blk_bitmaps.specs.Refusals as refusals
 use Rattle.blk_bitmaps.specs.Calls.{with_first, without_first, where_so, with_source}
 use Rattle.blk_bitmaps.proofs.Views.{changed-view, removed-view, found-view, named-view, left-view, mapped-view, first-view, where-view, found-itself, single-same, single-fewer, single-push, without-filter, dirty-count}
 use Rattle.qmp_rules.specs.declared.rows.BitmapRow.{BitmapRow}
-use Rattle.qmp_rules.specs.Table.{Table, is_bitmap, bitmap_at}
+use Rattle.qmp_rules.specs.Table.{Table, is_bitmap}
 use Rattle.qmp_rules.specs.declared.change.Change.{Change}
 use Rattle.qmp_rules.specs.declared.change.Change.TheVariants as change
 use Rattle.qmp_rules.specs.Changes.{changed, all_changed, bitmap_changed, bitmaps_but_of, without_bitmap}

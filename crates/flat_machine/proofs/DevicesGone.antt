@@ -1,7 +1,7 @@
 -- A device that goes leaves what holds of tables, and what the writing of other guests rests on.
-use Rattle.std.proofs.Common.{◌≡◌, ◌≢◌, ◌⊎◌, ℕ, Bool, true, false, cond, List, refl, sym, ap, subst, ◌∙◌, inl, inr, Option, Some, None}
+use Rattle.std.proofs.Common.{◌≡◌, ◌≢◌, ℕ, Bool, true, false, List, refl, sym, ap, subst, ◌∙◌, inl, Some}
 use Rattle.std.specs.Prelude.{◌==◌, not}
-use Rattle.std.specs.List.{find, filter, Contains}
+use Rattle.std.specs.List.{find, Contains}
 use Rattle.std.proofs.lemmas.Bool.{eqb-true, eqb-false, ne_eqb}
 use Rattle.std.proofs.lemmas.List.Elements.{All-weaker}
 use Rattle.blk_graph.specs.declared.edge.Edge.{Edge}
@@ -16,7 +16,7 @@ use Rattle.blk_graph.proofs.ChildLemmas.{child-without}
 use Rattle.blk_graph.proofs.RefreshLemmas.{child_of-refreshed}
 use Rattle.qmp_rules.specs.declared.change.Change.TheVariants as change
 use Rattle.qmp_rules.specs.declared.rows.Device.{Device}
-use Rattle.qmp_rules.specs.Table.{Table, device_at, kinds_of}
+use Rattle.qmp_rules.specs.Table.{Table, kinds_of}
 use Rattle.qmp_rules.specs.Changes.{changed, without_device}
 use Rattle.flat_machine.specs.State.{State, drive_of}
 use Rattle.flat_machine.specs.Changed.{stepped}

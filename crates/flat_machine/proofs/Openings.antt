@@ -56,6 +56,7 @@ start_table guests = record {
   single = λ e there. absurd (Contains-nil e there);
   taken = λ over under f. absurd (Contains-nil over f.over_there);
   filtered = λ over under f. absurd (Contains-nil over f.over_there);
+  on_top = λ e row over there. absurd (Contains-nil e there);
   reads = λ node row found. absurd cc;
   numbers = λ device there. absurd (Contains-nil device there);
 }

@@ -17,7 +17,7 @@ use Rattle.blk_history.specs.Disk.{done_in}
 use Rattle.blk_history.specs.Machine.{done_by}
 use Rattle.flat_machine.specs.State.{State, Content, Left, Mapped, Unknown, content_in, filename_of}
 use Rattle.flat_machine.specs.Contents.{mapped_in, file_bytes}
-use Rattle.flat_machine.specs.Changed.{beside, stepped, all_stepped, put, name_file, name_if, know_if, add_file, note_image, format_bytes, content_under, leave, left_disk, filename_or, overlay_file}
+use Rattle.flat_machine.specs.Changed.{stepped, all_stepped, put, name_file, name_if, know_if, add_file, note_image, format_bytes, content_under, leave, left_disk, filename_or, overlay_file}
 use Rattle.flat_machine.specs.Machine.{note, is_noted, noted, path, read_through, copies_through, with_disk, written, with_part}
 use Rattle.flat_machine.specs.Jobs.{unsure}
 use Rattle.flat_machine.specs.Recording.{dirty_beside, dirty_after, dirty_by}

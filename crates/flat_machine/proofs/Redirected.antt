@@ -25,7 +25,7 @@ use Rattle.flat_machine.specs.Wiring.{HasEnds, StandsFor, LeadsToFile, IsDiskOf,
 use Rattle.flat_machine.proofs.Tables.{HasLike}
 use Rattle.flat_machine.proofs.Rows.{same_row, from-child, path-child, copies-at}
 use Rattle.flat_machine.proofs.Wired.{with_at}
-use Rattle.flat_machine.proofs.TablesKept.{no_copies, own_reads}
+use Rattle.flat_machine.proofs.TablesKept.{no_copies, not_copying, own_reads}
 use Rattle.flat_machine.proofs.TableSuited.{settled-free}
 
 -- ---- an overlay, and the node that it is put over
@@ -178,6 +178,31 @@ module _ (t : Table) (es : List Edge) (node overlay : NodeRecord) (to : ℕ → 
           → IsSome (filter_role over_row.kind)
       by_name l at_it None e = into l node over.node_there at_it e
       by_name l at_it (Some name) e = absurd (node_free (subst IsSome (sym e) refl) l.edge l.there (l.role ∙ f.role) at_it)
+
+  still_on_top : (e : Edge) (row : NodeRecord) (above : ℕ) → Contains es e → Contains t.nodes row → e.parent ≡ Node above → e.child ≡ row.id
+      → row.kind ≢ CopyOnRead
+  still_on_top e row above there row_there from to_row = elim (r.old e there) [
+    | inr own ↦ at_row node over.node_there over.disk.own (sym to_row ∙ sym own.child)
+    | inl l ↦ elim l.leads [
+      | inl same ↦ before l (sym same ∙ to_row)
+      | inr moved ↦ elim (cases_eq l.edge.child node.id) [
+        | inr differ ↦ before l (sym (r.others l.edge.child differ) ∙ sym moved ∙ to_row)
+        | inl at_it ↦
+            let goes : row.id ≡ to node.id = sym to_row ∙ moved ∙ ap to at_it in
+            elim r.at_node [
+              | inl on ↦ at_row node over.node_there over.disk.own (goes ∙ on)
+              | inr over_it ↦ at_row overlay over.overlay_there overlay_own (goes ∙ over_it)
+            ]
+      ]
+    ]
+  ]
+    where
+      at_row : (other : NodeRecord) → Contains t.nodes other → filter_role other.kind ≡ None → row.id ≡ other.id → row.kind ≢ CopyOnRead
+      at_row other other_there own is =
+          not_copying row.kind (ap (λ x. filter_role x.kind) (same_row t h.apart other row other_there row_there is) ∙ own)
+
+      before : (l : LedEdge t to e) → l.edge.child ≡ row.id → row.kind ≢ CopyOnRead
+      before l is = h.on_top l.edge row above l.there row_there (l.parent ∙ from) is
 
   -- ---- what nodes read as
 
@@ -385,6 +410,7 @@ module _ (t : Table) (es : List Edge) (node overlay : NodeRecord) (to : ℕ → 
           writable = k.writable;
         };
     filtered = still_filtered;
+    on_top = still_on_top;
     reads = reads_led;
     numbers = h.numbers;
   }

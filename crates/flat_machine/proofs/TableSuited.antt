@@ -39,10 +39,15 @@ use Rattle.flat_machine.proofs.Kept.{own_disk}
 use Rattle.flat_machine.proofs.OwnNames.{IsNameIf, inline-own, name-asked, named-if, names-asked, own-name}
 use Rattle.flat_machine.proofs.Rows.{under-before}
 use Rattle.flat_machine.proofs.Asked.{not-refused, NoneHolds, none-ahead, none-behind, good-value, found-named, takes-driver, room-left, none-stands, lone-node, settled-node}
-use Rattle.flat_machine.proofs.Accepted.{free_fresh, next_fresh, none-over, is_protocol, no_edge}
-use Rattle.flat_machine.proofs.TablesKept.{not-there}
+use Rattle.flat_machine.proofs.Accepted.{free_fresh, next_fresh, none-over, no_filter, is_protocol, no_edge}
+use Rattle.flat_machine.proofs.TablesKept.{not-there, not_copying}
 
 -- ---- rows by name
+
+-- the row there copies nothing of what is read
+plain-row : (t : Table) (row : NodeRecord) (node : ℕ) → filter_role row.kind ≡ None → node_at t node ≡ Some row
+    → (other : NodeRecord) → node_at t node ≡ Some other → other.kind ≢ CopyOnRead
+plain-row t row node own found other is = let same : other ≡ row = cc in not_copying other.kind (ap (λ r. filter_role r.kind) same ∙ own)
 
 module _ (t : Table) (told : Told) (h : TableStands t) where
   pub named-row : (name : List ℕ) (row : NodeRecord) → node_named t name ≡ Some row → Contains t.nodes row × (bytes_eq row.name name ≡ true)
@@ -166,25 +171,38 @@ module _ (t : Table) (told : Told) (h : TableStands t) where
             alone = no_edge row.id t.edges (lone-node t told file row e lone);
           }
 
-  -- the backing node, where one is named
-  pub backing-suits : (back : Option (List ℕ)) → holds t told (ask.Found back) ≡ None
-      → holds t told (ask.Settled back) ≡ None → (node : ℕ) → option_and_then (id_named t) back ≡ Some node
-      → (row : NodeRecord) × ((Contains t.nodes row × (row.id ≡ node)) × (IsFree t node × ((name : List ℕ) × ((back ≡ Some name) × (bytes_eq row.name name ≡ true)))))
-  backing-suits None found settled node is = absurd cc
-  backing-suits (Some name) found settled node is = by_row (found-named t told name found)
+  -- the backing node that it names
+  pub record NamedBacking (back : Option (List ℕ)) (node : ℕ) : Type 0 where
+    pub row : NodeRecord
+    pub there : Contains t.nodes row
+    pub id_is : row.id ≡ node
+    pub free : IsFree t node
+    pub own : filter_role row.kind ≡ None
+    pub name : List ℕ
+    pub said : back ≡ Some name
+    pub named : bytes_eq row.name name ≡ true
+
+  pub named-backing : (back : Option (List ℕ)) → holds t told (ask.Found back) ≡ None
+      → holds t told (ask.Drives back drivers.FileRawOrQcow2) ≡ None → holds t told (ask.Settled back) ≡ None
+      → (node : ℕ) → option_and_then (id_named t) back ≡ Some node → NamedBacking back node
+  named-backing None found drives settled node is = absurd cc
+  named-backing (Some name) found drives settled node is = by_row (found-named t told name found)
     where
-      by_row : ((row : NodeRecord) × (node_named t name ≡ Some row))
-          → (row : NodeRecord) × ((Contains t.nodes row × (row.id ≡ node)) × (IsFree t node × ((other : List ℕ) × ((Some name ≡ Some other) × (bytes_eq row.name other ≡ true)))))
+      by_row : ((row : NodeRecord) × (node_named t name ≡ Some row)) → NamedBacking (Some name) node
       by_row named =
           let row : NodeRecord = named.0 in
           let here = named-row name row named.1 in
-          let same : row.id ≡ node = id_is row named.1 in (
-            row,
-            (
-              (here.0, same),
-              (subst (IsFree t) same (free-node row here.0 (settled-node t told name row named.1 settled)), (name, (refl, here.1))),
-            ),
-          )
+          let same : row.id ≡ node = id_is row named.1 in
+          record {
+            row = row;
+            there = here.0;
+            id_is = same;
+            free = subst (IsFree t) same (free-node row here.0 (settled-node t told name row named.1 settled));
+            own = no_filter row.kind (takes-driver t told name drivers.FileRawOrQcow2 row named.1 drives);
+            name = name;
+            said = refl;
+            named = here.1;
+          }
         where
           id_is : (row : NodeRecord) → node_named t name ≡ Some row → row.id ≡ node
           id_is row e = let of_name = rw e at is in cc
@@ -245,33 +263,33 @@ module _ (t : Table) (told : Told) (h : TableStands t) where
           of_file = of.filename;
           alone = subst (IsAlone t) (sym of.id_is) of.alone;
           writable = writable-under file read_only of.row of.found asks.1.1.1.1.1.1.1.1.1.1.1.0;
-          backed = λ node is. backed of node is (backing-suits back asks.1.0 asks.1.1.1.1.1.1.1.1.1.0 node is);
+          backed = λ node is. backed of node (named-backing back asks.1.0 asks.1.1.1.1.1.0 asks.1.1.1.1.1.1.1.1.1.0 node is);
         },
         tt,
       )
     where
-      backed : (of : NamedFile file) (node : ℕ) → option_and_then (id_named t) back ≡ Some node
-          → ((row : NodeRecord) × ((Contains t.nodes row × (row.id ≡ node)) × (IsFree t node × ((other : List ℕ) × ((back ≡ Some other) × (bytes_eq row.name other ≡ true))))))
+      backed : (of : NamedFile file) (node : ℕ) → NamedBacking back node
           → SuitsBacking t (image_row (free_id t) exp name read_only) (id_or 0 t (Some file)) node
-      backed of node is b = record {
+      backed of node b = record {
         role = refl;
-        there = subst (λ n. IsSome (node_at t n)) b.1.0.1 (subst IsSome (sym (h.apart b.0 b.1.0.0)) refl);
-        other = λ same. differs (b.1.0.1 ∙ same ∙ of.id_is);
-        free = b.1.1.0;
+        there = subst (IsThere t) b.id_is (subst IsSome (sym (h.apart b.row b.there)) refl);
+        other = λ same. differs (b.id_is ∙ same ∙ of.id_is);
+        free = b.free;
+        plain = plain-row t b.row node b.own (subst (λ n. node_at t n ≡ Some b.row) b.id_is (h.apart b.row b.there));
       }
         where
-          differs : b.0.id ≡ of.row.id → ⊥
+          differs : b.row.id ≡ of.row.id → ⊥
           differs same =
-              let at_back = subst (λ n. node_at t n ≡ Some b.0) same (h.apart b.0 b.1.0.0) in
+              let at_back = subst (λ n. node_at t n ≡ Some b.row) same (h.apart b.row b.there) in
               let at_file = h.apart of.row of.there in
-              let rows : b.0 ≡ of.row = cc in
-              let name_of = same-bytes_eq b.0.name b.1.1.1.0 b.1.1.1.1.1 in
+              let rows : b.row ≡ of.row = cc in
+              let name_of = same-bytes_eq b.row.name b.name b.named in
               let file_of = same-bytes_eq of.row.name file (named-row file of.row of.found).1 in
-              let names : b.1.1.1.0 ≡ file = sym name_of ∙ ap (λ r. r.name) rows ∙ file_of in
-              let quiet : holds t told (ask.Beside (Some b.1.1.1.0) file) ≡ None =
-              subst (λ o. holds t told (ask.Beside o file) ≡ None) b.1.1.1.1.0 asks.1.1.1.1.1.1.1.1.1.1.0 in
-              let no = beside-other b.1.1.1.0 file quiet in
-              let yes : bytes_eq b.1.1.1.0 file ≡ true = subst (λ n. bytes_eq n file ≡ true) (sym names) (bytes_eq-same file) in
+              let names : b.name ≡ file = sym name_of ∙ ap (λ r. r.name) rows ∙ file_of in
+              let quiet : holds t told (ask.Beside (Some b.name) file) ≡ None =
+              subst (λ o. holds t told (ask.Beside o file) ≡ None) b.said asks.1.1.1.1.1.1.1.1.1.1.0 in
+              let no = beside-other b.name file quiet in
+              let yes : bytes_eq b.name file ≡ true = subst (λ n. bytes_eq n file ≡ true) (sym names) (bytes_eq-same file) in
               cc
 
   pub copy-table : (name : List ℕ) (read_only : Bool) (file : List ℕ) (exp : Told) → is_name name ≡ true
@@ -352,14 +370,18 @@ module _ (t : Table) (told : Told) (h : TableStands t) where
         free other (subst (λ x. node_at t r.id ≡ Some x) same (h.apart r there)) some
         (under-before (kinds_of (t.nodes ++ row ∷ [])) t.edges r.id under)
 
-    backing-with : (new : NodeRecord) → has_role new.kind Backing ≡ true → (r : NodeRecord) (node : ℕ) → Contains t.nodes r → r.id ≡ node
-        → IsFree t node → SuitsBacking with_node new (free_id t) node
-    backing-with new role r node there is free = record {
-      role = role;
-      there = subst (IsThere with_node) is (subst IsSome (sym (there-with r there)) refl);
-      other = λ same. not-there t (free_id t) (free_fresh t room) (subst (IsThere t) (is ∙ same) (subst IsSome (sym (h.apart r there)) refl));
-      free = subst (IsFree with_node) is (free-with r there (subst (IsFree t) (sym is) free));
-    }
+    backing-with : (new : NodeRecord) → has_role new.kind Backing ≡ true → (back : Option (List ℕ)) (node : ℕ) → NamedBacking back node
+        → SuitsBacking with_node new (free_id t) node
+    backing-with new role back node b =
+        let found = subst (λ n. node_at with_node n ≡ Some b.row) b.id_is (there-with b.row b.there) in
+        record {
+          role = role;
+          there = subst IsSome (sym found) refl;
+          other = λ same.
+              not-there t (free_id t) (free_fresh t room) (subst (IsThere t) (b.id_is ∙ same) (subst IsSome (sym (h.apart b.row b.there)) refl));
+          free = subst (IsFree with_node) b.id_is (free-with b.row b.there (subst (IsFree t) (sym b.id_is) b.free));
+          plain = plain-row with_node b.row node b.own found;
+        }
 
   writes-with : (ro_file read_only : Bool) → (not ro_file || read_only) ≡ true → read_only ≡ false → ro_file ≡ false
   writes-with false read_only e k = refl
@@ -417,8 +439,8 @@ module _ (t : Table) (told : Told) (h : TableStands t) where
             writable = writes-with (is_read_only file.options) read_only
                 (writable-with name file.node_name (not (is_read_only file.options) || read_only) asks.1.1.1.1.1.1.1.1.1.1.1.1.0);
             backed = λ node is.
-                let b = backing-suits back asks.0 asks.1.1.1.1.1.1.1.1.1.1.1.0 node is in
-                backing-with row refl (omega arith) (image_row (next_free_id t) exp name read_only) refl b.0 node b.1.0.0 b.1.0.1 b.1.1.0;
+                backing-with row refl (omega arith) (image_row (next_free_id t) exp name read_only) refl back node
+                (named-backing back asks.0 asks.1.1.1.1.1.0 asks.1.1.1.1.1.1.1.1.1.1.1.0 node is);
           },
           tt,
         ),

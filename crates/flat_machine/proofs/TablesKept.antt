@@ -97,6 +97,9 @@ no_copies BeforeWrite h = absurd cc
 no_copies Mirror h = absurd cc
 no_copies Commit h = absurd cc
 
+pub not_copying : (kind : Kind) → filter_role kind ≡ None → kind ≢ CopyOnRead
+not_copying kind own is = let filter : filter_role CopyOnRead ≡ None = subst (λ k. filter_role k ≡ None) is own in cc
+
 path-alone : (t : Table) (node : ℕ) (p : ℕ → Bool) → filtered t node ≡ None → list_any p (path t node) ≡ (p node || false)
 unfolding path
 path-alone t node p none = rw (none, path_from) refl
@@ -465,6 +468,20 @@ module _ (t now : Table) (row : NodeRecord) (file : ℕ) (backing : Option ℕ) 
       (suits.backed backed.0 backed.1.0).free under (subst (λ n. node_at t n ≡ Some under) (sym same) (h.apart under f.under_there)) some
       (record { edge = f.edge; there = f.there; over = f.role; child = f.child ∙ sym same })
 
+  -- neither the file nor the backing node copies what is read
+  format_on_top : (e : Edge) (r : NodeRecord) → IsNewEdge e → Contains now.nodes r → e.child ≡ r.id → r.kind ≢ CopyOnRead
+  format_on_top e r (inl file_edge) there to =
+      let here = find-Some (λ x. x.id == file) t.nodes suits.under suits.found in
+      let driver = h.drivers suits.name suits.under (record { there = here.0; filename = suits.of_file }) in
+      let kind : r.kind ≡ Protocol = ap (λ x. x.kind) (is_under r there (file_edge.child ∙ to)) ∙ driver in
+      not_copying r.kind (ap filter_role kind)
+  format_on_top e r (inr backed) there to = elim (format_grow.rows r there) [
+    | inl old ↦
+        let at_row = subst (λ n. node_at t n ≡ Some old.row) (sym (backed.1.1.child ∙ to ∙ old.like.id)) (h.apart old.row old.there) in
+        subst (λ k. k ≢ CopyOnRead) (sym old.like.kind) ((suits.backed backed.0 backed.1.0).plain old.row at_row)
+    | inr is_new ↦ not_copying r.kind (ap (λ x. filter_role x.kind) is_new ∙ suits.format)
+  ]
+
   format_new_edges : NewEdges t now IsNewEdge
   format_new_edges = record {
     ends = λ e is_new. record {
@@ -485,6 +502,7 @@ module _ (t now : Table) (row : NodeRecord) (file : ℕ) (backing : Option ℕ) 
         let under_is = is_under under f.under_there (own.child ∙ f.child) in
         let named = ap (λ r. r.filename) under_is ∙ suits.of_file in
         absurd cc;
+    on_top = λ e r over is_new there from to. format_on_top e r is_new there to;
     free = format_free;
   }
 
@@ -603,6 +621,8 @@ module _ (t now : Table) (row : NodeRecord) (child : ℕ) (suits : SuitsFilter t
     filtered = λ over under f is_new none.
         let same = is_filter over f.over_there (over_is f.edge over.id is_new f.parent) in
         subst IsSome (sym (ap (λ r. filter_role r.kind) same ∙ suits.filter)) refl;
+    on_top = λ e r over is_new there from to.
+        not_copying r.kind (ap (λ x. filter_role x.kind) (is_child r there (is_new.child ∙ to)) ∙ suits.own);
     free = λ e over under is_new f some is.
         let same : child ≡ under.id = is_new.child ∙ is in
         let at_child = subst (λ n. node_at t n ≡ Some under) (sym same) (h.apart under f.under_there) in
@@ -753,6 +773,7 @@ module _ (t now : Table) (device : Device) (node : ℕ) (suits : SuitsDevice t d
     single = λ e is_new role. absurd (let is = is_new.role in cc);
     taken = λ over under f is_new some. absurd (no_node f.edge over.id is_new f.parent);
     filtered = λ over under f is_new none. absurd (no_node f.edge over.id is_new f.parent);
+    on_top = λ e r over is_new there from. absurd (no_node e over is_new from);
     free = λ e over under is_new f some is.
         let same : node ≡ under.id = is_new.child ∙ is in
         suits.free under (subst (λ n. node_at t n ≡ Some under) (sym same) (h.apart under f.under_there)) some

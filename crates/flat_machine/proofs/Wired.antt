@@ -1,5 +1,5 @@
 -- What holds of tables stays where their rows and edges stay, with new ones beside them.
-use Rattle.std.proofs.Common.{◌≡◌, ◌⊎◌, ℕ, Bool, true, false, List, refl, sym, ap, subst, ◌∙◌, inl, inr, Option, Some, None}
+use Rattle.std.proofs.Common.{◌≡◌, ◌≢◌, ◌⊎◌, ℕ, Bool, true, false, List, refl, sym, ap, subst, ◌∙◌, inl, inr, Option, Some, None}
 use Rattle.std.specs.Prelude.{◌==◌, ◌||◌, not, IsSome, option_and_then}
 use Rattle.std.specs.List.{Contains}
 use Rattle.std.proofs.lemmas.Bool.{eqb-true}
@@ -7,7 +7,7 @@ use Rattle.blk_graph.specs.declared.edge.Edge.{Edge}
 use Rattle.blk_graph.specs.declared.edge.Parent.TheVariants.{Node}
 use Rattle.blk_graph.specs.declared.edge.Role.{Role}
 use Rattle.blk_graph.specs.declared.edge.Role.TheVariants.{File}
-use Rattle.blk_graph.specs.declared.kind.Kind.TheVariants.{Protocol}
+use Rattle.blk_graph.specs.declared.kind.Kind.TheVariants.{Protocol, CopyOnRead}
 use Rattle.blk_graph.specs.Permissions.{has_role}
 use Rattle.blk_graph.proofs.Members.{find-Some}
 use Rattle.blk_graph.proofs.EditLemmas.{IsSameEdge}
@@ -63,6 +63,8 @@ pub record NewEdges (t now : Table) (IsNewEdge : Edge → Type 0) : Type 0 where
   pub taken : (over under : NodeRecord) (f : LeadsToFile now over under) → IsNewEdge f.edge → IsSome under.filename → IsTaken now over under
   pub filtered : (over under : NodeRecord) (f : LeadsToFile now over under) → IsNewEdge f.edge → under.filename ≡ None
       → IsSome (filter_role over.kind)
+  pub on_top : (e : Edge) (row : NodeRecord) (over : ℕ) → IsNewEdge e → Contains now.nodes row → e.parent ≡ Node over → e.child ≡ row.id
+      → row.kind ≢ CopyOnRead
   pub free : (e : Edge) (over under : NodeRecord) → IsNewEdge e → LeadsToFile t over under → IsSome under.filename → e.child ≡ under.id → ⊥
 
 -- nothing is new
@@ -88,6 +90,7 @@ no_edges t now = record {
   single = λ e never. absurd never;
   taken = λ over under f never. absurd never;
   filtered = λ over under f never. absurd never;
+  on_top = λ e row over never. absurd never;
   free = λ e over under never. absurd never;
 }
 
@@ -294,6 +297,13 @@ module _ (t now : Table) (P : ℕ → Type 0) (IsNewRow : NodeRecord → Type 0)
             subst IsSome (sym (ap filter_role w.over_row.like.kind))
             (h.filtered w.over_row.row w.under_row.row w.file (sym w.under_row.like.filename ∙ none))
         | inr is_new ↦ edges.filtered over under f is_new none
+      ];
+      on_top = λ e row over there row_there from to. elim (g.edges e there) [
+        | inl old ↦
+            let was : OldRow t P row = old_row row row_there (subst P (old.same.child ∙ to) old.child) in
+            subst (λ k. k ≢ CopyOnRead) (sym was.like.kind)
+            (h.on_top old.edge was.row over old.there was.there (old.same.parent ∙ from) (old.same.child ∙ to ∙ was.like.id))
+        | inr is_new ↦ edges.on_top e row over is_new row_there from to
       ];
       reads = reads_still;
       numbers = numbers;

@@ -1,6 +1,6 @@
 -- A piece of a guest's request keeps what nodes read as and what files hold as the flat machine says.
 use Rattle.std.proofs.Common.{◌≡◌, ◌≢◌, ◌⊎◌, ℕ, Bool, true, false, cond, List, [], ◌∷◌, map, refl, sym, ap, subst, ◌∙◌, inl, inr, Option, Some, None, option_map}
-use Rattle.std.specs.Prelude.{◌==◌, All, length, IsSome, slice_index_or}
+use Rattle.std.specs.Prelude.{◌==◌, All, IsSome, slice_index_or}
 use Rattle.std.specs.List.{find, list_any}
 use Rattle.std.proofs.lemmas.Bool.{eqb-true, ne_eqb, cases_eq}
 use Rattle.std.proofs.Math.Seq.{take-nil}

@@ -3,7 +3,7 @@ use Rattle.std.specs.Prelude.{◌≡◌, ◌≢◌, ℕ, true, false, List, [], 
 use Rattle.blk_graph.specs.declared.edge.Edge.{Edge}
 use Rattle.blk_graph.specs.declared.edge.Parent.TheVariants.{Node}
 use Rattle.blk_graph.specs.declared.edge.Role.TheVariants.{File, Backing}
-use Rattle.blk_graph.specs.declared.kind.Kind.TheVariants.{Protocol}
+use Rattle.blk_graph.specs.declared.kind.Kind.TheVariants.{Protocol, CopyOnRead}
 use Rattle.blk_graph.specs.Permissions.{has_role}
 use Rattle.qmp_rules.specs.declared.change.Change.{Change}
 use Rattle.qmp_rules.specs.declared.change.Change.TheVariants as change
@@ -51,6 +51,7 @@ pub record SuitsBacking (t : Table) (row : NodeRecord) (file backing : ℕ) : Ty
   pub there : IsThere t backing
   pub other : backing ≢ file
   pub free : IsFree t backing
+  pub plain : (row : NodeRecord) → node_at t backing ≡ Some row → row.kind ≢ CopyOnRead
 
 -- a new format node over a `file` node that has no parent
 pub record SuitsFormat (t : Table) (row : NodeRecord) (file : ℕ) (backing : Option ℕ) : Type 0 where

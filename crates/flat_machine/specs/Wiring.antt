@@ -3,7 +3,7 @@ use Rattle.std.specs.Prelude.{◌≡◌, ◌≢◌, ◌≤◌, ℕ, true, false,
 use Rattle.blk_graph.specs.declared.edge.Edge.{Edge}
 use Rattle.blk_graph.specs.declared.edge.Parent.TheVariants.{Node}
 use Rattle.blk_graph.specs.declared.edge.Role.TheVariants.{File}
-use Rattle.blk_graph.specs.declared.kind.Kind.TheVariants.{Protocol}
+use Rattle.blk_graph.specs.declared.kind.Kind.TheVariants.{Protocol, CopyOnRead}
 use Rattle.blk_graph.specs.Permissions.{has_role}
 use Rattle.qmp_rules.specs.declared.rows.NodeRecord.{NodeRecord}
 use Rattle.qmp_rules.specs.declared.rows.Device.{Device}
@@ -100,6 +100,12 @@ FilesAreTaken t =
     (over under : NodeRecord) → LeadsToFile t over under → IsSome under.filename
     → IsTaken t over under
 
+-- no node is over one that copies what is read
+abbrev pub CopiesAreOnTop : Table → Type 0
+CopiesAreOnTop t =
+    (edge : Edge) (row : NodeRecord) (over : ℕ) → Contains t.edges edge → Contains t.nodes row
+    → edge.parent ≡ Node over → edge.child ≡ row.id → row.kind ≢ CopyOnRead
+
 -- what is over a node of another kind so is a filter
 abbrev pub OthersAreFiltered : Table → Type 0
 OthersAreFiltered t =
@@ -151,6 +157,7 @@ pub record TableStands (t : Table) : Type 0 where
   pub single : HaveOneFile t
   pub taken : FilesAreTaken t
   pub filtered : OthersAreFiltered t
+  pub on_top : CopiesAreOnTop t
   pub reads : ReadAsNodes t
   pub numbers : AreNumbered t
 
