@@ -6,6 +6,7 @@ pub mod CarryLines
 pub mod CarryBack
 pub mod PiecePaths
 pub mod PieceWriters
+pub mod PieceCopied
 pub mod PieceReady
 pub mod PieceNodes
 pub mod ImageTold

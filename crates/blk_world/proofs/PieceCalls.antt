@@ -12,6 +12,7 @@ use Rattle.qmp_rules.specs.Table.{Table, device_at}
 use Rattle.flat_machine.specs.Legal.{IsForbidden}
 use Rattle.flat_machine.specs.State.{drive_of}
 use Rattle.flat_machine.specs.declared.opening.Opening.{Opening}
+use Rattle.blk_nodes.specs.Contents.{Unfolds}
 use Rattle.blk_nodes.specs.Joined.{IsJoined}
 use Rattle.blk_nodes.specs.Nodes.{Nodes}
 use Rattle.world_parts.specs.Coherent.{IsCoherent, IsWhole}
@@ -42,9 +43,9 @@ of_flight (Some a) P Q is each = each a refl is
 -- ---- its node
 
 pub can_next : (t : Table) (nodes : Nodes) (p : Progress) (joined : IsJoined nodes) (opened : _) → IsCoherent t nodes opened p → (g drive : ℕ) → drive_of t g ≡ Some drive
-    → With (flight_at p.guests g) HasNext → With (flight_at p.guests g) (λ f. CanTransfer nodes (disk_node t drive) f.op (part_of f))
+    → With (flight_at p.guests g) HasNext → With (flight_at p.guests g) (λ f. CanTransfer nodes drive (disk_node t drive) f.op (part_of f))
 can_next t nodes p joined opened coherent g drive on next =
-    of_flight (flight_at p.guests g) HasNext (λ f. CanTransfer nodes (disk_node t drive) f.op (part_of f)) next
+    of_flight (flight_at p.guests g) HasNext (λ f. CanTransfer nodes drive (disk_node t drive) f.op (part_of f)) next
     (λ f flies has. can_transfer t nodes p joined opened coherent g f drive on flies has)
 
 -- a guest with a request in flight has a drive
@@ -58,14 +59,14 @@ drive_there t nodes p opened coherent g next none =
 
 pub made_of : (w : Face) (nodes : Nodes) (table : Table) (p : Progress) (bitmaps : List Bitmap) (g drive node : ℕ) (f : Flight) (outcome : Outcome) (op : Op)
     → drive_of w.table g ≡ Some drive → node ≡ disk_node w.table drive
-    → f.op ≡ op → table ≡ table_after op node w.table → IsMadeOn w.nodes nodes w.progress p node g f outcome
+    → f.op ≡ op → table ≡ table_after op node w.table → IsMadeOn w.nodes nodes w.progress p drive node g f outcome
     → bitmaps ≡ noted_after outcome (written_in f.op (part_of f)) drive table w.bitmaps
     → IsPieceMade w (record w { nodes = nodes; table = table; progress = p; bitmaps = bitmaps }) g f outcome
 made_of w nodes table p bitmaps g drive node f outcome op on is_node asks noted made recorded = record {
   drive = drive;
   buffer = made.buffer;
   on = on;
-  transferred = subst (λ (n : ℕ). Transfers f.op w.nodes nodes n (part_of f) outcome made.buffer) is_node made.transferred;
+  transferred = subst (λ (n : ℕ). Transfers f.op w.nodes nodes drive n (part_of f) outcome made.buffer) is_node made.transferred;
   fits = made.fits;
   shown = made.shown;
   kept =
@@ -88,8 +89,8 @@ module _ (w v : Face) (g : ℕ) (outcome : Outcome) (next : With (flight_at w.pr
   flight : IsThere (flight_at w.progress.guests g) HasNext
   flight = there (flight_at w.progress.guests g) HasNext next
 
-  pub made_comes : IsJoined v.nodes → (o : Opening) → Comes o w → Comes o v
-  made_comes = piece_comes w v g flight.at outcome (made flight.at flight.is) flight.holds flight.is joined whole.coherent whole.tell whole.bitmaps
+  pub made_comes : Unfolds w.nodes → IsJoined v.nodes → (o : Opening) → Comes o w → Comes o v
+  made_comes unfolds = piece_comes w v g flight.at outcome (made flight.at flight.is) flight.holds flight.is joined whole.coherent unfolds whole.tell whole.bitmaps
 
   pub made_whole : IsJoined v.nodes → IsWhole v
   made_whole = piece_whole w v g flight.at outcome (made flight.at flight.is) flight.holds flight.is joined whole.coherent whole.tell whole.counted whole.bitmaps

@@ -8,6 +8,8 @@ use Rattle.blk_base.specs.declared.fault.FaultAt.{FaultAt}
 use Rattle.blk_base.specs.declared.fault.FaultFrom.TheVariants.{Dev}
 use Rattle.blk_base.specs.declared.fault.Outcome.{Outcome}
 use Rattle.blk_base.specs.declared.fault.Outcome.TheVariants.{Good, Torn, Io, NoSpace}
+use Rattle.blk_graph.specs.declared.edge.Edge.{Edge}
+use Rattle.blk_graph.specs.declared.edge.Role.TheVariants.{File}
 use Rattle.blk_graph.proofs.Members.{find-Some}
 use Rattle.blk_history.specs.Disk.{is_write, payload_in}
 use Rattle.blk_history.specs.Fold.{With}
@@ -15,7 +17,7 @@ use Rattle.blk_history.specs.Machine.{Flight}
 use Rattle.blk_history.specs.declared.event.Event.{Event}
 use Rattle.trace_codec.specs.declared.op.Op.{Op}
 use Rattle.qmp_rules.specs.Chains.{disk_node}
-use Rattle.qmp_rules.specs.Table.{Table, device_at}
+use Rattle.qmp_rules.specs.Table.{Table, child, device_at}
 use Rattle.qmp_rules.specs.declared.rows.Device.{Device}
 use Rattle.flat_machine.specs.EventLicence.{IsOnTheWay, ReachesDevice, RoseIn, WouldPass, full_by, device_in as device_named}
 use Rattle.flat_machine.specs.Legal.{Fits, IsForbidden}
@@ -28,18 +30,19 @@ use Rattle.flat_machine.specs.Writing.{CanWrite, ReadsWritten, written_file}
 use Rattle.flat_machine.specs.Imaging.{KeepsMapping}
 use Rattle.flat_machine.specs.declared.opening.Opening.{Opening}
 use Rattle.flat_machine.proofs.Resting.{guest_can}
+use Rattle.blk_nodes.specs.Contents.{Unfolds}
+use Rattle.blk_nodes.specs.Copying.{IsBeside}
 use Rattle.blk_nodes.specs.Joined.{IsJoined}
-use Rattle.blk_nodes.specs.Nodes.{DeviceState, AreTold, device_in, is_of}
-use Rattle.blk_nodes.specs.Reading.{StoppedAt, StoppedBy}
-use Rattle.blk_nodes.specs.Writing.{IsApart, own_file}
-use Rattle.blk_nodes.specs.declared.row.Row.{Row}
+use Rattle.blk_nodes.specs.Nodes.{DeviceState, AreTold, is_of}
+use Rattle.blk_nodes.specs.Reading.{LeadsTo, StoppedAt, StoppedBy}
+use Rattle.blk_nodes.specs.Writing.{IsApart}
 use Rattle.world_parts.specs.Coherent.{IsCoherent, IsWhole, DevicesTell}
 use Rattle.world_commands.specs.Comes.{Comes, Shows}
 use Rattle.world_commands.specs.Counting.{RunsOn, IsReached, IsReachedBy, sources_of, counts_within, HidesNoFault}
 use Rattle.world_parts.specs.Face.{Face, dirty_of, held, counts_now, node_over, contents_of}
-use Rattle.blk_pieces.specs.Pieces.{Transfers, CanTransfer}
+use Rattle.blk_pieces.specs.Pieces.{CanTransfer}
 use Rattle.blk_pieces.proofs.Payloads.{payload_length, putting_by}
-use Rattle.world_commands.specs.Piecing.{IsPieceMade, HasPieceLicence, PassesBy, table_after, part_of, piece_entry, piece_passes, shown_by}
+use Rattle.world_commands.specs.Piecing.{IsPieceMade, HasPieceLicence, table_after, part_of, piece_entry, piece_passes, shown_by}
 use Rattle.world_parts.specs.Progress.{Progress, HasNext, flight_at, done_at, ended_in, with_piece}
 use Rattle.flat_machine.specs.Bitmaps.{AreBitmapsOf}
 use Rattle.flat_machine.specs.Recording.{dirty_by}
@@ -53,10 +56,11 @@ use Rattle.world_commands.proofs.DeletedContents.{over-row}
 use Rattle.blk_world.proofs.ImageTold.{mapping_kept}
 use Rattle.world_parts.proofs.InStep.{ended-push}
 use Rattle.blk_world.proofs.PieceCounts.{AreCounted, piece-counted}
+use Rattle.blk_world.proofs.PieceCopied.{IsMet, Went, writes_file, images_of, piece_went}
 use Rattle.blk_world.proofs.PieceContents.{content_after, else_by, over_same, held_after}
-use Rattle.blk_world.proofs.PieceFits.{piece_fits, stop_reached, same_in}
-use Rattle.blk_world.proofs.PieceNodes.{AreAfter, nodes_after, StoppedOn, IsStop, stop_of, full_of}
-use Rattle.blk_world.proofs.PieceReady.{IsGuestDisk, disk_is, writer, can_transfer, is_apart}
+use Rattle.blk_world.proofs.PieceFits.{piece_fits, to_disk, stop_reached, same_in}
+use Rattle.blk_world.proofs.PieceNodes.{AreAfter, nodes_after, StoppedOn, IsStop, stop_of, passes_of}
+use Rattle.blk_world.proofs.PieceReady.{IsGuestDisk, disk_is, writer, can_transfer, is_apart, is_beside, disk_read}
 use Rattle.blk_world.proofs.PieceShows.{piece_done, piece_shows}
 use Rattle.blk_world.proofs.PieceTold.{told_after}
 use Rattle.blk_world.proofs.SoundImages.{images-sound}
@@ -101,11 +105,18 @@ module _ (w v : Face) (g : ℕ) (f : Flight) (outcome : Outcome) (made : IsPiece
   disk : IsGuestDisk w.table w.nodes g node
   disk = disk_is w.table w.nodes w.progress joined w.opened was g f made.drive made.on flies
 
-  can : CanTransfer w.nodes node f.op part
+  can : CanTransfer w.nodes made.drive node f.op part
   can = can_transfer w.table w.nodes w.progress joined w.opened was g f made.drive made.on flies next
 
+  -- the images that a read of the drive meets
+  met : IsMet w.table w.nodes made.drive part.start
+  met = images_of w.table w.nodes joined was.alike was.table.stands made.drive part.start
+
+  went : Went w.table f.op w.nodes v.nodes made.drive node part outcome made.buffer
+  went = piece_went w.table w.nodes v.nodes made.drive part outcome made.buffer met f.op made.transferred
+
   moved : AreAfter w.nodes v.nodes
-  moved = nodes_after w.nodes v.nodes joined f.op node part outcome made.buffer made.transferred
+  moved = nodes_after w.nodes v.nodes joined w.table made.drive node part outcome made.buffer f.op made.transferred went
 
   opened_kept : v.opened ≡ w.opened
   opened_kept = ap (λ (x : Face). x.opened) made.kept
@@ -133,7 +144,7 @@ module _ (w v : Face) (g : ℕ) (f : Flight) (outcome : Outcome) (made : IsPiece
   -- and its devices tell their bytes where they did
   tell_then : DevicesTell w.files w.nodes.devices → IsJoined v.nodes → DevicesTell v.files v.nodes.devices
   tell_then tell now = λ tells.
-      told_after f.op w.nodes v.nodes node part outcome made.buffer joined now made.transferred (tell (sym (ap (λ (x : Face). is_some x.files) made.kept) ∙ tells))
+      told_after w.table f.op w.nodes v.nodes made.drive node part outcome made.buffer joined now moved.devices went (tell (sym (ap (λ (x : Face). is_some x.files) made.kept) ∙ tells))
 
   pub piece_whole : DevicesTell w.files w.nodes.devices → w.first_faults ≤ w.faults → AreBitmapsOf w.table.bitmaps w.bitmaps → IsJoined v.nodes → IsWhole v
   piece_whole tell counted bitmaps now = record {
@@ -150,8 +161,11 @@ module _ (w v : Face) (g : ℕ) (f : Flight) (outcome : Outcome) (made : IsPiece
 
   -- ---- its fault
 
-  stopped : (dev : DevNo) → device_named outcome ≡ Some dev → StoppedOn w.nodes v.nodes node outcome dev
-  stopped dev named = stop_of w.nodes v.nodes node f.op part outcome made.buffer dev can.may named made.transferred
+  stopped : (dev : DevNo) → device_named outcome ≡ Some dev → StoppedOn w.nodes v.nodes made.drive outcome dev
+  stopped dev named =
+      let down : LeadsTo w.nodes.graph.edges made.drive node =
+      subst (λ (es : List Edge). LeadsTo es made.drive node) (sym was.alike.edges) (to_disk w.table w.nodes joined was.alike was.table.stands made.drive) in
+      stop_of w.table w.nodes v.nodes made.drive node part outcome made.buffer dev named down f.op can.may went
 
   on_the_way : (found : Option DevNo) → device_named outcome ≡ found → IsOnTheWay w.table (sources_of w) (drive_of w.table g) found
   on_the_way None is = tt
@@ -160,7 +174,7 @@ module _ (w v : Face) (g : ℕ) (f : Flight) (outcome : Outcome) (made : IsPiece
       let reached = stop_reached w.table w.nodes joined was.alike was.table.stands w v.nodes made.drive outcome dev refl stop (stop_names stop.before stop.after outcome dev stop.stop) in
       subst (λ (drive : Option ℕ). With drive (λ n. ReachesDevice w.table (sources_of w) n dev.0)) (sym made.on) reached
 
-  reached_by : (dev : DevNo) (count : ℕ) (stop : StoppedOn w.nodes v.nodes node outcome dev) → StoppedBy stop.before stop.after dev count → count ≤ 18446744073709551615
+  reached_by : (dev : DevNo) (count : ℕ) (stop : StoppedOn w.nodes v.nodes made.drive outcome dev) → StoppedBy stop.before stop.after dev count → count ≤ 18446744073709551615
       → IsReached w v (fault_at (Dev dev) count)
   reached_by dev count stop by fits =
       let same = same_in w.nodes.devices v.nodes.devices stop.file stop.before stop.after moved.devices stop.held stop.left in
@@ -187,23 +201,17 @@ module _ (w v : Face) (g : ℕ) (f : Flight) (outcome : Outcome) (made : IsPiece
   rose None is = tt
   rose (Some fault) is = is.new
 
-  passes : (o : Outcome) → outcome ≡ o → WouldPass (piece_passes w.nodes node f.op part) (full_by o)
+  -- what writes puts as many bytes as its part has
+  puts_length : is_write f.op ≡ true → length (payload_in f.op part) ≡ part.len
+  puts_length writes = payload_length f.op part (putting_by f.op w.nodes v.nodes made.drive node part outcome made.buffer made.transferred writes)
+
+  passes : (o : Outcome) → outcome ≡ o → WouldPass (piece_passes w.nodes made.drive node f.op part) (full_by o)
   passes Good is = tt
   passes (Torn done dev count) is = tt
   passes (Io dev count) is = tt
   passes (NoSpace dev) is =
-      let did : Transfers f.op w.nodes v.nodes node part (NoSpace dev) made.buffer =
-      subst (λ (o : Outcome). Transfers f.op w.nodes v.nodes node part o made.buffer) is made.transferred in
-      let puts : is_write f.op ≡ true → length (payload_in f.op part) ≡ part.len =
-      λ writes. payload_length f.op part (putting_by f.op w.nodes v.nodes node part (NoSpace dev) made.buffer did writes) in
-      let full = full_of w.nodes v.nodes node f.op part made.buffer dev puts can.may did in
-      subst
-      (λ (row : Option Row). With row (λ r. With (own_file w.nodes node r.driver) (λ file. With (device_in w.nodes.devices file)
-      (λ device. (device.number.0 ≡ dev.0) × PassesBy r.driver f.op part device.capacity)))) (sym full.there)
-      (subst (λ (own : Option ℕ). With own (λ file. With (device_in w.nodes.devices file) (λ device. (device.number.0 ≡ dev.0) × PassesBy full.row.driver f.op part device.capacity)))
-      (sym full.own)
-      (subst (λ (found : Option DeviceState). With found (λ device. (device.number.0 ≡ dev.0) × PassesBy full.row.driver f.op part device.capacity)) (sym full.held)
-      (ap (λ (d : DevNo). d.0) (sym full.named), full.passes)))
+      passes_of w.table w.nodes v.nodes made.drive node part made.buffer dev f.op puts_length can.may
+      (subst (λ (o : Outcome). Went w.table f.op w.nodes v.nodes made.drive node part o made.buffer) is went)
 
   -- no other count rose
   store_kept : v.faults ≡ w.faults
@@ -223,7 +231,7 @@ module _ (w v : Face) (g : ℕ) (f : Flight) (outcome : Outcome) (made : IsPiece
   hides_by (NoSpace dev) same = hides-none w v opened_kept store_kept (counts-same w.nodes.devices v.nodes.devices w.opened same)
 
   piece_hides : HidesNoFault w v (named_by outcome)
-  piece_hides = hides_by outcome (piece-counted w.nodes v.nodes joined f.op node part outcome made.buffer made.transferred)
+  piece_hides = hides_by outcome (piece-counted w.nodes v.nodes joined w.table made.drive node part outcome made.buffer f.op went)
 
   pub piece_licence : HasPieceLicence w v g f outcome made
   piece_licence = record {
@@ -237,18 +245,20 @@ module _ (w v : Face) (g : ℕ) (f : Flight) (outcome : Outcome) (made : IsPiece
   over_kept : (name : List ℕ) → node_over v.table name ≡ node_over w.table name
   over_kept name = ap (λ (t : Table). node_over t name) table_kept ∙ over_same w.table (table_after f.op node w.table) (eased_after f.op node w.table) name
 
-  held_else : (name : List ℕ) → (is_write f.op ≡ true → written_file w.table node ≡ Some name → ⊥) → held v name ≡ held w name
+  held_else : (name : List ℕ) → (writes_file w.table made.drive f.op ≡ true → written_file w.table node ≡ Some name → ⊥) → held v name ≡ held w name
   held_else name none =
       held_after w v name (ap (λ (x : Face). x.files) made.kept) (over_kept name)
-      (λ n is. content_after w.nodes v.nodes node n f.op part outcome made.buffer made.transferred
-      (λ changes. else_by w.table w.nodes was.alike node disk.row disk.at disk.id_is disk.own disk.own_at disk.alike f.op n name
+      (λ n is. content_after w.nodes v.nodes node n w.table made.drive part outcome made.buffer f.op went
+      (λ changes. else_by w.table w.nodes was.alike node disk.row disk.at disk.id_is disk.own disk.own_at disk.alike (writes_file w.table made.drive f.op) n name
       (over-row w.table name n was.table.stands.apart is) (none changes) changes))
 
-  apart : is_write f.op ≡ true → (other : ℕ) → (ReadsWritten w.table node other → ⊥) → IsApart w.nodes other node
-  apart changes other none =
-      is_apart w.table w.nodes joined was.alike was.table.stands node disk.row disk.at disk.held disk.id_is disk.has disk.own disk.own_at disk.alike other none
+  apart : (other : ℕ) → (ReadsWritten w.table node other → ⊥) → IsApart w.nodes other node
+  apart = is_apart w.table w.nodes joined was.alike was.table.stands node disk.row disk.at disk.held disk.id_is disk.has disk.own disk.own_at disk.alike
 
-  module _ (o : Opening) (s : State) (told : AreTold w.nodes.devices) (bitmaps : AreBitmapsOf w.table.bitmaps w.bitmaps) (shows : Shows o s w)
+  beside : (other : ℕ) → (child w.table node File ≡ Some other → ⊥) → IsBeside w.nodes other node
+  beside = is_beside w.table w.nodes joined was.alike was.table.stands node disk.row disk.at disk.held disk.id_is disk.has disk.own disk.own_at disk.alike
+
+  module _ (o : Opening) (s : State) (unfolds : Unfolds w.nodes) (told : AreTold w.nodes.devices) (bitmaps : AreBitmapsOf w.table.bitmaps w.bitmaps) (shows : Shows o s w)
       (joined_now : IsJoined v.nodes) where
     on_then : drive_of s.table g ≡ Some made.drive
     on_then = ap (λ (t : Table). drive_of t g) shows.table.table_is ∙ made.on
@@ -264,15 +274,17 @@ module _ (w v : Face) (g : ℕ) (f : Flight) (outcome : Outcome) (made : IsPiece
         (ap (λ (guests : List Guest). flight_at guests g) shows.guests.guests_are ∙ flies)
         (ap (λ (x : Face). x.room) made.kept) table_kept (ap (λ (x : Face). x.progress.guests) made.kept)
         (ap (λ (x : Face). ended_in x.progress.log.events) made.kept ∙ ended-push w.progress.log.events entry refl) (dirty_then bitmaps)
-        can_write (piece_done s w.table w v made.drive f.op outcome part made.buffer shows.table.table_is made.transferred apart told held_else)
+        can_write (piece_done s w.table w v made.drive f.op outcome part made.buffer shows.table.table_is made.transferred met beside apart told held_else)
         (subst (λ (t : Table). KeepsMapping t (disk_node t made.drive) (contents_of w) (contents_of v)) (sym shows.table.table_is)
         (mapping_kept w v was.alike joined joined_now was.table.stands moved told over_kept node))
 
     pub fits_then : Fits s entry
-    fits_then = piece_fits o s w v g made.drive f outcome made.buffer disk.row shows told made.on disk.at disk.has flies next made.transferred
+    fits_then =
+        piece_fits o s w v g made.drive f outcome made.buffer disk.row shows told made.on disk.at disk.has flies next
+        (disk_read w.table w.nodes joined was.alike was.table.stands unfolds made.drive) made.transferred
 
-  pub piece_comes : DevicesTell w.files w.nodes.devices → AreBitmapsOf w.table.bitmaps w.bitmaps → IsJoined v.nodes → (o : Opening) → Comes o w → Comes o v
-  piece_comes told bitmaps joined_now o comes =
+  pub piece_comes : Unfolds w.nodes → DevicesTell w.files w.nodes.devices → AreBitmapsOf w.table.bitmaps w.bitmaps → IsJoined v.nodes → (o : Opening) → Comes o w → Comes o v
+  piece_comes unfolds told bitmaps joined_now o comes =
       comes-push o w v entry comes (record {
         events = ap (λ (x : Face). x.progress.log.events) made.kept;
         names = ap (λ (t : Table). t.guests) table_kept ∙ (eased_after f.op node w.table).guests;
@@ -291,8 +303,8 @@ module _ (w v : Face) (g : ℕ) (f : Flight) (outcome : Outcome) (made : IsPiece
         licensed = licensed-on w v piece_runs w.progress.log.events entry piece_reached;
         sound = λ tells. images-sound v joined_now piece_coherent (tell_then told joined_now tells);
         fits = λ tells s shows. (
-          fits_then o s (told tells) bitmaps shows joined_now,
+          fits_then o s unfolds (told tells) bitmaps shows joined_now,
           All-nil (IsCalm s.table s.guests),
-          shows_then o s (told tells) bitmaps shows joined_now,
+          shows_then o s unfolds (told tells) bitmaps shows joined_now,
         );
       })

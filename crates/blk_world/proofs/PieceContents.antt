@@ -6,15 +6,15 @@ use Rattle.blk_base.specs.Pieces.{Extent}
 use Rattle.blk_base.specs.declared.fault.Outcome.{Outcome}
 use Rattle.trace_codec.specs.declared.op.Op.{Op}
 use Rattle.trace_codec.specs.declared.op.Op.TheVariants.{Read, Write, Zero, Flush, Discard}
-use Rattle.trace_codec.specs.declared.op.Payload.TheVariants.{Raw}
 use Rattle.blk_graph.specs.Edits.{child_of}
 use Rattle.blk_graph.specs.declared.edge.Parent.TheVariants.{Node}
 use Rattle.blk_graph.specs.declared.edge.Role.TheVariants.{File}
-use Rattle.blk_history.specs.Disk.{payload_in, is_write}
+use Rattle.blk_history.specs.Disk.{payload_in}
 use Rattle.qmp_rules.specs.Asks.{stands_for}
 use Rattle.qmp_rules.specs.Table.{Table, node_at, child}
 use Rattle.qmp_rules.specs.declared.rows.NodeRecord.{NodeRecord}
 use Rattle.flat_machine.specs.Changed.{file_of as file_by}
+use Rattle.flat_machine.specs.Machine.{copies_through}
 use Rattle.flat_machine.specs.State.{filename_of}
 use Rattle.flat_machine.specs.Writing.{written_file}
 use Rattle.flat_machine.proofs.Finds.{find-map}
@@ -27,8 +27,8 @@ use Rattle.blk_nodes.specs.declared.row.Driver.TheVariants as drivers
 use Rattle.blk_nodes.specs.declared.row.Row.{Row}
 use Rattle.world_parts.specs.Coherent.{AreNodesOf, IsRowOf}
 use Rattle.world_parts.specs.Face.{Face, held, held_by, node_over, told_bytes}
-use Rattle.blk_pieces.specs.Pieces.{Transfers}
 use Rattle.world_commands.proofs.EasedTables.{IsEased}
+use Rattle.blk_world.proofs.PieceCopied.{ReadWent, Went, writes_file, into_image}
 use Rattle.blk_world.proofs.PieceTables.{row_same}
 
 -- ---- bytes of devices
@@ -55,8 +55,8 @@ pub only_content : (file : ℕ) (old new : List DeviceState) → OnlyAt file old
 only_content file old new only n apart = ap (option_and_then (λ (d : DeviceState). d.content)) (only.others n apart)
 
 -- a node is not over the file that a piece writes
-abbrev pub IsElse : Op → Nodes → ℕ → ℕ → Type 0
-IsElse op nodes node n = is_write op ≡ true → (row : Row) (file : ℕ) → row_at nodes node ≡ Some row → own_file nodes node row.driver ≡ Some file → n ≢ file
+abbrev pub IsElse : Bool → Nodes → ℕ → ℕ → Type 0
+IsElse writes nodes node n = writes ≡ true → (row : Row) (file : ℕ) → row_at nodes node ≡ Some row → own_file nodes node row.driver ≡ Some file → n ≢ file
 
 module _ (old new : Nodes) (node n : ℕ) where
   abbrev NotItsFile : Type 0
@@ -97,14 +97,21 @@ module _ (old new : Nodes) (node n : ℕ) where
           ∙ sym (ap (content_in old.devices) same ∙ ap (option_and_then (λ (d : DeviceState). d.content)) flushed.held)
       by_node (inr apart) = only_content file old.devices new.devices flushed.only n apart
 
-  pub content_after : (op : Op) (part : Extent) (outcome : Outcome) (buffer : List ℕ) → Transfers op old new node part outcome buffer → IsElse op old node n
-      → content_in new.devices n ≡ content_in old.devices n
-  content_after (Read span) part outcome buffer did apart = risen_content old.devices new.devices did.devices n
-  content_after (Write span payload) part outcome buffer did apart =
-      write_content part (payload_in (Write span payload) part) outcome did.0.row did.0.there did.0.row.driver refl did.0.wrote (apart refl)
-  content_after (Zero span) part outcome buffer did apart = zero_content part outcome did.0.row did.0.there did.0.row.driver refl did.0.wrote (apart refl)
-  content_after Flush part outcome buffer did apart = flush_content (base_of old node) outcome did.flushed
-  content_after (Discard span) part outcome buffer did apart = absurd did
+  module _ (t : Table) (drive : ℕ) (part : Extent) (outcome : Outcome) (buffer : List ℕ) where
+    read_content : ReadWent t old new drive node part outcome buffer → IsElse (copies_through t drive) old node n → content_in new.devices n ≡ content_in old.devices n
+    read_content (inl only) apart = risen_content old.devices new.devices only.devices n
+    read_content (inr (inl full)) apart = ap (λ (ns : Nodes). content_in ns.devices n) full.room.same
+    read_content (inr (inr into)) apart =
+        let wrote = into_image t old new drive node part outcome buffer into in
+        image_content _ _ _ outcome into.copied.row (drivers.Qcow2 into.copied.image) into.copied.there into.copied.driver wrote wrote.edge (apart into.copied.copies)
+
+    pub content_after : (op : Op) → Went t op old new drive node part outcome buffer → IsElse (writes_file t drive op) old node n → content_in new.devices n ≡ content_in old.devices n
+    content_after (Read span) went apart = read_content went apart
+    content_after (Write span payload) went apart =
+        write_content part (payload_in (Write span payload) part) outcome went.0.row went.0.there went.0.row.driver refl went.0.wrote (apart refl)
+    content_after (Zero span) went apart = zero_content part outcome went.0.row went.0.there went.0.row.driver refl went.0.wrote (apart refl)
+    content_after Flush went apart = flush_content (base_of old node) outcome went.flushed
+    content_after (Discard span) went apart = absurd went
 
 -- ---- the file that is written, by name
 
@@ -126,8 +133,8 @@ module _ (t : Table) (nodes : Nodes) (are : AreNodesOf t nodes) (node : ℕ) (ro
       by_driver drivers.CopyOnRead bad = absurd (let e : ⊥ = cc bad in e)
 
   -- a node over another file
-  pub else_by : (op : Op) (n : ℕ) (name : List ℕ) → filename_of t n ≡ Some name → (written_file t node ≡ Some name → ⊥) → IsElse op nodes node n
-  else_by op n name named other changes found file there is = λ same.
+  pub else_by : (writes : Bool) (n : ℕ) (name : List ℕ) → filename_of t n ≡ Some name → (written_file t node ≡ Some name → ⊥) → IsElse writes nodes node n
+  else_by writes n name named other changes found file there is = λ same.
       let rows : found ≡ own = cc (sym there ∙ own_at) in
       let its : own_file nodes node own.driver ≡ Some file = ap (λ (r : Row). own_file nodes node r.driver) (sym rows) ∙ is in
       other (written_is file its ∙ ap (filename_of t) (sym same) ∙ named)

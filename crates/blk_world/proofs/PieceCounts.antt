@@ -1,6 +1,7 @@
 -- A piece raises no count but that of the device that it names.
-use Rattle.std.proofs.Common.{◌≡◌, ℕ, List, length, replicate, ap, Option}
+use Rattle.std.proofs.Common.{◌≡◌, ℕ, List, length, replicate, Option, sym, ap, subst, inl, inr}
 use Rattle.blk_base.specs.Pieces.{Extent}
+use Rattle.blk_base.specs.declared.fault.DevNo.{DevNo}
 use Rattle.blk_base.specs.declared.fault.Outcome.{Outcome}
 use Rattle.blk_base.specs.declared.fault.Outcome.TheVariants.{Good, Torn, Io, NoSpace}
 use Rattle.trace_codec.specs.declared.op.Op.{Op}
@@ -13,8 +14,9 @@ use Rattle.blk_nodes.specs.Reading.{IsReadBelow, StoppedAt}
 use Rattle.blk_nodes.specs.Writing.{IsWriteAt, WritesImage, WritesBy, ZerosBy, HasCauseOf, HasPieceCause}
 use Rattle.blk_nodes.specs.declared.row.Driver.{Driver}
 use Rattle.blk_nodes.specs.declared.row.Driver.TheVariants as drivers
-use Rattle.blk_pieces.specs.Pieces.{Transfers}
+use Rattle.qmp_rules.specs.Table.{Table}
 use Rattle.world_commands.proofs.CountsKept.{AreSame, faults_at, only-same}
+use Rattle.blk_world.proofs.PieceCopied.{ReadWent, Went, into_image}
 
 -- no count rose, or that of the device which stopped it
 abbrev pub AreCounted : Outcome → List DeviceState → List DeviceState → Type 0
@@ -89,11 +91,18 @@ module _ (old new : Nodes) (joined : IsJoined old) where
           (file, record { before = at.before; after = at.after; held = at.held; left = at.left; stopped = cause; only = at.only })
       by_cause (NoSpace dev) cause = absurd cause
 
-  pub piece-counted : (op : Op) (node : ℕ) (part : Extent) (outcome : Outcome) (buffer : List ℕ)
-      → Transfers op old new node part outcome buffer → AreCounted outcome old.devices new.devices
-  piece-counted (Read span) node part outcome buffer did = read-counted node outcome did.outcome_is
-  piece-counted (Write span payload) node part outcome buffer did =
-      write-counted node part (payload_in (Write span payload) part) outcome did.0.row.driver did.0.wrote
-  piece-counted (Zero span) node part outcome buffer did = zero-counted node part outcome did.0.row.driver did.0.wrote
-  piece-counted Flush node part outcome buffer did = flush-counted (base_of old node) outcome did.flushed
-  piece-counted (Discard span) node part outcome buffer did = absurd did
+  module _ (t : Table) (drive node : ℕ) (part : Extent) (outcome : Outcome) (buffer : List ℕ) where
+    full-counted : (o : Outcome) (dev : DevNo) → o ≡ NoSpace dev → AreSame old.devices new.devices → AreCounted o old.devices new.devices
+    full-counted o dev is same = subst (λ (x : Outcome). AreCounted x old.devices new.devices) (sym is) same
+
+    went-counted : ReadWent t old new drive node part outcome buffer → AreCounted outcome old.devices new.devices
+    went-counted (inl only) = read-counted drive outcome only.below
+    went-counted (inr (inl full)) = full-counted outcome full.room.dev full.room.is (same-of old.devices new.devices (ap (λ (n : Nodes). n.devices) full.room.same))
+    went-counted (inr (inr into)) = image-counted _ _ node _ outcome (into_image t old new drive node part outcome buffer into)
+
+    pub piece-counted : (op : Op) → Went t op old new drive node part outcome buffer → AreCounted outcome old.devices new.devices
+    piece-counted (Read span) went = went-counted went
+    piece-counted (Write span payload) went = write-counted node part (payload_in (Write span payload) part) outcome went.0.row.driver went.0.wrote
+    piece-counted (Zero span) went = zero-counted node part outcome went.0.row.driver went.0.wrote
+    piece-counted Flush went = flush-counted (base_of old node) outcome went.flushed
+    piece-counted (Discard span) went = absurd went

@@ -74,18 +74,19 @@ with_flight guests g f P is holds = subst (λ (x : Option Flight). With x P) (sy
 
 pub piece_fits : (o : Opening) (s : State) (w v : Face) (g drive : ℕ) (f : Flight) (outcome : Outcome) (buffer : List ℕ) (row : NodeRecord) → Shows o s w → AreTold w.nodes.devices
     → drive_of w.table g ≡ Some drive → node_at w.table (disk_node w.table drive) ≡ Some row → HasDisk row → flight_at w.progress.guests g ≡ Some f → HasNext f
-    → Transfers f.op w.nodes v.nodes (disk_node w.table drive) (part_of f) outcome buffer → Fits s (piece_entry w g f outcome buffer)
-piece_fits o s w v g drive f outcome buffer row shows told on at has flies next did =
+    → disk_of w.nodes (disk_node w.table drive) ≡ disk_of w.nodes drive
+    → Transfers f.op w.nodes v.nodes drive (disk_node w.table drive) (part_of f) outcome buffer → Fits s (piece_entry w g f outcome buffer)
+piece_fits o s w v g drive f outcome buffer row shows told on at has flies next same did =
     let node : ℕ = disk_node w.table drive in
     let flat = flat_is s w.table g drive row shows.table.table_is on at has in
     let reads : disk_of w.nodes node ≡ bytes_in s.disks node =
     shows.contents.disks node row (ap (λ (t : Table). node_at t node) shows.table.table_is ∙ at) has in
-    let disk : guest_disk s g ≡ Some (disk_of w.nodes node) = flat ∙ ap Some (sym reads) in
+    let disk : guest_disk s g ≡ Some (disk_of w.nodes drive) = flat ∙ ap Some (sym reads ∙ same) in
     let is : IsNextPiece f f.next outcome (guest_disk s g) (shown_by f outcome buffer) = record {
       running = next.running;
       next = refl;
       within = next.next;
-      told = tells w.nodes v.nodes node (part_of f) buffer told f.op outcome (guest_disk s g) disk did;
+      told = tells w.nodes v.nodes drive node (part_of f) buffer told f.op outcome (guest_disk s g) disk did;
     } in
     let stands = in-flight w.progress.guests g (λ x. IsNextPiece x f.next outcome (guest_disk s g) (shown_by f outcome buffer))
     (with_flight w.progress.guests g f (λ x. IsNextPiece x f.next outcome (guest_disk s g) (shown_by f outcome buffer)) flies is) in (
@@ -126,24 +127,22 @@ module _ (t : Table) (nodes : Nodes) (joined : IsJoined nodes) (are : AreNodesOf
       let less = short t nodes joined are stands a b (path.first ∷ path.rest) path.path in
       inr (leads_true t.edges path.rest path.first 64 a b path.path (omega (arith, less)))
 
-  to_disk : (drive : ℕ) → LeadsTo t.edges drive (disk_node t drive)
+  pub to_disk : (drive : ℕ) → LeadsTo t.edges drive (disk_node t drive)
   to_disk drive =
       down_disk t nodes joined are stands (λ n. LeadsTo t.edges drive n)
       (λ a c is so_far.
       let e = filter_edge t nodes joined are stands a c is in
       leads_on t.edges drive a c so_far (inr (subst (Reaches t.edges a) e.to (Reaches-edge t.edges a e.edge e.there e.from)))) drive (inl refl)
 
-  pub stop_reached : (w : Face) (new : Nodes) (drive : ℕ) (outcome : Outcome) (dev : DevNo) → w.nodes ≡ nodes → (stop : StoppedOn nodes new (disk_node t drive) outcome dev)
+  pub stop_reached : (w : Face) (new : Nodes) (drive : ℕ) (outcome : Outcome) (dev : DevNo) → w.nodes ≡ nodes → (stop : StoppedOn nodes new drive outcome dev)
       → dev ≡ stop.before.number → ReachesDevice t (sources_of w) drive dev.0
-  stop_reached w new drive outcome dev same stop named =
-      let leads : LeadsTo t.edges (disk_node t drive) stop.file = subst (λ (es : List Edge). LeadsTo es (disk_node t drive) stop.file) are.edges stop.leads in
-      record {
-        file = stop.file;
-        leads = reaches_by drive stop.file (leads_on t.edges drive (disk_node t drive) stop.file (to_disk drive) leads);
-        device =
-            ap (λ (ns : Nodes). option_map (λ (d : DeviceState). d.number.0) (device_in ns.devices stop.file)) same
-            ∙ ap (option_map (λ (d : DeviceState). d.number.0)) stop.held ∙ ap (λ (d : DevNo). Some d.0) (sym named);
-      }
+  stop_reached w new drive outcome dev same stop named = record {
+    file = stop.file;
+    leads = reaches_by drive stop.file (subst (λ (es : List Edge). LeadsTo es drive stop.file) are.edges stop.leads);
+    device =
+        ap (λ (ns : Nodes). option_map (λ (d : DeviceState). d.number.0) (device_in ns.devices stop.file)) same
+        ∙ ap (option_map (λ (d : DeviceState). d.number.0)) stop.held ∙ ap (λ (d : DevNo). Some d.0) (sym named);
+  }
 
 -- ---- the device of a node afterwards
 

@@ -11,9 +11,11 @@ use Rattle.trace_codec.specs.declared.op.Op.TheVariants.{Read, Write, Zero, Flus
 use Rattle.blk_graph.specs.Graph.{Graph}
 use Rattle.blk_graph.specs.declared.edge.Role.TheVariants.{File as FileRole}
 use Rattle.blk_history.specs.Disk.{payload_in, is_write}
+use Rattle.blk_history.specs.Fold.{With}
 use Rattle.qmp_rules.specs.Table.{Table, node_at}
 use Rattle.qmp_rules.specs.declared.rows.NodeRecord.{NodeRecord}
 use Rattle.flat_machine.specs.EventLicence.{device_in as device_named}
+use Rattle.blk_nodes.specs.Copying.{AtSome, LacksRoomIn}
 use Rattle.blk_nodes.specs.Flushing.{base_in, base_of, HasFlushCause, IsFlushAt}
 use Rattle.blk_nodes.specs.Joined.{IsJoined}
 use Rattle.blk_nodes.specs.Nodes.{Nodes, DeviceState, row_at, device_in, file_of, kind_of}
@@ -22,13 +24,15 @@ use Rattle.blk_nodes.specs.Writing.{IsDriverAfter, AreRowsAfter, WritesFile, Wri
 use Rattle.blk_nodes.specs.declared.row.Driver.{Driver}
 use Rattle.blk_nodes.specs.declared.row.Driver.TheVariants as drivers
 use Rattle.blk_nodes.specs.declared.row.Row.{Row}
+use Rattle.blk_pieces.proofs.Kept.{LacksItsRoom}
 use Rattle.blk_pieces.proofs.Rows.{RowsAfter, rows_kept, rows_after}
 use Rattle.blk_nodes.proofs.Leading.{leads_on, child_leads}
 use Rattle.world_parts.specs.Coherent.{AreNodesOf, AreAlike, IsRowOf, offset_of}
 use Rattle.world_commands.specs.Counting.{AreSameDevices}
 use Rattle.blk_pieces.specs.Pieces.{Transfers}
-use Rattle.world_commands.specs.Piecing.{PassesBy}
-use Rattle.world_commands.proofs.CountLemmas.{same-risen, same-only}
+use Rattle.world_commands.specs.Piecing.{PassesBy, write_passes, read_passes, piece_passes}
+use Rattle.world_commands.proofs.CountLemmas.{same-devices, same-risen, same-only}
+use Rattle.blk_world.proofs.PieceCopied.{ReadWent, Went, into_image}
 
 -- ---- nodes after it
 
@@ -78,15 +82,21 @@ module _ (old new : Nodes) (joined : IsJoined old) where
         faults = flushed.flush.faults;
       })
 
-  devices_after : (op : Op) (node : ℕ) (part : Extent) (outcome : Outcome) (buffer : List ℕ) → Transfers op old new node part outcome buffer → AreSameDevices old.devices new.devices
-  devices_after (Read span) node part outcome buffer did = same-risen old.devices new.devices did.devices
-  devices_after (Write span payload) node part outcome buffer did = write_devices node part (payload_in (Write span payload) part) outcome did.0.row.driver did.0.wrote
-  devices_after (Zero span) node part outcome buffer did = zero_devices node part outcome did.0.row.driver did.0.wrote
-  devices_after Flush node part outcome buffer did = flush_devices (base_of old node) outcome did.flushed
-  devices_after (Discard span) node part outcome buffer did = absurd did
+  module _ (t : Table) (drive node : ℕ) (part : Extent) (outcome : Outcome) (buffer : List ℕ) where
+    read_devices : ReadWent t old new drive node part outcome buffer → AreSameDevices old.devices new.devices
+    read_devices (inl only) = same-risen old.devices new.devices only.devices
+    read_devices (inr (inl full)) = subst (λ (n : Nodes). AreSameDevices old.devices n.devices) (sym full.room.same) (same-devices old.devices)
+    read_devices (inr (inr into)) = image_devices _ _ node _ outcome (into_image t old new drive node part outcome buffer into)
 
-  pub nodes_after : (op : Op) (node : ℕ) (part : Extent) (outcome : Outcome) (buffer : List ℕ) → Transfers op old new node part outcome buffer → AreAfter old new
-  nodes_after op node part outcome buffer did = of_rows old new (rows_after old new node op part outcome buffer did) (devices_after op node part outcome buffer did)
+    devices_after : (op : Op) → Went t op old new drive node part outcome buffer → AreSameDevices old.devices new.devices
+    devices_after (Read span) went = read_devices went
+    devices_after (Write span payload) went = write_devices node part (payload_in (Write span payload) part) outcome went.0.row.driver went.0.wrote
+    devices_after (Zero span) went = zero_devices node part outcome went.0.row.driver went.0.wrote
+    devices_after Flush went = flush_devices (base_of old node) outcome went.flushed
+    devices_after (Discard span) went = absurd went
+
+    pub nodes_after : (op : Op) → Transfers op old new drive node part outcome buffer → Went t op old new drive node part outcome buffer → AreAfter old new
+    nodes_after op did went = of_rows old new (rows_after old new drive node op part outcome buffer did) (devices_after op went)
 
 -- ---- the table speaks of them as before
 
@@ -278,15 +288,50 @@ module _ (old new : Nodes) (node : ℕ) where
   zeroed_stop part outcome dev row named there may (drivers.Qcow2 image) driver wrote = image_stop old new node _ _ _ outcome dev named wrote
   zeroed_stop part outcome dev row named there may drivers.CopyOnRead driver wrote = absurd (not_copying row there driver may)
 
-  -- The device that a piece names is one that its node leads to.
-  pub stop_of : (op : Op) (part : Extent) (outcome : Outcome) (buffer : List ℕ) (dev : DevNo) → (is_write op ≡ true → MayWrite old node) → device_named outcome ≡ Some dev
-      → Transfers op old new node part outcome buffer → StoppedOn old new node outcome dev
-  stop_of (Read span) part outcome buffer dev may named did = read_stop old new node outcome dev named did.outcome_is
-  stop_of (Write span payload) part outcome buffer dev may named did =
-      written_stop part (payload_in (Write span payload) part) outcome dev did.0.row named did.0.there (may refl) did.0.row.driver refl did.0.wrote
-  stop_of (Zero span) part outcome buffer dev may named did = zeroed_stop part outcome dev did.0.row named did.0.there (may refl) did.0.row.driver refl did.0.wrote
-  stop_of Flush part outcome buffer dev may named did = flush_stop old new node outcome dev named did.flushed
-  stop_of (Discard span) part outcome buffer dev may named did = absurd did
+-- a node above leads there too
+stop_above : (old new : Nodes) (above node : ℕ) (outcome : Outcome) (dev : DevNo) → LeadsTo old.graph.edges above node → StoppedOn old new node outcome dev → StoppedOn old new above outcome dev
+stop_above old new above node outcome dev down stop = record {
+  file = stop.file;
+  leads = leads_on old.graph.edges above node stop.file down stop.leads;
+  before = stop.before;
+  after = stop.after;
+  held = stop.held;
+  left = stop.left;
+  stop = stop.stop;
+}
+
+module _ (t : Table) (old new : Nodes) (drive node : ℕ) (part : Extent) (outcome : Outcome) (buffer : List ℕ) (dev : DevNo) (named : device_named outcome ≡ Some dev)
+    (down : LeadsTo old.graph.edges drive node) where
+  above : StoppedOn old new node outcome dev → StoppedOn old new drive outcome dev
+  above stop = stop_above old new drive node outcome dev down stop
+
+  -- where there was no room, it is for the device of the image's file
+  full_stop : LacksItsRoom old new node part outcome → StoppedOn old new drive outcome dev
+  full_stop full =
+      let own : full.dev ≡ dev = (let both : Some full.dev ≡ Some dev = sym (ap device_named full.is) ∙ named in cc both) in
+      above (record {
+        file = full.lacks.file;
+        leads = child_leads old.graph.edges node full.lacks.file FileRole full.lacks.edge;
+        before = full.lacks.device;
+        after = full.lacks.device;
+        held = full.lacks.held;
+        left = ap (λ (n : Nodes). device_in n.devices full.lacks.file) full.same ∙ full.lacks.held;
+        stop = subst (λ (o : Outcome). IsStop full.lacks.device full.lacks.device o dev) (sym full.is) (sym own ∙ full.lacks.named);
+      })
+
+  read_stopped : ReadWent t old new drive node part outcome buffer → StoppedOn old new drive outcome dev
+  read_stopped (inl only) = read_stop old new drive outcome dev named only.below
+  read_stopped (inr (inl full)) = full_stop full.room
+  read_stopped (inr (inr into)) = above (image_stop old new node _ _ _ outcome dev named (into_image t old new drive node part outcome buffer into))
+
+  -- The device that a piece names is one that its drive leads to.
+  pub stop_of : (op : Op) → (is_write op ≡ true → MayWrite old node) → Went t op old new drive node part outcome buffer → StoppedOn old new drive outcome dev
+  stop_of (Read span) may went = read_stopped went
+  stop_of (Write span payload) may went =
+      above (written_stop old new node part (payload_in (Write span payload) part) outcome dev went.0.row named went.0.there (may refl) went.0.row.driver refl went.0.wrote)
+  stop_of (Zero span) may went = above (zeroed_stop old new node part outcome dev went.0.row named went.0.there (may refl) went.0.row.driver refl went.0.wrote)
+  stop_of Flush may went = above (flush_stop old new node outcome dev named went.flushed)
+  stop_of (Discard span) may went = absurd went
 
 -- ---- want of space
 
@@ -346,11 +391,35 @@ module _ (old new : Nodes) (node : ℕ) (part : Extent) (dev : DevNo) (row : Row
   zero_full span may (drivers.Qcow2 image) driver wrote = image_full (Zero span) _ _ _ (drivers.Qcow2 image) driver refl wrote wrote.cause.0
   zero_full span may drivers.CopyOnRead driver wrote = absurd (not_copying old new node row there driver may)
 
-pub full_of : (old new : Nodes) (node : ℕ) (op : Op) (part : Extent) (buffer : List ℕ) (dev : DevNo) → (is_write op ≡ true → length (payload_in op part) ≡ part.len) → (is_write op ≡ true → MayWrite old node)
-    → Transfers op old new node part (NoSpace dev) buffer → IsFull old node op part dev
-full_of old new node (Read span) part buffer dev len may did = absurd did.outcome_is
-full_of old new node (Write span payload) part buffer dev len may did =
-    write_full old new node part dev did.0.row did.0.there span payload (payload_in (Write span payload) part) (len refl) (may refl) did.0.row.driver refl did.0.wrote
-full_of old new node (Zero span) part buffer dev len may did = zero_full old new node part dev did.0.row did.0.there span (may refl) did.0.row.driver refl did.0.wrote
-full_of old new node Flush part buffer dev len may did = absurd did.flushed.flush.cause
-full_of old new node (Discard span) part buffer dev len may did = absurd did
+module _ (t : Table) (old new : Nodes) (drive node : ℕ) (part : Extent) (buffer : List ℕ) (dev : DevNo) where
+  full_passes : (op : Op) → IsFull old node op part dev → write_passes old node op part dev.0
+  full_passes op full =
+      subst
+      (λ (row : Option Row). With row (λ r. With (own_file old node r.driver) (λ file. With (device_in old.devices file)
+      (λ device. (device.number.0 ≡ dev.0) × PassesBy r.driver op part device.capacity)))) (sym full.there)
+      (subst (λ (own : Option ℕ). With own (λ file. With (device_in old.devices file) (λ device. (device.number.0 ≡ dev.0) × PassesBy full.row.driver op part device.capacity)))
+      (sym full.own)
+      (subst (λ (found : Option DeviceState). With found (λ device. (device.number.0 ≡ dev.0) × PassesBy full.row.driver op part device.capacity)) (sym full.held)
+      (ap (λ (d : DevNo). d.0) (sym full.named), full.passes)))
+
+  read_full : ReadWent t old new drive node part (NoSpace dev) buffer → read_passes old drive part dev.0
+  read_full (inl only) = absurd only.below
+  read_full (inr (inl full)) =
+      let own : full.room.dev ≡ dev = (let both : NoSpace dev ≡ NoSpace full.room.dev = full.room.is in cc both) in (
+        full.room.dev,
+        ap (λ (d : DevNo). d.0) own,
+        subst (AtSome (LacksRoomIn old part full.room.dev)) (sym full.copied.met) (inl full.room.lacks),
+      )
+  read_full (inr (inr into)) = absurd into.maps.whole
+
+  -- Where there was no room, a write would have passed the device's capacity.
+  pub passes_of : (op : Op) → (is_write op ≡ true → length (payload_in op part) ≡ part.len) → (is_write op ≡ true → MayWrite old node)
+      → Went t op old new drive node part (NoSpace dev) buffer → piece_passes old drive node op part dev.0
+  passes_of (Read span) len may went = read_full went
+  passes_of (Write span payload) len may went =
+      full_passes (Write span payload)
+      (write_full old new node part dev went.0.row went.0.there span payload (payload_in (Write span payload) part) (len refl) (may refl) went.0.row.driver refl went.0.wrote)
+  passes_of (Zero span) len may went =
+      full_passes (Zero span) (zero_full old new node part dev went.0.row went.0.there span (may refl) went.0.row.driver refl went.0.wrote)
+  passes_of Flush len may went = absurd went.flushed.flush.cause
+  passes_of (Discard span) len may went = absurd went

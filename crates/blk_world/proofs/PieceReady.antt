@@ -7,13 +7,14 @@ use Rattle.blk_base.specs.declared.file.Opened.{Opened}
 use Rattle.trace_codec.specs.Request.{pieces_of}
 use Rattle.trace_codec.specs.declared.op.Op.{Op}
 use Rattle.trace_codec.specs.declared.op.Op.TheVariants.{Read, Write, Zero, Flush, Discard}
-use Rattle.blk_graph.specs.Edits.{child_of}
+use Rattle.blk_graph.specs.Edits.{child_of, without_parent}
 use Rattle.blk_graph.specs.Paths.{IsPath, Reaches}
 use Rattle.blk_graph.specs.declared.edge.Edge.{Edge}
 use Rattle.blk_graph.specs.declared.edge.Parent.TheVariants.{Node}
 use Rattle.blk_graph.specs.declared.edge.Role.TheVariants.{File, Backing}
+use Rattle.blk_graph.proofs.NodeLemmas.{without_parent-apart}
 use Rattle.blk_graph.proofs.PathLemmas.{Reaches-edge, Reaches-joined}
-use Rattle.qmp_rules.specs.Chains.{filter_role, disk_node}
+use Rattle.qmp_rules.specs.Chains.{filter_role, filtered, disk_node}
 use Rattle.qmp_rules.specs.Table.{Table, node_at, device_at, child}
 use Rattle.qmp_rules.specs.declared.rows.Device.{Device}
 use Rattle.qmp_rules.specs.declared.rows.NodeRecord.{NodeRecord}
@@ -26,7 +27,9 @@ use Rattle.flat_machine.specs.Machine.{copies_through}
 use Rattle.flat_machine.specs.State.{drive_of, disk_of_guest, size_of}
 use Rattle.flat_machine.specs.Wiring.{LeadsToFile, IsTaken, IsDiskOf, TableStands}
 use Rattle.flat_machine.specs.Writing.{ReadsWritten}
-use Rattle.blk_nodes.specs.Joined.{IsJoined}
+use Rattle.blk_nodes.specs.Contents.{below, disk_by, disk_of, Unfolds}
+use Rattle.blk_nodes.specs.Copying.{AtEach, IsBeside, images_met}
+use Rattle.blk_nodes.specs.Joined.{IsJoined, IsCopying, HasBelow}
 use Rattle.blk_nodes.specs.Nodes.{Nodes, row_at, file_of, kind_of, size_by, size_of as size_in}
 use Rattle.blk_nodes.specs.Reading.{LeadsTo}
 use Rattle.blk_nodes.specs.Writing.{MayWrite, CanBeWritten, IsOverApart, OwnsFile, IsApart, own_file}
@@ -35,13 +38,14 @@ use Rattle.blk_nodes.specs.declared.row.Driver.TheVariants as drivers
 use Rattle.blk_nodes.specs.declared.row.Row.{Row}
 use Rattle.blk_nodes.proofs.Leading.{leads_on}
 use Rattle.world_parts.specs.Coherent.{AreNodesOf, IsRowOf, IsCoherent}
-use Rattle.blk_pieces.specs.Pieces.{CanTransfer}
+use Rattle.blk_pieces.specs.Pieces.{CanReadFor, CanTransfer}
 use Rattle.world_commands.specs.Piecing.{part_of}
 use Rattle.world_parts.specs.Progress.{Progress, HasNext, flight_at}
 use Rattle.flat_machine.proofs.WritingKept.{RoleEdge, role_edge}
 use Rattle.world_parts.proofs.InStep.{with-at}
-use Rattle.blk_world.proofs.PiecePaths.{row_there, acyclic, or-left, OnlyFilters, leads_reads}
-use Rattle.blk_world.proofs.PieceWriters.{own_row}
+use Rattle.blk_world.proofs.PiecePaths.{row_there, acyclic, or-left, or-right, OnlyFilters, leads_reads}
+use Rattle.blk_world.proofs.PieceWriters.{own_row, filter_edge, down_disk}
+use Rattle.blk_world.proofs.PieceCopied.{IsMet, images_of}
 
 -- ---- the last edge of a path
 
@@ -236,6 +240,47 @@ module _ (t : Table) (nodes : Nodes) (joined : IsJoined nodes) (are : AreNodesOf
         let same : own ≡ found = cc (sym own_at ∙ there) in
         apart_by found.driver other file none is (subst (λ (es : List Edge). LeadsTo es other file) are.edges leads)
 
+    -- nor does it lead to the file but through the node
+    pub is_beside : (other : ℕ) → (child t node File ≡ Some other → ⊥) → IsBeside nodes other node
+    is_beside other none file edge leads = by_path (subst (λ (es : List Edge). LeadsTo (without_parent (Node node) es) other file) are.edges leads)
+      where
+        under : child t node File ≡ Some file
+        under = sym (in_table node) ∙ edge
+
+        by_path : LeadsTo (without_parent (Node node) t.edges) other file → ⊥
+        by_path (inl same) = none (under ∙ ap Some (sym same))
+        by_path (inr path) =
+            let last = last_edge (without_parent (Node node) t.edges) path.rest path.first other file path.path in
+            let kept = without_parent-apart (Node node) t.edges last.edge last.there in
+            kept.1 (sole file last.edge under kept.0 last.to_is).0
+
+-- ---- a filter has its child's size, and its child's disk
+
+module _ (t : Table) (nodes : Nodes) (joined : IsJoined nodes) (are : AreNodesOf t nodes) (stands : TableStands t) where
+  in_filter : (a c : ℕ) → child t a File ≡ Some c → file_of nodes a ≡ Some c
+  in_filter a c is = ap (child_of (Node a) File) are.edges ∙ is
+
+  size_below : (a c : ℕ) → filtered t a ≡ Some c → size_in nodes c ≡ size_in nodes a
+  size_below a c is =
+      let e = filter_edge t nodes joined are stands a c is in
+      let below : IsCopying nodes a e.over.size = subst (HasBelow nodes a e.over.size) e.copying (joined.below a e.over e.over_at) in
+      let same : below.child ≡ c = (let both : Some below.child ≡ Some c = sym below.edge ∙ in_filter a c e.under in cc both) in
+      ap (size_in nodes) (sym same) ∙ ap size_by below.same.there ∙ below.same.is ∙ sym (ap size_by e.over_at)
+
+  disk_size : (drive : ℕ) → size_in nodes (disk_node t drive) ≡ size_in nodes drive
+  disk_size drive =
+      down_disk t nodes joined are stands (λ n. size_in nodes n ≡ size_in nodes drive) (λ a c is so_far. size_below a c is ∙ so_far) drive refl
+
+  module _ (unfolds : Unfolds nodes) where
+    disk_below : (a c : ℕ) → filtered t a ≡ Some c → disk_of nodes c ≡ disk_of nodes a
+    disk_below a c is =
+        let e = filter_edge t nodes joined are stands a c is in
+        sym (unfolds a e.over e.over_at ∙ ap (disk_by nodes (disk_of nodes) a) e.copying ∙ ap (below (disk_of nodes)) (in_filter a c e.under))
+
+    pub disk_read : (drive : ℕ) → disk_of nodes (disk_node t drive) ≡ disk_of nodes drive
+    disk_read drive =
+        down_disk t nodes joined are stands (λ n. disk_of nodes n ≡ disk_of nodes drive) (λ a c is so_far. disk_below a c is ∙ so_far) drive refl
+
 -- ---- pieces lie in their requests
 
 span_inside : (span : Extent) (k : ℕ) → k < count_of_pieces span → end_of (piece_of span k) ≤ end_of span
@@ -341,15 +386,41 @@ module _ (t : Table) (nodes : Nodes) (p : Progress) (joined : IsJoined nodes) wh
         let by = writer changes in
         disk_writable t nodes joined was.table.stands was.alike g (disk_node t drive) disk_is (was.writable g disk_is.drive by.0 by.1 by.2 disk_is.on)
 
-    pub can_transfer : HasNext f → CanTransfer nodes (disk_node t drive) f.op (part_of f)
+    may_disk : disk_is.row.read_only ≡ false → MayWrite nodes (disk_node t drive)
+    may_disk =
+        may_write t nodes joined was.alike was.table.stands (disk_node t drive) disk_is.row disk_is.at disk_is.held disk_is.id_is disk_is.has disk_is.own disk_is.own_at
+        disk_is.alike
+
+    -- an image below a copy-on-read may be written, whatever the guest may
+    may_copy : (place : ℕ) → AtEach (MayWrite nodes) (images_met nodes drive place)
+    may_copy place = by_images (images_of t nodes joined was.alike was.table.stands drive place)
+      where
+        by_images : IsMet t nodes drive place → AtEach (MayWrite nodes) (images_met nodes drive place)
+        by_images (inl none) = subst (AtEach (MayWrite nodes)) (sym none) tt
+        by_images (inr one) =
+            let disk : IsDiskOf t one.top disk_is.row =
+            with-at (node_at t (disk_node t drive)) disk_is.row (IsDiskOf t one.top) disk_is.at (was.table.stands.reads drive one.top one.top_at) in
+            let writable = disk.writable (or-right (not one.top.read_only) (copies_through t one.top.id) (ap (copies_through t) one.top_id ∙ one.copies)) in
+            subst (AtEach (MayWrite nodes)) (sym one.met) (may_disk writable, tt)
+
+    can_read : (op : Op) (part : Extent) → end_of part ≤ size_in nodes (disk_node t drive) → CanReadFor op nodes drive part
+    can_read (Read span) part inside =
+        let size = disk_size t nodes joined was.alike was.table.stands drive in
+        record { inside = omega (arith, inside, size); may = may_copy part.start }
+    can_read (Write span payload) part inside = tt
+    can_read (Zero span) part inside = tt
+    can_read Flush part inside = tt
+    can_read (Discard span) part inside = tt
+
+    pub can_transfer : HasNext f → CanTransfer nodes drive (disk_node t drive) f.op (part_of f)
     can_transfer next =
         let within = with-at (disk_of_guest t g) (disk_node t drive) (λ node. end_of (span_of f.op) ≤ size_of t node) node_on (was.within g f flies) in
         let size = size_there t nodes joined was.table.stands was.alike g (disk_node t drive) disk_is in
-        let inside = piece_inside f.op f.next next.next in
+        let piece_in = piece_inside f.op f.next next.next in
+        let inside : end_of (part_of f) ≤ size_in nodes (disk_node t drive) = omega (arith, within, size, piece_in) in
         record {
           there = joined.only (disk_node t drive) (subst IsSome (sym disk_is.own_at) refl);
-          inside = omega (arith, within, size, inside);
-          may = λ changes.
-              may_write t nodes joined was.alike was.table.stands (disk_node t drive) disk_is.row disk_is.at disk_is.held disk_is.id_is disk_is.has
-              disk_is.own disk_is.own_at disk_is.alike (writable_row changes);
+          inside = inside;
+          read = can_read f.op (part_of f) inside;
+          may = λ changes. may_disk (writable_row changes);
         }

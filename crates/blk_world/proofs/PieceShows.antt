@@ -1,41 +1,45 @@
 -- After a piece the world shows what the flat machine comes to by it.
-use Rattle.std.proofs.Common.{◌≡◌, ℕ, Bool, true, false, cond, List, [], ◌∷◌, map, Option, Some, refl, sym, ◌∙◌, ap, subst, inl}
+use Rattle.std.proofs.Common.{◌≡◌, ℕ, Bool, true, false, cond, List, [], ◌∷◌, map, Option, Some, refl, sym, ◌∙◌, ap, subst, inl, inr}
+use Rattle.std.proofs.lemmas.Bool.{false≢true}
 use Rattle.blk_base.specs.Content.{with_bytes}
 use Rattle.blk_base.specs.Pieces.{Extent}
 use Rattle.blk_base.specs.declared.fault.Outcome.{Outcome}
 use Rattle.trace_codec.specs.declared.op.Op.{Op}
 use Rattle.trace_codec.specs.declared.op.Op.TheVariants.{Read, Write, Zero, Flush, Discard}
-use Rattle.blk_history.specs.Disk.{payload_in, done_in, piece, is_write}
+use Rattle.blk_graph.specs.declared.edge.Role.TheVariants.{File}
+use Rattle.blk_history.specs.Disk.{payload_in, done_in, piece}
 use Rattle.blk_history.specs.Fold.{change}
 use Rattle.blk_history.specs.Machine.{Flight, done_by}
 use Rattle.blk_history.specs.declared.event.Event.{Event}
 use Rattle.blk_history.specs.declared.event.Event.TheVariants.{Piece}
 use Rattle.qmp_rules.specs.Chains.{disk_node, written_under}
-use Rattle.qmp_rules.specs.Table.{Table}
+use Rattle.qmp_rules.specs.Table.{Table, child}
 use Rattle.flat_machine.specs.Agreement.{Agrees}
 use Rattle.flat_machine.specs.Final.{bytes_named}
 use Rattle.flat_machine.specs.Jobs.{unsure}
 use Rattle.flat_machine.specs.Machine.{after, with_guest, with_part, with_piece, with_disk, past_piece, flight_of, note, noted, is_noted, path, written, read_through, copies_through}
 use Rattle.flat_machine.specs.Performing.{IsQuiet}
 use Rattle.flat_machine.specs.State.{State, drive_of}
-use Rattle.flat_machine.specs.Writing.{PieceDone, CanWrite, Writes, ReadsWritten, written_file}
+use Rattle.flat_machine.specs.Writing.{PieceDone, ReadDone, Copies, CanWrite, Writes, ReadsWritten, written_file}
 use Rattle.flat_machine.specs.declared.opening.Opening.{Opening}
 use Rattle.flat_machine.proofs.Resting.{piece_rests}
 use Rattle.flat_machine.proofs.Written.{piece_keeps}
 use Rattle.flat_machine.proofs.ImagesWritten.{piece_images_keep}
 use Rattle.flat_machine.specs.Imaging.{ShowsImages, KeepsMapping}
 use Rattle.blk_nodes.specs.Contents.{disk_of}
+use Rattle.blk_nodes.specs.Copying.{AtEach, IsBeside, images_met}
 use Rattle.blk_nodes.specs.Nodes.{AreTold}
 use Rattle.blk_nodes.specs.Writing.{IsApart}
 use Rattle.world_commands.specs.Comes.{Shows}
 use Rattle.flat_machine.specs.Recording.{dirty_by}
 use Rattle.flat_machine.proofs.Recorded.{part-dirty}
 use Rattle.world_parts.specs.Face.{Face, dirty_of, held, contents_of}
-use Rattle.blk_pieces.specs.Pieces.{Transfers, PutsPart}
+use Rattle.blk_pieces.specs.Pieces.{ReadsPart, Transfers, PutsPart}
 use Rattle.blk_pieces.proofs.Payloads.{IsPutting, taken_is}
 use Rattle.world_commands.specs.Piecing.{table_after}
 use Rattle.world_parts.specs.Progress.{ended_in}
 use Rattle.world_commands.proofs.Quiet.{stands-onward}
+use Rattle.blk_world.proofs.PieceCopied.{IsMet, writes_file}
 
 -- ---- what stands beside the disks
 
@@ -101,46 +105,77 @@ started_after (Discard span) node t = refl
 -- ---- what is done
 
 -- what a piece leaves of contents, by what is asked
-module _ (t : Table) (w v : Face) (drive : ℕ) (op : Op) (outcome : Outcome) (part : Extent) (buffer : List ℕ)
-    (did : Transfers op w.nodes v.nodes (disk_node t drive) part outcome buffer)
-    (apart : is_write op ≡ true → (other : ℕ) → (ReadsWritten t (disk_node t drive) other → ⊥) → IsApart w.nodes other (disk_node t drive))
-    (told : AreTold w.nodes.devices)
-    (held_else : (name : List ℕ) → (is_write op ≡ true → written_file t (disk_node t drive) ≡ Some name → ⊥) → held v name ≡ held w name) where
+module _ (t : Table) (w v : Face) (drive : ℕ) (op : Op) (outcome : Outcome) (part : Extent) (told : AreTold w.nodes.devices)
+    (held_else : (name : List ℕ) → (writes_file t drive op ≡ true → written_file t (disk_node t drive) ≡ Some name → ⊥) → held v name ≡ held w name) where
   abbrev node : ℕ
   node = disk_node t drive
 
-  puts_done : (o : Op) → o ≡ op → is_write o ≡ true → IsPutting o → PutsPart w.nodes v.nodes node part outcome (payload_in o part)
-      → (s : State) → s.table ≡ t → Writes s node o part (done_by outcome part) (contents_of w) (contents_of v)
-  puts_done o same changes putting puts s table = record {
-    written = puts.disk told ∙ ap (with_bytes (disk_of w.nodes node) part.start) (taken_is o part outcome putting);
-    nodes = λ other none.
-        puts.others other (apart (ap is_write (sym same) ∙ changes) other (subst (λ (u : Table). ReadsWritten u node other → ⊥) table none));
+  puts_done : IsPutting op → ((other : ℕ) → (ReadsWritten t node other → ⊥) → IsApart w.nodes other node) → PutsPart w.nodes v.nodes node part outcome (payload_in op part)
+      → (s : State) → s.table ≡ t → Writes s node op part (done_by outcome part) (contents_of w) (contents_of v)
+  puts_done putting apart puts s table = record {
+    written = puts.disk told ∙ ap (with_bytes (disk_of w.nodes node) part.start) (taken_is op part outcome putting);
+    nodes = λ other none. puts.others other (apart other (subst (λ (u : Table). ReadsWritten u node other → ⊥) table none));
     files = λ name none. held_else name (λ c is. none (subst (λ (u : Table). written_file u node ≡ Some name) (sym table) is));
   }
 
-  quiet_done : ((other : ℕ) → disk_of v.nodes other ≡ disk_of w.nodes other) → (is_write op ≡ true → ⊥) → IsQuiet (contents_of w) (contents_of v)
+  quiet_done : ((other : ℕ) → disk_of v.nodes other ≡ disk_of w.nodes other) → (writes_file t drive op ≡ true → ⊥) → IsQuiet (contents_of w) (contents_of v)
   quiet_done disks none = record {
     nodes = λ other never. disks other;
     files = λ name never. held_else name (λ changes is. none changes);
   }
 
+-- A read leaves what all nodes read as, but for the `file` node below an image into which a copy-on-read puts it.
+module _ (t : Table) (w v : Face) (drive : ℕ) (outcome : Outcome) (part : Extent) (buffer : List ℕ) (told : AreTold w.nodes.devices)
+    (held_else : (name : List ℕ) → (copies_through t drive ≡ true → written_file t (disk_node t drive) ≡ Some name → ⊥) → held v name ≡ held w name)
+    (did : ReadsPart w.nodes v.nodes drive part outcome buffer) (met : IsMet t w.nodes drive part.start)
+    (beside : (other : ℕ) → (child t (disk_node t drive) File ≡ Some other → ⊥) → IsBeside w.nodes other (disk_node t drive)) where
+  stays : (other : ℕ) → (copies_through t drive ≡ true → IsBeside w.nodes other (disk_node t drive)) → disk_of v.nodes other ≡ disk_of w.nodes other
+  stays other is = did.disks told other (by_images met)
+    where
+      by_images : IsMet t w.nodes drive part.start → AtEach (IsBeside w.nodes other) (images_met w.nodes drive part.start)
+      by_images (inl none) = subst (AtEach (IsBeside w.nodes other)) (sym none) tt
+      by_images (inr one) = subst (AtEach (IsBeside w.nodes other)) (sym one.met) (is one.copies, tt)
+
+  copies_done : (s : State) → s.table ≡ t → Copies s (disk_node t drive) (contents_of w) (contents_of v)
+  copies_done s table = record {
+    nodes = λ other none. stays other (λ c. beside other (subst (λ (u : Table). child u (disk_node t drive) File ≡ Some other → ⊥) table none));
+    files = λ name none. held_else name (λ c is. none (subst (λ (u : Table). written_file u (disk_node t drive) ≡ Some name) (sym table) is));
+  }
+
+  read_done : (s : State) → s.table ≡ t → ReadDone s drive (contents_of w) (contents_of v)
+  read_done s table = by_test (copies_through t drive) refl
+    where
+      by_test : (b : Bool) → copies_through t drive ≡ b → ReadDone s drive (contents_of w) (contents_of v)
+      by_test true is = inr (
+        ap (λ (u : Table). copies_through u drive) table ∙ is,
+        subst (λ (u : Table). Copies s (disk_node u drive) (contents_of w) (contents_of v)) (sym table) (copies_done s table),
+      )
+      by_test false is =
+          let none : copies_through t drive ≡ true → ⊥ = λ c. false≢true (sym is ∙ c) in
+          inl (record {
+            nodes = λ other never. stays other (λ c. absurd (none c));
+            files = λ name never. held_else name (λ c held. none c);
+          })
+
 pub piece_done : (s : State) (t : Table) (w v : Face) (drive : ℕ) (op : Op) (outcome : Outcome) (part : Extent) (buffer : List ℕ) → s.table ≡ t
-    → Transfers op w.nodes v.nodes (disk_node t drive) part outcome buffer
-    → (is_write op ≡ true → (other : ℕ) → (ReadsWritten t (disk_node t drive) other → ⊥) → IsApart w.nodes other (disk_node t drive))
+    → Transfers op w.nodes v.nodes drive (disk_node t drive) part outcome buffer
+    → IsMet t w.nodes drive part.start
+    → ((other : ℕ) → (child t (disk_node t drive) File ≡ Some other → ⊥) → IsBeside w.nodes other (disk_node t drive))
+    → ((other : ℕ) → (ReadsWritten t (disk_node t drive) other → ⊥) → IsApart w.nodes other (disk_node t drive))
     → AreTold w.nodes.devices
-    → ((name : List ℕ) → (is_write op ≡ true → written_file t (disk_node t drive) ≡ Some name → ⊥) → held v name ≡ held w name)
+    → ((name : List ℕ) → (writes_file t drive op ≡ true → written_file t (disk_node t drive) ≡ Some name → ⊥) → held v name ≡ held w name)
     → PieceDone s drive op outcome part (contents_of w) (contents_of v)
-piece_done s t w v drive (Read span) outcome part buffer table did apart told held_else =
-    inl (quiet_done t w v drive (Read span) outcome part buffer did apart told held_else did.disks (λ bad. let e : ⊥ = cc bad in e))
-piece_done s t w v drive (Write span payload) outcome part buffer table did apart told held_else =
+piece_done s t w v drive (Read span) outcome part buffer table did met beside apart told held_else =
+    read_done t w v drive outcome part buffer told held_else did met beside s table
+piece_done s t w v drive (Write span payload) outcome part buffer table did met beside apart told held_else =
     subst (λ (u : Table). Writes s (disk_node u drive) (Write span payload) part (done_by outcome part) (contents_of w) (contents_of v)) (sym table)
-    (puts_done t w v drive (Write span payload) outcome part buffer did apart told held_else (Write span payload) refl refl tt did.1 s table)
-piece_done s t w v drive (Zero span) outcome part buffer table did apart told held_else =
+    (puts_done t w v drive (Write span payload) outcome part told held_else tt apart did.1 s table)
+piece_done s t w v drive (Zero span) outcome part buffer table did met beside apart told held_else =
     subst (λ (u : Table). Writes s (disk_node u drive) (Zero span) part (done_by outcome part) (contents_of w) (contents_of v)) (sym table)
-    (puts_done t w v drive (Zero span) outcome part buffer did apart told held_else (Zero span) refl refl tt did.1 s table)
-piece_done s t w v drive Flush outcome part buffer table did apart told held_else =
-    quiet_done t w v drive Flush outcome part buffer did apart told held_else did.disks (λ bad. let e : ⊥ = cc bad in e)
-piece_done s t w v drive (Discard span) outcome part buffer table did apart told held_else = absurd did
+    (puts_done t w v drive (Zero span) outcome part told held_else tt apart did.1 s table)
+piece_done s t w v drive Flush outcome part buffer table did met beside apart told held_else =
+    quiet_done t w v drive Flush outcome part told held_else did.disks (λ bad. let e : ⊥ = cc bad in e)
+piece_done s t w v drive (Discard span) outcome part buffer table did met beside apart told held_else = absurd did
 
 -- ---- what is shown
 

@@ -17,10 +17,10 @@ use Rattle.blk_nodes.specs.Writing.{WritesFile, WritesImage, WritesBy, ZerosBy}
 use Rattle.blk_nodes.specs.declared.row.Driver.{Driver}
 use Rattle.blk_nodes.specs.declared.row.Driver.TheVariants as drivers
 use Rattle.world_commands.specs.Counting.{AreSameDevices}
-use Rattle.blk_pieces.specs.Pieces.{Transfers}
+use Rattle.qmp_rules.specs.Table.{Table}
 use Rattle.world_commands.proofs.CountLemmas.{found-before}
 use Rattle.blk_world.proofs.PieceContents.{content_in, risen_content, only_content}
-use Rattle.blk_world.proofs.PieceNodes.{nodes_after}
+use Rattle.blk_world.proofs.PieceCopied.{ReadWent, Went, into_image}
 
 -- a device stands at its node
 pub noded : (devices : List DeviceState) (x : DeviceState) → AllPairs DifferInNode devices → Contains devices x → device_in devices x.node ≡ Some x
@@ -79,23 +79,28 @@ module _ (old new : Nodes) (n : ℕ) where
       only_told file old.devices new.devices flushed.before flushed.after flushed.only flushed.held flushed.left
       (ap (λ (d : DeviceState). is_some d.content) flushed.flush.is) n
 
-  told_same : (op : Op) (node : ℕ) (part : Extent) (outcome : Outcome) (buffer : List ℕ) → Transfers op old new node part outcome buffer → is_told new.devices n ≡ is_told old.devices n
-  told_same (Read span) node part outcome buffer did = ap is_some (risen_content old.devices new.devices did.devices n)
-  told_same (Write span payload) node part outcome buffer did = write_told node part (payload_in (Write span payload) part) outcome did.0.row.driver did.0.wrote
-  told_same (Zero span) node part outcome buffer did = zero_told node part outcome did.0.row.driver did.0.wrote
-  told_same Flush node part outcome buffer did = flush_told (base_of old node) outcome did.flushed
-  told_same (Discard span) node part outcome buffer did = absurd did
+  module _ (t : Table) (drive node : ℕ) (part : Extent) (outcome : Outcome) (buffer : List ℕ) where
+    read_told : ReadWent t old new drive node part outcome buffer → is_told new.devices n ≡ is_told old.devices n
+    read_told (inl only) = ap is_some (risen_content old.devices new.devices only.devices n)
+    read_told (inr (inl full)) = ap (λ (ns : Nodes). is_told ns.devices n) full.room.same
+    read_told (inr (inr into)) = image_told _ _ node _ outcome (into_image t old new drive node part outcome buffer into)
 
-pub told_after : (op : Op) (old new : Nodes) (node : ℕ) (part : Extent) (outcome : Outcome) (buffer : List ℕ) → IsJoined old → IsJoined new → Transfers op old new node part outcome buffer
-    → AreTold old.devices → AreTold new.devices
-told_after op old new node part outcome buffer joined now did told device there =
-    let same : AreSameDevices old.devices new.devices = (nodes_after old new joined op node part outcome buffer did).devices in
+    told_same : (op : Op) → Went t op old new drive node part outcome buffer → is_told new.devices n ≡ is_told old.devices n
+    told_same (Read span) went = read_told went
+    told_same (Write span payload) went = write_told node part (payload_in (Write span payload) part) outcome went.0.row.driver went.0.wrote
+    told_same (Zero span) went = zero_told node part outcome went.0.row.driver went.0.wrote
+    told_same Flush went = flush_told (base_of old node) outcome went.flushed
+    told_same (Discard span) went = absurd went
+
+pub told_after : (t : Table) (op : Op) (old new : Nodes) (drive node : ℕ) (part : Extent) (outcome : Outcome) (buffer : List ℕ) → IsJoined old → IsJoined new
+    → AreSameDevices old.devices new.devices → Went t op old new drive node part outcome buffer → AreTold old.devices → AreTold new.devices
+told_after t op old new drive node part outcome buffer joined now same went told device there =
     let before = found-before old.devices new.devices device same there in
     let held : device_in old.devices before.0.node ≡ Some before.0 = noded old.devices before.0 joined.once before.1 in
     let here : device_in new.devices device.node ≡ Some device = noded new.devices device now.once there in
     let tells : List DeviceState → ℕ → Bool = λ devices n. is_some (content_in devices n) in
     sym (ap (λ (d : Option DeviceState). is_some (option_and_then (λ (x : DeviceState). x.content) d)) here)
-    ∙ told_same old new device.node op node part outcome buffer did
+    ∙ told_same old new device.node t drive node part outcome buffer op went
     ∙ ap (tells old.devices) before.2.node
     ∙ ap (λ (d : Option DeviceState). is_some (option_and_then (λ (x : DeviceState). x.content) d)) held
     ∙ told before.0 before.1

@@ -112,6 +112,12 @@ only_copying (drivers.Raw part) role h = absurd (let bad : ⊥ = cc h in bad)
 only_copying (drivers.Qcow2 image) role h = absurd (let bad : ⊥ = cc h in bad)
 only_copying drivers.CopyOnRead role h = (refl, cc h)
 
+copying_driver : (d : Driver) → kind_of d ≡ CopyOnRead → d ≡ drivers.CopyOnRead
+copying_driver drivers.File bad = absurd (let e : ⊥ = cc bad in e)
+copying_driver (drivers.Raw part) bad = absurd (let e : ⊥ = cc bad in e)
+copying_driver (drivers.Qcow2 image) bad = absurd (let e : ⊥ = cc bad in e)
+copying_driver drivers.CopyOnRead is = refl
+
 module _ (t : Table) (nodes : Nodes) (joined : IsJoined nodes) (are : AreNodesOf t nodes) (stands : TableStands t) where
   pub own_row : (a : ℕ) (row : NodeRecord) → node_at t a ≡ Some row → (own : Row) × (row_at nodes a ≡ Some own) × IsRowOf row own
   own_row a row is = by_own (row_at nodes a) refl (subst (λ (found : Option NodeRecord). AreAlike found (row_at nodes a)) is (are.rows a))
@@ -137,6 +143,10 @@ module _ (t : Table) (nodes : Nodes) (joined : IsJoined nodes) (are : AreNodesOf
     pub role : edge.role ≡ File
     pub perm : (edge.perm.read ≡ (uses_into t.edges a).perm.read) × (edge.perm.write ≡ (uses_into t.edges a).perm.write)
     pub shared : edge.shared.write ≡ (uses_into t.edges a).shared.write
+    pub under : child t a File ≡ Some c
+    pub over : Row
+    pub over_at : row_at nodes a ≡ Some over
+    pub copying : over.driver ≡ drivers.CopyOnRead
 
   pub filter_edge : (a c : ℕ) → filtered t a ≡ Some c → IsFilterEdge a c
   filter_edge a c is = by_row (node_at t a) refl is
@@ -159,6 +169,10 @@ module _ (t : Table) (nodes : Nodes) (joined : IsJoined nodes) (are : AreNodesOf
             role = role_is;
             perm = (ap (λ (x : Edge). x.perm.read) (sym as_copying), ap (λ (x : Edge). x.perm.write) (sym as_copying));
             shared = ap (λ (x : Edge). x.shared.write) (sym as_copying);
+            under = subst (λ (r : Role). child t a r ≡ Some c) is.1 under;
+            over = own;
+            over_at = at;
+            copying = copying_driver own.driver is.0;
           }
 
       by_role : (row : NodeRecord) (role : Option Role) → node_at t a ≡ Some row → filter_role row.kind ≡ role → option_and_then (child t a) role ≡ Some c → IsFilterEdge a c

@@ -43,20 +43,21 @@ impl Buffer {
         Ok(Buffer { bytes })
     }
 
-    /// Makes the next piece of a guest's request in flight on a node, and notes it. Takes no memory.
+    /// Makes the next piece of a guest's request in flight on its drive, which reads as `node`, and notes it. Takes no memory.
     pub(crate) fn make_next<D: Device>(
         &mut self,
         nodes: &mut Nodes<D>,
         progress: &mut Progress,
+        drive: NodeId,
         node: NodeId,
         guest: u32,
     ) -> Outcome
         requires next { With (flight_at progress.old.guests guest) HasNext }
         requires can { With (flight_at progress.old.guests guest)
-            (λ f. CanTransfer nodes.old node f.op (part_of f)) }
+            (λ f. CanTransfer nodes.old drive node f.op (part_of f)) }
         ensures { (f : Flight) → flight_at progress.old.guests guest ≡ Some f
-            → IsMadeOn nodes.old nodes.new progress.old progress.new node guest f result }
+            → IsMadeOn nodes.old nodes.new progress.old progress.new drive node guest f result }
     {
-        make_next(nodes, progress, &mut self.bytes, node, guest)
+        make_next(nodes, progress, &mut self.bytes, drive, node, guest)
     }
 }

@@ -79,13 +79,14 @@ pub record MeetsNone (h : List Event) : Type 0 where
   pub faults : faults_of h ≡ []
   pub full : filter_map full_in h ≡ []
 
--- No write of the event that was made in this world would pass the capacity of a device: of a piece, of that of the file
--- which the guest's disk writes; of a command, of one that it calls.
+-- No write of the event that was made in this world would pass the capacity of a device: of a piece that writes, of that of the
+-- file which the guest's disk writes; of one that reads, of that of an image's file below the drive into which a copy-on-read puts
+-- what was read; of a command, of one that it calls.
 abbrev pub HasSpaceFor : Face → Event → Type 0
 HasSpaceFor w (Piece g r k outcome got) = (f : Flight) (drive dev : ℕ)
     → flight_at w.progress.guests g ≡ Some f → drive_of w.table g ≡ Some drive
     → ReachesDevice w.table (sources_of w) drive dev
-    → piece_passes w.nodes (disk_node w.table drive) f.op (part_of f) dev → ⊥
+    → piece_passes w.nodes drive (disk_node w.table drive) f.op (part_of f) dev → ⊥
 HasSpaceFor w (Reply line given command text) =
     (c : Cmd) → command_in (command_at given) ≡ Some c → FitsAll w c
 HasSpaceFor w e = Unit {0}

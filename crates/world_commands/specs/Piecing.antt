@@ -1,15 +1,17 @@
 -- What a piece of a guest's request leaves of the world, and when it would pass a device's capacity.
 use Rattle.std.specs.Prelude.{◌≡◌, ◌+◌, ◌<◌, ◌≤◌, ℕ, List, length, Some}
 use Rattle.blk_base.specs.Pieces.{Extent}
+use Rattle.blk_base.specs.declared.fault.DevNo.{DevNo}
 use Rattle.blk_base.specs.declared.fault.Outcome.{Outcome}
 use Rattle.trace_codec.specs.declared.op.Op.{Op}
-use Rattle.trace_codec.specs.declared.op.Op.TheVariants.{Write, Zero}
+use Rattle.trace_codec.specs.declared.op.Op.TheVariants.{Read, Write, Zero}
 use Rattle.q2_image.specs.Room.{WriteFits, ZerosFit}
 use Rattle.blk_history.specs.Disk.{piece}
 use Rattle.blk_history.specs.Fold.{With}
 use Rattle.blk_history.specs.Machine.{Flight}
 use Rattle.blk_history.specs.declared.event.Event.{Event}
 use Rattle.blk_history.specs.declared.event.Event.TheVariants.{Piece}
+use Rattle.blk_nodes.specs.Copying.{AtSome, LacksRoomIn, images_met}
 use Rattle.blk_nodes.specs.Nodes.{Nodes, device_in, row_at}
 use Rattle.blk_nodes.specs.Writing.{own_file, own_start}
 use Rattle.blk_nodes.specs.declared.row.Driver.{Driver}
@@ -28,7 +30,7 @@ use Rattle.world_parts.specs.Progress.{Progress, with_piece, done_at}
 
 -- ---- when it would pass a device's capacity
 
--- for a write to an image there is no room, or one to another file would end above the capacity; nothing else passes one
+-- for a write to an image there is no room, or one to another file would end above the capacity
 abbrev pub PassesBy : Driver → Op → Extent → ℕ → Type 0
 PassesBy (drivers.Qcow2 image) (Write span payload) part capacity =
     WriteFits image part capacity → ⊥
@@ -40,11 +42,21 @@ PassesBy driver (Zero span) part capacity = capacity < own_start driver part.sta
 PassesBy driver op part capacity = ⊥
 
 -- that of this device, which is that of the file that the node writes
-abbrev pub piece_passes : Nodes → ℕ → Op → Extent → ℕ → Type 0
-piece_passes nodes node op part dev =
+abbrev pub write_passes : Nodes → ℕ → Op → Extent → ℕ → Type 0
+write_passes nodes node op part dev =
     With (row_at nodes node) (λ row. With (own_file nodes node row.driver)
     (λ file. With (device_in nodes.devices file)
     (λ device. (device.number.0 ≡ dev) × PassesBy row.driver op part device.capacity)))
+
+-- or of an image below the drive into which a copy-on-read puts what is read
+abbrev pub read_passes : Nodes → ℕ → Extent → ℕ → Type 0
+read_passes nodes drive part dev = (number : DevNo) × (number.0 ≡ dev)
+    × AtSome (LacksRoomIn nodes part number) (images_met nodes drive part.start)
+
+-- a piece on a drive, which reads as the node
+abbrev pub piece_passes : Nodes → ℕ → ℕ → Op → Extent → ℕ → Type 0
+piece_passes nodes drive node (Read span) part dev = read_passes nodes drive part dev
+piece_passes nodes drive node op part dev = write_passes nodes node op part dev
 
 -- ---- what it leaves of the world
 
@@ -60,22 +72,22 @@ shown_by f outcome buffer = shown_of f.op outcome buffer
 abbrev pub part_of : Flight → Extent
 part_of f = piece f.op f.next
 
--- The next piece of a guest's request in flight was made on a node, and noted.
-pub record IsMadeOn (nodes now : Nodes) (p q : Progress) (node g : ℕ) (f : Flight)
+-- The next piece of a guest's request in flight was made on a drive, which reads as the node, and noted.
+pub record IsMadeOn (nodes now : Nodes) (p q : Progress) (drive node g : ℕ) (f : Flight)
     (outcome : Outcome) : Type 0 where
   pub buffer : List ℕ
-  pub transferred : Transfers f.op nodes now node (part_of f) outcome buffer
+  pub transferred : Transfers f.op nodes now drive node (part_of f) outcome buffer
   pub fits : IsSmallOutcome outcome
   pub shown : length (shown_by f outcome buffer) ≤ shows_in f.op (part_of f).len
   pub noted : q ≡ with_piece g f.next outcome (shown_by f outcome buffer) p
 
--- So it was in the world, on the node that the guest's drive reads as; what was written is noted in the bitmaps of each node
--- from the drive down to that one.
+-- So it was in the world, on the guest's drive where it is read, else on the node that the drive reads as; what was written is
+-- noted in the bitmaps of each node from the drive down to that one.
 pub record IsPieceMade (w v : Face) (g : ℕ) (f : Flight) (outcome : Outcome) : Type 0 where
   pub drive : ℕ
   pub buffer : List ℕ
   pub on : drive_of w.table g ≡ Some drive
-  pub transferred : Transfers f.op w.nodes v.nodes (disk_node w.table drive) (part_of f)
+  pub transferred : Transfers f.op w.nodes v.nodes drive (disk_node w.table drive) (part_of f)
       outcome buffer
   pub fits : IsSmallOutcome outcome
   pub shown : length (shown_by f outcome buffer) ≤ shows_in f.op (part_of f).len
@@ -92,12 +104,12 @@ piece_entry w g f outcome buffer =
     Piece g (done_at w.progress.guests g) f.next outcome (shown_by f outcome buffer)
 
 -- No count falls, and a fault that it names was reached in this event, of a device that the guest's node reaches, and none is
--- hidden; want of space comes where a write of it would have passed that device's capacity.
+-- hidden; want of space comes where a write of it would have passed that device's capacity, or one that keeps what it reads.
 pub record HasPieceLicence (w v : Face) (g : ℕ) (f : Flight) (outcome : Outcome)
     (made : IsPieceMade w v g f outcome) : Type 0 where
   pub runs : RunsOn w v
   pub hides : HidesNoFault w v (named_by outcome)
   pub licensed : IsLicensedBy (seen_state w) (sources_of w)
       (counts_now w) (counts_within w v) (counts_now v)
-      (piece_passes w.nodes (disk_node w.table made.drive) f.op (part_of f))
+      (piece_passes w.nodes made.drive (disk_node w.table made.drive) f.op (part_of f))
       (piece_entry w g f outcome made.buffer)

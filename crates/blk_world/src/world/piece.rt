@@ -2,6 +2,7 @@
 ghost use Rattle.std.specs.Prelude.{◌≡◌, Some};
 ghost use Rattle.blk_history.specs.Fold.{With};
 ghost use Rattle.blk_history.specs.Machine.{Flight};
+ghost use Rattle.blk_nodes.specs.Contents.{Unfolds};
 ghost use Rattle.blk_nodes.specs.Joined.{IsJoined};
 ghost use Rattle.flat_machine.specs.declared.opening.Opening.{Opening};
 ghost use Rattle.world_parts.specs.Coherent.{IsWhole};
@@ -33,6 +34,7 @@ impl<S: Store> World<S> {
         ensures made { (f : Flight) → flight_at self.old.progress.guests guest ≡ Some f
             → IsPieceMade self.old self.new guest f result }
         ensures joined { IsJoined self.old.nodes }
+        ensures unfolds { Unfolds self.old.nodes }
         ensures joined_then { IsJoined self.new.nodes }
         ensures whole { IsWhole self.old }
     {
@@ -45,14 +47,15 @@ impl<S: Store> World<S> {
         note_write(&mut self.names, node, self.progress.flying(guest));
         let outcome = self
             .buffer
-            .make_next(&mut self.nodes, &mut self.progress, node, guest);
+            .make_next(&mut self.nodes, &mut self.progress, drive, node, guest);
         note_written(&mut self.bitmaps, &self.names, drive, outcome, written);
         let _ = self.nodes.edges();
         outcome
     }
 
-    /// Makes the next piece of a guest's request in flight, on the node that its drive reads as, and notes it. A fault that it
-    /// names is one of a device which that node leads to, and was reached in this call. Takes no memory.
+    /// Makes the next piece of a guest's request in flight, on its drive where it is read, else on the node that the drive reads as,
+    /// and notes it. What is read through a copy-on-read is kept in the image below it. A fault that is named is one of a device
+    /// which the drive leads to, and was reached in this call. Takes no memory.
     pub fn piece(&mut self, guest: u32) -> Outcome
         requires { With (flight_at self.old.progress.guests guest) HasNext }
         ensures made { (f : Flight) → flight_at self.old.progress.guests guest ≡ Some f

@@ -8,4 +8,4 @@ returns-clause-made g c =
 pub returns-clause-comes : goal.returns-clause-comes
 returns-clause-comes g c =
     made_comes c.args.self.now c.put_piece.new.self c.args.guest c.put_piece.result c.requires c.put_piece.ensures.made c.put_piece.ensures.joined c.put_piece.ensures.whole
-    c.put_piece.ensures.joined_then
+    c.put_piece.ensures.unfolds c.put_piece.ensures.joined_then
