@@ -21,23 +21,24 @@ or-true true = refl
 or-true false = refl
 
 -- the device that was opened last is out
-pub out-opened : (name : List ℕ) (opened : List Opened) (faults : ℕ) → is_out name (opened ++ record { name = name; faults = faults; returned = None } ∷ []) ≡ true
-out-opened name [] faults = rw (bytes_eq-same name) refl
-out-opened name (o ∷ opened) faults = rw (out-opened name opened faults) (or-true (is_out_as name o))
+pub out-opened : (name : List ℕ) (opened : List Opened) (size capacity faults : ℕ)
+    → is_out name (opened ++ record { name = name; size = size; capacity = capacity; faults = faults; returned = None } ∷ []) ≡ true
+out-opened name [] size capacity faults = rw (bytes_eq-same name) refl
+out-opened name (o ∷ opened) size capacity faults = rw (out-opened name opened size capacity faults) (or-true (is_out_as name o))
 
 -- and once it is back, its count stands in the record
-back : (name : List ℕ) (o : Opened) (opened rest : List Opened) (faults count : ℕ) (b : Bool) → is_out_as name o ≡ b → (IsTrue (b || is_out name opened) → ⊥)
-    → given_back name count rest ≡ opened ++ record { name = name; faults = faults; returned = Some count } ∷ []
-    → cond b (record o { returned = Some count } ∷ rest) (o ∷ given_back name count rest) ≡ o ∷ opened ++ record { name = name; faults = faults; returned = Some count } ∷ []
-back name o opened rest faults count true is none more = absurd (none refl)
-back name o opened rest faults count false is none more = ap (λ os. o ∷ os) more
+back : (name : List ℕ) (o last : Opened) (opened rest : List Opened) (count : ℕ) (b : Bool) → is_out_as name o ≡ b → (IsTrue (b || is_out name opened) → ⊥)
+    → given_back name count rest ≡ opened ++ last ∷ [] → cond b (record o { returned = Some count } ∷ rest) (o ∷ given_back name count rest) ≡ o ∷ opened ++ last ∷ []
+back name o last opened rest count true is none more = absurd (none refl)
+back name o last opened rest count false is none more = ap (λ os. o ∷ os) more
 
-pub back-opened : (name : List ℕ) (opened : List Opened) (faults count : ℕ) → (IsTrue (is_out name opened) → ⊥)
-    → given_back name count (opened ++ record { name = name; faults = faults; returned = None } ∷ []) ≡ opened ++ record { name = name; faults = faults; returned = Some count } ∷ []
-back-opened name [] faults count none = rw (bytes_eq-same name) refl
-back-opened name (o ∷ opened) faults count none =
+pub back-opened : (name : List ℕ) (opened : List Opened) (size capacity faults count : ℕ) → (IsTrue (is_out name opened) → ⊥)
+    → given_back name count (opened ++ record { name = name; size = size; capacity = capacity; faults = faults; returned = None } ∷ [])
+    ≡ opened ++ record { name = name; size = size; capacity = capacity; faults = faults; returned = Some count } ∷ []
+back-opened name [] size capacity faults count none = rw (bytes_eq-same name) refl
+back-opened name (o ∷ opened) size capacity faults count none =
     let later : IsTrue (is_out name opened) → ⊥ = λ is. none (rw is (or-true (is_out_as name o))) in
-    back name o opened _ faults count (is_out_as name o) refl none (back-opened name opened faults count later)
+    back name o _ opened _ count (is_out_as name o) refl none (back-opened name opened size capacity faults count later)
 
 -- a file put back as it was
 put : (name : List ℕ) (f g : File) (files : List File) (b : Bool) → bytes_eq name g.name ≡ b → cond b (Some g) (file_at name files) ≡ Some f

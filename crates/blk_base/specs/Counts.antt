@@ -2,9 +2,13 @@
 use Rattle.std.specs.Prelude.{◌≡◌, ◌⊎◌, ℕ, ◌+◌, ◌%◌, ◌<◌, ◌≤◌, min, List, take, Result, Ok, Err}
 use Rattle.blk_base.specs.declared.device.WriteStop.{WriteStop}
 
--- a count has risen; at its last value, 2^64 - 1, it counts as risen
+-- one call has failed; at its last value, 2^64 - 1, a count stands
 abbrev pub Rose : ℕ → ℕ → Type 0
-Rose before now = min (before + 1) 18446744073709551615 ≤ now
+Rose before now = now ≡ min (before + 1) 18446744073709551615
+
+-- one call has failed or several; at its last value a count counts as risen
+abbrev pub HasFailedSince : ℕ → ℕ → Type 0
+HasFailedSince before now = min (before + 1) 18446744073709551615 ≤ now
 
 -- what a write that answered so has written of these bytes
 abbrev pub taken : {A : Type 0} → Result A WriteStop → List ℕ → List ℕ

@@ -5,6 +5,7 @@ use Rattle.blk_base.specs.Counts.{Rose}
 use Rattle.blk_base.specs.Writes.{end_of_writes, size_after_writes, log_after_writes, are_none, IsCutBy, IsPart, AtEachStop}
 use Rattle.blk_base.specs.declared.device.Device.{Ghosts}
 use Rattle.blk_base.specs.declared.device.DevFault.{DevFault}
+use Rattle.blk_base.specs.declared.file.Opened.{Opened}
 use Rattle.blk_base.specs.declared.fault.DevStop.{DevStop}
 use Rattle.blk_base.specs.declared.fault.DevStop.TheVariants.{Io, NoSpace}
 
@@ -72,6 +73,16 @@ pub record Writes {D : Type 0} (g : Ghosts D) (ws : List Write) (stop : Option D
 abbrev pub stop_of : {A : Type 0} → Result A DevStop → Option DevStop
 stop_of (Ok done) = None
 stop_of (Err stop) = Some stop
+
+-- the record of a device that is opened under a name and as it is now
+abbrev pub opened_now : {D : Type 0} → Ghosts D → List ℕ → D → Opened
+opened_now g name dev = record {
+  name = name;
+  size = g.size dev;
+  capacity = g.capacity dev;
+  faults = g.faults dev;
+  returned = None;
+}
 
 -- P relates what a device tells to what it would hold wherever these writes are stopped, and behind the last
 abbrev pub AtEachStopOf : {D : Type 0} → Ghosts D → (List ℕ → List ℕ → Type 0) → List Write → D

@@ -17,6 +17,10 @@ pub struct File {
 #[derive(Drop)]
 pub struct Opened {
     pub name: LinkedList<u8>,
+    /// The device's length at the opening, in bytes.
+    pub size: u64,
+    /// The highest end that a write to it may have. It never changes.
+    pub capacity: u64,
     /// The device's count of faults at the opening.
     pub faults: u64,
     /// Its count once it was given back.

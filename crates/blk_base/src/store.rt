@@ -1,5 +1,6 @@
 //! Files by name: what is asked of whatever keeps them.
 ghost use Rattle.std.specs.Prelude.{◌≡◌, ◌≢◌, ℕ, ◌≤◌, true, [], ◌∷◌, ◌++◌, List, length, replicate, Option, None, option_map, IsTrue, IfOk, IfErr, OnOk, OnErr, MatchResult};
+ghost use Rattle.blk_base.specs.Device.{opened_now};
 ghost use Rattle.blk_base.specs.Files.{put_file, is_out, given_back, IfTold};
 ghost use Rattle.blk_base.specs.declared.file.File.{File};
 ghost use Rattle.blk_base.specs.declared.file.Opened.{Opened};
@@ -45,8 +46,8 @@ pub trait Store {
             (λ dev. IsDeviceOf (files self.old) name.now (Self.Dev.content dev)
             (Self.Dev.capacity dev) (Self.Dev.is_flushed dev)) }
         ensures opened { MatchResult result
-            (λ dev. opened self.new ≡ opened self.old
-            ++ record { name = name.now; faults = Self.Dev.faults dev; returned = None } ∷ [])
+            (λ dev. opened self.new
+            ≡ opened self.old ++ opened_now Self.Dev.Device name.now dev ∷ [])
             (λ _. opened self.new ≡ opened self.old) }
         ensures cause { OpenAnswers name.now (files self.old) (opened self.old) (faults self.old)
             (faults self.new) result }
