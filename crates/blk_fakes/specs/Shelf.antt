@@ -1,5 +1,5 @@
 -- What contracts see of a store in memory.
-use Rattle.std.specs.Prelude.{ℕ, Bool, true, if◌then◌else◌, List, [], ◌∷◌, map, replicate, bytes_eq, Option, Some, None, IsTrue}
+use Rattle.std.specs.Prelude.{ℕ, Bool, true, if◌then◌else◌, List, [], ◌∷◌, length, map, replicate, bytes_eq, Option, Some, None, IsTrue}
 use Rattle.std.specs.List.{position, list_any}
 use Rattle.blk_base.specs.Files.{is_out}
 use Rattle.blk_base.specs.declared.file.File.{File}
@@ -40,6 +40,16 @@ shelf_place name files = position (λ f. bytes_eq name f.name) files
 -- there is a file of that name
 abbrev pub is_held : List ℕ → List FileState → Bool
 is_held name files = list_any (λ f. bytes_eq name f.name) files
+
+-- the record of an opening of this device under that name
+abbrev pub opened_as : List ℕ → DeviceState → Opened
+opened_as name device = record {
+  name = name;
+  size = length (device_bytes device.disk);
+  capacity = device.disk.capacity;
+  faults = device.calls.faults;
+  returned = None;
+}
 
 -- each name that is out is that of a file
 abbrev pub OutAreHeld : List Opened → List FileState → Type 0

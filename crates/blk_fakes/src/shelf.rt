@@ -1,7 +1,7 @@
 //! The rows of a store in memory: its files, and its openings.
 
 use crate::MemDevice;
-use blk_base::{NoMemory, Text};
+use blk_base::{Device, NoMemory, Text};
 use std::alloc::Global;
 use std::marker::Model;
 
@@ -55,10 +55,12 @@ impl Held {
     }
 }
 
-/// An opening of a file: the device's count of faults then, and once it was given back.
+/// An opening of a file: the device's length, capacity and count of faults then, and its count once it was given back.
 #[derive(Drop)]
 pub(crate) struct Opening {
     name: Text,
+    size: u64,
+    capacity: u64,
     faults: u64,
     returned: Option<u64>,
 }
@@ -68,21 +70,30 @@ impl Model for Opening {
 
     ghost Value = { Opened };
 
-    ghost view = { λ o. record { name = o.name.bytes; faults = o.faults; returned = o.returned } };
+    ghost view = { λ o. record {
+      name = o.name.bytes;
+      size = o.size;
+      capacity = o.capacity;
+      faults = o.faults;
+      returned = o.returned;
+    } };
 }
 
 impl Opening {
-    ghost use Rattle.std.specs.Prelude.{◌≡◌, Some, None, IfOk};
+    ghost use Rattle.std.specs.Prelude.{◌≡◌, Some, IfOk};
     ghost use Rattle.blk_base.specs.declared.file.Opened.{Opened};
     ghost use Rattle.blk_base.specs.Files.{is_out_as};
+    ghost use Rattle.blk_fakes.specs.Shelf.{opened_as};
 
-    pub fn new(alloc: Global, name: &str, faults: u64) -> Result<Self, NoMemory>
-        ensures { IfOk result
-            (λ o. o ≡ record { name = name.now; faults = faults; returned = None }) }
+    /// An opening of this device.
+    pub fn new(alloc: Global, name: &str, dev: &MemDevice) -> Result<Self, NoMemory>
+        ensures { IfOk result (λ o. o ≡ opened_as name.now dev.now) }
     {
         Ok(Opening {
             name: Text::copied(alloc, name)?,
-            faults,
+            size: dev.length(),
+            capacity: dev.capacity(),
+            faults: dev.faults(),
             returned: None,
         })
     }

@@ -38,7 +38,7 @@ impl MemStore {
     ghost use Rattle.blk_base.specs.Files.{file_at, put_file, is_out, is_out_as, given_back};
     ghost use Rattle.std.specs.List.{position};
     ghost use Rattle.blk_base.specs.Stored.{HoldsBytes};
-    ghost use Rattle.blk_fakes.specs.Shelf.{FileState, StoreState, told_as, told_files, zeros_as, shelf_place, is_held, device_at, with_made};
+    ghost use Rattle.blk_fakes.specs.Shelf.{FileState, StoreState, told_as, told_files, opened_as, zeros_as, shelf_place, is_held, device_at, with_made};
     ghost use Rattle.blk_fakes.specs.Calls.{no_calls};
 
     /// A store with no file yet, whose calls of those numbers fail. Files that it makes have the capacity `room`.
@@ -168,28 +168,23 @@ impl MemStore {
             (λ dev. file_at name.now (told_files self.old) ≡ Some (told_as name.now dev)) }
         ensures ok { IfOk result
             (λ dev. self.new
-            ≡ record self.old {
-              opened = self.old.opened
-                  ++ record { name = name.now; faults = dev.calls.faults; returned = None } ∷ [];
-            }) }
+            ≡ record self.old { opened = self.old.opened ++ opened_as name.now dev ∷ [] }) }
         ensures err { OnErr result (self.new ≡ self.old) }
     {
         let dev = self.files[at].device().copied(self.alloc)?;
-        self.note_opening(name, dev.faults())?;
+        self.note_opening(name, &dev)?;
         Ok(dev)
     }
 
-    /// Notes that the device of a file is out, which has failed so often.
-    fn note_opening(&mut self, name: &str, faults: u64) -> Result<(), NoMemory>
+    /// Notes that this device of a file is out.
+    fn note_opening(&mut self, name: &str, dev: &MemDevice) -> Result<(), NoMemory>
         requires { IsTrue (is_held name.now self.old.files) }
         ensures ok { OnOk result
-            (self.new ≡ record self.old {
-              opened = self.old.opened
-                  ++ record { name = name.now; faults = faults; returned = None } ∷ [];
-            }) }
+            (self.new
+            ≡ record self.old { opened = self.old.opened ++ opened_as name.now dev.now ∷ [] }) }
         ensures err { OnErr result (self.new ≡ self.old) }
     {
-        let opening = Opening::new(self.alloc, name, faults)?;
+        let opening = Opening::new(self.alloc, name, dev)?;
         self.openings.push(opening)?;
         Ok(())
     }
@@ -263,13 +258,13 @@ impl MemStore {
 }
 
 impl Store for MemStore {
-    ghost use Rattle.std.specs.Prelude.{◌≡◌, ◌≢◌, ◌≤◌, ◌++◌, [], ◌∷◌, true, false, replicate, Some, None, IsTrue, IfOk, IfErr, OnOk, OnErr, MatchResult};
+    ghost use Rattle.std.specs.Prelude.{◌≡◌, ◌≢◌, ◌≤◌, ◌++◌, [], ◌∷◌, true, false, replicate, Some, IsTrue, IfOk, IfErr, OnOk, OnErr, MatchResult};
     ghost use Rattle.blk_base.specs.Stored.{IsDeviceOf, HoldsBytes, LeavesOthers};
     ghost use Rattle.blk_base.specs.Files.{file_at, put_file, is_out, given_back};
     ghost use Rattle.blk_base.specs.Answers.{OpenAnswers, CreateAnswers, ReadAnswers};
     ghost use Rattle.blk_fakes.specs.Calls.{fails_next, after_call, store_fails};
     ghost use Rattle.blk_fakes.specs.Disk.{device_bytes};
-    ghost use Rattle.blk_fakes.specs.Shelf.{StoreState, told_as, told_files, zeros_as, device_at, with_made, with_device};
+    ghost use Rattle.blk_fakes.specs.Shelf.{StoreState, told_as, told_files, opened_as, zeros_as, device_at, with_made, with_device};
 
     type Dev = MemDevice;
 
@@ -295,8 +290,7 @@ impl Store for MemStore {
             (λ dev. IsDeviceOf (Some (told_files self.old)) name.now (Some (device_bytes dev.disk))
             dev.disk.capacity (Some dev.disk.is_flushed)) }
         ensures opened { MatchResult result
-            (λ dev. self.new.opened ≡ self.old.opened
-            ++ record { name = name.now; faults = dev.calls.faults; returned = None } ∷ [])
+            (λ dev. self.new.opened ≡ self.old.opened ++ opened_as name.now dev ∷ [])
             (λ _. self.new.opened ≡ self.old.opened) }
         ensures cause { OpenAnswers name.now (Some (told_files self.old)) self.old.opened
             self.old.calls.faults self.new.calls.faults result }

@@ -78,12 +78,12 @@ impl SureStore {
 }
 
 impl Store for SureStore {
-    ghost use Rattle.std.specs.Prelude.{◌≡◌, ◌≢◌, ◌++◌, [], ◌∷◌, Some, None, IsTrue, IfOk, IfErr, OnOk, MatchResult};
+    ghost use Rattle.std.specs.Prelude.{◌≡◌, ◌≢◌, ◌++◌, [], ◌∷◌, Some, IsTrue, IfOk, IfErr, OnOk, MatchResult};
     ghost use Rattle.blk_base.specs.Answers.{OpenAnswers, CreateAnswers, ReadAnswers};
     ghost use Rattle.blk_base.specs.Files.{put_file, is_out, given_back};
     ghost use Rattle.blk_base.specs.Stored.{IsDeviceOf, HoldsBytes};
     ghost use Rattle.blk_fakes.specs.Disk.{device_bytes};
-    ghost use Rattle.blk_fakes.specs.Shelf.{StoreState, told_as, told_files, zeros_as, device_at, with_made, with_device};
+    ghost use Rattle.blk_fakes.specs.Shelf.{StoreState, told_as, told_files, opened_as, zeros_as, device_at, with_made, with_device};
 
     type Dev = SureDevice;
 
@@ -107,8 +107,8 @@ impl Store for SureStore {
             (λ dev. IsDeviceOf (Some (told_files self.old)) name.now (Some (device_bytes dev.disk))
             dev.disk.capacity (Some dev.disk.is_flushed)) }
         ensures opened { MatchResult result
-            (λ dev. self.new.opened ≡ self.old.opened
-            ++ record { name = name.now; faults = 0; returned = None } ∷ [])
+            (λ dev. self.new.opened
+            ≡ self.old.opened ++ record (opened_as name.now dev) { faults = 0 } ∷ [])
             (λ _. self.new.opened ≡ self.old.opened) }
         ensures cause { OpenAnswers name.now (Some (told_files self.old)) self.old.opened 0 0
             result }

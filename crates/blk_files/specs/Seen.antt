@@ -1,11 +1,21 @@
 -- What contracts see of real files: counts and lengths, and nothing of what they hold.
-use Rattle.std.specs.Prelude.{ℕ, List}
+use Rattle.std.specs.Prelude.{ℕ, List, None}
 use Rattle.blk_base.specs.declared.file.Opened.{Opened}
 
 -- a file that is open: its length, and how often the system has failed on it
 pub record FileState : Type 0 where
   pub length : ℕ
   pub faults : ℕ
+
+-- the record of an opening of this file under that name
+abbrev pub opened_as : List ℕ → FileState → Opened
+opened_as name file = record {
+  name = name;
+  size = file.length;
+  capacity = 9223372036854775807;
+  faults = file.faults;
+  returned = None;
+}
 
 -- the files by name: their openings, and how often the system has failed on them
 pub record StoreState : Type 0 where

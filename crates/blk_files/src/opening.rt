@@ -1,16 +1,19 @@
 //! The record of an opening.
 
+use crate::FileDevice;
 use crate::failure::Failure;
-use blk_base::{NoMemory, Text};
-use std::alloc::Global;
+use blk_base::{Device, Text};
 use std::io;
 use std::marker::Model;
 
-/// An opening of a file: the device's count of faults then, and once it was given back, with what the system said when it
-/// failed last.
+/// An opening of a file: the device's length, capacity and count of faults then, and its count once it was given back,
+/// with what the system said when it failed last.
 #[derive(Debug, Drop)]
 pub(crate) struct Opening {
     name: Text,
+    size: u64,
+    capacity: u64,
+    faults: u64,
     returned: Option<u64>,
     failure: Option<io::Error>,
 }
@@ -20,23 +23,33 @@ impl Model for Opening {
 
     ghost Value = { Opened };
 
-    ghost view = { λ o. record { name = o.name.bytes; faults = 0; returned = o.returned } };
+    ghost view = { λ o. record {
+      name = o.name.bytes;
+      size = o.size;
+      capacity = o.capacity;
+      faults = o.faults;
+      returned = o.returned;
+    } };
 }
 
 impl Opening {
-    ghost use Rattle.std.specs.Prelude.{◌≡◌, Some, None, IfOk};
+    ghost use Rattle.std.specs.Prelude.{◌≡◌, Some};
     ghost use Rattle.blk_base.specs.declared.file.Opened.{Opened};
     ghost use Rattle.blk_base.specs.Files.{is_out_as};
+    ghost use Rattle.blk_files.specs.Seen.{opened_as};
 
-    /// A file is opened, on which the system has not failed yet.
-    pub fn new(alloc: Global, name: &str) -> Result<Self, NoMemory>
-        ensures { IfOk result (λ o. o ≡ record { name = name.now; faults = 0; returned = None }) }
+    /// An opening of this device.
+    pub fn new(name: Text, dev: &FileDevice) -> Self
+        ensures { result ≡ opened_as name.bytes dev.now }
     {
-        Ok(Opening {
-            name: Text::copied(alloc, name)?,
+        Opening {
+            name,
+            size: dev.length(),
+            capacity: dev.capacity(),
+            faults: dev.faults(),
             returned: None,
             failure: None,
-        })
+        }
     }
 
     /// Whether the device is out under that name.

@@ -167,7 +167,7 @@ impl<R: Files<File = File>> Store for FileStore<'_, R> {
         if self.is_out(name) {
             return Err(StoreStop::InUse);
         }
-        let Ok(opening) = Opening::new(self.alloc, name) else {
+        let Ok(text) = Text::copied(self.alloc, name) else {
             return Err(StoreStop::NoMemory);
         };
         if self.openings.reserve(1).is_err() {
@@ -177,8 +177,9 @@ impl<R: Files<File = File>> Store for FileStore<'_, R> {
             Ok(opened) => opened,
             Err(error) => return Err(self.stopped(name, error)),
         };
-        self.openings.push_reserved(opening);
-        Ok(FileDevice::new(file, length))
+        let dev = FileDevice::new(file, length);
+        self.openings.push_reserved(Opening::new(text, &dev));
+        Ok(dev)
     }
 
     fn create_file(&mut self, name: &str, len: u64) -> Result<(), StoreStop> {
