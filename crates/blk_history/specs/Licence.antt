@@ -1,6 +1,6 @@
 -- The causes of faults: each one named is a rise of that device's count, and no rise is named twice.
 use Rattle.std.specs.Prelude.{◌≡◌, ℕ, ◌<◌, List, [], ◌∷◌, length, set, get_or, Option, Some, None}
-use Rattle.blk_base.specs.Counts.{Rose}
+use Rattle.blk_base.specs.Counts.{HasFailedSince}
 use Rattle.blk_base.specs.declared.fault.Outcome.{Outcome}
 use Rattle.blk_base.specs.declared.fault.Outcome.TheVariants.{Good, Torn, Io, NoSpace}
 use Rattle.blk_history.specs.Fold.{run, Each}
@@ -30,14 +30,14 @@ last_named counts (Some n) = set counts n.dev n.count
 -- it is a device that was opened, and its count rose
 abbrev pub RoseSince : List ℕ → Option Named → Type 0
 RoseSince counts None = Unit {0}
-RoseSince counts (Some n) = (n.dev < length counts) × Rose (get_or counts n.dev 0) n.count
+RoseSince counts (Some n) = (n.dev < length counts) × HasFailedSince (get_or counts n.dev 0) n.count
 
 -- each fault's count lies above the one named before it, so no two name the same
 abbrev pub counted : List ℕ → List Event → List ℕ
 counted = run (λ counts e. last_named counts (named_in e))
 
-abbrev pub HaveRisen : List ℕ → List Event → Type 0
-HaveRisen =
+abbrev pub NameRises : List ℕ → List Event → Type 0
+NameRises =
     Each (λ counts e. last_named counts (named_in e)) (λ counts e. RoseSince counts (named_in e))
 
 -- no entry names a fault

@@ -30,17 +30,17 @@ HasActor names zero = Unit {0}
 HasActor names (suc g) = g < length names.guests
 
 -- its guest, job or actor has a name
-abbrev pub HasName : RowNames → Event → Type 0
-HasName names (Admit g r op) = g < length names.guests
-HasName names (Refuse g r op why) = g < length names.guests
-HasName names (Piece g r k outcome got) = g < length names.guests
-HasName names (Retire g r) = g < length names.guests
-HasName names (Reply line given command text) = Unit {0}
-HasName names (Reached line what) = Unit {0}
-HasName names (Start job) = HasJob names job
-HasName names (Ready job) = HasJob names job
-HasName names (End job outcome offset) = HasJob names job
-HasName names (Done actor) = HasActor names actor
+abbrev pub IsActorNamed : RowNames → Event → Type 0
+IsActorNamed names (Admit g r op) = g < length names.guests
+IsActorNamed names (Refuse g r op why) = g < length names.guests
+IsActorNamed names (Piece g r k outcome got) = g < length names.guests
+IsActorNamed names (Retire g r) = g < length names.guests
+IsActorNamed names (Reply line given command text) = Unit {0}
+IsActorNamed names (Reached line what) = Unit {0}
+IsActorNamed names (Start job) = HasJob names job
+IsActorNamed names (Ready job) = HasJob names job
+IsActorNamed names (End job outcome offset) = HasJob names job
+IsActorNamed names (Done actor) = HasActor names actor
 
 abbrev pub actor_room : RowNames → ℕ → ℕ
 actor_room names zero = 0

@@ -1,4 +1,4 @@
-//! Entries of a history: one for each thing that happened.
+//! Entries of a history: one for each thing that whoever keeps it tells.
 
 ghost use Rattle.std.specs.Prelude.{◌≡◌, ◌+◌, ◌<◌, ◌≤◌, [], ◌∷◌, ◌++◌, length, vec_len, vec_capacity};
 
@@ -25,22 +25,29 @@ pub enum Cause {
     RunEnd,
 }
 
-/// How a job ended.
+/// How a job ended, as whoever runs it tells. Nothing here looks at what a job did: what an end asks of disks and nodes
+/// is said where jobs are run and judged.
 #[derive(Clone, Copy)]
 pub enum JobEnd {
+    /// It did all, and was of a kind that isn't ready before.
     Completed,
-    /// It was told to complete, and its source's parents moved to the target.
+    /// It was ready, and was told to complete.
     Pivoted,
-    /// It was cancelled once it was ready: the target equals the source, and nobody moved.
+    /// It was ready, and was cancelled so that its copy stays.
     Copied,
+    /// This fault stopped it.
     Failed(Fault),
+    /// It was stopped before its end, for this cause.
     Cancelled(Cause),
 }
 
-/// One entry. `request` counts a guest's admitted and refused requests from 0. `got` is where a read piece's bytes
-/// stand among the bytes of the history, and empty for every other piece. `job` counts the starts of jobs from 0, and
-/// `offset` is how far the job is: the size of its source once it is ready and at an end without error, and else 0. The
-/// script is actor 0, and guest `g` is actor `g + 1`.
+/// One entry, as whoever adds it tells it. A history only asks that `got` lies within its bytes, and prints the rest as
+/// it is; which entries fit in a row is for the machine to say that judges them.
+///
+/// `guest` is a guest's number and `request` the number of its request, admitted or refused; `k` is a piece's number in
+/// its request. `got` is where a read piece's bytes stand among the bytes of the history, and is empty for every other
+/// piece. `job` is a job's number in the order of the starts. `line` is the number of a line of the script. All but
+/// lines are numbered from 0. The script is actor 0, and guest `g` is actor `g + 1`.
 #[derive(Drop)]
 pub enum Entry {
     Admit {
@@ -77,17 +84,21 @@ pub enum Entry {
         line: u32,
         what: Awaited,
     },
+    /// A job began.
     Start {
         job: u32,
     },
+    /// A job is ready. Its line says that all bytes of its source are done.
     Ready {
         job: u32,
     },
+    /// A job ended so. Its line says that `offset` bytes of its source are done.
     End {
         job: u32,
         outcome: JobEnd,
         offset: u64,
     },
+    /// An actor has nothing more to ask.
     Done {
         actor: u32,
     },

@@ -38,7 +38,7 @@ impl History {
     ghost use Rattle.std.specs.Prelude.{◌≡◌, ◌+◌, ◌-◌, ◌<◌, ◌≤◌, max, [], ◌∷◌, ◌++◌, length, option_copied, option_map, IfOk, IsOk, OnOk, OnErr};
     ghost use Rattle.blk_history.specs.Recorded.{Recorded, event_of, PointsWithin};
     ghost use Rattle.blk_history.specs.Transcript.{line_of};
-    ghost use Rattle.blk_history.specs.Line.{admitted_by, reply_by, At, HasName, line_room, Appends};
+    ghost use Rattle.blk_history.specs.Line.{admitted_by, reply_by, At, IsActorNamed, line_room, Appends};
 
     /// No entry yet, and room for so many entries and bytes.
     pub fn with_room(alloc: Global, room: Room) -> Result<Self, NoMemory>
@@ -141,7 +141,7 @@ impl History {
     /// the line's room to spare; after a refusal `out` is as before.
     pub fn line(&self, at: u64, names: &Rows, out: &mut Text) -> Result<(), NoMemory>
         requires within { at < length self.now.events }
-        requires named { At self.now.events at (HasName names.now) }
+        requires named { At self.now.events at (IsActorNamed names.now) }
         ensures ok { At self.now.events at
             (λ e. OnOk result
             (Appends out.old out.new (line_of names.now e) (line_room names.now e))) }

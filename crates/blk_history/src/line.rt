@@ -4,7 +4,7 @@ ghost use Rattle.blk_base.specs.Pieces.{end_of};
 ghost use Rattle.blk_history.specs.Names.{no_job};
 ghost use Rattle.blk_history.specs.Transcript.{span_words, op_words, refused_word, dev_word, good_words, outcome_words, actor_word, start_words, ready_words, end_words, line_of};
 ghost use Rattle.blk_history.specs.Recorded.{event_of, PointsWithin};
-ghost use Rattle.blk_history.specs.Line.{blanked, HasName, HasActor, actor_room, long_part, line_room, Appends};
+ghost use Rattle.blk_history.specs.Line.{blanked, IsActorNamed, HasActor, actor_room, long_part, line_room, Appends};
 
 use crate::telling::{push_end, push_ready, push_start};
 use crate::{Entry, Refused, Rows};
@@ -138,7 +138,7 @@ fn push_actor(out: &mut Text, names: &Rows, actor: u32)
 /// How much longer than 256 bytes the line of an entry may be, where that is a number of 64 bits.
 fn longer(entry: &Entry, bytes: &[u8], names: &Rows) -> Option<usize>
     requires within { PointsWithin (length bytes.now) entry.now }
-    requires named { HasName names.now (event_of bytes.now entry.now) }
+    requires named { IsActorNamed names.now (event_of bytes.now entry.now) }
     ensures { SomeIff result (long_part names.now (event_of bytes.now entry.now) < 2 ^ 64)
         (long_part names.now (event_of bytes.now entry.now)) }
 {
@@ -162,7 +162,7 @@ fn longer(entry: &Entry, bytes: &[u8], names: &Rows) -> Option<usize>
 /// How much room the line of an entry is given, where that is a number of 64 bits.
 fn needed(entry: &Entry, bytes: &[u8], names: &Rows) -> Option<usize>
     requires within { PointsWithin (length bytes.now) entry.now }
-    requires named { HasName names.now (event_of bytes.now entry.now) }
+    requires named { IsActorNamed names.now (event_of bytes.now entry.now) }
     ensures { SomeIff result (line_room names.now (event_of bytes.now entry.now) < 2 ^ 64)
         (line_room names.now (event_of bytes.now entry.now)) }
 {
@@ -172,7 +172,7 @@ fn needed(entry: &Entry, bytes: &[u8], names: &Rows) -> Option<usize>
 /// Puts the line of an entry of a guest at the end.
 fn push_line(out: &mut Text, entry: &Entry, bytes: &[u8], names: &Rows)
     requires within { PointsWithin (length bytes.now) entry.now }
-    requires named { HasName names.now (event_of bytes.now entry.now) }
+    requires named { IsActorNamed names.now (event_of bytes.now entry.now) }
     requires room { line_room names.now (event_of bytes.now entry.now) ≤ out.old.spare }
     ensures { Appends out.old out.new (line_of names.now (event_of bytes.now entry.now))
         (line_room names.now (event_of bytes.now entry.now)) }
@@ -257,7 +257,7 @@ pub(crate) fn write_line(
     names: &Rows,
 ) -> Result<(), NoMemory>
     requires within { PointsWithin (length bytes.now) entry.now }
-    requires named { HasName names.now (event_of bytes.now entry.now) }
+    requires named { IsActorNamed names.now (event_of bytes.now entry.now) }
     ensures ok { OnOk result
         (Appends out.old out.new (line_of names.now (event_of bytes.now entry.now))
         (line_room names.now (event_of bytes.now entry.now))) }

@@ -3,7 +3,7 @@ use Rattle.std.proofs.lemmas.List.{length-map}
 use Rattle.blk_history.specs.declared.event.Event.{Event}
 use Rattle.blk_history.specs.Recorded.{Recorded, event_of}
 use Rattle.blk_history.specs.Transcript.{line_of}
-use Rattle.blk_history.specs.Line.{At, HasName, line_room, Appends}
+use Rattle.blk_history.specs.Line.{At, IsActorNamed, line_room, Appends}
 use Rattle.blk_history.proofs.Points.{points-at, of_event, at_event}
 use Rattle.blk_history.proofs.history.History.line.Goals as goal
 
@@ -18,8 +18,8 @@ write_line-requires-clause-named c =
     let es = c.self.inside.entries.items in
     let events = ap (λ (v : Recorded). v.events) c.self.view_is in
     let below : c.args.at < length es = omega (arith, ap length events, length-map es (event_of c.self.inside.bytes.items)) in
-    let named : At (map (event_of c.self.inside.bytes.items) es) c.args.at (HasName c.args.names.now) = rw events c.requires.named in
-    rw c.deref.ensures.value (of_event (HasName c.args.names.now) c.self.inside.bytes.items es c.args.at c.index.result.now below c.index.ensures named)
+    let named : At (map (event_of c.self.inside.bytes.items) es) c.args.at (IsActorNamed c.args.names.now) = rw events c.requires.named in
+    rw c.deref.ensures.value (of_event (IsActorNamed c.args.names.now) c.self.inside.bytes.items es c.args.at c.index.result.now below c.index.ensures named)
 
 pub returns-clause-ok : goal.returns-clause-ok
 returns-clause-ok c =
