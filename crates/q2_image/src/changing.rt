@@ -189,7 +189,8 @@ impl Image {
         self.write_cleared(dev, span, place, bytes)
     }
 
-    /// Returns once all that was written is kept.
+    /// Flushes the device. Behind `Ok` it is flushed, where it tells that at all; a failed flush leaves all as it was but
+    /// the count of faults.
     pub fn flush<D: Device>(&mut self, dev: &mut D) -> Result<(), DevStop>
         ensures known { self.new ≡ self.old }
         ensures flushed { D.is_flushed dev.new

@@ -161,9 +161,11 @@ fn open_tables<D: Device>(
 /// here. The device's bytes stay.
 ///
 /// The refusals are those of the published qcow2 text, version 3, and of what is supported of it; the first one that
-/// holds is answered. `Io` comes in place of what a failed read would have told: what comes before that in the order
-/// of the refusals was read before, and is answered. So the refcount table is read behind the header, then the L1
-/// table and the L2 tables, and the refcount blocks last, once nothing is named twice. `NoMemory` may always come.
+/// holds is answered. `Io` comes in place of what a failed read would have told and of all that comes behind that in
+/// the order of the refusals. So the refcount table is read behind the header, then the L1 table, then all L2 tables,
+/// and all refcount blocks last, once nothing is named twice. The L2 tables are judged once all of them are read, and
+/// so are the refcount blocks: a failed read of one also hides what another that was read has told. `NoMemory` may
+/// always come.
 pub fn open_image<D: Device>(alloc: Global, dev: &mut D) -> Result<Image, ImageStop>
     // the first refusal of the file, or an image of it
     ensures judged { (file : List ℕ) → D.content dev.old ≡ Some file

@@ -6,8 +6,8 @@ use std::alloc::AllocError;
 use std::fmt;
 use thiserror::Error;
 
-/// Why an image isn't opened: the first cause in the order in which they stand here, `Io` in place of what a failed
-/// call would have told. The file is as before.
+/// Why an image isn't opened: the first cause in the order in which they stand here. `Io` and `NoMemory` come in place
+/// of each that isn't judged by then: `open_image` says which are read and judged together. The file is as before.
 #[derive(Clone, Copy, Debug, PartialEq, Eq, Error)]
 pub enum ImageStop {
     /// The header is refused.

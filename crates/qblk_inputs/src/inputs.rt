@@ -20,9 +20,11 @@ use trace_codec::{
 /// What the words of a run name, read.
 #[derive(Drop)]
 pub struct Inputs {
+    /// The names of the guests, by their number from 0.
     pub guests: Names1,
+    /// The lines of the script that aren't passed over, in order.
     pub script: VecDeque<Order>,
-    /// By guest.
+    /// What each guest wishes, by its number.
     pub traces: Vec<Vec<Wish>>,
 }
 
@@ -174,7 +176,8 @@ fn guest_names(alloc: Global, players: &[Text]) -> Result<Names1, NoMemory>
     Ok(Names1::from_vec(names))
 }
 
-/// Reads what the words of a run name: the script, and then a trace for each guest. The first that is refused is named.
+/// Reads what the words of a run name: the script, and then a trace for each guest. The first that is refused or can't
+/// be read is answered, and those behind it aren't read. The store's files, openings and room stay.
 pub fn read_inputs<S: Store>(
     alloc: Global,
     store: &mut S,

@@ -44,7 +44,9 @@ fn with_trace(room: Room, wishes: &[Wish]) -> Option<Room>
     Some(room)
 }
 
-/// The room that a run of a script of so many lines and of these traces needs, where that can be counted.
+/// The room that a run of a script of so many lines and of these traces needs: entries for the lines and each actor's
+/// end, and for each request two and one a piece; and bytes for what the requests read. `None` where that can't be
+/// counted: a trace has 2^32 - 1 wishes or more, a request 2^32 pieces or more, or a sum would pass 2^64 - 1.
 pub fn room_for(lines: u32, traces: &[Vec<Wish>]) -> Option<Room>
     ensures { IfSome result (IsRoomFor lines (map (λ t. t.items) traces.now)) }
 {

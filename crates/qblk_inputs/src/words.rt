@@ -6,11 +6,13 @@ ghost use Rattle.qblk_inputs.specs.Words.{Cast, IsRunOf, texts_of, is_file_name,
 use blk_base::Text;
 use trace_codec::is_name;
 
-/// The words of the form `run 1 SCRIPT GUEST=TRACE ..`.
+/// The words of the form `run 1 SCRIPT GUEST=TRACE ..`, as `run_words` gives them.
 #[derive(Clone, Copy, Debug)]
 pub struct RunWords<'a> {
+    /// The script's file: 1 to 1,023 bytes without a zero byte, the first no `-`.
     pub script: &'a str,
-    /// A word for each guest.
+    /// A word `GUEST=TRACE` for each guest, by its number: at most 16, of different names. The trace's file has a name of
+    /// 1 to 1,023 bytes without a zero byte.
     pub players: &'a [Text],
 }
 
