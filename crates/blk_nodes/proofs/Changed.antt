@@ -17,7 +17,7 @@ use Rattle.q2_image.specs.Image.{Known, cluster_size_in, word_in, entry_in}
 use Rattle.q2_image.specs.Made.{WriteStep, IsKnownBy, WroteOwn, known_after, clear_steps, take_steps, table_steps, host_steps, data_steps, entry_steps, fill_steps, clean_steps, put_steps, zero_steps, word_for}
 use Rattle.q2_image.specs.Room.{cluster_of, entry_for, is_whole}
 use Rattle.q2_image.specs.Writing.{HasEntriesBut, autocleared, host_for, needs_host, needs_table, table_for, with_host, with_table, with_taken}
-use Rattle.blk_nodes.specs.Changing.{seen, ChangesAround, ChangesBySteps, ChangesInPlace, ChangesPart, IsWritten, IsZeroed, MakesChange, ZeroesBy, ZeroesPart}
+use Rattle.blk_nodes.specs.Changing.{seen, ChangesAround, ChangesBySteps, ChangesInPlace, ChangesPart, IsImageWritten, IsZeroed, MakesChange, ZeroesBy, ZeroesPart}
 use Rattle.blk_nodes.specs.Nodes.{DeviceState}
 
 -- P holds of what is known behind each of some steps
@@ -219,7 +219,7 @@ module _ (IsDisk : List ℕ → Type 0) (image now : Known) (part : Extent) (byt
   part_entries entries.Reserved o is = around_entries o is
 
   -- where bytes were written
-  pub written_entries : (o : Outcome) → IsWritten IsDisk part bytes image now before after o → LeavesEntries image now (cluster_of image part) o
+  pub written_entries : (o : Outcome) → IsImageWritten IsDisk part bytes image now before after o → LeavesEntries image now (cluster_of image part) o
   written_entries o is = part_entries (entry_for image part) o is
 
 -- and zeros

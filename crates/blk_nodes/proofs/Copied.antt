@@ -20,17 +20,18 @@ use Rattle.blk_graph.proofs.PathLemmas.{Reaches-edge, Reaches-joined}
 use Rattle.blk_graph.proofs.RoleLemmas.{tail_pairs, head_pairs}
 use Rattle.q2_format.specs.Contents.{image_disk}
 use Rattle.q2_format.specs.Header.{header_of}
+use Rattle.q2_format.specs.Sizes.{cluster_size}
 use Rattle.q2_format.specs.declared.header.Header.{Header}
 use Rattle.q2_format.specs.declared.entries.L2Entry.{L2Entry}
 use Rattle.q2_format.specs.declared.entries.L2Entry.TheVariants as entries
 use Rattle.q2_image.specs.Guest.{file_entry}
 use Rattle.q2_image.specs.Image.{Known, IsImageOf, cluster_size_in, clusters_in, entry_in}
 use Rattle.q2_image.specs.Reading.{IsHost}
-use Rattle.q2_image.specs.Room.{WriteFits, WriteFitsBy, cluster_of, entry_for}
+use Rattle.q2_image.specs.Room.{WriteFits, WriteFitsBy, cluster_of, entry_for, is_whole}
 use Rattle.q2_image.specs.Writing.{PutFits}
 use Rattle.q2_image.proofs.Guests.{guest_unallocated}
 use Rattle.q2_image.proofs.Mapped.{entry_of_file}
-use Rattle.blk_nodes.specs.Changing.{IsWritten, ChangesAround, ChangesPart, ChangesRow, LeavesRow}
+use Rattle.blk_nodes.specs.Changing.{IsImageWritten, ChangesAround, ChangesPart, ChangesRow, LeavesRow}
 use Rattle.blk_nodes.specs.Contents.{IsToldDisk, below, disk_by, disk_of, bytes_by, bytes_of}
 use Rattle.blk_nodes.specs.Copying.{AtEach, HasRoomIn, GoesWhole, IsMappedAt, IsRoomInEach, LeavesRest, is_unallocated, is_copy_on_read, shows_below_at, puts_below, images_met_in}
 use Rattle.blk_nodes.specs.Joined.{IsOverlay, IsCopying, IsJoined, DifferInNode}
@@ -38,7 +39,7 @@ use Rattle.blk_nodes.specs.Nodes.{Nodes, DeviceState, AreTold, is_of, row_at, de
 use Rattle.blk_nodes.specs.Parts.{OfImage}
 use Rattle.blk_nodes.specs.Reading.{LeadsTo}
 use Rattle.blk_nodes.specs.Sources.{in_file, in_image, in_below, step_by_entry, step_by, step_of}
-use Rattle.blk_nodes.specs.Writing.{IsTornAt, HasPieceCause, WritesImage, WritesBy, WritesPiece, AreRowsAfter, LeavesNodes, HasImageIn, OwnsFile, CanBeWritten, MayWrite, FitsAt, HasRoomAt, own_file, own_place_by}
+use Rattle.blk_nodes.specs.Writing.{IsTornAt, HasPieceCause, WritesImage, WritesBy, WritesPiece, IsDriverAfter, AreRowsAfter, LeavesNodes, HasImageIn, OwnsFile, CanBeWritten, MayWrite, FitsAt, HasRoomAt, own_file, own_place_by, rest_place}
 use Rattle.blk_nodes.specs.declared.row.Driver.{Driver}
 use Rattle.blk_nodes.specs.declared.row.Driver.TheVariants.{File, Raw, Qcow2, CopyOnRead}
 use Rattle.blk_nodes.specs.declared.row.Row.{Row}
@@ -240,7 +241,7 @@ pub record IsPutInto (nodes : Nodes) (node place : ℕ) : Type 0 where
   pub image : Known
   pub there : row_at nodes node ≡ Some row
   pub driver : row.driver ≡ Qcow2 image
-  pub bare : entry_in image (place / 65536) ≡ entries.Unallocated
+  pub bare : entry_in image (place / cluster_size_in image) ≡ entries.Unallocated
 
 pub put_into : (nodes : Nodes) (above node place : ℕ) → puts_below (row_at nodes above) (row_at nodes node) place ≡ true → IsPutInto nodes node place
 put_into nodes above node place puts = by_rows (row_at nodes above) (row_at nodes node) refl puts
@@ -260,7 +261,7 @@ put_into nodes above node place puts = by_rows (row_at nodes above) (row_at node
     by_child row File there driver is = absurd (cc is)
     by_child row (Raw part) there driver is = absurd (cc is)
     by_child row (Qcow2 image) there driver is =
-        record { row = row; image = image; there = there; driver = driver; bare = none_there (entry_in image (place / 65536)) is }
+        record { row = row; image = image; there = there; driver = driver; bare = none_there (entry_in image (place / cluster_size_in image)) is }
     by_child row CopyOnRead there driver is = absurd (cc is)
 
     by_rows : (over child : Option Row) → row_at nodes node ≡ child → puts_below over child place ≡ true → IsPutInto nodes node place
@@ -294,7 +295,7 @@ module _ (nodes : Nodes) (joined : IsJoined nodes) (node : ℕ) (span : Extent) 
   cluster_is = let bits = into_overlay.opened.cluster_bits in ap (λ (c : ℕ). span.start / c) (rw bits refl)
 
   pub entry_bare : entry_for into.image span ≡ entries.Unallocated
-  entry_bare = ap (entry_in into.image) cluster_is ∙ into.bare
+  entry_bare = into.bare
 
   pub fits_write : (capacity : ℕ) → PutFits into.image (span.start / 65536) capacity → WriteFits into.image span capacity
   fits_write capacity fits =
@@ -369,7 +370,13 @@ size_after (Some row) b is = ap size_by is.1 ∙ is.2.size
 
 module _ (old new : Nodes) (joined : IsJoined old) (now : IsJoined new) (node : ℕ) (span : Extent) (bytes : List ℕ) (outcome : Outcome) (may : MayWrite old node)
     (into : IsPutInto old node span.start) (wrote : WritesPiece old new node span bytes outcome) (kept : LeavesNodes old new node) where
-  pub written : WritesImage (WriteFits into.image span) (own_place_by (entry_for into.image span) into.image span) old new node (length bytes) outcome
+  abbrev place : Option ℕ
+  place = own_place_by (entry_for into.image span) into.image span
+
+  abbrev begins : Option ℕ
+  begins = rest_place place (is_whole into.image span) into.image span
+
+  pub written : WritesImage (WriteFits into.image span) place begins old new node (length bytes) outcome
   written =
       let same : wrote.row ≡ into.row = cc (sym wrote.there ∙ into.there) in
       subst (λ (d : Driver). WritesBy d old new node span bytes outcome) (ap (λ (r : Row). r.driver) same ∙ into.driver) wrote.wrote
@@ -391,8 +398,7 @@ module _ (old new : Nodes) (joined : IsJoined old) (now : IsJoined new) (node : 
 
   pub device_same : outcome ≡ Good → (f : ℕ) → f ≢ written.file → device_in new.devices f ≡ device_in old.devices f
   device_same good f apart =
-      let cause = subst (HasPieceCause (WriteFits into.image span written.before.capacity) (own_place_by (entry_for into.image span) into.image span) (length bytes) written.file old new node
-      written.before written.after) good written.cause in
+      let cause = subst (HasPieceCause (WriteFits into.image span written.before.capacity) place begins (length bytes) written.file old new node written.before written.after) good written.cause in
       cause.2.others f apart
 
   image_before : (n f : ℕ) → HasImageIn new n f → HasImageIn old n f
@@ -456,33 +462,40 @@ module _ (old new : Nodes) (joined : IsJoined old) (now : IsJoined new) (node : 
           let images : found.1 ≡ into.image = cc (sym found.3 ∙ ap (λ (r : Row). r.driver) rows ∙ into.driver) in
           subst (λ (i : Known). WriteFits i span written.before.capacity) images (found.4 written.file written.edge written.before written.held)
 
-      place : Option ℕ
-      place = own_place_by (entry_for into.image span) into.image span
-
       nowhere : place ≡ None
       nowhere = ap (λ (e : L2Entry). own_place_by e into.image span) (entry_bare old joined node span into)
 
-      by : (o : Outcome) → HasPieceCause (WriteFits into.image span written.before.capacity) place (length bytes) written.file old new node written.before written.after o → GoesWhole o
+      by : (o : Outcome) → HasPieceCause (WriteFits into.image span written.before.capacity) place begins (length bytes) written.file old new node written.before written.after o → GoesWhole o
       by Good is = tt
       by (Torn done dev count) is = absurd (subst (λ (p : Option ℕ). IsTornAt p (length bytes) done) nowhere is.1)
       by (Io dev count) is = tt
       by (NoSpace dev) is = absurd (is.0 fits)
+
+  -- an image keeps the size of its clusters
+  size_kept : (now : Known) → row_at new node ≡ Some (record wrote.row { driver = Qcow2 now }) → cluster_size_in now ≡ cluster_size_in into.image
+  size_kept now left =
+      let own : AreRowsAfter (Some into.row) (row_at new node) = subst (λ (r : Option Row). AreRowsAfter r (row_at new node)) into.there kept.own in
+      let after : IsDriverAfter (Qcow2 into.image) own.0.driver = subst (λ (d : Driver). IsDriverAfter d own.0.driver) into.driver own.2.driver in
+      let same : own.0 ≡ record wrote.row { driver = Qcow2 now } = cc (sym own.1 ∙ left) in
+      let image : Qcow2 after.0 ≡ Qcow2 now = sym after.1 ∙ ap (λ (r : Row). r.driver) same in
+      let known : after.0 ≡ now = cc image in
+      subst (λ (k : Known). cluster_size_in k ≡ cluster_size_in into.image) known (ap (λ (h : Header). cluster_size h.cluster_bits) after.2)
 
   -- a good one maps the cluster
   pub mapped_after : outcome ≡ Good → IsMappedAt new span.start node
   mapped_after good =
       let same : wrote.row ≡ into.row = cc (sym wrote.there ∙ into.there) in
       let is : wrote.row.driver ≡ Qcow2 into.image = ap (λ (r : Row). r.driver) same ∙ into.driver in
-      let left : ChangesRow (IsWritten (IsToldDisk old node) span bytes) into.image wrote.row old new node outcome
-      = subst (λ (d : Driver). LeavesRow (IsWritten (IsToldDisk old node) span bytes) d wrote.row old new node outcome) is wrote.left in
-      let changed : IsWritten (IsToldDisk old node) span bytes into.image left.now written.before written.after outcome
+      let left : ChangesRow (IsImageWritten (IsToldDisk old node) span bytes) into.image wrote.row old new node outcome
+      = subst (λ (d : Driver). LeavesRow (IsImageWritten (IsToldDisk old node) span bytes) d wrote.row old new node outcome) is wrote.left in
+      let changed : IsImageWritten (IsToldDisk old node) span bytes into.image left.now written.before written.after outcome
       = left.changed written.file written.before written.after written.edge written.held written.left in
       let around : ChangesAround (IsToldDisk old node) span bytes into.image left.now written.before written.after outcome
       = subst (λ (e : L2Entry). ChangesPart (IsToldDisk old node) e span bytes into.image left.now written.before written.after outcome) (entry_bare old joined node span into) changed in
       let made = subst (ChangesAround (IsToldDisk old node) span bytes into.image left.now written.before written.after) good around in
       let row : Row = record wrote.row { driver = Qcow2 left.now } in
-      of_image (row_at new node) row left.now (λ image. IsHost (entry_in image (span.start / 65536))) left.left refl
-      (subst (λ (k : ℕ). IsHost (entry_in left.now k)) (cluster_is old joined node span into) made.1)
+      of_image (row_at new node) row left.now (λ image. IsHost (entry_in image (span.start / cluster_size_in image))) left.left refl
+      (subst (λ (c : ℕ). IsHost (entry_in left.now (span.start / c))) (sym (size_kept left.now left.left)) made.1)
 
 -- ---- what is left by several
 

@@ -13,35 +13,35 @@ use Rattle.q2_format.specs.declared.entries.L2Entry.{L2Entry}
 use Rattle.q2_format.specs.declared.entries.L2Entry.TheVariants as entries
 use Rattle.q2_image.specs.Image.{Known, IsOpen}
 use Rattle.q2_image.specs.Room.{WriteFits, PartZerosFit, ZerosFit, ZerosFitBy, entry_for, is_whole}
-use Rattle.blk_graph.specs.declared.edge.Role.TheVariants.{File as FileRole}
 use Rattle.blk_nodes.specs.Contents.{IsToldDisk, told, below, disk_by, disk_of, bytes_of}
-use Rattle.blk_nodes.specs.Changing.{ImageChange, IsWritten, IsZeroed, ChangesPart, ZeroesPart, ZeroesBy, LeavesRow}
-use Rattle.blk_nodes.specs.Found.{found_bytes, IsReadFrom}
+use Rattle.blk_nodes.specs.Changing.{ImageChange, IsImageWritten, IsZeroed, ChangesPart, ZeroesPart, ZeroesBy, LeavesRow}
+use Rattle.blk_nodes.specs.Found.{found_bytes, IsReadOfSource}
 use Rattle.blk_nodes.specs.Joined.{IsOverlay, IsJoined}
 use Rattle.blk_nodes.specs.Nodes.{Nodes, DeviceState, AreTold, row_at, device_in, size_by, size_of, file_of, backing_of}
 use Rattle.blk_nodes.specs.Parts.{HasPiece, IsPieceOf, IsDiskFound, RefusesPiece, StopsReading, CallsPiece, WritesPart, row_in}
-use Rattle.blk_nodes.specs.Reading.{HasRisen, HaveRisen, LeadsTo, StoppedBelow}
+use Rattle.blk_nodes.specs.Reading.{HasRisen, HaveRisen, LeadsTo}
 use Rattle.blk_nodes.specs.Sources.{source_of}
-use Rattle.blk_nodes.specs.Walk.{IsKnownAt, LeadsToSource}
-use Rattle.blk_nodes.specs.Writing.{taken_by, IsDeviceAfter, HasImageCause, HasPieceCause, WritesImage, WritesBy, WritesPiece, ZerosBy, ZerosPiece, own_place_by, zeros_place, IsDriverAfter, AreRowsAfter, LeavesNodes, OwnsFile, own_file, IsOverApart, CanBeWritten, MayWrite, IsApart}
+use Rattle.blk_nodes.specs.Walk.{IsKnownAt}
+use Rattle.blk_nodes.specs.Writing.{taken_by, IsDeviceAfter, HasImageCause, HasPieceCause, IsRestRead, WritesImage, WritesBy, WritesPiece, ZerosBy, ZerosPiece, own_place_by, rest_place, zeros_place, IsDriverAfter, AreRowsAfter, LeavesNodes, OwnsFile, own_file, IsOverApart, CanBeWritten, MayWrite, IsApartFrom}
 use Rattle.blk_nodes.specs.declared.part.Part.{Part}
 use Rattle.blk_nodes.specs.declared.row.Driver.{Driver}
 use Rattle.blk_nodes.specs.declared.row.Driver.TheVariants.{Qcow2}
 use Rattle.blk_nodes.specs.declared.row.Row.{Row}
+use Rattle.blk_nodes.specs.declared.source.Source.{Source}
 use Rattle.blk_nodes.proofs.Alike.{alike_but, row_refl, joined_alike, disks_alike}
 use Rattle.blk_nodes.proofs.Chains.{reads_found}
 use Rattle.blk_nodes.proofs.CoveredDisks.{length_disk}
 use Rattle.blk_nodes.proofs.Disks.{disks_risen}
 use Rattle.blk_nodes.proofs.HeldDevices.{told_is, told_held, held_after, before_rise, device_risen, HasRisen-refl, HaveRisen-refl, some_device}
 use Rattle.blk_nodes.proofs.Joints.{joined_after}
+use Rattle.blk_nodes.proofs.PartFits.{rest_begins}
 use Rattle.blk_nodes.proofs.PartsWritten.{same_row}
-use Rattle.blk_nodes.proofs.Leading.{child_leads, read_below}
 use Rattle.blk_nodes.proofs.Rows.{row_below, image_found}
 use Rattle.blk_nodes.proofs.Unfolding.{unfolds}
 use Rattle.blk_nodes.proofs.Written.{disk_apart}
 
 module _ (nodes : Nodes) (joined : IsJoined nodes) (part : Part) (may : MayWrite nodes part.node) (edge : file_of nodes part.node ≡ Some part.file)
-    (source_is : source_of nodes part.node part.whole.start ≡ part.source) (leads : LeadsToSource nodes.graph.edges part.node part.source)
+    (source_is : source_of nodes part.node part.whole.start ≡ part.source)
     (piece : HasPiece nodes.rows nodes.devices part) (rows : List (Option Row)) (devices : List DeviceState) (fits : Known → ℕ → Type 0) (own : Known → Option ℕ)
     (change : ImageChange) (bytes : List ℕ) (outcome : Outcome) (w : WritesPart fits own change nodes.rows rows nodes.devices devices part bytes outcome)
     (refuses : (device : DeviceState) (dev : DevNo) → (fits w.image device.capacity → ⊥) → change w.image w.image device device (NoSpace dev)) where
@@ -50,6 +50,10 @@ module _ (nodes : Nodes) (joined : IsJoined nodes) (part : Part) (may : MayWrite
 
   abbrev node : ℕ
   node = part.node
+
+  -- where the read of its cluster's rest begins
+  abbrev rest : Option ℕ
+  rest = rest_place (own w.image) (is_whole w.image part.span) w.image part.span
 
   is_piece : IsPieceOf nodes.rows nodes.devices part w.image
   is_piece = image_found (row_at nodes node) w.row w.image (IsPieceOf nodes.rows nodes.devices part) w.there w.driver piece
@@ -66,7 +70,7 @@ module _ (nodes : Nodes) (joined : IsJoined nodes) (part : Part) (may : MayWrite
   over_apart : IsOverApart nodes node
   over_apart = subst (CanBeWritten nodes node) may_driver may.can
 
-  none_below : (other : ℕ) → IsApart nodes other node → LeadsTo nodes.graph.edges other part.file → ⊥
+  none_below : (other : ℕ) → IsApartFrom nodes other node → LeadsTo nodes.graph.edges other part.file → ⊥
   none_below other apart = apart may.row part.file may.there own_is
 
   sized : w.image.header.size ≡ size_of nodes node
@@ -137,7 +141,7 @@ module _ (nodes : Nodes) (joined : IsJoined nodes) (part : Part) (may : MayWrite
       (subst (λ (d : DeviceState). change w.image w.image before d (NoSpace r.dev)) stays (refuses before r.dev full))
 
   -- where the read of the rest of the cluster was stopped
-  module _ (s : StopsReading part (fits w.image) change w.image nodes.rows rows nodes.devices devices outcome) where
+  module _ (s : StopsReading part (fits w.image) (own w.image) change w.image nodes.rows rows nodes.devices devices outcome) where
     abbrev read : Nodes
     read = record nodes { devices = devices }
 
@@ -159,14 +163,17 @@ module _ (nodes : Nodes) (joined : IsJoined nodes) (part : Part) (may : MayWrite
     disk_stopped : (other : ℕ) → disk_of new other ≡ disk_of nodes other
     disk_stopped other = ap (λ (n : Nodes). disk_of n other) read_is ∙ disks_risen nodes devices s.risen other
 
-    wrote_stopped : WritesImage (fits w.image) (own w.image) nodes new node (length bytes) outcome
+    wrote_stopped : WritesImage (fits w.image) (own w.image) rest nodes new node (length bytes) outcome
     wrote_stopped =
         let now = some_device (device_in devices part.file) (held_after part.file nodes.devices devices s.risen (rw s.held refl)) in
         let was = before_rise part.file nodes.devices devices now.0 s.risen now.1 in
         let same_device : was.0 ≡ s.device = cc (sym was.1 ∙ s.held) in
-        let of_read : IsReadFrom part.source nodes.devices devices (Io s.dev s.count) = subst (IsReadFrom part.source nodes.devices devices) s.is s.read in
-        let below : StoppedBelow nodes read node s.dev s.count = read_below nodes devices node part.source (Io s.dev s.count) leads of_read in
-        let after : StoppedBelow nodes new node s.dev s.count = subst (λ (n : Nodes). StoppedBelow nodes n node s.dev s.count) (sym read_is) below in
+        let at_source : IsReadOfSource part.source nodes.devices devices (Io s.dev s.count) = subst (IsReadOfSource part.source nodes.devices devices) s.is s.read in
+        let at_place : IsReadOfSource (source_of nodes node part.whole.start) nodes.devices devices (Io s.dev s.count)
+        = subst (λ (source : Source). IsReadOfSource source nodes.devices devices (Io s.dev s.count)) (sym source_is) at_source in
+        let begins : rest ≡ Some part.whole.start = rest_begins nodes.rows nodes.devices part w.image is_piece (own w.image) s.nowhere s.less in
+        let is_read : IsRestRead rest nodes new node (Io s.dev s.count)
+        = subst (λ (r : Option ℕ). IsRestRead r nodes new node (Io s.dev s.count)) (sym begins) at_place in
         record {
           file = part.file;
           edge = edge;
@@ -176,7 +183,8 @@ module _ (nodes : Nodes) (joined : IsJoined nodes) (part : Part) (may : MayWrite
           left = now.1;
           device = subst (λ (d : DeviceState). IsDeviceAfter d now.0) same_device (device_risen was.0 now.0 was.2);
           devices = inr s.risen;
-          cause = subst (HasPieceCause (fits w.image s.device.capacity) (own w.image) (length bytes) part.file nodes new node s.device now.0) (sym s.is) (s.fit, after);
+          cause = subst (HasPieceCause (fits w.image s.device.capacity) (own w.image) rest (length bytes) part.file nodes new node s.device now.0) (sym s.is)
+              (s.fit, inr is_read);
         }
 
   -- where the image was called
@@ -310,20 +318,13 @@ module _ (nodes : Nodes) (joined : IsJoined nodes) (part : Part) (may : MayWrite
         ∙ ap (λ (d : List ℕ). with_bytes d part.span.start (taken_by outcome bytes)) (sym disk_before)
 
     cause_called : (o : Outcome) → outcome ≡ o → HasImageCause (fits w.image c.before.capacity) (own w.image) (length bytes) c.before c.after w.image c.now o
-        → HasPieceCause (fits w.image c.before.capacity) (own w.image) (length bytes) part.file nodes new node c.before c.after o
+        → HasPieceCause (fits w.image c.before.capacity) (own w.image) rest (length bytes) part.file nodes new node c.before c.after o
     cause_called Good is cause = (cause.0, cause.1, c.only)
     cause_called (Torn done dev count) is cause = (cause.0, cause.1, cause.2, c.only)
-    cause_called (Io dev count) is cause = (
-      cause.0,
-      record {
-        file = part.file;
-        leads = child_leads nodes.graph.edges node part.file FileRole edge;
-        stopped = record { before = c.before; after = c.after; held = c.held; left = c.held_now; stopped = cause.1; only = c.only };
-      },
-    )
+    cause_called (Io dev count) is cause = (cause.0, inl (cause.1, c.only))
     cause_called (NoSpace dev) is cause = let same = c.full dev is in (cause.0, cause.1, all_same same.0 same.1)
 
-    wrote_called : WritesImage (fits w.image) (own w.image) nodes new node (length bytes) outcome
+    wrote_called : WritesImage (fits w.image) (own w.image) rest nodes new node (length bytes) outcome
     wrote_called = record {
       file = part.file;
       edge = edge;
@@ -359,7 +360,7 @@ module _ (nodes : Nodes) (joined : IsJoined nodes) (part : Part) (may : MayWrite
     ]
   ]
 
-  pub others_piece : (other : ℕ) → IsApart nodes other node → disk_of new other ≡ disk_of nodes other
+  pub others_piece : (other : ℕ) → IsApartFrom nodes other node → disk_of new other ≡ disk_of nodes other
   others_piece other apart = elim w.wrote [
     | inl r ↦ ap (λ (n : Nodes). disk_of n other) (all_same r.rows_same r.devices_same)
     | inr called ↦ elim called [
@@ -386,7 +387,7 @@ module _ (nodes : Nodes) (joined : IsJoined nodes) (part : Part) (may : MayWrite
     ]
   ]
 
-  pub wrote_piece : WritesImage (fits w.image) (own w.image) nodes new node (length bytes) outcome
+  pub wrote_piece : WritesImage (fits w.image) (own w.image) rest nodes new node (length bytes) outcome
   wrote_piece = elim w.wrote [
     | inl r ↦
         let left : device_in devices part.file ≡ Some r.device = ap (λ (ds : List DeviceState). device_in ds part.file) r.devices_same ∙ r.held in
@@ -399,7 +400,7 @@ module _ (nodes : Nodes) (joined : IsJoined nodes) (part : Part) (may : MayWrite
           left = left;
           device = device_risen r.device r.device (HasRisen-refl r.device);
           devices = inr (subst (HaveRisen nodes.devices) (sym r.devices_same) (HaveRisen-refl nodes.devices));
-          cause = subst (HasPieceCause (fits w.image r.device.capacity) (own w.image) (length bytes) part.file nodes new node r.device r.device) (sym r.is)
+          cause = subst (HasPieceCause (fits w.image r.device.capacity) (own w.image) rest (length bytes) part.file nodes new node r.device r.device) (sym r.is)
               (r.full, r.named, all_same r.rows_same r.devices_same);
         }
     | inr called ↦ elim called [
@@ -418,7 +419,7 @@ refuses_part IsDisk entries.Compressed span bytes image device dev = (refl, refl
 refuses_part IsDisk entries.Reserved span bytes image device dev = (refl, refl)
 
 pub refuses_written : (IsDisk : List ℕ → Type 0) (span : Extent) (bytes : List ℕ) (image : Known) (device : DeviceState) (dev : DevNo)
-    → IsWritten IsDisk span bytes image image device device (NoSpace dev)
+    → IsImageWritten IsDisk span bytes image image device device (NoSpace dev)
 refuses_written IsDisk span bytes image device dev = refuses_part IsDisk (entry_for image span) span bytes image device dev
 
 refuses_zeroes : (IsDisk : List ℕ → Type 0) (e : L2Entry) (span : Extent) (image : Known) (device : DeviceState) (dev : DevNo) → (PartZerosFit e image span device.capacity → ⊥)
@@ -439,20 +440,23 @@ refuses_zeroed IsDisk span image device dev full = by (is_whole image span) full
 
 -- A piece of a qcow2 node, by what the node is.
 pub piece_image : (old new : Nodes) (node : ℕ) (span : Extent) (bytes : List ℕ) (outcome : Outcome) (row : Row) (image : Known) → row_at old node ≡ Some row → row.driver ≡ Qcow2 image
-    → WritesImage (WriteFits image span) (own_place_by (entry_for image span) image span) old new node (length bytes) outcome
-    → LeavesRow (IsWritten (IsToldDisk old node) span bytes) (Qcow2 image) row old new node outcome → WritesPiece old new node span bytes outcome
+    → WritesImage (WriteFits image span) (own_place_by (entry_for image span) image span)
+    (rest_place (own_place_by (entry_for image span) image span) (is_whole image span) image span) old new node (length bytes) outcome
+    → LeavesRow (IsImageWritten (IsToldDisk old node) span bytes) (Qcow2 image) row old new node outcome → WritesPiece old new node span bytes outcome
 piece_image old new node span bytes outcome row image there driver wrote left = record {
   row = row;
   there = there;
   wrote = subst (λ (d : Driver). WritesBy d old new node span bytes outcome) (sym driver) wrote;
-  left = subst (λ (d : Driver). LeavesRow (IsWritten (IsToldDisk old node) span bytes) d row old new node outcome) (sym driver) left;
+  left = subst (λ (d : Driver). LeavesRow (IsImageWritten (IsToldDisk old node) span bytes) d row old new node outcome) (sym driver) left;
 }
 
 pub zeros_image : (old new : Nodes) (node : ℕ) (span : Extent) (outcome : Outcome) (row : Row) (image : Known) → row_at old node ≡ Some row → row.driver ≡ Qcow2 image
-    → WritesImage (ZerosFit image span) (zeros_place (is_whole image span) image span) old new node (length (replicate {A = ℕ} span.len 0)) outcome
+    → WritesImage (ZerosFit image span) (zeros_place (is_whole image span) image span)
+    (rest_place (zeros_place (is_whole image span) image span) (is_whole image span) image span) old new node (length (replicate {A = ℕ} span.len 0)) outcome
     → LeavesRow (IsZeroed (IsToldDisk old node) span) (Qcow2 image) row old new node outcome → ZerosPiece old new node span outcome
 zeros_image old new node span outcome row image there driver wrote left =
-    let P : ℕ → Type 0 = λ n. WritesImage (ZerosFit image span) (zeros_place (is_whole image span) image span) old new node n outcome in
+    let P : ℕ → Type 0 = λ n. WritesImage (ZerosFit image span) (zeros_place (is_whole image span) image span)
+    (rest_place (zeros_place (is_whole image span) image span) (is_whole image span) image span) old new node n outcome in
     record {
       row = row;
       there = there;

@@ -11,7 +11,7 @@ use Rattle.blk_nodes.specs.Nodes.{Nodes, DeviceState, no_nodes, row_at, device_i
 use Rattle.blk_nodes.specs.Joined.{IsFile, HasSize, IsPartOfFile, IsOverlay, IsCopying, HasBelow, IsJoined, DifferInNode}
 use Rattle.blk_nodes.specs.Reading.{HaveRisen}
 use Rattle.blk_nodes.specs.Sources.{in_below, step_by_entry, step_by, step_of}
-use Rattle.blk_nodes.specs.Walk.{GoesOn}
+use Rattle.blk_nodes.specs.Walk.{GoesDown}
 use Rattle.blk_nodes.specs.declared.row.Driver.{Driver}
 use Rattle.blk_nodes.specs.declared.row.Driver.TheVariants.{File, Raw, Qcow2, CopyOnRead}
 use Rattle.blk_nodes.specs.declared.row.Row.{Row}
@@ -117,10 +117,10 @@ held_by nodes file joined is =
     rw is.driver at below
 
 mapped_on : (nodes : Nodes) (node place : ℕ) (row : Row) (image : Known) (entry : L2Entry) → IsJoined nodes → row_at nodes node ≡ Some row → row.driver ≡ Qcow2 image → image.header.size ≡ row.size
-    → place < row.size → IsOverlay nodes node image → entry_in image (place / cluster_size_in image) ≡ entry → GoesOn nodes place (step_by_entry node (file_of nodes node) (backing_of nodes node) entry)
+    → place < row.size → IsOverlay nodes node image → entry_in image (place / cluster_size_in image) ≡ entry → GoesDown nodes place (step_by_entry node (file_of nodes node) (backing_of nodes node) entry)
 mapped_on nodes node place row image entries.Unallocated joined there driver size below is entry = over_backing (backing_of nodes node) refl
   where
-    over_backing : (backing : Option ℕ) → backing_of nodes node ≡ backing → GoesOn nodes place (in_below backing)
+    over_backing : (backing : Option ℕ) → backing_of nodes node ≡ backing → GoesDown nodes place (in_below backing)
     over_backing None e = tt
     over_backing (Some next) e =
         let has = is.backing next e in
@@ -141,7 +141,7 @@ mapped_on nodes node place row image entries.Compressed joined there driver size
 mapped_on nodes node place row image entries.Reserved joined there driver size below is entry = tt
 
 pub goes_by : (nodes : Nodes) (node place : ℕ) (row : Row) (driver : Driver) → IsJoined nodes → row_at nodes node ≡ Some row → row.driver ≡ driver → place < row.size
-    → GoesOn nodes place (step_by node (file_of nodes node) (backing_of nodes node) place driver)
+    → GoesDown nodes place (step_by node (file_of nodes node) (backing_of nodes node) place driver)
 goes_by nodes node place row File joined there driver below = rw driver at (joined.below node row there)
 goes_by nodes node place row (Raw part) joined there driver below =
     let is : IsPartOfFile nodes node part.offset part.size = rw driver at (joined.below node row there) in
@@ -155,11 +155,11 @@ goes_by nodes node place row CopyOnRead joined there driver below =
     let has = is.same in
     rw (is.edge, has.there) (omega (arith, has.is, below))
 
-pub goes_on : (nodes : Nodes) (node place : ℕ) → IsJoined nodes → place < size_of nodes node → GoesOn nodes place (step_of nodes node place)
+pub goes_on : (nodes : Nodes) (node place : ℕ) → IsJoined nodes → place < size_of nodes node → GoesDown nodes place (step_of nodes node place)
 goes_on nodes node place joined below = by_row (row_at nodes node) refl below
   where
     by_row : (found : Option Row) → row_at nodes node ≡ found → place < size_by found
-        → GoesOn nodes place (elim found as (λ _. Step) [
+        → GoesDown nodes place (elim found as (λ _. Step) [
           | None ↦ Found Zeros
           | Some row ↦ step_by node (file_of nodes node) (backing_of nodes node) place row.driver
         ])

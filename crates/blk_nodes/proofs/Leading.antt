@@ -1,5 +1,6 @@
 -- Where the edges lead down a chain.
-use Rattle.std.proofs.Common.{◌≡◌, ℕ, List, Option, Some, None, refl, sym, ap, subst, inl, inr}
+use Rattle.std.proofs.Common.{◌≡◌, ℕ, zero, suc, List, Option, Some, None, refl, sym, ap, subst, inl, inr}
+use Rattle.blk_base.specs.declared.fault.DevNo.{DevNo}
 use Rattle.blk_base.specs.declared.fault.Outcome.{Outcome}
 use Rattle.blk_base.specs.declared.fault.Outcome.TheVariants.{Good, Torn, Io, NoSpace}
 use Rattle.q2_format.specs.declared.entries.L2Entry.{L2Entry}
@@ -13,15 +14,19 @@ use Rattle.blk_graph.specs.declared.edge.Role.{Role}
 use Rattle.blk_graph.specs.declared.edge.Role.TheVariants.{File as FileRole, Backing}
 use Rattle.blk_graph.proofs.ChildLemmas.{child-edge}
 use Rattle.blk_graph.proofs.PathLemmas.{Reaches-edge, Reaches-joined}
-use Rattle.blk_nodes.specs.Found.{IsReadFrom}
-use Rattle.blk_nodes.specs.Nodes.{Nodes, DeviceState}
-use Rattle.blk_nodes.specs.Reading.{LeadsTo, IsReadAt, IsReadBelow}
-use Rattle.blk_nodes.specs.Sources.{in_file, in_image, in_below, step_by_entry, step_by}
+use Rattle.blk_nodes.specs.Found.{IsReadOfSource}
+use Rattle.blk_nodes.specs.Nodes.{Nodes, DeviceState, row_at, file_of, backing_of}
+use Rattle.blk_nodes.specs.Reading.{LeadsTo, IsReadAt, IsReadBelow, StoppedBelow}
+use Rattle.blk_nodes.specs.Sources.{in_file, in_image, in_below, step_by_entry, step_by, step_of, source_in, source_of}
 use Rattle.blk_nodes.specs.Walk.{LeadsToSource, LeadsOn}
+use Rattle.blk_nodes.specs.Writing.{HasPieceCause, IsRestRead, WritesImage}
 use Rattle.blk_nodes.specs.declared.row.Driver.{Driver}
 use Rattle.blk_nodes.specs.declared.row.Driver.TheVariants.{File, Raw, Qcow2, CopyOnRead}
 use Rattle.blk_nodes.specs.declared.source.Source.{Source}
 use Rattle.blk_nodes.specs.declared.source.Source.TheVariants as sources
+use Rattle.blk_nodes.specs.declared.source.Step.{Step}
+use Rattle.blk_nodes.specs.declared.source.Step.TheVariants.{Found, Below}
+use Rattle.blk_nodes.specs.declared.row.Row.{Row}
 
 pub leads_on : (edges : List Edge) (a b c : ℕ) → LeadsTo edges a b → LeadsTo edges b c → LeadsTo edges a c
 leads_on edges a b c (inl same) rest = subst (λ (n : ℕ). LeadsTo edges n c) (sym same) rest
@@ -72,9 +77,66 @@ module _ (old : Nodes) (devices : List DeviceState) (node file : ℕ) (leads : L
   read_at_below (NoSpace dev) is = is
 
 pub read_below : (old : Nodes) (devices : List DeviceState) (node : ℕ) (source : Source) (outcome : Outcome) → LeadsToSource old.graph.edges node source
-    → IsReadFrom source old.devices devices outcome → IsReadBelow old (record old { devices = devices }) node outcome
+    → IsReadOfSource source old.devices devices outcome → IsReadBelow old (record old { devices = devices }) node outcome
 read_below old devices node sources.Zeros outcome leads is =
     let same : record old { devices = devices } ≡ old = ap (λ (ds : List DeviceState). let now : Nodes = record old { devices = ds } in now) is.1 in
     subst (IsReadBelow old (record old { devices = devices }) node) (sym is.0) same
 read_below old devices node (sources.File file start) outcome leads is = read_at_below old devices node file leads outcome is
 read_below old devices node (sources.Image at file) outcome leads is = read_at_below old devices node file leads outcome is
+
+-- a read of nothing
+pub unread : (source : Source) (devices : List DeviceState) → IsReadOfSource source devices devices Good
+unread sources.Zeros devices = (refl, refl)
+unread (sources.File file start) devices = refl
+unread (sources.Image at file) devices = refl
+
+-- ---- where the bytes of a node stand
+
+step_of_leads : (nodes : Nodes) (node place : ℕ) → LeadsOn nodes.graph.edges node (step_of nodes node place)
+step_of_leads nodes node place = by (row_at nodes node)
+  where
+    step : Row → Step
+    step row = step_by node (file_of nodes node) (backing_of nodes node) place row.driver
+
+    by : (found : Option Row) → LeadsOn nodes.graph.edges node (elim found as (λ _. Step) [ None ↦ Found sources.Zeros | Some row ↦ step row ])
+    by None = tt
+    by (Some row) = step_leads nodes.graph.edges node place row.driver
+
+source_in_leads : (nodes : Nodes) (turns node place : ℕ) → LeadsToSource nodes.graph.edges node (source_in turns nodes node place)
+source_in_leads nodes zero node place = tt
+source_in_leads nodes (suc turns) node place =
+    by (step_of nodes node place) (step_of_leads nodes node place) (λ next. source_in_leads nodes turns next place)
+  where
+    by : (step : Step) → LeadsOn nodes.graph.edges node step → ((next : ℕ) → LeadsToSource nodes.graph.edges next (source_in turns nodes next place))
+        → LeadsToSource nodes.graph.edges node (elim step as (λ _. Source) [ Found source ↦ source | Below next ↦ source_in turns nodes next place ])
+    by (Found source) leads rest = leads
+    by (Below next) leads rest = leads_to_source nodes.graph.edges node next (source_in turns nodes next place) leads (rest next)
+
+pub source_leads : (nodes : Nodes) (node place : ℕ) → LeadsToSource nodes.graph.edges node (source_of nodes node place)
+unfolding source_of
+source_leads nodes node place = source_in_leads nodes 64 node place
+
+-- ---- a piece of an image that was stopped before its first byte
+
+module _ (old new : Nodes) (node : ℕ) (dev : DevNo) (count : ℕ) where
+  stopped_source : (source : Source) → LeadsToSource old.graph.edges node source → IsReadOfSource source old.devices new.devices (Io dev count)
+      → StoppedBelow old new node dev count
+  stopped_source sources.Zeros leads is = absurd (let bad : ⊥ = cc is.0 in bad)
+  stopped_source (sources.File file start) leads is = record { file = file; leads = leads; stopped = is }
+  stopped_source (sources.Image at file) leads is = record { file = file; leads = leads; stopped = is }
+
+  stopped_rest : (rest : Option ℕ) → IsRestRead rest old new node (Io dev count) → StoppedBelow old new node dev count
+  stopped_rest None is = absurd is
+  stopped_rest (Some start) is = stopped_source (source_of old node start) (source_leads old node start) is
+
+  -- a device that the node leads to stopped it
+  pub stopped_piece : (fits : ℕ → Type 0) (own rest : Option ℕ) (n : ℕ) (outcome : Outcome) (wrote : WritesImage fits own rest old new node n outcome)
+      → HasPieceCause (fits wrote.before.capacity) own rest n wrote.file old new node wrote.before wrote.after (Io dev count) → StoppedBelow old new node dev count
+  stopped_piece fits own rest n outcome wrote cause = elim cause.1 [
+    | inl its ↦ record {
+      file = wrote.file;
+      leads = child_leads old.graph.edges node wrote.file FileRole wrote.edge;
+      stopped = record { before = wrote.before; after = wrote.after; held = wrote.held; left = wrote.left; stopped = its.0; only = its.1 };
+    }
+    | inr read ↦ stopped_rest rest read
+  ]

@@ -12,22 +12,24 @@ use Rattle.blk_graph.specs.Graph.{Graph}
 use Rattle.blk_graph.specs.Edits.{child_of, without_parent}
 use Rattle.blk_graph.specs.declared.edge.Parent.TheVariants.{Node}
 use Rattle.blk_graph.specs.declared.edge.Role.TheVariants.{File as FileRole}
-use Rattle.q2_image.specs.Image.{entry_in}
+use Rattle.q2_image.specs.Image.{cluster_size_in, entry_in}
 use Rattle.q2_image.specs.Reading.{IsHost, IsWithinCluster}
 use Rattle.blk_nodes.specs.declared.row.Row.{Row}
 use Rattle.blk_nodes.specs.Contents.{disk_of}
 use Rattle.blk_nodes.specs.Copying.{AtEach, AtSome, GoesWhole, HasRoomIn, IsBeside, IsMappedAt, IsRoomInEach, LacksRoom, LacksRoomIn, StopsUnread, LeavesRest, MapsNext, MapsEach, images_met_in, puts_below}
+use Rattle.blk_nodes.specs.Found.{IsReadOfSource}
 use Rattle.blk_nodes.specs.Joined.{IsJoined}
 use Rattle.blk_nodes.specs.Nodes.{Nodes, DeviceState, AreTold, row_at, size_by, size_of, file_of}
 use Rattle.blk_nodes.specs.Parts.{OfImage, IsImage}
 use Rattle.blk_nodes.specs.Reading.{HaveRisen, IsReadBelow, LeadsTo, ReadsDisk}
-use Rattle.blk_nodes.specs.Sources.{step_of}
+use Rattle.blk_nodes.specs.Sources.{step_of, source_of}
 use Rattle.blk_nodes.specs.Writing.{MayWrite, WritesPiece, LeavesNodes, taken_by}
 use Rattle.blk_nodes.specs.declared.source.Step.TheVariants.{Below}
 use Rattle.blk_nodes.proofs.Copied.{IsOver, IsPutInto, over_below, below_size, below_reads, met_on, met_apart, met_into, put_into, into_still, may_still, room_still, written, goes_whole, mapped_after, each_so, each_both, one_leaves, then_leaves}
 use Rattle.blk_nodes.proofs.CopiedDisks.{with_same, with_taken, beside_stays, chain_stays}
 use Rattle.blk_nodes.proofs.CoveredDisks.{length_disk}
 use Rattle.blk_nodes.proofs.Disks.{bytes_risen}
+use Rattle.blk_nodes.proofs.PartsWritten.{good_is}
 use Rattle.blk_nodes.proofs.Rows.{of_image}
 
 pub bad_is : (o : Outcome) → is_good o ≡ false → o ≡ Good → ⊥
@@ -207,7 +209,7 @@ module _ (old : Nodes) (joined : IsJoined old) (turns left node next : ℕ) (spa
             subst (AtEach (IsMappedAt new span.start)) (sym (met true is)) (
               mapped_after mid new joined_mid joined_new next span bytes outcome may_put into_mid wrote kept all,
               each_so (λ n. (next ≢ n) × IsMappedAt mid span.start n) (IsMappedAt new span.start)
-                  (λ n both. subst (λ (r : Option Row). OfImage r (λ image. IsHost (entry_in image (span.start / 65536)))) (sym (kept.others n (λ same. both.0 (sym same)))) both.1)
+                  (λ n both. subst (λ (r : Option Row). OfImage r (λ image. IsHost (entry_in image (span.start / cluster_size_in image)))) (sym (kept.others n (λ same. both.0 (sym same)))) both.1)
                   below_ones (each_both (λ n. next ≢ n) (IsMappedAt mid span.start) below_ones next_apart (mapped good)),
             )
 
@@ -286,15 +288,20 @@ module _ (old : Nodes) (images : List ℕ) (node : ℕ) (span : Extent) (room : 
   pub room_for_all : room ≡ Good → AtEach (HasRoomIn old span) images
   room_for_all good = subst (IsRoomInEach images old span) good has
 
-pub read_stopped_unread : (old new : Nodes) (node : ℕ) (outcome : Outcome) → (outcome ≡ Good → ⊥) → IsReadBelow old new node outcome → new ≡ record old { devices = new.devices }
-    → HaveRisen old.devices new.devices → StopsUnread old new node outcome
-read_stopped_unread old new node outcome bad read kept risen = by outcome refl read
+pub read_stopped_unread : (old new : Nodes) (node : ℕ) (span : Extent) (outcome : Outcome) → (outcome ≡ Good → ⊥) → IsReadBelow old new node outcome
+    → IsReadOfSource (source_of old node span.start) old.devices new.devices outcome → new ≡ record old { devices = new.devices } → HaveRisen old.devices new.devices
+    → StopsUnread old new node span outcome
+read_stopped_unread old new node span outcome bad read source kept risen = by outcome refl read
   where
-    by : (o : Outcome) → outcome ≡ o → IsReadBelow old new node o → StopsUnread old new node outcome
+    by : (o : Outcome) → outcome ≡ o → IsReadBelow old new node o → StopsUnread old new node span outcome
     by Good is read = absurd (bad is)
     by (Torn done dev count) is read = absurd read
-    by (Io dev count) is read = record { dev = dev; count = count; is = is; stopped = read; kept = kept; devices = risen }
+    by (Io dev count) is read = record { dev = dev; count = count; is = is; stopped = read; source = source; kept = kept; devices = risen }
     by (NoSpace dev) is read = absurd read
+
+-- a good read changes nothing
+pub peeked_same : (old new : Nodes) (node : ℕ) (outcome : Outcome) → is_good outcome ≡ true → IsReadBelow old new node outcome → new ≡ old
+peeked_same old new node outcome good read = subst (IsReadBelow old new node) (good_is outcome good) read
 
 pub reads_unless : (outcome : Outcome) (disk : List ℕ) (span : Extent) (buffer : List ℕ) → (outcome ≡ Good → ⊥) → ReadsDisk outcome disk span buffer
 reads_unless Good disk span buffer bad = absurd (bad refl)

@@ -14,13 +14,13 @@ use Rattle.q2_image.specs.Image.{Known, entry_in}
 use Rattle.q2_image.specs.Reading.{IsHost}
 use Rattle.q2_image.specs.Room.{WriteFits, ZerosFit, PartZerosFit, WriteFitsBy, ZerosFitBy, cluster_of, entry_for, is_whole}
 use Rattle.q2_image.specs.Writing.{PutFits, ZeroFits, own_end, own_place}
-use Rattle.blk_nodes.specs.Changing.{ImageChange, ChangesAround, ChangesInPlace, ChangesPart, ClearsCluster, IsWritten, IsZeroed, ZeroesBy, ZeroesPart}
+use Rattle.blk_nodes.specs.Changing.{ImageChange, ChangesAround, ChangesInPlace, ChangesPart, ClearsCluster, IsImageWritten, IsZeroed, ZeroesBy, ZeroesPart}
 use Rattle.blk_nodes.specs.Nodes.{DeviceState, device_in}
 use Rattle.blk_nodes.specs.Parts.{OfImage, HasPiece, IsPieceOf, IsDiskFound, WritesPart, row_in}
-use Rattle.blk_nodes.specs.Writing.{own_place_by, zeros_place}
+use Rattle.blk_nodes.specs.Writing.{own_place_by, rest_place, zeros_place}
 use Rattle.blk_nodes.specs.declared.part.Part.{Part}
 use Rattle.blk_nodes.specs.declared.row.Row.{Row}
-use Rattle.blk_nodes.proofs.PartsWritten.{cluster_is, entry_is, size_bits, len_is, left_wrote, wrote_as}
+use Rattle.blk_nodes.proofs.PartsWritten.{base_is, cluster_is, entry_is, size_bits, start_is, len_is, left_wrote, wrote_as}
 use Rattle.blk_nodes.proofs.HeldDevices.{some_device}
 use Rattle.blk_nodes.proofs.Rows.{has_image, image_found, row_below, row_found}
 
@@ -80,6 +80,17 @@ module _ (span : Extent) (size : ℕ) (some : 0 < span.len) (block : span.start 
     | inr in_it ↦ let first = ne_eqb (span.start % 65536) 0 in_it in rw first refl
   ]
 
+-- the read of the rest of a piece's cluster begins with the cluster
+pub rest_begins : (rows : List (Option Row)) (devices : List DeviceState) (part : Part) (image : Known) → IsPieceOf rows devices part image → (own : Option ℕ) → own ≡ None
+    → part.span.len < part.whole.len → rest_place own (is_whole image part.span) image part.span ≡ Some part.whole.start
+rest_begins rows devices part image piece own none less =
+    let bits = size_bits rows devices part image piece in
+    let len = len_is rows devices part image piece in
+    let test : is_whole image part.span ≡ false
+    = rw bits (whole_false part.span image.header.size piece.some piece.block piece.inside (λ same. absurd (omega (arith, less, len, same)))) in
+    ap (λ (o : Option ℕ). rest_place o (is_whole image part.span) image part.span) none ∙ ap (λ (b : Bool). rest_place None b image part.span) test
+    ∙ ap (λ (start : ℕ). Some start) (base_is rows devices part image piece ∙ sym (start_is rows devices part image piece))
+
 module _ (rows left : List (Option Row)) (old new : List DeviceState) (part : Part) (bytes : List ℕ) (outcome : Outcome) (has : HasPiece rows old part) where
   -- what is known of the disk's bytes
   abbrev IsIts : List ℕ → Type 0
@@ -126,7 +137,7 @@ module _ (rows left : List (Option Row)) (old new : List DeviceState) (part : Pa
   in_place = ChangesInPlace part.span bytes
 
   abbrev written : ImageChange
-  written = IsWritten IsIts part.span bytes
+  written = IsImageWritten IsIts part.span bytes
 
   abbrev ClusterFits : Known → ℕ → Type 0
   ClusterFits image = PutFits image cluster
@@ -284,7 +295,7 @@ rest_zeroed IsDisk (mappings.Host host) none span image now before after o is = 
 pub zero_rest_as : (rows left : List (Option Row)) (old new : List DeviceState) (part : Part) (outcome : Outcome) (has : HasPiece rows old part)
     → part.span.len ≢ part.whole.len → (m : Mapping) → ((host : ℕ) → m ≡ mappings.Zero host → ⊥)
     → OfImage (row_in rows part.node) (λ image. entry_of m ≡ entry_in image (part.span.start / 65536))
-    → WritesPart (λ image. WriteFits image part.span) (λ image. own_place_by (entry_for image part.span) image part.span) (IsWritten (IsDiskFound old part) part.span (replicate part.span.len 0)) rows left old new part (replicate part.span.len 0) outcome
+    → WritesPart (λ image. WriteFits image part.span) (λ image. own_place_by (entry_for image part.span) image part.span) (IsImageWritten (IsDiskFound old part) part.span (replicate part.span.len 0)) rows left old new part (replicate part.span.len 0) outcome
     → WritesPart (λ image. ZerosFit image part.span) (λ image. zeros_place (is_whole image part.span) image part.span) (IsZeroed (IsDiskFound old part) part.span) rows left old new part (replicate part.span.len 0) outcome
 zero_rest_as rows left old new part outcome has less m none seen w =
     zero_part_as rows left old new part (replicate part.span.len 0) outcome has less (entry_of m) (λ image capacity fits. to_part image part.span capacity m none fits)

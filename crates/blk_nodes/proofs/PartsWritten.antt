@@ -20,13 +20,13 @@ use Rattle.q2_image.proofs.Guests.{guest_zero}
 use Rattle.q2_image.proofs.Mapped.{entry_of_file}
 use Rattle.blk_base.specs.Outcomes.{is_good}
 use Rattle.blk_nodes.specs.Changing.{ImageChange, ChangesAround, ChangesInPlace, ClearsCluster, IsClusterAround, PutsCluster, cluster_start}
-use Rattle.blk_nodes.specs.Found.{found_bytes, IsReadFrom}
+use Rattle.blk_nodes.specs.Found.{found_bytes, IsReadOfSource}
 use Rattle.blk_nodes.specs.Reading.{HaveRisen, IsReadAt}
 use Rattle.blk_nodes.specs.Walk.{IsKnownAt}
 use Rattle.blk_nodes.specs.declared.source.Source.{Source}
 use Rattle.blk_nodes.specs.declared.source.Source.TheVariants as sources
 use Rattle.blk_nodes.specs.Nodes.{DeviceState, AreTold, device_in}
-use Rattle.blk_nodes.specs.Parts.{OfImage, HasPiece, IsPieceOf, IsLaid, HasFound, IsDiskFound, CallsRow, IsDiskAfter, WritesPart, row_in}
+use Rattle.blk_nodes.specs.Parts.{OfImage, HasPiece, IsPieceOf, IsLaid, HasFound, IsDiskFound, CallsRow, IsDiskAfter, ReadsRest, WritesPart, row_in}
 use Rattle.blk_nodes.specs.Writing.{taken_by, FitsAt, HasRoomAt, HasRoomBy, HasImageCause, IsTornAt}
 use Rattle.blk_nodes.specs.declared.part.Part.{Part}
 use Rattle.blk_nodes.specs.declared.row.Driver.{Driver}
@@ -81,7 +81,7 @@ module _ (rows : List (Option Row)) (old : List DeviceState) (part : Part) (imag
   pub entry_is : entry_for image part.span ≡ entry_in image (part.span.start / 65536)
   entry_is = ap (entry_in image) cluster_is
 
-  base_is : cluster_start image part.span ≡ part.span.start - part.span.start % 65536
+  pub base_is : cluster_start image part.span ≡ part.span.start - part.span.start % 65536
   base_is = let same : cluster_start image part.span ≡ part.span.start / 65536 * 65536 = ap (λ (c : ℕ). part.span.start / c * c) size_bits in same ∙ omega arith
 
   -- a cluster that was put together has all bytes of the disk with the piece
@@ -465,6 +465,8 @@ module _ (rows left : List (Option Row)) (old new : List DeviceState) (part : Pa
           is = s.is;
           device = s.device;
           held = s.held;
+          nowhere = sym same ∙ s.nowhere;
+          less = s.less;
           fit = there s.device.capacity s.fit;
           read = s.read;
           risen = s.risen;
@@ -546,11 +548,14 @@ good_is (Torn done dev count) is = absurd (cc is)
 good_is (Io dev count) is = absurd (cc is)
 good_is (NoSpace dev) is = absurd (cc is)
 
-good_read : (source : Source) (old new : List DeviceState) (o : Outcome) → o ≡ Good → IsReadFrom source old new o ⊎ ((o ≡ Good) × (new ≡ old)) → new ≡ old
-good_read source old new o good (inr both) = both.1
-good_read sources.Zeros old new o good (inl read) = read.1
-good_read (sources.File file start) old new o good (inl read) = subst (IsReadAt file old new) good read
-good_read (sources.Image node file) old new o good (inl read) = subst (IsReadAt file old new) good read
+pub source_good : (source : Source) (old new : List DeviceState) (o : Outcome) → o ≡ Good → IsReadOfSource source old new o → new ≡ old
+source_good sources.Zeros old new o good read = read.1
+source_good (sources.File file start) old new o good read = subst (IsReadAt file old new) good read
+source_good (sources.Image node file) old new o good read = subst (IsReadAt file old new) good read
+
+good_read : (part : Part) (old new : List DeviceState) (o : Outcome) → o ≡ Good → ReadsRest part old new o → new ≡ old
+good_read part old new o good (inl read) = source_good part.source old new o good read.1
+good_read part old new o good (inr both) = both.1
 
 fits_by : (file : ℕ) (devices : List DeviceState) (fits : ℕ → Type 0) (room : Outcome) → room ≡ Good → HasRoomAt file devices fits room → FitsAt file devices fits
 fits_by file devices fits room good has device held = subst (HasRoomBy (fits device.capacity) device) good (has device held)
@@ -558,10 +563,10 @@ fits_by file devices fits room good has device held = subst (HasRoomBy (fits dev
 pub put_asks : (rows : List (Option Row)) (old mid : List DeviceState) (part : Part) (room read : Outcome) → HasPiece rows old part → (index : ℕ) (first found : Option Row)
     → index ≡ part.node → index < length rows → first ≡ get_or rows index first → found ≡ get_or rows index found
     → OfImage first (λ image. HasRoomAt part.file old (PutFits image (part.span.start / 65536)) room) → is_good room ≡ true → is_good read ≡ true
-    → IsReadFrom part.source old mid read ⊎ ((read ≡ Good) × (mid ≡ old))
+    → ReadsRest part old mid read
     → OfImage found (λ image. (part.span.start / 65536 < clusters_in image) × IsKnownAt part.file mid image × FitsAt part.file mid (PutFits image (part.span.start / 65536)))
 put_asks rows old mid part room read has index first found same below is_first is fits room_good read_good outcome =
-    let stays : mid ≡ old = good_read part.source old mid read (good_is read read_good) outcome in
+    let stays : mid ≡ old = good_read part old mid read (good_is read read_good) outcome in
     let Q : Known → Type 0 = λ image. (part.span.start / 65536 < clusters_in image) × IsKnownAt part.file old image × FitsAt part.file old (PutFits image (part.span.start / 65536)) in
     let R : List DeviceState → Type 0
     = λ devices. OfImage found (λ image. (part.span.start / 65536 < clusters_in image) × IsKnownAt part.file devices image
@@ -579,12 +584,12 @@ put_asks rows old mid part room read has index first found same below is_first i
     ))
 
 -- where the read of the rest of the cluster was stopped
-no_torn : (source : Source) (old new : List DeviceState) (done : ℕ) (dev : DevNo) (count : ℕ) → IsReadFrom source old new (Torn done dev count) → ⊥
+no_torn : (source : Source) (old new : List DeviceState) (done : ℕ) (dev : DevNo) (count : ℕ) → IsReadOfSource source old new (Torn done dev count) → ⊥
 no_torn sources.Zeros old new done dev count is = cc is.0
 no_torn (sources.File file start) old new done dev count is = is
 no_torn (sources.Image node file) old new done dev count is = is
 
-no_space : (source : Source) (old new : List DeviceState) (dev : DevNo) → IsReadFrom source old new (NoSpace dev) → ⊥
+no_space : (source : Source) (old new : List DeviceState) (dev : DevNo) → IsReadOfSource source old new (NoSpace dev) → ⊥
 no_space sources.Zeros old new dev is = cc is.0
 no_space (sources.File file start) old new dev is = is
 no_space (sources.Image node file) old new dev is = is
@@ -592,7 +597,7 @@ no_space (sources.Image node file) old new dev is = is
 pub read_stopped : (rows : List (Option Row)) (old mid : List DeviceState) (part : Part) (bytes : List ℕ) (room read : Outcome) → HasPiece rows old part → (index : ℕ) (first : Option Row)
     → index ≡ part.node → index < length rows → first ≡ get_or rows index first
     → OfImage first (λ image. HasRoomAt part.file old (PutFits image (part.span.start / 65536)) room) → is_good room ≡ true → is_good read ≡ false
-    → IsReadFrom part.source old mid read ⊎ ((read ≡ Good) × (mid ≡ old)) → HaveRisen old mid
+    → ReadsRest part old mid read → HaveRisen old mid
     → WritesPart (λ image. PutFits image (part.span.start / 65536)) (λ _. None) (ChangesAround (IsDiskFound old part) part.span bytes) rows rows old mid part bytes read
 read_stopped rows old mid part bytes room read has index first same below is_first fits room_good read_bad outcome risen = by read refl read_bad outcome
   where
@@ -608,12 +613,12 @@ read_stopped rows old mid part bytes room read has index first same below is_fir
     device : (device : DeviceState) × (device_in old part.file ≡ Some device)
     device = some_device (device_in old part.file) row.4.held
 
-    by : (o : Outcome) → read ≡ o → is_good o ≡ false → IsReadFrom part.source old mid o ⊎ ((o ≡ Good) × (mid ≡ old))
+    by : (o : Outcome) → read ≡ o → is_good o ≡ false → ReadsRest part old mid o
         → WritesPart (λ image. PutFits image (part.span.start / 65536)) (λ _. None) (ChangesAround (IsDiskFound old part) part.span bytes) rows rows old mid part bytes read
     by Good is bad outcome = absurd (cc bad)
-    by (Torn done dev count) is bad (inl at) = absurd (no_torn part.source old mid done dev count at)
+    by (Torn done dev count) is bad (inl at) = absurd (no_torn part.source old mid done dev count at.1)
     by (Torn done dev count) is bad (inr good) = absurd (cc good.0)
-    by (NoSpace dev) is bad (inl at) = absurd (no_space part.source old mid dev at)
+    by (NoSpace dev) is bad (inl at) = absurd (no_space part.source old mid dev at.1)
     by (NoSpace dev) is bad (inr good) = absurd (cc good.0)
     by (Io dev count) is bad (inr good) = absurd (cc good.0)
     by (Io dev count) is bad (inl at) = record {
@@ -628,7 +633,9 @@ read_stopped rows old mid part bytes room read has index first same below is_fir
         device = device.0;
         held = device.1;
         fit = fits_by part.file old (PutFits row.1 (part.span.start / 65536)) room (good_is room room_good) room_of device.0 device.1;
-        read = subst (IsReadFrom part.source old mid) (sym is) at;
+        nowhere = refl;
+        less = at.0;
+        read = subst (IsReadOfSource part.source old mid) (sym is) at.1;
         risen = risen;
         rows_same = refl;
         changed = λ after rose. subst (λ (o : Outcome). ChangesAround (IsDiskFound old part) part.span bytes row.1 row.1 device.0 after o) (sym is) (inr (refl, rose));
@@ -638,13 +645,13 @@ read_stopped rows old mid part bytes room read has index first same below is_fir
 pub put_at : (rows : List (Option Row)) (old mid new : List DeviceState) (part : Part) (bytes cluster gathered_in : List ℕ) (read outcome : Outcome) (slot : Option Row) → HasPiece rows old part
     → (index : ℕ) (found : Option Row) → index ≡ part.node → index < length rows → found ≡ get_or rows index found
     → CallsRow part.file (λ image. PutFits image (part.span.start / 65536)) (λ _. None) (PutsCluster (part.span.start / 65536) cluster) found slot mid new (part.span.start / 65536 * 65536) cluster outcome
-    → length bytes ≡ part.span.len → cluster ≡ gathered_in → is_good read ≡ true → IsReadFrom part.source old mid read ⊎ ((read ≡ Good) × (mid ≡ old))
+    → length bytes ≡ part.span.len → cluster ≡ gathered_in → is_good read ≡ true → ReadsRest part old mid read
     → (AreTold old → read ≡ Good → HasFound part.whole.len (part.span.start % 65536) bytes (found_bytes old part.source part.whole.start part.whole.len) gathered_in)
     → (read ≡ Good → IsLaid part.whole.len (part.span.start % 65536) bytes gathered_in)
     → WritesPart (λ image. PutFits image (part.span.start / 65536)) (λ _. None) (ChangesAround (IsDiskFound old part) part.span bytes) rows (set rows index slot) old new part bytes outcome
 put_at rows old mid new part bytes cluster gathered_in read outcome slot has index found same below is call len is_cluster read_good read_is gathered holds =
     let good : read ≡ Good = good_is read read_good in
-    let stays : mid ≡ old = good_read part.source old mid read good read_is in
+    let stays : mid ≡ old = good_read part old mid read good read_is in
     let found_is : row_in rows part.node ≡ found = row_found rows index part.node found same below is in
     let P : Option Row → Type 0 = λ f. CallsRow part.file (λ image. PutFits image (part.span.start / 65536)) (λ _. None) (PutsCluster (part.span.start / 65536) cluster) f slot mid new
     (part.span.start / 65536 * 65536) cluster outcome in

@@ -6,7 +6,7 @@ use Rattle.q2_image.specs.Reading.{IsWithinCluster}
 use Rattle.blk_nodes.specs.Joined.{IsOverlay, IsJoined}
 use Rattle.blk_nodes.specs.Nodes.{Nodes, row_at, size_by, size_of, file_of}
 use Rattle.blk_nodes.specs.Parts.{IsImage, HasPiece, IsPieceOf, cluster_around}
-use Rattle.blk_nodes.specs.Walk.{IsKnownAt, CanBeRead}
+use Rattle.blk_nodes.specs.Walk.{IsKnownAt, CanSourceBeRead}
 use Rattle.blk_nodes.specs.declared.part.Part.{Part}
 use Rattle.blk_nodes.specs.declared.row.Row.{Row}
 use Rattle.blk_nodes.specs.declared.source.Source.{Source}
@@ -33,7 +33,7 @@ module _ (nodes : Nodes) (joined : IsJoined nodes) (node : ℕ) (is : IsImage no
   file_there none = let bad = sym none ∙ image_of.3.edge in absurd (cc bad)
 
   pub piece_of : (span whole : Extent) (file : ℕ) (source : Source) → file_of nodes node ≡ Some file → whole ≡ cluster_around (size_of nodes node) span → 0 < span.len
-      → IsWithinCluster 65536 span → end_of span ≤ size_of nodes node → CanBeRead nodes.rows nodes.devices whole.start source
+      → IsWithinCluster 65536 span → end_of span ≤ size_of nodes node → CanSourceBeRead nodes.rows nodes.devices whole.start source
       → HasPiece nodes.rows nodes.devices (record { node = node; file = file; span = span; whole = whole; source = source })
   piece_of span whole file source edge around some block inside can =
       let part : Part = record { node = node; file = file; span = span; whole = whole; source = source } in

@@ -8,7 +8,7 @@ use Rattle.q2_format.specs.declared.entries.L2Entry.{L2Entry}
 use Rattle.q2_format.specs.declared.entries.L2Entry.TheVariants as entries
 use Rattle.q2_image.specs.Image.{Known}
 use Rattle.q2_image.specs.Room.{entry_for, is_whole}
-use Rattle.blk_nodes.specs.Changing.{ImageChange, ChangesAround, ChangesPart, IsClusterAround, IsWritten, IsZeroed, LeavesRow, PutsAround, ZeroesBy, ZeroesPart}
+use Rattle.blk_nodes.specs.Changing.{ImageChange, ChangesAround, ChangesPart, IsClusterAround, IsImageWritten, IsZeroed, LeavesRow, PutsAround, ZeroesBy, ZeroesPart}
 use Rattle.blk_nodes.specs.Nodes.{Nodes, DeviceState}
 use Rattle.blk_nodes.specs.declared.row.Driver.TheVariants.{Qcow2}
 use Rattle.blk_nodes.specs.declared.row.Row.{Row}
@@ -50,7 +50,7 @@ module _ (Less More : List ℕ → Type 0) (each : (disk : List ℕ) → More di
   whole_told true o is = is
   whole_told false o is = zeroes_told (entry_for image part) o is
 
-  written_told : (bytes : List ℕ) (o : Outcome) → IsWritten Less part bytes image now before after o → IsWritten More part bytes image now before after o
+  written_told : (bytes : List ℕ) (o : Outcome) → IsImageWritten Less part bytes image now before after o → IsImageWritten More part bytes image now before after o
   written_told bytes o is = part_told (entry_for image part) bytes o is
 
   zeroed_told : (o : Outcome) → IsZeroed Less part image now before after o → IsZeroed More part image now before after o
@@ -63,10 +63,10 @@ module _ (old new : Nodes) (node : ℕ) (row : Row) (image : Known) (outcome : O
   row_told change to as_to is =
       record { now = is.now; left = is.left; changed = λ file before after edge held left. as_to is.now before after (is.changed file before after edge held left) }
 
-  pub row_written : (bytes : List ℕ) → LeavesRow (IsWritten Less span bytes) (Qcow2 image) row old new node outcome
-      → LeavesRow (IsWritten More span bytes) (Qcow2 image) row old new node outcome
+  pub row_written : (bytes : List ℕ) → LeavesRow (IsImageWritten Less span bytes) (Qcow2 image) row old new node outcome
+      → LeavesRow (IsImageWritten More span bytes) (Qcow2 image) row old new node outcome
   row_written bytes =
-      row_told (IsWritten Less span bytes) (IsWritten More span bytes) (λ now before after is. written_told Less More each span image now before after bytes outcome is)
+      row_told (IsImageWritten Less span bytes) (IsImageWritten More span bytes) (λ now before after is. written_told Less More each span image now before after bytes outcome is)
 
   pub row_zeroed : LeavesRow (IsZeroed Less span) (Qcow2 image) row old new node outcome → LeavesRow (IsZeroed More span) (Qcow2 image) row old new node outcome
   row_zeroed = row_told (IsZeroed Less span) (IsZeroed More span) (λ now before after is. zeroed_told Less More each span image now before after outcome is)

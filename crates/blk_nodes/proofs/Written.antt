@@ -14,13 +14,13 @@ use Rattle.q2_format.specs.Contents.{file_disk, raw_disk, image_disk}
 use Rattle.q2_image.specs.Image.{Known, IsImageOf}
 use Rattle.blk_graph.specs.declared.edge.Role.TheVariants.{File as FileRole, Backing}
 use Rattle.blk_nodes.specs.Contents.{IsToldDisk, told, below, disk_by, disk_in, disk_of, bytes_by, bytes_of, file_node_disk}
-use Rattle.blk_nodes.specs.Changing.{ImageChange, IsWritten, IsZeroed, LeavesRow}
+use Rattle.blk_nodes.specs.Changing.{ImageChange, IsImageWritten, IsZeroed, LeavesRow}
 use Rattle.blk_nodes.specs.Joined.{IsFile, HasSize, IsPartOfFile, IsOverlay, HasBelow, IsJoined}
 use Rattle.blk_nodes.specs.Nodes.{Nodes, DeviceState, AreTold, row_at, device_in, size_by, size_of, file_of, backing_of}
 use Rattle.blk_nodes.specs.Parts.{OfImage, OfImageBy, IsImage}
 use Rattle.blk_nodes.specs.Reading.{OnlyAt, LeadsTo}
 use Rattle.blk_nodes.specs.Sources.{in_file, step_by, step_of, source_of}
-use Rattle.blk_nodes.specs.Writing.{taken_by, IsWriteOf, IsWriteAt, WritesFile, WritesBy, WritesPiece, ZerosBy, ZerosPiece, LeavesNodes, OwnsFile, CanBeWritten, MayWrite, IsApart}
+use Rattle.blk_nodes.specs.Writing.{taken_by, IsWriteOf, IsWriteAt, WritesFile, WritesBy, WritesPiece, ZerosBy, ZerosPiece, LeavesNodes, OwnsFile, CanBeWritten, MayWrite, IsApartFrom}
 use Rattle.blk_nodes.specs.Writing as writing
 use Rattle.blk_nodes.specs.declared.row.Driver.{Driver}
 use Rattle.blk_nodes.specs.declared.row.Driver.TheVariants.{File, Raw, Qcow2, CopyOnRead}
@@ -266,7 +266,7 @@ module _ (nodes : Nodes) (joined : IsJoined nodes) (node place : ℕ) (may : May
         joined_changed nodes devices file at.only (rw at.held refl) (rw at.left refl) joined
         (λ other row image there driver edge device b has content. absurd (no_image other row image there driver edge))
 
-    pub others_wrote : (other : ℕ) → IsApart nodes other node → disk_of wrote other ≡ disk_of nodes other
+    pub others_wrote : (other : ℕ) → IsApartFrom nodes other node → disk_of wrote other ≡ disk_of nodes other
     others_wrote other apart = disk_apart nodes devices file at.only other (apart may.row file may.there (owned file start stands).0)
 
     abbrev xs : List ℕ
@@ -394,7 +394,7 @@ row_plain change CopyOnRead row old new node outcome is same = absurd is
 pub piece_plain : (old new : Nodes) (node : ℕ) (span : Extent) (bytes : List ℕ) (outcome : Outcome) (may : MayWrite old node) → IsPlain may.row.driver
     → WritesFile old new node span.start bytes outcome → row_at new node ≡ row_at old node → WritesPiece old new node span bytes outcome
 piece_plain old new node span bytes outcome may plain wrote same =
-    record { row = may.row; there = may.there; wrote = by may.row.driver plain; left = row_plain (IsWritten (IsToldDisk old node) span bytes) may.row.driver may.row old new node outcome plain (same ∙ may.there) }
+    record { row = may.row; there = may.there; wrote = by may.row.driver plain; left = row_plain (IsImageWritten (IsToldDisk old node) span bytes) may.row.driver may.row old new node outcome plain (same ∙ may.there) }
   where
     by : (driver : Driver) → IsPlain driver → WritesBy driver old new node span bytes outcome
     by File is = wrote

@@ -140,8 +140,8 @@ ChangesPart IsDisk entry part bytes = ChangesAround IsDisk part bytes
 -- Of a piece, by what is known of the disk.
 
 -- bytes are written
-abbrev pub IsWritten : (List ℕ → Type 0) → Extent → List ℕ → ImageChange
-IsWritten IsDisk part bytes image = ChangesPart IsDisk (entry_for image part) part bytes image
+abbrev pub IsImageWritten : (List ℕ → Type 0) → Extent → List ℕ → ImageChange
+IsImageWritten IsDisk part bytes image = ChangesPart IsDisk (entry_for image part) part bytes image
 
 -- zeros are written to a part of a cluster, and nothing is tried where that reads as zeros
 abbrev pub ZeroesPart : (List ℕ → Type 0) → L2Entry → Extent → ImageChange

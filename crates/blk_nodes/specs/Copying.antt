@@ -8,14 +8,15 @@ use Rattle.blk_graph.specs.Edits.{without_parent}
 use Rattle.blk_graph.specs.declared.edge.Parent.TheVariants.{Node}
 use Rattle.q2_format.specs.declared.entries.L2Entry.{L2Entry}
 use Rattle.q2_format.specs.declared.entries.L2Entry.TheVariants as entries
-use Rattle.q2_image.specs.Image.{entry_in}
+use Rattle.q2_image.specs.Image.{cluster_size_in, entry_in}
 use Rattle.q2_image.specs.Reading.{IsHost}
 use Rattle.q2_image.specs.Room.{WriteFits}
 use Rattle.blk_nodes.specs.Contents.{bytes_of}
+use Rattle.blk_nodes.specs.Found.{IsReadOfSource}
 use Rattle.blk_nodes.specs.Nodes.{Nodes, DeviceState, AreTold, row_at, device_in, size_of, file_of}
 use Rattle.blk_nodes.specs.Parts.{OfImage}
 use Rattle.blk_nodes.specs.Reading.{HaveRisen, LeadsTo, StoppedBelow}
-use Rattle.blk_nodes.specs.Sources.{step_of}
+use Rattle.blk_nodes.specs.Sources.{step_of, source_of}
 use Rattle.blk_nodes.specs.Writing.{FitsAt, HasImageIn, WritesPiece, LeavesNodes}
 use Rattle.blk_nodes.specs.declared.row.Driver.{Driver}
 use Rattle.blk_nodes.specs.declared.row.Driver.TheVariants as drivers
@@ -35,7 +36,7 @@ is_unallocated entries.Reserved = false
 abbrev pub shows_below_at : ℕ → Driver → Bool
 shows_below_at place drivers.File = false
 shows_below_at place (drivers.Raw part) = false
-shows_below_at place (drivers.Qcow2 image) = is_unallocated (entry_in image (place / 65536))
+shows_below_at place (drivers.Qcow2 image) = is_unallocated (entry_in image (place / cluster_size_in image))
 shows_below_at place drivers.CopyOnRead = false
 
 abbrev pub is_copy_on_read : Driver → Bool
@@ -132,12 +133,14 @@ pub record LacksRoom (images : List ℕ) (old new : Nodes) (span : Extent) (outc
   pub lacks : AtSome (LacksRoomIn old span dev) images
   pub same : new ≡ old
 
--- a device below the node stopped the read, and nothing was written
-pub record StopsUnread (old new : Nodes) (node : ℕ) (outcome : Outcome) : Type 0 where
+-- the device that has the piece's bytes, below the node, stopped the read, and nothing was written
+pub record StopsUnread (old new : Nodes) (node : ℕ) (span : Extent) (outcome : Outcome)
+    : Type 0 where
   pub dev : DevNo
   pub count : ℕ
   pub is : outcome ≡ Io dev count
   pub stopped : StoppedBelow old new node dev count
+  pub source : IsReadOfSource (source_of old node span.start) old.devices new.devices outcome
   pub kept : new ≡ record old { devices = new.devices }
   pub devices : HaveRisen old.devices new.devices
 
@@ -145,7 +148,7 @@ pub record StopsUnread (old new : Nodes) (node : ℕ) (outcome : Outcome) : Type
 pub record ReadsAndMaps (images : List ℕ) (old new : Nodes) (node : ℕ) (span : Extent)
     (bytes : List ℕ) (outcome : Outcome) : Type 0 where
   pub room : AtEach (HasRoomIn old span) images
-  pub went : StopsUnread old new node outcome ⊎ MapsEach images old new span bytes outcome
+  pub went : StopsUnread old new node span outcome ⊎ MapsEach images old new span bytes outcome
 
 abbrev pub ReadsPiece : Nodes → Nodes → ℕ → Extent → List ℕ → Outcome → Type 0
 ReadsPiece old new node span bytes outcome =
@@ -160,7 +163,7 @@ abbrev pub IsBeside : Nodes → ℕ → ℕ → Type 0
 IsBeside nodes other node = (file : ℕ) → file_of nodes node ≡ Some file
     → ¬ LeadsTo (without_parent (Node node) nodes.graph.edges) other file
 
--- the rows of all but the images, and the devices of all but their files, are as before
+-- the rows of all but the images, and the bytes of all but their files, are as before, and where it was good so are those devices
 pub record LeavesRest (images : List ℕ) (old new : Nodes) (outcome : Outcome) : Type 0 where
   pub graph : new.graph ≡ old.graph
   pub rows : (other : ℕ) → AtEach (λ node. other ≢ node) images
@@ -176,4 +179,5 @@ pub record LeavesRest (images : List ℕ) (old new : Nodes) (outcome : Outcome) 
 -- an image has a cluster of its own at a place
 abbrev pub IsMappedAt : Nodes → ℕ → ℕ → Type 0
 IsMappedAt nodes place node =
-    OfImage (row_at nodes node) (λ image. IsHost (entry_in image (place / 65536)))
+    OfImage (row_at nodes node)
+    (λ image. IsHost (entry_in image (place / cluster_size_in image)))

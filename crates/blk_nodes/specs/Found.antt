@@ -18,7 +18,7 @@ found_bytes devices (Image node file) place n =
     guest_bytes (bytes_by (device_in devices file)) [] place n
 
 -- how their read went
-abbrev pub IsReadFrom : Source → List DeviceState → List DeviceState → Outcome → Type 0
-IsReadFrom Zeros old new outcome = (outcome ≡ Good) × (new ≡ old)
-IsReadFrom (File file start) old new outcome = IsReadAt file old new outcome
-IsReadFrom (Image node file) old new outcome = IsReadAt file old new outcome
+abbrev pub IsReadOfSource : Source → List DeviceState → List DeviceState → Outcome → Type 0
+IsReadOfSource Zeros old new outcome = (outcome ≡ Good) × (new ≡ old)
+IsReadOfSource (File file start) old new outcome = IsReadAt file old new outcome
+IsReadOfSource (Image node file) old new outcome = IsReadAt file old new outcome

@@ -152,13 +152,13 @@ pub record IsQcow2Added (old new : Nodes) (asked : Asked) (id : ℕ) : Type 0 wh
   pub is : new ≡ with_qcow2 old asked id image
 
 -- the name is free, and there is room for a node
-pub record HasPlace (nodes : Nodes) (name : List ℕ) : Type 0 where
+pub record HasRoomForNode (nodes : Nodes) (name : List ℕ) : Type 0 where
   pub free : ¬ HasName nodes.graph name
   pub room : length nodes.graph.nodes ≢ 64
 
 -- and the edges keep the permission rule
 pub record MayBeAdded (nodes : Nodes) (asked : Asked) : Type 0 where
-  pub place : HasPlace nodes asked.name
+  pub place : HasRoomForNode nodes asked.name
   pub allowed : IsAllowed nodes (kind_with kinds.Qcow2 asked.is_read_only) (edges_for asked)
 
 -- what stops the addition; each of these comes only where none before it does
@@ -166,7 +166,7 @@ abbrev pub IsQcow2Stop : Nodes → Nodes → Asked → AddStop → Type 0
 IsQcow2Stop old new asked stops.NameTaken = HasName old.graph asked.name × (new ≡ old)
 IsQcow2Stop old new asked stops.TooManyNodes =
     (length old.graph.nodes ≡ 64) × ¬ HasName old.graph asked.name × (new ≡ old)
-IsQcow2Stop old new asked (stops.Conflict pair) = HasPlace old asked.name
+IsQcow2Stop old new asked (stops.Conflict pair) = HasRoomForNode old asked.name
     × IsDenied old (kind_with kinds.Qcow2 asked.is_read_only) (edges_for asked) pair × (new ≡ old)
 IsQcow2Stop old new asked stop = MayBeAdded old asked
     × IsOpening old.devices new.devices asked.file asked.backing (backing_size old asked.backing)

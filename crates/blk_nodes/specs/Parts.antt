@@ -4,16 +4,16 @@ use Rattle.blk_base.specs.Content.{bytes_at, with_bytes}
 use Rattle.blk_base.specs.Pieces.{Extent, end_of}
 use Rattle.blk_base.specs.declared.fault.DevNo.{DevNo}
 use Rattle.blk_base.specs.declared.fault.Outcome.{Outcome}
-use Rattle.blk_base.specs.declared.fault.Outcome.TheVariants.{Io, NoSpace}
+use Rattle.blk_base.specs.declared.fault.Outcome.TheVariants.{Good, Io, NoSpace}
 use Rattle.q2_format.specs.Contents.{image_disk}
 use Rattle.q2_image.specs.Image.{Known, IsImageOf, IsOpen}
 use Rattle.q2_image.specs.Reading.{IsWithinCluster}
 use Rattle.q2_image.specs.Writing.{HasHeaderOf, StaysTaken}
 use Rattle.blk_nodes.specs.Changing.{ImageChange}
-use Rattle.blk_nodes.specs.Found.{found_bytes, IsReadFrom}
+use Rattle.blk_nodes.specs.Found.{found_bytes, IsReadOfSource}
 use Rattle.blk_nodes.specs.Nodes.{Nodes, DeviceState, AreTold, device_in, row_at}
 use Rattle.blk_nodes.specs.Reading.{HasRisen, HaveRisen, OnlyAt}
-use Rattle.blk_nodes.specs.Walk.{IsKnownAt, CanBeRead}
+use Rattle.blk_nodes.specs.Walk.{IsKnownAt, CanSourceBeRead}
 use Rattle.blk_nodes.specs.Writing.{taken_by, StaysMapped, IsDeviceAfter, IsImageCallAt, HasImageCause}
 use Rattle.blk_nodes.specs.declared.part.Part.{Part}
 use Rattle.blk_nodes.specs.declared.row.Driver.{Driver}
@@ -51,7 +51,7 @@ pub record IsPieceOf (rows : List (Option Row)) (devices : List DeviceState) (pa
   pub whole : part.whole ≡ cluster_around image.header.size part.span
   pub held : IsSome (device_in devices part.file)
   pub known : IsKnownAt part.file devices image
-  pub can : CanBeRead rows devices part.whole.start part.source
+  pub can : CanSourceBeRead rows devices part.whole.start part.source
 
 abbrev pub row_in : List (Option Row) → ℕ → Option Row
 row_in rows node = slice_index_or rows node None
@@ -106,21 +106,29 @@ pub record RefusesPiece (file : ℕ) (fits : ℕ → Type 0) (rows left : List (
   pub rows_same : left ≡ rows
   pub devices_same : new ≡ old
 
--- the read of the rest of the cluster was stopped
-pub record StopsReading (part : Part) (fits : ℕ → Type 0) (change : ImageChange) (image : Known)
-    (rows left : List (Option Row)) (old new : List DeviceState) (outcome : Outcome)
-    : Type 0 where
+-- The read of the rest of the cluster was stopped: the piece isn't written in place, nor all that the disk has of the cluster.
+pub record StopsReading (part : Part) (fits : ℕ → Type 0) (own : Option ℕ) (change : ImageChange)
+    (image : Known) (rows left : List (Option Row)) (old new : List DeviceState)
+    (outcome : Outcome) : Type 0 where
   pub dev : DevNo
   pub count : ℕ
   pub is : outcome ≡ Io dev count
+  pub nowhere : own ≡ None
+  pub less : part.span.len < part.whole.len
   pub device : DeviceState
   pub held : device_in old part.file ≡ Some device
   pub fit : fits device.capacity
-  pub read : IsReadFrom part.source old new outcome
+  pub read : IsReadOfSource part.source old new outcome
   pub risen : HaveRisen old new
   pub rows_same : left ≡ rows
   pub changed : (after : DeviceState) → HasRisen device after
       → change image image device after outcome
+
+-- it is read only where the piece isn't all that the disk has of the cluster
+abbrev pub ReadsRest : Part → List DeviceState → List DeviceState → Outcome → Type 0
+ReadsRest part old new outcome =
+    ((part.span.len < part.whole.len) × IsReadOfSource part.source old new outcome)
+    ⊎ ((outcome ≡ Good) × (new ≡ old))
 
 -- the image's disk has the piece's bytes, over each backing disk from which the rest of the cluster was found
 abbrev pub IsDiskAfter : List DeviceState → Part → List ℕ → List ℕ → List ℕ → Type 0
@@ -160,6 +168,6 @@ pub record WritesPart (fits : Known → ℕ → Type 0) (own : Known → Option 
   pub there : row_in rows part.node ≡ Some row
   pub driver : row.driver ≡ Qcow2 image
   pub wrote : RefusesPiece part.file (fits image) rows left old new outcome
-      ⊎ (StopsReading part (fits image) change image rows left old new outcome
+      ⊎ (StopsReading part (fits image) (own image) change image rows left old new outcome
       ⊎ CallsPiece part (fits image) (own image) change image row rows left old new bytes
       outcome)

@@ -31,15 +31,15 @@ pub record IsPlaceMapped (rows : List (Option Row)) (devices : List DeviceState)
   pub known : IsKnownAt file devices image
 
 -- what is found can be read
-abbrev pub CanBeRead : List (Option Row) → List DeviceState → ℕ → Source → Type 0
-CanBeRead rows devices place Zeros = Unit {0}
-CanBeRead rows devices place (File file start) = IsSome (device_in devices file)
-CanBeRead rows devices place (Image node file) = IsPlaceMapped rows devices node file place
+abbrev pub CanSourceBeRead : List (Option Row) → List DeviceState → ℕ → Source → Type 0
+CanSourceBeRead rows devices place Zeros = Unit {0}
+CanSourceBeRead rows devices place (File file start) = IsSome (device_in devices file)
+CanSourceBeRead rows devices place (Image node file) = IsPlaceMapped rows devices node file place
 
 -- and the node below has the place too
-abbrev pub GoesOn : Nodes → ℕ → Step → Type 0
-GoesOn nodes place (Found source) = CanBeRead nodes.rows nodes.devices place source
-GoesOn nodes place (Below next) = place < size_of nodes next
+abbrev pub GoesDown : Nodes → ℕ → Step → Type 0
+GoesDown nodes place (Found source) = CanSourceBeRead nodes.rows nodes.devices place source
+GoesDown nodes place (Below next) = place < size_of nodes next
 
 -- the edges lead from the node to what is found, or to the node below
 abbrev pub LeadsToSource : List Edge → ℕ → Source → Type 0

@@ -15,10 +15,11 @@ use Rattle.q2_format.specs.declared.entries.L2Entry.TheVariants as entries
 use Rattle.q2_image.specs.Image.{Known, IsImageOf, entry_in}
 use Rattle.q2_image.specs.Room.{WriteFits, ZerosFit, entry_for, is_whole}
 use Rattle.q2_image.specs.Writing.{IsDiskWith, HasHeaderOf, StaysTaken, own_place}
-use Rattle.blk_nodes.specs.Changing.{ImageChange, IsWritten, IsZeroed, LeavesRow}
+use Rattle.blk_nodes.specs.Changing.{ImageChange, IsImageWritten, IsZeroed, LeavesRow, cluster_start}
 use Rattle.blk_nodes.specs.Contents.{IsToldDisk}
+use Rattle.blk_nodes.specs.Found.{IsReadOfSource}
 use Rattle.blk_nodes.specs.Nodes.{Nodes, DeviceState, row_at, device_in, file_of, backing_of}
-use Rattle.blk_nodes.specs.Reading.{HaveRisen, OnlyAt, StoppedBy, StoppedBelow, LeadsTo}
+use Rattle.blk_nodes.specs.Reading.{HaveRisen, OnlyAt, StoppedBy, LeadsTo}
 use Rattle.blk_nodes.specs.Sources.{source_of}
 use Rattle.blk_nodes.specs.declared.row.Driver.{Driver}
 use Rattle.blk_nodes.specs.declared.row.Driver.TheVariants as drivers
@@ -188,22 +189,36 @@ abbrev pub own_place_by : L2Entry → Known → Extent → Option ℕ
 own_place_by (entries.Host host) image span = Some (own_place image span)
 own_place_by entry image span = None
 
--- Why a piece of an image went so whose file is on this device. What stops it before its first byte may be a read of the rest of
--- its cluster, down the chain.
-abbrev pub HasPieceCause : Type 0 → Option ℕ → ℕ → ℕ → Nodes → Nodes → ℕ → DeviceState
+-- Where the read of the rest of a part's cluster begins. None is read where the part is written in place, or where it is all that
+-- the disk has of the cluster.
+abbrev pub rest_place : Option ℕ → Bool → Known → Extent → Option ℕ
+rest_place (Some own) whole image span = None
+rest_place None true image span = None
+rest_place None false image span = Some (cluster_start image span)
+
+-- the rest of its cluster was read from the place on where that begins, and the read went so
+abbrev pub IsRestRead : Option ℕ → Nodes → Nodes → ℕ → Outcome → Type 0
+IsRestRead None old new node outcome = ⊥
+IsRestRead (Some start) old new node outcome =
+    IsReadOfSource (source_of old node start) old.devices new.devices outcome
+
+-- Why a piece of an image went so whose file is on this device. What stops it before its first byte is a call of that device, or
+-- the read of the rest of its cluster.
+abbrev pub HasPieceCause : Type 0 → Option ℕ → Option ℕ → ℕ → ℕ → Nodes → Nodes → ℕ → DeviceState
     → DeviceState → Outcome → Type 0
-HasPieceCause fits own n file old new node before after Good =
+HasPieceCause fits own rest n file old new node before after Good =
     fits × (after.faults ≡ before.faults) × OnlyAt file old.devices new.devices
-HasPieceCause fits own n file old new node before after (Torn done dev count) =
+HasPieceCause fits own rest n file old new node before after (Torn done dev count) =
     fits × IsTornAt own n done × StoppedBy before after dev count
     × OnlyAt file old.devices new.devices
-HasPieceCause fits own n file old new node before after (Io dev count) =
-    fits × StoppedBelow old new node dev count
-HasPieceCause fits own n file old new node before after (NoSpace dev) =
+HasPieceCause fits own rest n file old new node before after (Io dev count) =
+    fits × ((StoppedBy before after dev count × OnlyAt file old.devices new.devices)
+    ⊎ IsRestRead rest old new node (Io dev count))
+HasPieceCause fits own rest n file old new node before after (NoSpace dev) =
     (fits → ⊥) × (dev ≡ before.number) × (new ≡ old)
 
 -- the piece of a node was written to the image in its file
-pub record WritesImage (fits : ℕ → Type 0) (own : Option ℕ) (old new : Nodes) (node n : ℕ)
+pub record WritesImage (fits : ℕ → Type 0) (own rest : Option ℕ) (old new : Nodes) (node n : ℕ)
     (outcome : Outcome) : Type 0 where
   pub file : ℕ
   pub edge : file_of old node ≡ Some file
@@ -214,12 +229,13 @@ pub record WritesImage (fits : ℕ → Type 0) (own : Option ℕ) (old new : Nod
   pub device : IsDeviceAfter before after
   -- no other device was written: it alone was called, or counts alone rose
   pub devices : OnlyAt file old.devices new.devices ⊎ HaveRisen old.devices new.devices
-  pub cause : HasPieceCause (fits before.capacity) own n file old new node before after outcome
+  pub cause : HasPieceCause (fits before.capacity) own rest n file old new node before after outcome
 
 -- by what the node is
 abbrev pub WritesBy : Driver → Nodes → Nodes → ℕ → Extent → List ℕ → Outcome → Type 0
 WritesBy (drivers.Qcow2 image) old new node span bytes outcome =
-    WritesImage (WriteFits image span) (own_place_by (entry_for image span) image span) old new
+    let own = own_place_by (entry_for image span) image span in
+    WritesImage (WriteFits image span) own (rest_place own (is_whole image span) image span) old new
     node (length bytes) outcome
 WritesBy driver old new node span bytes outcome = WritesFile old new node span.start bytes outcome
 
@@ -228,7 +244,7 @@ pub record WritesPiece (old new : Nodes) (node : ℕ) (span : Extent) (bytes : L
   pub row : Row
   pub there : row_at old node ≡ Some row
   pub wrote : WritesBy row.driver old new node span bytes outcome
-  pub left : LeavesRow (IsWritten (IsToldDisk old node) span bytes) row.driver row old new node
+  pub left : LeavesRow (IsImageWritten (IsToldDisk old node) span bytes) row.driver row old new node
       outcome
 
 -- zeros are written in place where they are no whole cluster
@@ -238,8 +254,10 @@ zeros_place false image span = own_place_by (entry_for image span) image span
 
 abbrev pub ZerosBy : Driver → Nodes → Nodes → ℕ → Extent → Outcome → Type 0
 ZerosBy (drivers.Qcow2 image) old new node span outcome =
-    WritesImage (ZerosFit image span) (zeros_place (is_whole image span) image span) old new node
-    span.len outcome
+    let whole = is_whole image span in
+    let own = zeros_place whole image span in
+    WritesImage (ZerosFit image span) own (rest_place own whole image span) old new node span.len
+    outcome
 ZerosBy driver old new node span outcome =
     WritesFile old new node span.start (replicate span.len 0) outcome
 
@@ -312,7 +330,7 @@ pub record MayWrite (nodes : Nodes) (node : ℕ) : Type 0 where
   pub owns : (file : ℕ) → own_file nodes node row.driver ≡ Some file → OwnsFile nodes node file
 
 -- no path leads from a node to the file of another
-abbrev pub IsApart : Nodes → ℕ → ℕ → Type 0
-IsApart nodes other node = (row : Row) (file : ℕ) → row_at nodes node ≡ Some row
+abbrev pub IsApartFrom : Nodes → ℕ → ℕ → Type 0
+IsApartFrom nodes other node = (row : Row) (file : ℕ) → row_at nodes node ≡ Some row
     → own_file nodes node row.driver ≡ Some file
     → ¬ LeadsTo nodes.graph.edges other file

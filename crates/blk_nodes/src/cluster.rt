@@ -1,8 +1,8 @@
 //! The bytes of a cluster while it is put together.
-ghost use Rattle.std.specs.Prelude.{◌≡◌, ◌⊎◌, ℕ, ◌+◌, ◌%◌, ◌-◌, ◌<◌, ◌≤◌, List, ◌++◌, length, take, drop, replicate, vec_len, IfOk};
-ghost use Rattle.blk_nodes.specs.Found.{found_bytes, IsReadFrom};
+ghost use Rattle.std.specs.Prelude.{◌≡◌, ℕ, ◌+◌, ◌%◌, ◌-◌, ◌<◌, ◌≤◌, List, ◌++◌, length, take, drop, replicate, vec_len, IfOk};
+ghost use Rattle.blk_nodes.specs.Found.{found_bytes, IsReadOfSource};
 ghost use Rattle.blk_nodes.specs.Nodes.{AreTold};
-ghost use Rattle.blk_nodes.specs.Parts.{HasPiece, HasFound, IsLaid};
+ghost use Rattle.blk_nodes.specs.Parts.{HasPiece, HasFound, IsLaid, ReadsRest};
 ghost use Rattle.blk_nodes.specs.Reading.{HaveRisen};
 
 use crate::devices::Devices;
@@ -63,7 +63,7 @@ impl Cluster {
             ≡ found_bytes devices.old part.now.source part.now.whole.start part.now.whole.len }
         ensures behind { drop part.now.whole.len self.new
             ≡ replicate (65536 - part.now.whole.len) 0 }
-        ensures outcome { IsReadFrom part.now.source devices.old devices.new result }
+        ensures outcome { IsReadOfSource part.now.source devices.old devices.new result }
         ensures devices { HaveRisen devices.old devices.new }
     {
         let (disk, rest) = self.bytes.split_at_mut(part.whole.len as usize);
@@ -86,8 +86,7 @@ impl Cluster {
             ≡ found_bytes devices.old part.now.source part.now.whole.start part.now.whole.len }
         ensures behind { drop part.now.whole.len self.new
             ≡ replicate (65536 - part.now.whole.len) 0 }
-        ensures outcome { IsReadFrom part.now.source devices.old devices.new result
-            ⊎ ((result ≡ Outcome.Good) × (devices.new ≡ devices.old)) }
+        ensures outcome { ReadsRest part.now devices.old devices.new result }
         ensures devices { HaveRisen devices.old devices.new }
     {
         if part.span.len < part.whole.len {
@@ -126,8 +125,7 @@ impl Cluster {
             → HasFound part.now.whole.len (part.now.span.start % 65536) bytes.now
             (found_bytes devices.old part.now.source part.now.whole.start part.now.whole.len)
             self.new }
-        ensures outcome { IsReadFrom part.now.source devices.old devices.new result
-            ⊎ ((result ≡ Outcome.Good) × (devices.new ≡ devices.old)) }
+        ensures outcome { ReadsRest part.now devices.old devices.new result }
         ensures devices { HaveRisen devices.old devices.new }
     {
         let span = part.span;

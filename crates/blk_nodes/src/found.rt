@@ -3,10 +3,10 @@ ghost use Rattle.std.specs.Prelude.{◌≡◌, ◌<◌, [], length, replicate};
 ghost use Rattle.q2_image.specs.Guest.{guest_bytes};
 ghost use Rattle.q2_image.specs.Reading.{IsWithinCluster};
 ghost use Rattle.blk_nodes.specs.Contents.{bytes_by};
-ghost use Rattle.blk_nodes.specs.Found.{found_bytes, IsReadFrom};
+ghost use Rattle.blk_nodes.specs.Found.{found_bytes, IsReadOfSource};
 ghost use Rattle.blk_nodes.specs.Nodes.{AreTold, device_in};
 ghost use Rattle.blk_nodes.specs.Reading.{HaveRisen, IsReadAt};
-ghost use Rattle.blk_nodes.specs.Walk.{CanBeRead, IsPlaceMapped};
+ghost use Rattle.blk_nodes.specs.Walk.{CanSourceBeRead, IsPlaceMapped};
 
 use crate::devices::Devices;
 use crate::row::{Driver, Row};
@@ -59,11 +59,11 @@ pub(crate) fn read_found<D: Device>(
     requires rows { length rows.now ≡ 64 }
     requires some { 0 < span.len }
     requires block { IsWithinCluster 65536 span }
-    requires can { CanBeRead rows.now devices.old span.start source }
+    requires can { CanSourceBeRead rows.now devices.old span.start source }
     requires whole { length buffer.old ≡ span.len }
     ensures read { AreTold devices.old → result ≡ Outcome.Good
         → buffer.new ≡ found_bytes devices.old source span.start span.len }
-    ensures outcome { IsReadFrom source devices.old devices.new result }
+    ensures outcome { IsReadOfSource source devices.old devices.new result }
     ensures devices { HaveRisen devices.old devices.new }
 {
     match source {

@@ -13,7 +13,8 @@ ghost use Rattle.blk_nodes.specs.Nodes.{no_nodes, row_at, size_of, AreTold};
 ghost use Rattle.blk_nodes.specs.Contents.{told, below, disk_of, bytes_of, Unfolds};
 ghost use Rattle.blk_nodes.specs.Overlays.{copying_row, with_children, backing_node, backing_size, IsQcow2Added, IsQcow2Stop};
 ghost use Rattle.q2_format.specs.Contents.{file_disk, raw_disk, image_disk};
-ghost use Rattle.blk_nodes.specs.Walk.{CanBeRead, GoesOn, LeadsToSource, LeadsOn};
+ghost use Rattle.blk_nodes.specs.Found.{IsReadOfSource};
+ghost use Rattle.blk_nodes.specs.Walk.{CanSourceBeRead, GoesDown, LeadsToSource, LeadsOn};
 ghost use Rattle.blk_nodes.specs.Sources.{step_of, source_in, source_of};
 ghost use Rattle.blk_nodes.specs.Reading.{HaveRisen, IsReadBelow, ReadsDisk};
 
@@ -421,7 +422,7 @@ impl<D: Device> Nodes<D> {
     fn step(&self, node: NodeId, place: u64) -> Step
         requires { place < size_of self.now node }
         ensures step { result ≡ step_of self.now node place }
-        ensures walk { GoesOn self.now place result }
+        ensures walk { GoesDown self.now place result }
         ensures leads { LeadsOn self.now.graph.edges node result }
     {
         let file = self.graph.child(Parent::Node(node), Role::File);
@@ -436,7 +437,7 @@ impl<D: Device> Nodes<D> {
     fn source_in(&self, turns: u32, node: NodeId, place: u64) -> Source
         requires { place < size_of self.now node }
         ensures source { result ≡ source_in turns self.now node place }
-        ensures read { CanBeRead self.now.rows self.now.devices place result }
+        ensures read { CanSourceBeRead self.now.rows self.now.devices place result }
         ensures leads { LeadsToSource self.now.graph.edges node result }
     {
         if turns == 0 {
@@ -453,14 +454,14 @@ impl<D: Device> Nodes<D> {
     fn source(&self, node: NodeId, place: u64) -> Source
         requires { place < size_of self.now node }
         ensures source { result ≡ source_of self.now node place }
-        ensures read { CanBeRead self.now.rows self.now.devices place result }
+        ensures read { CanSourceBeRead self.now.rows self.now.devices place result }
         ensures leads { LeadsToSource self.now.graph.edges node result }
     {
         self.source_in(64, node, place)
     }
 
-    /// Reads a piece of a node's disk, which lies in one block of 65,536 bytes. It is Good, or Io of a device that the node
-    /// leads to, with that device's count of faults; `buffer` then holds any bytes. Takes no memory.
+    /// Reads a piece of a node's disk, which lies in one block of 65,536 bytes. It is Good, or Io of the device in whose file the
+    /// bytes stand, with that device's count of faults; `buffer` then holds any bytes. Takes no memory.
     pub fn peek_piece(&mut self, node: NodeId, span: Span, buffer: &mut [u8]) -> Outcome
         requires block { IsWithinCluster 65536 span }
         requires inside { end_of span ≤ size_of self.old node }
@@ -468,6 +469,8 @@ impl<D: Device> Nodes<D> {
         ensures read { AreTold self.old.devices
             → ReadsDisk result (disk_of self.old node) span buffer.new }
         ensures outcome { IsReadBelow self.old self.new node result }
+        ensures source { IsReadOfSource (source_of self.old node span.start) self.old.devices
+            self.new.devices result }
         ensures kept { self.new ≡ record self.old { devices = self.new.devices } }
         ensures devices { HaveRisen self.old.devices self.new.devices }
         ensures disks { (other : ℕ) → disk_of self.new other ≡ disk_of self.old other }

@@ -5,7 +5,7 @@ ghost use Rattle.q2_image.specs.Reading.{IsHost, IsWithinCluster};
 ghost use Rattle.q2_image.specs.Room.{WriteFits, ZerosFit, entry_for, is_whole};
 ghost use Rattle.q2_image.specs.Writing.{PutFits, ZeroFits, own_end, own_place};
 ghost use Rattle.q2_tables.specs.Entries.{entry_of};
-ghost use Rattle.blk_nodes.specs.Changing.{ChangesAround, ChangesInPlace, ClearsCluster, IsWritten, IsZeroed, PutsCluster};
+ghost use Rattle.blk_nodes.specs.Changing.{ChangesAround, ChangesInPlace, ClearsCluster, IsImageWritten, IsZeroed, PutsCluster};
 ghost use Rattle.blk_nodes.specs.Nodes.{device_in};
 ghost use Rattle.blk_nodes.specs.Parts.{OfImage, HasPiece, CallsRow, IsDiskFound, WritesPart, row_in};
 ghost use Rattle.blk_nodes.specs.Walk.{IsKnownAt};
@@ -237,7 +237,7 @@ pub(crate) fn write_part<D: Device>(
     requires whole { length bytes.now ≡ part.now.span.len }
     ensures { WritesPart (λ image. WriteFits image part.now.span)
         (λ image. own_place_by (entry_for image part.now.span) image part.now.span)
-        (IsWritten (IsDiskFound devices.old part.now) part.now.span bytes.now)
+        (IsImageWritten (IsDiskFound devices.old part.now) part.now.span bytes.now)
         rows.old rows.new devices.old devices.new part.now bytes.now result }
 {
     let span = part.span;

@@ -38,8 +38,8 @@ reads_good old new drive outcome same good =
     (subst (λ (o : Outcome). IsReadBelow old new drive o) (sym good) same)
 
 -- a fault stopped it before all was read
-pub stopped_only : (old new : Nodes) (drive : ℕ) (outcome : Outcome) → StopsUnread old new drive outcome → ReadsOnly old new drive outcome
-stopped_only old new drive outcome stops =
+pub stopped_only : (old new : Nodes) (drive : ℕ) (part : Extent) (outcome : Outcome) → StopsUnread old new drive part outcome → ReadsOnly old new drive outcome
+stopped_only old new drive part outcome stops =
     reads_only old new drive outcome stops.kept stops.devices (subst (λ (o : Outcome). IsReadBelow old new drive o) (sym stops.is) stops.stopped)
 
 module _ (old new : Nodes) (drive : ℕ) (part : Extent) (outcome : Outcome) (buffer : List ℕ) (did : ReadsPart old new drive part outcome buffer) where
@@ -48,7 +48,7 @@ module _ (old new : Nodes) (drive : ℕ) (part : Extent) (outcome : Outcome) (bu
   none_met none = elim did.went [
     | inl lacks ↦ absurd (subst (AtSome (LacksRoomIn old part lacks.dev)) none lacks.lacks)
     | inr reads ↦ elim reads.went [
-      | inl stops ↦ stopped_only old new drive outcome stops
+      | inl stops ↦ stopped_only old new drive part outcome stops
       | inr maps ↦
           let all : MapsEach [] old new part buffer outcome = subst (λ (images : List ℕ). MapsEach images old new part buffer outcome) none maps in
           reads_good old new drive outcome all.0 all.1
@@ -67,7 +67,7 @@ pub record LacksItsRoom (old new : Nodes) (node : ℕ) (part : Extent) (outcome 
 -- it has none, or a fault stopped the read before that, or what was read was written to it
 abbrev pub ReadsIntoOne : Nodes → Nodes → ℕ → ℕ → Extent → Outcome → List ℕ → Type 0
 ReadsIntoOne old new drive node part outcome buffer =
-    LacksItsRoom old new node part outcome ⊎ (StopsUnread old new drive outcome ⊎ MapsOne old new node part buffer outcome)
+    LacksItsRoom old new node part outcome ⊎ (StopsUnread old new drive part outcome ⊎ MapsOne old new node part buffer outcome)
 
 only_lacks : (old : Nodes) (part : Extent) (dev : DevNo) (node : ℕ) → AtSome (LacksRoomIn old part dev) (node ∷ []) → LacksRoomIn old part dev node
 only_lacks old part dev node (inl lacks) = lacks

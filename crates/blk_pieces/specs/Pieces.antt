@@ -13,7 +13,7 @@ use Rattle.blk_nodes.specs.Copying.{AtEach, IsBeside, IsMappedAt, LeavesRest, Re
 use Rattle.blk_nodes.specs.Flushing.{base_of, IsFlushAt}
 use Rattle.blk_nodes.specs.Nodes.{Nodes, AreTold, size_of}
 use Rattle.blk_nodes.specs.Reading.{ReadsDisk}
-use Rattle.blk_nodes.specs.Writing.{MayWrite, IsApart, LeavesNodes, WritesPiece, ZerosPiece, taken_by}
+use Rattle.blk_nodes.specs.Writing.{MayWrite, IsApartFrom, LeavesNodes, WritesPiece, ZerosPiece, taken_by}
 
 -- ---- what a piece is
 
@@ -71,7 +71,8 @@ shown_before (Discard span) k = 0
 -- ---- what it does to nodes and devices
 
 -- It was read, and left these bytes in the buffer, as many as it has also where no device tells its bytes. Each image that it met
--- below a copy-on-read has the cluster where it was good, and no disk but those of files under such images changed.
+-- below a copy-on-read has the cluster where it was good. Where the devices tell their bytes, no disk changed but of nodes from
+-- which a path leads to such an image's file other than through the image.
 pub record ReadsPart (old new : Nodes) (drive : ℕ) (part : Extent) (outcome : Outcome)
     (buffer : List ℕ) : Type 0 where
   pub whole : length buffer ≡ part.len
@@ -90,7 +91,7 @@ pub record PutsPart (old new : Nodes) (node : ℕ) (part : Extent) (outcome : Ou
     (bytes : List ℕ) : Type 0 where
   pub disk : AreTold old.devices
       → disk_of new node ≡ with_bytes (disk_of old node) part.start (taken_by outcome bytes)
-  pub others : (other : ℕ) → IsApart old other node → disk_of new other ≡ disk_of old other
+  pub others : (other : ℕ) → IsApartFrom old other node → disk_of new other ≡ disk_of old other
   pub kept : LeavesNodes old new node
 
 -- what is under the node was flushed

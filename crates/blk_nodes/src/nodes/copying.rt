@@ -110,7 +110,7 @@ impl<D: Device> Nodes<D> {
     /// Reads a piece of a node's disk, which lies in one block of 65,536 bytes, and puts its cluster into each qcow2 node below a
     /// copy-on-read that the read meets and that has nothing there. It is Good; or NoSpace, where there is no room for one of
     /// them, and then nothing was tried; or Io, where a fault stopped the read or one of the writes: `buffer` then holds any
-    /// bytes. The disk of the node stays, whatever the outcome. Takes no memory.
+    /// bytes. Where the devices tell their bytes, the node's disk stays, whatever the outcome. Takes no memory.
     #[tactic(auto, unfolding(crate::specs::Copying::images_met))]
     pub fn read_piece(&mut self, node: NodeId, span: Span, buffer: &mut [u8]) -> Outcome
         requires block { IsWithinCluster 65536 span }

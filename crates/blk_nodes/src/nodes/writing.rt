@@ -8,8 +8,7 @@ ghost use Rattle.blk_nodes.specs.Joined.{IsJoined};
 ghost use Rattle.blk_nodes.specs.Nodes.{AreTold, size_of, file_of};
 ghost use Rattle.blk_nodes.specs.Parts.{HasPiece, IsImage};
 ghost use Rattle.blk_nodes.specs.Sources.{source_of};
-ghost use Rattle.blk_nodes.specs.Walk.{LeadsToSource};
-ghost use Rattle.blk_nodes.specs.Writing.{MayWrite, WritesPiece, ZerosPiece, LeavesNodes, IsApart, taken_by};
+ghost use Rattle.blk_nodes.specs.Writing.{MayWrite, WritesPiece, ZerosPiece, LeavesNodes, IsApartFrom, taken_by};
 
 use crate::nodes::Nodes;
 use crate::part::{Part, cluster_around};
@@ -40,7 +39,6 @@ impl<D: Device> Nodes<D> {
         ensures span { result.span ≡ span }
         ensures file { file_of self.now node ≡ Some result.file }
         ensures source { source_of self.now node result.whole.start ≡ result.source }
-        ensures leads { LeadsToSource self.now.graph.edges node result.source }
         ensures piece { HasPiece self.now.rows self.now.devices result }
     {
         let Some(file) = self.graph.child(Parent::Node(node), Role::File) else {
@@ -68,7 +66,7 @@ impl<D: Device> Nodes<D> {
         ensures disk { AreTold self.old.devices
             → disk_of self.new node
             ≡ with_bytes (disk_of self.old node) span.start (taken_by result bytes.now) }
-        ensures others { (other : ℕ) → IsApart self.old other node
+        ensures others { (other : ℕ) → IsApartFrom self.old other node
             → disk_of self.new other ≡ disk_of self.old other }
         ensures kept { LeavesNodes self.old self.new node }
     {
@@ -90,7 +88,7 @@ impl<D: Device> Nodes<D> {
         ensures disk { AreTold self.old.devices
             → disk_of self.new node
             ≡ with_bytes (disk_of self.old node) span.start (taken_by result bytes.now) }
-        ensures others { (other : ℕ) → IsApart self.old other node
+        ensures others { (other : ℕ) → IsApartFrom self.old other node
             → disk_of self.new other ≡ disk_of self.old other }
         ensures kept { LeavesNodes self.old self.new node }
         ensures joined { IsJoined self.new }
@@ -120,7 +118,7 @@ impl<D: Device> Nodes<D> {
         ensures disk { AreTold self.old.devices
             → disk_of self.new node
             ≡ with_bytes (disk_of self.old node) span.start (taken_by result bytes.now) }
-        ensures others { (other : ℕ) → IsApart self.old other node
+        ensures others { (other : ℕ) → IsApartFrom self.old other node
             → disk_of self.new other ≡ disk_of self.old other }
         ensures kept { LeavesNodes self.old self.new node }
     {
@@ -145,7 +143,7 @@ impl<D: Device> Nodes<D> {
             → disk_of self.new node
             ≡ with_bytes (disk_of self.old node) span.start
             (taken_by result (replicate span.len 0)) }
-        ensures others { (other : ℕ) → IsApart self.old other node
+        ensures others { (other : ℕ) → IsApartFrom self.old other node
             → disk_of self.new other ≡ disk_of self.old other }
         ensures kept { LeavesNodes self.old self.new node }
     {
@@ -170,7 +168,7 @@ impl<D: Device> Nodes<D> {
             → disk_of self.new node
             ≡ with_bytes (disk_of self.old node) span.start
             (taken_by result (replicate span.len 0)) }
-        ensures others { (other : ℕ) → IsApart self.old other node
+        ensures others { (other : ℕ) → IsApartFrom self.old other node
             → disk_of self.new other ≡ disk_of self.old other }
         ensures kept { LeavesNodes self.old self.new node }
     {
@@ -197,7 +195,7 @@ impl<D: Device> Nodes<D> {
             → disk_of self.new node
             ≡ with_bytes (disk_of self.old node) span.start
             (taken_by result (replicate span.len 0)) }
-        ensures others { (other : ℕ) → IsApart self.old other node
+        ensures others { (other : ℕ) → IsApartFrom self.old other node
             → disk_of self.new other ≡ disk_of self.old other }
         ensures kept { LeavesNodes self.old self.new node }
     {

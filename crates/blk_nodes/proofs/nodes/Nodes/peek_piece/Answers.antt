@@ -1,13 +1,16 @@
-use Rattle.std.proofs.Common.{◌≡◌, sym, ◌∙◌, ap, arith}
+use Rattle.std.proofs.Common.{◌≡◌, sym, ◌∙◌, ap, subst, arith}
 use Rattle.blk_base.specs.Pieces.{Extent}
 use Rattle.blk_base.proofs.Contents.{bytes_at-by_place}
 use Rattle.blk_nodes.specs.Contents.{disk_of}
+use Rattle.blk_nodes.specs.Found.{IsReadOfSource}
 use Rattle.blk_nodes.specs.Nodes.{Nodes}
+use Rattle.blk_nodes.specs.Sources.{source_of}
+use Rattle.blk_nodes.specs.declared.source.Source.{Source}
 use Rattle.blk_nodes.proofs.Chains.{reads_found, when_good}
 use Rattle.blk_nodes.proofs.Disks.{disks_risen}
 use Rattle.blk_nodes.proofs.HeldDevices.{HaveRisen-refl}
 use Rattle.blk_nodes.proofs.Joints.{joined_after}
-use Rattle.blk_nodes.proofs.Leading.{read_below}
+use Rattle.blk_nodes.proofs.Leading.{read_below, unread}
 use Rattle.blk_nodes.proofs.nodes.Nodes.peek_piece.Goals as goal
 
 pub returns-then-span-eq0-clause-read : goal.returns-then-span-eq0-clause-read
@@ -17,6 +20,9 @@ returns-then-span-eq0-clause-read g c = λ all.
 
 pub returns-then-span-eq0-clause-devices : goal.returns-then-span-eq0-clause-devices
 returns-then-span-eq0-clause-devices g c = HaveRisen-refl c.args.self.now.devices
+
+pub returns-then-span-eq0-clause-source : goal.returns-then-span-eq0-clause-source
+returns-then-span-eq0-clause-source g c = unread (source_of c.args.self.now c.args.node c.args.span.start) c.args.self.now.devices
 
 pub invariant_of-self : goal.invariant_of-self
 invariant_of-self g c =
@@ -39,6 +45,14 @@ returns-clause-outcome g c =
     let nodes : Nodes = record { graph = c.self.inside.graph; rows = c.self.inside.rows.items; devices = c.self.inside.devices } in
     let leads = rw (sym c.self.view_is) at c.source-source.ensures.leads in
     rw (sym c.self.view_is) (read_below nodes c.read_found.new.devices c.args.node c.source-source.result c.read_found.result leads c.read_found.ensures.outcome)
+
+pub returns-clause-source : goal.returns-clause-source
+returns-clause-source g c =
+    let nodes : Nodes = record { graph = c.self.inside.graph; rows = c.self.inside.rows.items; devices = c.self.inside.devices } in
+    let start : c.span.inside.start ≡ c.args.span.start = ap (λ (s : Extent). s.start) c.span.view_is in
+    let source = rw (sym c.self.view_is) at (rw start at (sym c.source-source.ensures.source)) in
+    let read : Source → Type 0 = λ s. IsReadOfSource s nodes.devices c.read_found.new.devices c.read_found.result in
+    rw (sym c.self.view_is) (subst read (sym source) c.read_found.ensures.outcome)
 
 pub returns-clause-disks : goal.returns-clause-disks
 returns-clause-disks g c =

@@ -1,4 +1,4 @@
-use Rattle.std.proofs.Common.{◌≡◌, ℕ, sym, ◌∙◌, ap, subst, arith, inr}
+use Rattle.std.proofs.Common.{◌≡◌, ℕ, sym, ◌∙◌, ap, subst, arith, inl, inr}
 use Rattle.blk_base.specs.Pieces.{Extent}
 use Rattle.blk_base.specs.declared.fault.Outcome.{Outcome}
 use Rattle.blk_base.specs.declared.fault.Outcome.TheVariants.{Good}
@@ -6,9 +6,8 @@ use Rattle.blk_base.proofs.Contents.{bytes_at-by_place}
 use Rattle.blk_nodes.specs.Contents.{disk_of}
 use Rattle.blk_nodes.specs.Copying.{AtEach, HasRoomIn, IsBeside, IsMappedAt, LeavesRest, MapsEach, images_met, images_met_in}
 use Rattle.blk_nodes.specs.Nodes.{Nodes, AreTold}
-use Rattle.blk_nodes.specs.Reading.{IsReadBelow}
 use Rattle.blk_nodes.specs.Writing.{MayWrite}
-use Rattle.blk_nodes.proofs.MappedDown.{bad_is, leaves_risen, room_for_all}
+use Rattle.blk_nodes.proofs.MappedDown.{bad_is, leaves_risen, peeked_same, read_stopped_unread, room_for_all}
 use Rattle.blk_nodes.proofs.PartsWritten.{good_is}
 use Rattle.blk_nodes.proofs.nodes.Nodes.read_piece.Goals as goal
 
@@ -26,22 +25,33 @@ returns-then-not-is_good-2-clause-rest g c =
     subst (λ (n : Nodes). LeavesRest (images_met old c.args.node c.args.span.start) old n outcome) (sym read.kept)
     (leaves_risen old c.peek_piece-outcome.new.self.devices (images_met old c.args.node c.args.span.start) outcome read.devices bad)
 
+pub returns-then-not-is_good-2-clause-went : goal.returns-then-not-is_good-2-clause-went
+unfolding images_met
+returns-then-not-is_good-2-clause-went g c =
+    let old : Nodes = c.args.self.now in
+    let read = c.peek_piece-outcome.ensures in
+    let outcome : Outcome = c.peek_piece-outcome.result in
+    let bad : outcome ≡ Good → ⊥ = bad_is outcome (sym c.is_good-2.ensures ∙ c.if-not-is_good-2.true) in
+    let fits : AtEach (HasRoomIn old c.args.span) (images_met_in 64 old c.args.node c.args.span.start)
+    = room_for_all old (images_met_in 64 old c.args.node c.args.span.start) c.args.node c.args.span c.room_below-room.result c.room_below-room.ensures
+    (good_is c.room_below-room.result (sym c.is_good.ensures ∙ c.if-not-is_good.false)) in
+    λ some. inr (record {
+      room = fits;
+      went = inl (read_stopped_unread old c.peek_piece-outcome.new.self c.args.node c.args.span outcome bad read.outcome read.source read.kept read.devices);
+    })
+
 pub map_below-requires-clause-may : goal.map_below-requires-clause-may
 unfolding images_met
 map_below-requires-clause-may g c =
     let old : Nodes = c.args.self.now in
-    let mid : Nodes = c.peek_piece-outcome.new.self in
-    let good : c.peek_piece-outcome.result ≡ Good = good_is c.peek_piece-outcome.result (sym c.is_good-2.ensures ∙ c.if-not-is_good-2.false) in
-    let same : mid ≡ old = subst (λ (o : Outcome). IsReadBelow old mid c.args.node o) good c.peek_piece-outcome.ensures.outcome in
+    let same = peeked_same old c.peek_piece-outcome.new.self c.args.node c.peek_piece-outcome.result (sym c.is_good-2.ensures ∙ c.if-not-is_good-2.false) c.peek_piece-outcome.ensures.outcome in
     subst (λ (n : Nodes). AtEach (MayWrite n) (images_met_in 64 n c.args.node c.args.span.start)) (sym same) c.requires.may
 
 pub map_below-requires-clause-room : goal.map_below-requires-clause-room
 unfolding images_met
 map_below-requires-clause-room g c =
     let old : Nodes = c.args.self.now in
-    let mid : Nodes = c.peek_piece-outcome.new.self in
-    let good : c.peek_piece-outcome.result ≡ Good = good_is c.peek_piece-outcome.result (sym c.is_good-2.ensures ∙ c.if-not-is_good-2.false) in
-    let same : mid ≡ old = subst (λ (o : Outcome). IsReadBelow old mid c.args.node o) good c.peek_piece-outcome.ensures.outcome in
+    let same = peeked_same old c.peek_piece-outcome.new.self c.args.node c.peek_piece-outcome.result (sym c.is_good-2.ensures ∙ c.if-not-is_good-2.false) c.peek_piece-outcome.ensures.outcome in
     let fits : AtEach (HasRoomIn old c.args.span) (images_met_in 64 old c.args.node c.args.span.start)
     = room_for_all old (images_met_in 64 old c.args.node c.args.span.start) c.args.node c.args.span c.room_below-room.result c.room_below-room.ensures
     (good_is c.room_below-room.result (sym c.is_good.ensures ∙ c.if-not-is_good.false)) in
@@ -51,9 +61,7 @@ pub returns-clause-went : goal.returns-clause-went
 unfolding images_met
 returns-clause-went g c =
     let old : Nodes = c.args.self.now in
-    let mid : Nodes = c.peek_piece-outcome.new.self in
-    let good : c.peek_piece-outcome.result ≡ Good = good_is c.peek_piece-outcome.result (sym c.is_good-2.ensures ∙ c.if-not-is_good-2.false) in
-    let same : mid ≡ old = subst (λ (o : Outcome). IsReadBelow old mid c.args.node o) good c.peek_piece-outcome.ensures.outcome in
+    let same = peeked_same old c.peek_piece-outcome.new.self c.args.node c.peek_piece-outcome.result (sym c.is_good-2.ensures ∙ c.if-not-is_good-2.false) c.peek_piece-outcome.ensures.outcome in
     let fits : AtEach (HasRoomIn old c.args.span) (images_met_in 64 old c.args.node c.args.span.start)
     = room_for_all old (images_met_in 64 old c.args.node c.args.span.start) c.args.node c.args.span c.room_below-room.result c.room_below-room.ensures
     (good_is c.room_below-room.result (sym c.is_good.ensures ∙ c.if-not-is_good.false)) in
@@ -64,27 +72,21 @@ pub returns-clause-mapped : goal.returns-clause-mapped
 unfolding images_met
 returns-clause-mapped g c =
     let old : Nodes = c.args.self.now in
-    let mid : Nodes = c.peek_piece-outcome.new.self in
-    let good : c.peek_piece-outcome.result ≡ Good = good_is c.peek_piece-outcome.result (sym c.is_good-2.ensures ∙ c.if-not-is_good-2.false) in
-    let same : mid ≡ old = subst (λ (o : Outcome). IsReadBelow old mid c.args.node o) good c.peek_piece-outcome.ensures.outcome in
+    let same = peeked_same old c.peek_piece-outcome.new.self c.args.node c.peek_piece-outcome.result (sym c.is_good-2.ensures ∙ c.if-not-is_good-2.false) c.peek_piece-outcome.ensures.outcome in
     λ some all. subst (λ (n : Nodes). AtEach (IsMappedAt c.map_below.new.self c.args.span.start) (images_met_in 64 n c.args.node c.args.span.start)) same (c.map_below.ensures.mapped all)
 
 pub returns-clause-rest : goal.returns-clause-rest
 unfolding images_met
 returns-clause-rest g c =
     let old : Nodes = c.args.self.now in
-    let mid : Nodes = c.peek_piece-outcome.new.self in
-    let good : c.peek_piece-outcome.result ≡ Good = good_is c.peek_piece-outcome.result (sym c.is_good-2.ensures ∙ c.if-not-is_good-2.false) in
-    let same : mid ≡ old = subst (λ (o : Outcome). IsReadBelow old mid c.args.node o) good c.peek_piece-outcome.ensures.outcome in
+    let same = peeked_same old c.peek_piece-outcome.new.self c.args.node c.peek_piece-outcome.result (sym c.is_good-2.ensures ∙ c.if-not-is_good-2.false) c.peek_piece-outcome.ensures.outcome in
     subst (λ (n : Nodes). LeavesRest (images_met_in 64 n c.args.node c.args.span.start) n c.map_below.new.self c.map_below.result) same c.map_below.ensures.rest
 
 pub returns-clause-disks : goal.returns-clause-disks
 unfolding images_met
 returns-clause-disks g c =
     let old : Nodes = c.args.self.now in
-    let mid : Nodes = c.peek_piece-outcome.new.self in
-    let good : c.peek_piece-outcome.result ≡ Good = good_is c.peek_piece-outcome.result (sym c.is_good-2.ensures ∙ c.if-not-is_good-2.false) in
-    let same : mid ≡ old = subst (λ (o : Outcome). IsReadBelow old mid c.args.node o) good c.peek_piece-outcome.ensures.outcome in
+    let same = peeked_same old c.peek_piece-outcome.new.self c.args.node c.peek_piece-outcome.result (sym c.is_good-2.ensures ∙ c.if-not-is_good-2.false) c.peek_piece-outcome.ensures.outcome in
     subst
     (λ (n : Nodes). AreTold n.devices → (other : ℕ) → AtEach (IsBeside n other) (images_met_in 64 n c.args.node c.args.span.start) → disk_of c.map_below.new.self other ≡ disk_of n other)
     same c.map_below.ensures.disks

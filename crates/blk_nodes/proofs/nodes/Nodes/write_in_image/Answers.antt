@@ -6,12 +6,11 @@ use Rattle.blk_base.specs.declared.fault.Outcome.TheVariants.{NoSpace}
 use Rattle.q2_image.specs.Image.{Known}
 use Rattle.q2_image.specs.Room.{WriteFits, entry_for}
 use Rattle.blk_nodes.specs.Contents.{IsToldDisk, disk_of}
-use Rattle.blk_nodes.specs.Changing.{ImageChange, IsWritten}
+use Rattle.blk_nodes.specs.Changing.{ImageChange, IsImageWritten}
 use Rattle.blk_nodes.specs.Nodes.{Nodes, DeviceState, file_of}
 use Rattle.blk_nodes.specs.Parts.{IsDiskFound, WritesPart}
 use Rattle.blk_nodes.specs.Sources.{source_of}
-use Rattle.blk_nodes.specs.Walk.{LeadsToSource}
-use Rattle.blk_nodes.specs.Writing.{MayWrite, IsApart, LeavesNodes, WritesPiece, own_place_by, taken_by}
+use Rattle.blk_nodes.specs.Writing.{MayWrite, IsApartFrom, LeavesNodes, WritesPiece, own_place_by, taken_by}
 use Rattle.blk_nodes.specs.declared.part.Part.{Part}
 use Rattle.blk_nodes.specs.declared.row.Row.{Row}
 use Rattle.blk_nodes.proofs.Imaged.{disk_found, refuses_written, joined_piece, disk_piece, others_piece, leaves_piece, left_piece, wrote_piece, piece_image, sliced}
@@ -29,11 +28,10 @@ invariant_of-self g c =
     let devices : List DeviceState = c.write_part.new.devices in
     let outcome = c.write_part.result in
     let bytes : List ℕ = c.args.bytes.now in
-    let change : ImageChange = IsWritten (IsDiskFound nodes.devices part) part.span bytes in
+    let change : ImageChange = IsImageWritten (IsDiskFound nodes.devices part) part.span bytes in
     let may = subst (MayWrite nodes) (sym e.node) (rw (sym c.self.view_is) at c.requires.may) in
     let edge = subst (λ (n : ℕ). file_of nodes n ≡ Some part.file) (sym e.node) (rw (sym c.self.view_is) at e.file) in
     let source = subst (λ (n : ℕ). source_of nodes n part.whole.start ≡ part.source) (sym e.node) (rw (sym c.self.view_is) at e.source) in
-    let leads = subst (λ (n : ℕ). LeadsToSource nodes.graph.edges n part.source) (sym e.node) (rw (sym c.self.view_is) at e.leads) in
     let piece = rw (sym c.self.view_is) at e.piece in
     let w : WritesPart fits own change nodes.rows rows nodes.devices devices part bytes outcome
     = subst (λ (rs : List (Option Row)). WritesPart fits own change rs rows nodes.devices devices part bytes outcome) c.deref_mut.ensures.value c.write_part.ensures in
@@ -42,7 +40,7 @@ invariant_of-self g c =
     let whole : take c.self.inside.rows.len (rows ++ drop (length rows) nodes.rows) ≡ rows
     = sliced rows nodes.rows c.self.inside.rows.len (c.write_part.auto.rows ∙ ap length c.deref_mut.ensures.value) (omega (arith, c.self.inside.rows.ok.0)) in
     let new : Nodes = record nodes { rows = rows; devices = devices } in
-    rw whole (joined_piece nodes c.self.invariant part may edge source leads piece rows devices fits own change bytes outcome w refuses)
+    rw whole (joined_piece nodes c.self.invariant part may edge source piece rows devices fits own change bytes outcome w refuses)
 
 pub returns-clause-wrote : goal.returns-clause-wrote
 returns-clause-wrote g c =
@@ -55,11 +53,10 @@ returns-clause-wrote g c =
     let devices : List DeviceState = c.write_part.new.devices in
     let outcome = c.write_part.result in
     let bytes : List ℕ = c.args.bytes.now in
-    let change : ImageChange = IsWritten (IsDiskFound nodes.devices part) part.span bytes in
+    let change : ImageChange = IsImageWritten (IsDiskFound nodes.devices part) part.span bytes in
     let may = subst (MayWrite nodes) (sym e.node) (rw (sym c.self.view_is) at c.requires.may) in
     let edge = subst (λ (n : ℕ). file_of nodes n ≡ Some part.file) (sym e.node) (rw (sym c.self.view_is) at e.file) in
     let source = subst (λ (n : ℕ). source_of nodes n part.whole.start ≡ part.source) (sym e.node) (rw (sym c.self.view_is) at e.source) in
-    let leads = subst (λ (n : ℕ). LeadsToSource nodes.graph.edges n part.source) (sym e.node) (rw (sym c.self.view_is) at e.leads) in
     let piece = rw (sym c.self.view_is) at e.piece in
     let w : WritesPart fits own change nodes.rows rows nodes.devices devices part bytes outcome
     = subst (λ (rs : List (Option Row)). WritesPart fits own change rs rows nodes.devices devices part bytes outcome) c.deref_mut.ensures.value c.write_part.ensures in
@@ -68,9 +65,9 @@ returns-clause-wrote g c =
     let whole : take c.self.inside.rows.len (rows ++ drop (length rows) nodes.rows) ≡ rows
     = sliced rows nodes.rows c.self.inside.rows.len (c.write_part.auto.rows ∙ ap length c.deref_mut.ensures.value) (omega (arith, c.self.inside.rows.ok.0)) in
     let new : Nodes = record nodes { rows = rows; devices = devices } in
-    rw (sym c.self.view_is) (rw whole (subst (λ (n : ℕ). WritesPiece nodes new n c.args.span bytes outcome) e.node (subst (λ (s : Extent). WritesPiece nodes new part.node s bytes outcome) e.span (piece_image nodes new part.node part.span bytes outcome w.row w.image w.there w.driver (wrote_piece nodes c.self.invariant part may edge source leads piece rows devices fits own change bytes outcome w refuses) (row_written nodes new part.node w.row w.image outcome (IsDiskFound nodes.devices part) (IsToldDisk nodes part.node)
-    (disk_found nodes c.self.invariant part may edge source leads piece rows devices fits own change bytes outcome w refuses) part.span bytes
-    (left_piece nodes c.self.invariant part may edge source leads piece rows devices fits own change bytes outcome w refuses))))))
+    rw (sym c.self.view_is) (rw whole (subst (λ (n : ℕ). WritesPiece nodes new n c.args.span bytes outcome) e.node (subst (λ (s : Extent). WritesPiece nodes new part.node s bytes outcome) e.span (piece_image nodes new part.node part.span bytes outcome w.row w.image w.there w.driver (wrote_piece nodes c.self.invariant part may edge source piece rows devices fits own change bytes outcome w refuses) (row_written nodes new part.node w.row w.image outcome (IsDiskFound nodes.devices part) (IsToldDisk nodes part.node)
+    (disk_found nodes c.self.invariant part may edge source piece rows devices fits own change bytes outcome w refuses) part.span bytes
+    (left_piece nodes c.self.invariant part may edge source piece rows devices fits own change bytes outcome w refuses))))))
 
 pub returns-clause-disk : goal.returns-clause-disk
 returns-clause-disk g c =
@@ -83,11 +80,10 @@ returns-clause-disk g c =
     let devices : List DeviceState = c.write_part.new.devices in
     let outcome = c.write_part.result in
     let bytes : List ℕ = c.args.bytes.now in
-    let change : ImageChange = IsWritten (IsDiskFound nodes.devices part) part.span bytes in
+    let change : ImageChange = IsImageWritten (IsDiskFound nodes.devices part) part.span bytes in
     let may = subst (MayWrite nodes) (sym e.node) (rw (sym c.self.view_is) at c.requires.may) in
     let edge = subst (λ (n : ℕ). file_of nodes n ≡ Some part.file) (sym e.node) (rw (sym c.self.view_is) at e.file) in
     let source = subst (λ (n : ℕ). source_of nodes n part.whole.start ≡ part.source) (sym e.node) (rw (sym c.self.view_is) at e.source) in
-    let leads = subst (λ (n : ℕ). LeadsToSource nodes.graph.edges n part.source) (sym e.node) (rw (sym c.self.view_is) at e.leads) in
     let piece = rw (sym c.self.view_is) at e.piece in
     let w : WritesPart fits own change nodes.rows rows nodes.devices devices part bytes outcome
     = subst (λ (rs : List (Option Row)). WritesPart fits own change rs rows nodes.devices devices part bytes outcome) c.deref_mut.ensures.value c.write_part.ensures in
@@ -96,7 +92,7 @@ returns-clause-disk g c =
     let whole : take c.self.inside.rows.len (rows ++ drop (length rows) nodes.rows) ≡ rows
     = sliced rows nodes.rows c.self.inside.rows.len (c.write_part.auto.rows ∙ ap length c.deref_mut.ensures.value) (omega (arith, c.self.inside.rows.ok.0)) in
     let new : Nodes = record nodes { rows = rows; devices = devices } in
-    rw (sym c.self.view_is) (rw whole (λ all. subst (λ (n : ℕ). disk_of new n ≡ with_bytes (disk_of nodes n) c.args.span.start (taken_by outcome bytes)) e.node (subst (λ (s : Extent). disk_of new part.node ≡ with_bytes (disk_of nodes part.node) s.start (taken_by outcome bytes)) e.span (disk_piece nodes c.self.invariant part may edge source leads piece rows devices fits own change bytes outcome w refuses all))))
+    rw (sym c.self.view_is) (rw whole (λ all. subst (λ (n : ℕ). disk_of new n ≡ with_bytes (disk_of nodes n) c.args.span.start (taken_by outcome bytes)) e.node (subst (λ (s : Extent). disk_of new part.node ≡ with_bytes (disk_of nodes part.node) s.start (taken_by outcome bytes)) e.span (disk_piece nodes c.self.invariant part may edge source piece rows devices fits own change bytes outcome w refuses all))))
 
 pub returns-clause-others : goal.returns-clause-others
 returns-clause-others g c =
@@ -109,11 +105,10 @@ returns-clause-others g c =
     let devices : List DeviceState = c.write_part.new.devices in
     let outcome = c.write_part.result in
     let bytes : List ℕ = c.args.bytes.now in
-    let change : ImageChange = IsWritten (IsDiskFound nodes.devices part) part.span bytes in
+    let change : ImageChange = IsImageWritten (IsDiskFound nodes.devices part) part.span bytes in
     let may = subst (MayWrite nodes) (sym e.node) (rw (sym c.self.view_is) at c.requires.may) in
     let edge = subst (λ (n : ℕ). file_of nodes n ≡ Some part.file) (sym e.node) (rw (sym c.self.view_is) at e.file) in
     let source = subst (λ (n : ℕ). source_of nodes n part.whole.start ≡ part.source) (sym e.node) (rw (sym c.self.view_is) at e.source) in
-    let leads = subst (λ (n : ℕ). LeadsToSource nodes.graph.edges n part.source) (sym e.node) (rw (sym c.self.view_is) at e.leads) in
     let piece = rw (sym c.self.view_is) at e.piece in
     let w : WritesPart fits own change nodes.rows rows nodes.devices devices part bytes outcome
     = subst (λ (rs : List (Option Row)). WritesPart fits own change rs rows nodes.devices devices part bytes outcome) c.deref_mut.ensures.value c.write_part.ensures in
@@ -122,7 +117,7 @@ returns-clause-others g c =
     let whole : take c.self.inside.rows.len (rows ++ drop (length rows) nodes.rows) ≡ rows
     = sliced rows nodes.rows c.self.inside.rows.len (c.write_part.auto.rows ∙ ap length c.deref_mut.ensures.value) (omega (arith, c.self.inside.rows.ok.0)) in
     let new : Nodes = record nodes { rows = rows; devices = devices } in
-    rw (sym c.self.view_is) (rw whole (λ other apart. others_piece nodes c.self.invariant part may edge source leads piece rows devices fits own change bytes outcome w refuses other (subst (IsApart nodes other) (sym e.node) apart)))
+    rw (sym c.self.view_is) (rw whole (λ other apart. others_piece nodes c.self.invariant part may edge source piece rows devices fits own change bytes outcome w refuses other (subst (IsApartFrom nodes other) (sym e.node) apart)))
 
 pub returns-clause-kept : goal.returns-clause-kept
 returns-clause-kept g c =
@@ -135,11 +130,10 @@ returns-clause-kept g c =
     let devices : List DeviceState = c.write_part.new.devices in
     let outcome = c.write_part.result in
     let bytes : List ℕ = c.args.bytes.now in
-    let change : ImageChange = IsWritten (IsDiskFound nodes.devices part) part.span bytes in
+    let change : ImageChange = IsImageWritten (IsDiskFound nodes.devices part) part.span bytes in
     let may = subst (MayWrite nodes) (sym e.node) (rw (sym c.self.view_is) at c.requires.may) in
     let edge = subst (λ (n : ℕ). file_of nodes n ≡ Some part.file) (sym e.node) (rw (sym c.self.view_is) at e.file) in
     let source = subst (λ (n : ℕ). source_of nodes n part.whole.start ≡ part.source) (sym e.node) (rw (sym c.self.view_is) at e.source) in
-    let leads = subst (λ (n : ℕ). LeadsToSource nodes.graph.edges n part.source) (sym e.node) (rw (sym c.self.view_is) at e.leads) in
     let piece = rw (sym c.self.view_is) at e.piece in
     let w : WritesPart fits own change nodes.rows rows nodes.devices devices part bytes outcome
     = subst (λ (rs : List (Option Row)). WritesPart fits own change rs rows nodes.devices devices part bytes outcome) c.deref_mut.ensures.value c.write_part.ensures in
@@ -148,7 +142,7 @@ returns-clause-kept g c =
     let whole : take c.self.inside.rows.len (rows ++ drop (length rows) nodes.rows) ≡ rows
     = sliced rows nodes.rows c.self.inside.rows.len (c.write_part.auto.rows ∙ ap length c.deref_mut.ensures.value) (omega (arith, c.self.inside.rows.ok.0)) in
     let new : Nodes = record nodes { rows = rows; devices = devices } in
-    rw (sym c.self.view_is) (rw whole (subst (LeavesNodes nodes new) e.node (leaves_piece nodes c.self.invariant part may edge source leads piece rows devices fits own change bytes outcome w refuses)))
+    rw (sym c.self.view_is) (rw whole (subst (LeavesNodes nodes new) e.node (leaves_piece nodes c.self.invariant part may edge source piece rows devices fits own change bytes outcome w refuses)))
 
 pub returns-clause-joined : goal.returns-clause-joined
 returns-clause-joined g c =
@@ -161,11 +155,10 @@ returns-clause-joined g c =
     let devices : List DeviceState = c.write_part.new.devices in
     let outcome = c.write_part.result in
     let bytes : List ℕ = c.args.bytes.now in
-    let change : ImageChange = IsWritten (IsDiskFound nodes.devices part) part.span bytes in
+    let change : ImageChange = IsImageWritten (IsDiskFound nodes.devices part) part.span bytes in
     let may = subst (MayWrite nodes) (sym e.node) (rw (sym c.self.view_is) at c.requires.may) in
     let edge = subst (λ (n : ℕ). file_of nodes n ≡ Some part.file) (sym e.node) (rw (sym c.self.view_is) at e.file) in
     let source = subst (λ (n : ℕ). source_of nodes n part.whole.start ≡ part.source) (sym e.node) (rw (sym c.self.view_is) at e.source) in
-    let leads = subst (λ (n : ℕ). LeadsToSource nodes.graph.edges n part.source) (sym e.node) (rw (sym c.self.view_is) at e.leads) in
     let piece = rw (sym c.self.view_is) at e.piece in
     let w : WritesPart fits own change nodes.rows rows nodes.devices devices part bytes outcome
     = subst (λ (rs : List (Option Row)). WritesPart fits own change rs rows nodes.devices devices part bytes outcome) c.deref_mut.ensures.value c.write_part.ensures in
@@ -174,4 +167,4 @@ returns-clause-joined g c =
     let whole : take c.self.inside.rows.len (rows ++ drop (length rows) nodes.rows) ≡ rows
     = sliced rows nodes.rows c.self.inside.rows.len (c.write_part.auto.rows ∙ ap length c.deref_mut.ensures.value) (omega (arith, c.self.inside.rows.ok.0)) in
     let new : Nodes = record nodes { rows = rows; devices = devices } in
-    rw whole (joined_piece nodes c.self.invariant part may edge source leads piece rows devices fits own change bytes outcome w refuses)
+    rw whole (joined_piece nodes c.self.invariant part may edge source piece rows devices fits own change bytes outcome w refuses)
