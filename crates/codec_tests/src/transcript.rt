@@ -3,7 +3,7 @@ ghost use Rattle.std.specs.Prelude.{◌≡◌, ◌<◌, [], ◌∷◌, length, c
 ghost use Rattle.qmp_codec.specs.declared.event.JobKind.{JobKind};
 ghost use Rattle.blk_history.specs.Names.{RowNames};
 ghost use Rattle.blk_history.specs.Recorded.{event_of, PointsWithin};
-ghost use Rattle.blk_history.specs.Line.{At, HasName};
+ghost use Rattle.blk_history.specs.Line.{At, IsActorNamed};
 
 use blk_base::{Bytes, DevNo, Names1, Outcome, Room, Span, Text};
 use blk_history::{Asked, Awaited, Entry, History, JobName, Refused, Rows, Understood};
@@ -46,7 +46,7 @@ fn write(start: u32, len: u32) -> Asked {
 }
 
 fn piece(k: u32, outcome: Outcome) -> Entry
-    ensures named { (names : RowNames) → 1 < length names.guests → HasName names (event_of [] result) }
+    ensures named { (names : RowNames) → 1 < length names.guests → IsActorNamed names (event_of [] result) }
     ensures within { PointsWithin 0 result }
 {
     Entry::Piece {
@@ -76,7 +76,7 @@ fn kept(alloc: Global, entry: Entry, got: &[u8]) -> Result<History, Fail>
 // The line of the first entry.
 fn first_line(alloc: Global, history: &History) -> Result<Text, Fail>
     requires some { 0 < length history.now.events }
-    requires named { At history.now.events 0 (HasName (record {
+    requires named { At history.now.events 0 (IsActorNamed (record {
       guests = codes "a" ∷ codes "guest2" ∷ [];
       jobs = record { id = codes "b"; kind = JobKind.Backup; size = 131072 } ∷ [];
     })) }
@@ -89,7 +89,7 @@ fn first_line(alloc: Global, history: &History) -> Result<Text, Fail>
 
 // Tries the line of a history's only entry, where reads gave these bytes.
 fn says(rt: &impl Abort, alloc: Global, entry: Entry, got: &[u8], want: &str) -> Result<(), Fail>
-    requires named { HasName (record {
+    requires named { IsActorNamed (record {
       guests = codes "a" ∷ codes "guest2" ∷ [];
       jobs = record { id = codes "b"; kind = JobKind.Backup; size = 131072 } ∷ [];
     }) (event_of got.now entry) }
@@ -241,7 +241,7 @@ fn line_of_a_read(rt: HostRuntime) -> Result<(), Fail> {
 
 // The entry of a reply.
 fn reply(given: Text, text: Text) -> Entry
-    ensures named { HasName (record {
+    ensures named { IsActorNamed (record {
       guests = codes "a" ∷ codes "guest2" ∷ [];
       jobs = record { id = codes "b"; kind = JobKind.Backup; size = 131072 } ∷ [];
     }) (event_of [] result) }

@@ -2,13 +2,14 @@
 use Rattle.std.proofs.Common.{◌≡◌, ℕ, ◌+◌, ◌<◌, ◌≤◌, List, [], ◌∷◌, ◌++◌, length, get_or, drop, Option, Some, None, refl, sym, ap, ◌∙◌}
 use Rattle.std.specs.Borrow.{Bor}
 use Rattle.std.proofs.lemmas.List.{at_drop_more, at_drop_all}
-use Rattle.qmp_rules.specs.declared.ask.Ask.{Ask}
+use Rattle.qmp_asks.specs.declared.ask.Ask.{Ask}
 use Rattle.qmp_rules.specs.declared.refusal.Refusal.{Refusal}
 use Rattle.qmp_rules.specs.declared.told.Told.{Told}
 use Rattle.qmp_rules.specs.Table.{Table}
 use Rattle.qmp_rules.specs.Refusals.{or_else}
-use Rattle.qmp_rules.specs.Asks.{Asking, holds, first}
-use Rattle.qmp_rules.specs.Seen.{seen_ask, seen_asks}
+use Rattle.qmp_asks.specs.Asking.{Asking}
+use Rattle.qmp_rules.specs.Asks.{holds, first}
+use Rattle.qmp_asks.specs.Seen.{seen_ask, seen_asks}
 
 abbrev pub Given : Type 0
 Given = Ask (Bor (List ℕ))

@@ -5,7 +5,7 @@ use Rattle.std.proofs.lemmas.Bool.{ltb-true}
 use Rattle.qmp_rules.specs.declared.change.Change.{Change}
 use Rattle.qmp_rules.specs.declared.change.Change.TheVariants as change
 use Rattle.qmp_rules.specs.Changes.{changed}
-use Rattle.qmp_rules.specs.Fitting.{ChangeFits, AllFit, fits_always}
+use Rattle.qmp_rules.specs.Fitting.{ChangeFits, AllChangesFit, fits_always}
 use Rattle.qmp_rules.specs.Table.{Table}
 
 both_left : (a b : Bool) → (a && b) ≡ true → a ≡ true
@@ -22,7 +22,7 @@ fits_one t (change.UseNode slot what node) h = ltb-true slot 16 h
 fits_one t (change.PutFilter row node) h = cc
 fits_one t _ h = tt
 
-pub all_fit : (t : Table) (changes : List Change) → list_all fits_always changes ≡ true → AllFit t changes
+pub all_fit : (t : Table) (changes : List Change) → list_all fits_always changes ≡ true → AllChangesFit t changes
 all_fit t [] h = tt
 all_fit t (c ∷ changes) h = (
   fits_one t c (both_left (fits_always c) (list_all fits_always changes) h),

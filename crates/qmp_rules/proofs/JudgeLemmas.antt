@@ -7,7 +7,7 @@ use Rattle.qmp_rules.specs.declared.refusal.Refusal.{Refusal}
 use Rattle.qmp_rules.specs.declared.told.Told.{Told}
 use Rattle.qmp_rules.specs.Table.{Table}
 use Rattle.qmp_rules.specs.Refusals.{refused, or_else}
-use Rattle.qmp_rules.specs.CommandAsks.{command_name, is_built}
+use Rattle.qmp_asks.specs.CommandAsks.{command_name, is_built}
 use Rattle.qmp_rules.specs.Edits.{edits_of}
 use Rattle.qmp_rules.specs.Answers.{untold, rewires, conflict_after, refusal_behind, refusal_of, command_edits, unbuilt}
 use Rattle.qmp_rules.specs.declared.refusal.Refusal.TheVariants as refusal

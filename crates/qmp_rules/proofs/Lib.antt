@@ -1,7 +1,5 @@
-pub mod OrderLemmas
 pub mod PlaceLemmas
 pub mod LookLemmas
-pub mod AskLists
 pub mod ChainLemmas
 pub mod FirstLemmas
 pub mod FitLemmas

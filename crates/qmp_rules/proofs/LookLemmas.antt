@@ -13,17 +13,18 @@ use Rattle.qmp_rules.specs.declared.refusal.FileFault.TheVariants.{TooLong}
 use Rattle.qmp_rules.specs.declared.refusal.Refusal.{Refusal}
 use Rattle.qmp_rules.specs.declared.refusal.Refusal.TheVariants as refusal
 use Rattle.qmp_rules.specs.declared.rows.NodeRecord.{NodeRecord}
-use Rattle.qmp_rules.specs.declared.told.Look.{Look}
-use Rattle.qmp_rules.specs.declared.told.Look.TheVariants as look
+use Rattle.qmp_asks.specs.declared.look.Look.{Look}
+use Rattle.qmp_asks.specs.declared.look.Look.TheVariants as look
 use Rattle.qmp_rules.specs.declared.told.Stopped.{Stopped}
 use Rattle.qmp_rules.specs.declared.told.Told.{Told}
 use Rattle.qmp_rules.specs.Table.{Table, node_named}
 use Rattle.qmp_rules.specs.Refusals.{refused, place_of}
-use Rattle.qmp_rules.specs.Asks.{if_there, look_place}
-use Rattle.qmp_rules.specs.NodeAsks.{backing_name}
-use Rattle.qmp_rules.specs.Values.{most_length, begins_within, ends_within, part_fits, amount_or}
+use Rattle.qmp_asks.specs.Asking.{look_place}
+use Rattle.qmp_rules.specs.Asks.{if_there}
+use Rattle.qmp_asks.specs.NodeAsks.{backing_name}
+use Rattle.qmp_asks.specs.Values.{most_length, begins_within, ends_within, part_fits, amount_or}
 use Rattle.qmp_rules.specs.Looks.{ImageSight, FileSight, stop_at, told_as, file_stop, raw_stop, image_stop, first_stop, is_unopened, told_of_file, told_if_there, file_told, raw_told, qcow2_told, is_free_file, image_told, raw_told_of, qcow2_told_of, add_told, create_told}
-use Rattle.qmp_rules.specs.Order.{HasLookPlace}
+use Rattle.qmp_rules.specs.Places.{HasLookPlace}
 
 stop_refused : (what : Look) (b : Bool) (cause : Refusal) (later : Option Stopped)
     → place_of cause ≡ Some (look_place what) → HasLookPlace later → HasLookPlace (stop_at what (refused b cause) later)

@@ -1,10 +1,10 @@
 -- The refusal of an ask has the ask's place.
 use Rattle.std.proofs.Common.{◌≡◌, ℕ, refl, sym, ap, subst, ◌∙◌, true, false, Bool, List, [], ◌∷◌, Option, Some, None, option_map, option_and_then, is_some, not, ◌&&◌, if◌then◌else◌}
 use Rattle.blk_graph.specs.declared.edge.Edge.{Edge}
-use Rattle.qmp_rules.specs.declared.ask.Ask.{Ask}
-use Rattle.qmp_rules.specs.declared.ask.Ask.TheVariants as ask
-use Rattle.qmp_rules.specs.declared.ask.JobNodes.{JobNodes}
-use Rattle.qmp_rules.specs.declared.ask.JobNodes.TheVariants.{Stream, Commit, Copy}
+use Rattle.qmp_asks.specs.declared.ask.Ask.{Ask}
+use Rattle.qmp_asks.specs.declared.ask.Ask.TheVariants as ask
+use Rattle.qmp_asks.specs.declared.ask.JobNodes.{JobNodes}
+use Rattle.qmp_asks.specs.declared.ask.JobNodes.TheVariants.{Stream, Commit, Copy}
 use Rattle.qmp_rules.specs.declared.refusal.Refusal.{Refusal}
 use Rattle.qmp_rules.specs.declared.refusal.Refusal.TheVariants as refusal
 use Rattle.blk_graph.specs.declared.edge.Role.TheVariants.{Backing}
@@ -15,8 +15,9 @@ use Rattle.qmp_rules.specs.declared.told.Told.{Told}
 use Rattle.qmp_rules.specs.Table.{Table, job_id, node_at, node_named, id_named, job_named, bitmap_named, child, first_into}
 use Rattle.qmp_rules.specs.Chains.{has_id, holder, keeper, is_settled}
 use Rattle.qmp_rules.specs.Refusals.{refused, or_else, place_of}
-use Rattle.qmp_rules.specs.Asks.{Asking, Nodes1, if_named, if_there, place, holds, held_by, clash, first_clash, not_below, not_in_chain, differ, sizes, sizes_differ, first_reached, in_the_way, in_use, in_use_at, id_or, mirrored, takes, file_node, name_of_file, lost, busy, part_begins, part_ends, part_too_long, top_of, base_of, held_nodes, read_nodes, looked_at}
-use Rattle.qmp_rules.specs.Order.{IsOfTable, HasPlace}
+use Rattle.qmp_asks.specs.Asking.{Asking, Nodes1, place}
+use Rattle.qmp_rules.specs.Asks.{if_named, if_there, holds, held_by, clash, first_clash, not_below, not_in_chain, differ, sizes, sizes_differ, first_reached, in_the_way, in_use, in_use_at, id_or, mirrored, takes, file_node, name_of_file, lost, busy, part_begins, part_ends, part_too_long, top_of, base_of, held_nodes, read_nodes, looked_at}
+use Rattle.qmp_rules.specs.Places.{IsOfTable, HasPlace}
 
 -- a look whose refusals have one place
 abbrev At : ℕ → Option Refusal → Type 0

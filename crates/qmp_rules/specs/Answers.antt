@@ -24,7 +24,7 @@ use Rattle.qmp_rules.specs.declared.told.Told.{Told}
 use Rattle.qmp_rules.specs.Table.{Table, name_at, parent_name}
 use Rattle.qmp_rules.specs.Refusals.{refused, or_else, refusal_text, refusal_class}
 use Rattle.qmp_rules.specs.Asks.{first}
-use Rattle.qmp_rules.specs.CommandAsks.{asks_of, action_rest, command_name, is_built, negotiates}
+use Rattle.qmp_asks.specs.CommandAsks.{asks_of, action_rest, command_name, is_built, negotiates}
 use Rattle.qmp_rules.specs.Changes.{all_changed}
 use Rattle.qmp_rules.specs.Edits.{edits_of, action_edits, spoiled, ids}
 use Rattle.qmp_rules.specs.Queries.{jobs_data, nodes_data}

@@ -9,12 +9,10 @@ use Rattle.blk_graph.specs.declared.kind.Kind.TheVariants as kind
 use Rattle.qmp_codec.specs.declared.event.JobKind.{JobKind}
 use Rattle.qmp_codec.specs.declared.event.JobKind.TheVariants as job_kind
 use Rattle.qmp_codec.specs.declared.fields.Amount.{Amount}
-use Rattle.qmp_rules.specs.declared.ask.Ask.{Ask}
-use Rattle.qmp_rules.specs.declared.ask.Ask.TheVariants as ask
-use Rattle.qmp_rules.specs.declared.ask.JobNodes.{JobNodes}
-use Rattle.qmp_rules.specs.declared.ask.JobNodes.TheVariants.{Stream, Commit, Copy}
-use Rattle.qmp_rules.specs.declared.ask.Drivers.{Drivers}
-use Rattle.qmp_rules.specs.declared.ask.Drivers.TheVariants as drivers
+use Rattle.qmp_asks.specs.declared.ask.Ask.TheVariants as ask
+use Rattle.qmp_asks.specs.declared.ask.JobNodes.TheVariants.{Stream, Commit, Copy}
+use Rattle.qmp_asks.specs.declared.ask.Drivers.{Drivers}
+use Rattle.qmp_asks.specs.declared.ask.Drivers.TheVariants as drivers
 use Rattle.qmp_rules.specs.declared.refusal.Crowd.TheVariants.{Nodes, Devices, Jobs, Bitmaps}
 use Rattle.qmp_rules.specs.declared.refusal.FileFault.TheVariants.{InUse, TooLong}
 use Rattle.qmp_rules.specs.declared.refusal.Refusal.{Refusal}
@@ -24,21 +22,16 @@ use Rattle.qmp_rules.specs.declared.rows.JobRecord.{JobRecord}
 use Rattle.qmp_rules.specs.declared.rows.BitmapRow.{BitmapRow}
 use Rattle.qmp_rules.specs.declared.rows.FileState.{FileState}
 use Rattle.qmp_rules.specs.declared.rows.FileState.TheVariants.{Made, Formatted, Used}
-use Rattle.qmp_rules.specs.declared.told.Look.{Look}
-use Rattle.qmp_rules.specs.declared.told.Look.TheVariants as look
+use Rattle.qmp_asks.specs.declared.look.Look.{Look}
+use Rattle.qmp_asks.specs.declared.look.Look.TheVariants as look
 use Rattle.qmp_rules.specs.declared.told.Stopped.{Stopped}
 use Rattle.qmp_rules.specs.declared.told.Told.{Told}
-use Rattle.qmp_rules.specs.Naming.{is_name, is_file_name, inline_name}
+use Rattle.qmp_asks.specs.Asking.{Asking, Nodes1, same_look}
+use Rattle.qmp_asks.specs.Naming.{is_name, is_file_name, inline_name}
 use Rattle.qmp_rules.specs.Table.{Table, node_named, id_named, device_named, job_named, bitmap_named, has_name, file_state, name_at, job_id, parent_name, child, node_at, first_into}
 use Rattle.qmp_rules.specs.Chains.{has_id, is_settled, below, chain, down_to, lowest, overlay_edge, overlays, reaches, holder, keeper}
 use Rattle.qmp_rules.specs.Refusals.{refused, or_else}
-use Rattle.qmp_rules.specs.Values.{begins_within, ends_within, part_fits}
-
-abbrev pub Asking : Type 0
-Asking = Ask (List ℕ)
-
-abbrev pub Nodes1 : Type 0
-Nodes1 = JobNodes (List ℕ)
+use Rattle.qmp_asks.specs.Values.{begins_within, ends_within, part_fits}
 
 -- ---- a refusal for a name that is there
 
@@ -245,76 +238,12 @@ part_too_long t offset size row = refused
     (not (part_fits offset size row.size || is_lost false (file_state t (name_of_file row))))
     (refusal.File (name_of_file row) TooLong)
 
-abbrev pub look_place : Look → ℕ
-look_place look.Begin = 7
-look_place look.End = 7
-look_place look.File = 14
-look_place look.Image = 16
-look_place look.Backing = 17
-look_place look.Size = 23
-look_place look.Format = 30
-
-abbrev pub same_look : Look → Look → Bool
-same_look look.Begin look.Begin = true
-same_look look.End look.End = true
-same_look look.File look.File = true
-same_look look.Image look.Image = true
-same_look look.Backing look.Backing = true
-same_look look.Size look.Size = true
-same_look look.Format look.Format = true
-same_look _ _ = false
-
 -- what the files tell at a look
 abbrev pub told_at : Look → Option Stopped → Option Refusal
 told_at what None = None
 told_at what (Some stopped) = refused (same_look what stopped.look) stopped.refusal
 
 -- ---- the asks
-
--- the place of an ask's refusal among all
-abbrev pub place : Asking → ℕ
-place (ask.Good member ok) = 7
-place (ask.Begins file offset) = 7
-place (ask.Ends file offset size) = 7
-place (ask.Files what) = look_place what
-place (ask.Named member text) = 8
-place (ask.FileNamed member text) = 8
-place (ask.Found name) = 9
-place (ask.Kept id) = 9
-place (ask.DeviceFound id) = 9
-place (ask.BitmapFound node name) = 9
-place (ask.JobFound id) = 10
-place (ask.FreshNode name) = 11
-place (ask.Apart first second) = 11
-place (ask.FreshDevice id) = 11
-place (ask.FreshJob id) = 11
-place (ask.FreshBitmap node name) = 11
-place (ask.RoomForNodes count) = 12
-place ask.RoomForDevice = 12
-place ask.RoomForJob = 12
-place ask.RoomForBitmap = 12
-place (ask.Drives name which) = 13
-place (ask.Closed name) = 14
-place (ask.Fits file offset size) = 14
-place (ask.Known file is_raw) = 15
-place (ask.KnownUnder file is_raw) = 15
-place (ask.Settled name) = 18
-place (ask.Beside backing file) = 18
-place (ask.Unheld node) = 19
-place (ask.Free nodes) = 19
-place (ask.BitmapFree node name) = 20
-place (ask.Writable node) = 21
-place (ask.WritableUnder file read_only) = 21
-place (ask.WritableWith node own ok) = 21
-place (ask.InChain nodes) = 22
-place (ask.SameSize first second) = 23
-place (ask.EqualSizes nodes) = 23
-place (ask.NoBacking node) = 24
-place (ask.Empty node) = 25
-place (ask.Lone node) = 26
-place (ask.Clear nodes) = 26
-place (ask.JobReady id) = 27
-place ask.Abort = 29
 
 -- the refusal of an ask that is not met
 unfoldable pub holds : Table → Told → Asking → Option Refusal

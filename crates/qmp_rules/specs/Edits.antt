@@ -47,16 +47,17 @@ use Rattle.qmp_rules.specs.declared.rows.BitmapRow.{BitmapRow}
 use Rattle.qmp_rules.specs.declared.rows.JobRecord.{JobRecord}
 use Rattle.qmp_rules.specs.declared.rows.MadeWritable.{MadeWritable}
 use Rattle.qmp_rules.specs.declared.rows.UsedBitmap.{UsedBitmap}
-use Rattle.qmp_rules.specs.declared.ask.JobNodes.TheVariants.{Stream, Commit, Copy}
+use Rattle.qmp_asks.specs.declared.ask.JobNodes.TheVariants.{Stream, Commit, Copy}
 use Rattle.qmp_rules.specs.declared.told.Told.{Told}
-use Rattle.qmp_rules.specs.Naming.{inline_name}
+use Rattle.qmp_asks.specs.Naming.{inline_name}
 use Rattle.qmp_rules.specs.Table.{Table, node_named, node_at, id_named, device_named, job_named, child}
 use Rattle.qmp_rules.specs.Chains.{disk_node, is_settled, has_id, chain}
-use Rattle.qmp_rules.specs.Asks.{Nodes1, id_or, name_of_file, is_file, top_of, base_of, held_nodes, read_nodes}
-use Rattle.qmp_rules.specs.JobAsks.{stream_nodes, commit_nodes}
-use Rattle.qmp_rules.specs.NodeAsks.{is_read_only, backing_name}
-use Rattle.qmp_rules.specs.BitmapAsks.{source_node, source_name}
-use Rattle.qmp_rules.specs.Values.{amount_or, part_offset, part_size, flag_or_false, shares}
+use Rattle.qmp_asks.specs.Asking.{Nodes1}
+use Rattle.qmp_rules.specs.Asks.{id_or, name_of_file, is_file, top_of, base_of, held_nodes, read_nodes}
+use Rattle.qmp_asks.specs.JobAsks.{stream_nodes, commit_nodes}
+use Rattle.qmp_asks.specs.NodeAsks.{is_read_only, backing_name}
+use Rattle.qmp_asks.specs.BitmapAsks.{source_node, source_name}
+use Rattle.qmp_asks.specs.Values.{amount_or, part_offset, part_size, flag_or_false, shares}
 
 -- ---- numbers
 

@@ -13,9 +13,9 @@ ChangeFits t (PutFilter row node) = IsLone t.edges row.id
 ChangeFits t _ = Unit {0}
 
 -- each in the table as the ones before it leave it
-abbrev pub AllFit : Table → List Change → Type 0
-AllFit t [] = Unit {0}
-AllFit t (change ∷ changes) = ChangeFits t change × AllFit (changed t change) changes
+abbrev pub AllChangesFit : Table → List Change → Type 0
+AllChangesFit t [] = Unit {0}
+AllChangesFit t (change ∷ changes) = ChangeFits t change × AllChangesFit (changed t change) changes
 
 -- it fits whatever the table is
 abbrev pub fits_always : Change → Bool

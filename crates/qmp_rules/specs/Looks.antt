@@ -17,15 +17,15 @@ use Rattle.qmp_rules.specs.declared.refusal.FileFault.TheVariants.{Absent, TooLo
 use Rattle.qmp_rules.specs.declared.refusal.Refusal.{Refusal}
 use Rattle.qmp_rules.specs.declared.refusal.Refusal.TheVariants as refusal
 use Rattle.qmp_rules.specs.declared.rows.FileState.TheVariants.{Used}
-use Rattle.qmp_rules.specs.declared.told.Look.{Look}
-use Rattle.qmp_rules.specs.declared.told.Look.TheVariants as look
+use Rattle.qmp_asks.specs.declared.look.Look.{Look}
+use Rattle.qmp_asks.specs.declared.look.Look.TheVariants as look
 use Rattle.qmp_rules.specs.declared.told.Stopped.{Stopped}
 use Rattle.qmp_rules.specs.declared.told.Told.{Told}
 use Rattle.qmp_rules.specs.Table.{Table, node_named, file_state, first_into}
 use Rattle.qmp_rules.specs.Refusals.{refused}
 use Rattle.qmp_rules.specs.Asks.{if_there, file_node, stands_for, is_lost}
-use Rattle.qmp_rules.specs.NodeAsks.{backing_name}
-use Rattle.qmp_rules.specs.Values.{most_length, begins_within, ends_within, part_fits, amount_or}
+use Rattle.qmp_asks.specs.NodeAsks.{backing_name}
+use Rattle.qmp_asks.specs.Values.{most_length, begins_within, ends_within, part_fits, amount_or}
 use Rattle.std.specs.List.{list_any}
 
 -- an image in a file: why it is refused, the bytes of its disk, and whether it names a backing file

@@ -17,7 +17,7 @@ pub record Roomy : Type 0 where
 
 -- So many changes can be made without taking memory: each adds a row of a kind at most. Numbers of jobs have 32 bits, and
 -- edges have always room.
-pub record HasRoom (changes : ℕ) (names : Roomy) : Type 0 where
+pub record HasRoomForChanges (changes : ℕ) (names : Roomy) : Type 0 where
   pub nodes : changes ≤ names.spare.nodes
   pub devices : changes ≤ names.spare.devices
   pub jobs : changes ≤ names.spare.jobs

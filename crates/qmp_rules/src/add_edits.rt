@@ -4,21 +4,17 @@ ghost use Rattle.qmp_rules.specs.Table.{id_named};
 ghost use Rattle.qmp_codec.specs.Nodes.{seen_add_qcow2, seen_add_raw, seen_blockdev_add, seen_inline_file};
 ghost use Rattle.qmp_rules.specs.Answers.{untold};
 ghost use Rattle.qmp_rules.specs.Edits.{add_edits, added_edits, free_id, goes_with, image_row, inline_row, next_free_id, qcow2_edits, raw_edits, raw_row};
-ghost use Rattle.qmp_rules.specs.NodeAsks.{backing_name};
-ghost use Rattle.qmp_rules.specs.Seen.{seen_text};
+ghost use Rattle.qmp_asks.specs.NodeAsks.{backing_name};
+ghost use Rattle.qmp_asks.specs.Seen.{seen_text};
 
-use crate::asks::maybe;
 use crate::change::Change;
 use crate::edits::{file_row, format_row, length_told, lowest, put};
-use crate::name::Name;
-use crate::naming::inline_name;
-use crate::node_asks::{backing_name, is_read_only};
 use crate::rows::NodeRecord;
 use crate::table::Names;
 use crate::told::Told;
-use crate::values::{part_offset, part_size};
 use blk_base::NoMemory;
 use blk_graph::{Kind, NodeId};
+use qmp_asks::{Name, backing_name, inline_name, is_read_only, maybe, part_offset, part_size};
 use qmp_codec::{AddQcow2, AddRaw, Added, BlockdevAdd, FileRef, InlineFile};
 use std::alloc::Global;
 

@@ -3,20 +3,20 @@ ghost use Rattle.std.specs.Prelude.{◌≡◌, ◌<◌, ℕ, List, Option, lengt
 ghost use Rattle.qmp_codec.specs.declared.words.ImageFormat.{ImageFormat};
 ghost use Rattle.qmp_rules.specs.Changes.{all_changed, backed, changed};
 ghost use Rattle.blk_graph.specs.Edits.{IsLone};
-ghost use Rattle.qmp_rules.specs.Fitting.{AllFit, ChangeFits};
-ghost use Rattle.qmp_rules.specs.Room.{HasRoom, TakesLittle};
+ghost use Rattle.qmp_rules.specs.Fitting.{AllChangesFit, ChangeFits};
+ghost use Rattle.qmp_rules.specs.Room.{HasRoomForChanges, TakesLittle};
 
 use crate::change::{Change, Edits};
 use crate::edges::{ALL, NOTHING, drive_edge, job_edge, node_edge};
-use crate::name::Name;
 use crate::rows::{Device, FileState, JobRecord, NodeRecord};
 use crate::table::Names;
 use blk_graph::{JobUse, MOST_NODES, NodeId, Parent, Role};
+use qmp_asks::Name;
 
 impl Names {
     #[tactic(auto, unfolding(crate::specs::Changes::changed))]
     fn add_file(&mut self, row: NodeRecord)
-        requires { HasRoom 1 self.old }
+        requires { HasRoomForChanges 1 self.old }
         ensures table { self.new.table ≡ changed self.old.table (Change.AddFile row) }
         ensures little { TakesLittle self.old self.new }
     {
@@ -39,7 +39,7 @@ impl Names {
 
     #[tactic(auto, unfolding(crate::specs::Changes::changed))]
     fn add_format(&mut self, row: NodeRecord, file: NodeId, backing: Option<NodeId>)
-        requires { HasRoom 1 self.old }
+        requires { HasRoomForChanges 1 self.old }
         ensures table { self.new.table
             ≡ changed self.old.table (Change.AddFormat row file backing) }
         ensures little { TakesLittle self.old self.new }
@@ -55,7 +55,7 @@ impl Names {
 
     #[tactic(auto, unfolding(crate::specs::Changes::changed))]
     fn add_filter(&mut self, row: NodeRecord, child: NodeId)
-        requires { HasRoom 1 self.old }
+        requires { HasRoomForChanges 1 self.old }
         ensures table { self.new.table ≡ changed self.old.table (Change.AddFilter row child) }
         ensures little { TakesLittle self.old self.new }
     {
@@ -88,7 +88,7 @@ impl Names {
 
     #[tactic(auto, unfolding(crate::specs::Changes::changed))]
     fn add_job_filter(&mut self, row: NodeRecord, node: NodeId)
-        requires room { HasRoom 1 self.old }
+        requires room { HasRoomForChanges 1 self.old }
         requires lone { IsLone self.old.table.edges row.id }
         ensures table { self.new.table ≡ changed self.old.table (Change.PutFilter row node) }
         ensures little { TakesLittle self.old self.new }
@@ -111,7 +111,7 @@ impl Names {
 
     #[tactic(auto, unfolding(crate::specs::Changes::changed))]
     fn start_job(&mut self, row: JobRecord)
-        requires { HasRoom 1 self.old }
+        requires { HasRoomForChanges 1 self.old }
         ensures table { self.new.table ≡ changed self.old.table (Change.StartJob row) }
         ensures little { TakesLittle self.old self.new }
     {
@@ -121,7 +121,7 @@ impl Names {
 
     #[tactic(auto, unfolding(crate::specs::Changes::changed))]
     fn add_device(&mut self, device: Device, node: NodeId)
-        requires room { HasRoom 1 self.old }
+        requires room { HasRoomForChanges 1 self.old }
         requires number { device.number < 80 }
         ensures table { self.new.table ≡ changed self.old.table (Change.AddDevice device node) }
         ensures little { TakesLittle self.old self.new }
@@ -163,7 +163,7 @@ impl Names {
 
     #[tactic(auto, unfolding(crate::specs::Changes::changed))]
     fn format_file(&mut self, node: NodeId, name: Name)
-        requires { HasRoom 1 self.old }
+        requires { HasRoomForChanges 1 self.old }
         ensures table { (size : ℕ) (backing_file : Option (List ℕ))
             (backing_fmt : Option ImageFormat)
             → self.new.table
@@ -176,7 +176,7 @@ impl Names {
 
     #[tactic(auto, unfolding(crate::specs::Changes::changed))]
     fn spoil_file(&mut self, name: Name)
-        requires { HasRoom 1 self.old }
+        requires { HasRoomForChanges 1 self.old }
         ensures table { self.new.table ≡ changed self.old.table (Change.SpoilFile name) }
         ensures little { TakesLittle self.old self.new }
     {
@@ -187,7 +187,7 @@ impl Names {
     /// Makes one change.
     #[tactic(auto, unfolding(crate::specs::Changes::changed))]
     fn change(&mut self, change: Change)
-        requires room { HasRoom 1 self.old }
+        requires room { HasRoomForChanges 1 self.old }
         requires fits { ChangeFits self.old.table change }
         ensures table { self.new.table ≡ changed self.old.table change }
         ensures little { TakesLittle self.old self.new }
@@ -223,8 +223,8 @@ impl Names {
 
     /// Makes changes, one after another.
     pub fn apply(&mut self, mut edits: Edits)
-        requires room { HasRoom (length edits) self.old }
-        requires fit { AllFit self.old.table edits }
+        requires room { HasRoomForChanges (length edits) self.old }
+        requires fit { AllChangesFit self.old.table edits }
         ensures { self.new.table ≡ all_changed self.old.table edits }
     {
         while let Some(change) = edits.next() {

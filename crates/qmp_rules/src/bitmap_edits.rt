@@ -3,15 +3,13 @@ ghost use Rattle.std.specs.Prelude.{◌≡◌, ◌++◌, ◌∷◌, [], IfOk, On
 ghost use Rattle.qmp_codec.specs.Bitmaps.{seen_bitmap_add, seen_bitmap_merge, seen_bitmap_name, seen_source};
 ghost use Rattle.qmp_rules.specs.Edits.{bitmap_add_edits, bitmap_clear_edits, bitmap_remove_edits, bitmap_row, bitmap_turn_edits, merge_edits, merges};
 
-use crate::bitmap_asks::{source_name, source_node};
 use crate::change::Change;
 use crate::edits::put;
-use crate::name::Name;
 use crate::rows::BitmapRow;
 use crate::table::Names;
-use crate::values::{amount_or, flag_or_false};
 use blk_base::NoMemory;
 use blk_graph::NodeId;
+use qmp_asks::{Name, amount_or, flag_or_false, source_name, source_node};
 use qmp_codec::{BitmapAdd, BitmapMerge, BitmapName, Source};
 use std::alloc::Global;
 

@@ -1,9 +1,9 @@
 //! What commands do to the table: one kind of change each.
 ghost use Rattle.std.specs.Prelude.{◌≡◌, ◌==◌, ◌∷◌, [], IfNone, IfSome, length};
 
-use crate::name::Name;
 use crate::rows::{Asked, BitmapRow, Device, JobRecord, NodeRecord};
 use blk_graph::{JobUse, NodeId};
+use qmp_asks::Name;
 use qmp_codec::ImageFormat;
 use std::marker::Model;
 

@@ -4,9 +4,9 @@ ghost use Rattle.qmp_rules.specs.Changes.{asked_for, bitmap_changed, bitmaps_but
 ghost use Rattle.qmp_rules.specs.Table.{has_file, in_state, kind_in, kinds_of, with_file};
 
 use crate::find;
-use crate::name::Name;
 use crate::rows::{Asked, BitmapRow, Device, FileRow, FileState, JobRecord, NodeRecord};
 use blk_graph::{MOST_NODES, NO_KIND, NodeId, NodeKind};
+use qmp_asks::Name;
 
 fn unsettle_one(row: &mut NodeRecord, id: NodeId)
     ensures { row.new ≡ node_changed id unsettled row.old }

@@ -5,20 +5,18 @@ ghost use Rattle.blk_graph.specs.Ids.{lowest_free};
 ghost use Rattle.std.specs.Option.{option_copied};
 ghost use Rattle.qmp_codec.specs.Commands.{seen_command};
 ghost use Rattle.qmp_codec.specs.Nodes.{seen_blockdev_create, seen_created, seen_device_add, seen_snapshot};
-ghost use Rattle.qmp_rules.specs.CommandAsks.{is_built};
+ghost use Rattle.qmp_asks.specs.CommandAsks.{is_built};
 ghost use Rattle.qmp_rules.specs.Edits.{create_edits, created_change, del_edits, device_add_edits, device_del_edits, device_number, device_uses, edits_of, file_of_node, file_row, file_under, format_row, free_id, goes_with_node, ids, length_told, name_of_file_at, new_device, place_from, row_gone, size_of, snapshot_edits, spoiled, unused_from, uses, with_inline};
-ghost use Rattle.qmp_rules.specs.Seen.{seen_text};
+ghost use Rattle.qmp_asks.specs.Seen.{seen_text};
 
-use crate::ask::Drivers;
 use crate::change::Change;
-use crate::name::Name;
 use crate::rows::{Device, NodeRecord};
 use crate::table::Names;
 use crate::told::Told;
 use crate::unmet::{name_of_file, takes};
-use crate::values::{amount_or, shares};
 use blk_base::NoMemory;
 use blk_graph::{Kind, MOST_NODES, NodeId, Role};
+use qmp_asks::{Drivers, Name, amount_or, shares};
 use qmp_codec::{BlockdevCreate, Command, Created, DeviceAdd, Snapshot};
 use std::alloc::Global;
 

@@ -6,9 +6,9 @@ ghost use Rattle.qmp_rules.specs.Asks.{stands_for};
 ghost use Rattle.qmp_rules.specs.Chains.{holds_any, holds_so};
 ghost use Rattle.qmp_rules.specs.Table.{first_into, has_name, is_bitmap};
 
-use crate::name::Name;
 use crate::rows::{BitmapRow, Device, FileRow, FileState, JobRecord, NodeRecord};
 use blk_graph::{Edge, NodeId};
+use qmp_asks::Name;
 
 pub(crate) fn node_named<'x>(rows: &'x [NodeRecord], name: &str) -> Option<&'x NodeRecord>
     ensures { option_copied result ≡ find (λ row. bytes_eq row.name name.now) rows.now }

@@ -1,14 +1,14 @@
 //! The first ask of a list that is not met.
 ghost use Rattle.std.specs.Prelude.{◌≡◌, IfOk};
 ghost use Rattle.qmp_rules.specs.Asks.{first, holds};
-ghost use Rattle.qmp_rules.specs.Seen.{seen_ask, seen_asks};
+ghost use Rattle.qmp_asks.specs.Seen.{seen_ask, seen_asks};
 
-use crate::ask::Ask;
 use crate::refusal::{FileFault, Refusal};
 use crate::refuse::{self, Found};
 use crate::table::Names;
 use crate::told::Told;
 use crate::unmet;
+use qmp_asks::Ask;
 use std::alloc::Global;
 
 impl Names {

@@ -5,10 +5,9 @@ ghost use Rattle.std.specs.Option.{option_copied};
 ghost use Rattle.qmp_rules.specs.Asks.{base_of, clash, first_clash, first_reached, held_nodes, id_or, if_there, in_the_way, is_mirror, looked_at, mirrored, named_ids, not_below, not_in_chain, read_nodes, second_into, sizes, top_of};
 ghost use Rattle.qmp_rules.specs.Chains.{below, chain, down_to, has_id, is_overlay, lowest, overlay_edge, overlays, reaches};
 ghost use Rattle.qmp_rules.specs.Refusals.{refused};
-ghost use Rattle.qmp_rules.specs.Seen.{seen_nodes, seen_text};
+ghost use Rattle.qmp_asks.specs.Seen.{seen_nodes, seen_text};
 ghost use Rattle.qmp_rules.specs.Table.{name_at, node_at};
 
-use crate::ask::JobNodes;
 use crate::refusal::Refusal;
 use crate::refuse::{self, Found};
 use crate::rows::{JobRecord, NodeRecord};
@@ -17,6 +16,7 @@ use crate::unmet::differ;
 use crate::{find, reach};
 use blk_base::NoMemory;
 use blk_graph::{Edge, NodeId, Parent, Role, free_id};
+use qmp_asks::JobNodes;
 use qmp_codec::JobKind;
 use std::alloc::Global;
 

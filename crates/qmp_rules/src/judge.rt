@@ -6,22 +6,21 @@ ghost use Rattle.qmp_codec.specs.Nodes.{seen_added, seen_created};
 ghost use Rattle.qmp_rules.specs.Answers.{conflict_after, conflict_in, conflict_refusal, is_joined, out_of_turn, refusal_behind, refusal_of, rewires, unbuilt, untold, command_edits};
 ghost use Rattle.qmp_rules.specs.Asks.{first};
 ghost use Rattle.qmp_rules.specs.Changes.{all_changed};
-ghost use Rattle.qmp_rules.specs.CommandAsks.{asks_of, command_name, is_built, negotiates};
+ghost use Rattle.qmp_asks.specs.CommandAsks.{asks_of, command_name, is_built, negotiates};
 ghost use Rattle.qmp_rules.specs.Edits.{edits_of, spoiled};
-ghost use Rattle.qmp_rules.specs.Fitting.{AllFit, fits_always};
+ghost use Rattle.qmp_rules.specs.Fitting.{AllChangesFit, fits_always};
 ghost use Rattle.qmp_rules.specs.Prepared.{IsStoppedFor};
 ghost use Rattle.qmp_rules.specs.Refusals.{or_else};
-ghost use Rattle.qmp_rules.specs.Room.{HasRoom};
+ghost use Rattle.qmp_rules.specs.Room.{HasRoomForChanges};
 
 use crate::change::{Change, Edits};
-use crate::command_asks::asks_of;
-use crate::name::Name;
 use crate::refusal::Refusal;
 use crate::refuse::Found;
 use crate::table::Names;
 use crate::told::Told;
 use blk_base::NoMemory;
 use blk_graph::Conflict;
+use qmp_asks::{Name, asks_of};
 use qmp_codec::{Added, Command, Created};
 use std::alloc::Global;
 
@@ -319,8 +318,8 @@ impl Names {
     #[tactic(auto, using(crate::proofs::FitLemmas::all_fit))]
     fn with_room(&mut self, edits: Vec<Change>) -> Result<Edits, NoMemory>
         ensures edits { IfOk result (λ same. same ≡ edits.items) }
-        ensures room { IfOk result (λ same. HasRoom (length same) self.new) }
-        ensures fit { IfOk result (λ same. AllFit self.new.table same) }
+        ensures room { IfOk result (λ same. HasRoomForChanges (length same) self.new) }
+        ensures fit { IfOk result (λ same. AllChangesFit self.new.table same) }
         ensures table { self.new.table ≡ self.old.table }
     {
         if !all_fit(edits.as_slice()) {
@@ -341,8 +340,8 @@ impl Names {
             (λ _. refusal_of self.old.table told.now (seen_command command.now) ≡ None) }
         ensures edits { IfOk result
             (λ edits. edits ≡ command_edits self.old.table told.now (seen_command command.now)) }
-        ensures room { IfOk result (λ edits. HasRoom (length edits) self.new) }
-        ensures fit { IfOk result (λ edits. AllFit self.new.table edits) }
+        ensures room { IfOk result (λ edits. HasRoomForChanges (length edits) self.new) }
+        ensures fit { IfOk result (λ edits. AllChangesFit self.new.table edits) }
         ensures refused { IfErr result
             (IsStoppedFor (refusal_of self.old.table told.now (seen_command command.now))) }
         ensures table { self.new.table ≡ self.old.table }
@@ -357,8 +356,8 @@ impl Names {
     pub fn prepare_spoiled(&mut self, alloc: Global, options: &Created) -> Result<Edits, NoMemory>
         ensures edits { IfOk result
             (λ edits. edits ≡ spoiled self.old.table (seen_created options.now)) }
-        ensures room { IfOk result (λ edits. HasRoom (length edits) self.new) }
-        ensures fit { IfOk result (λ edits. AllFit self.new.table edits) }
+        ensures room { IfOk result (λ edits. HasRoomForChanges (length edits) self.new) }
+        ensures fit { IfOk result (λ edits. AllChangesFit self.new.table edits) }
         ensures table { self.new.table ≡ self.old.table }
     {
         let edits = self.spoiled(alloc, options)?;

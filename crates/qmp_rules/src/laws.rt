@@ -3,20 +3,11 @@
 ghost use Rattle.std.specs.Prelude.{ℕ, List, Option};
 ghost use Rattle.qmp_codec.specs.declared.nodes.BlockdevAdd.{BlockdevAdd};
 ghost use Rattle.qmp_codec.specs.declared.nodes.Created.{Created};
-ghost use Rattle.qmp_codec.specs.Commands.{Act, Cmd};
 ghost use Rattle.qmp_rules.specs.declared.told.Told.{Told};
-ghost use Rattle.qmp_rules.specs.Asks.{Asking};
-ghost use Rattle.qmp_rules.specs.CommandAsks.{asks_of};
+ghost use Rattle.qmp_asks.specs.Asking.{Asking};
 ghost use Rattle.qmp_rules.specs.Looks.{FileSight, add_told, create_told};
-ghost use Rattle.qmp_rules.specs.Order.{Ascends, action_asks, HasLookPlace, HasPlace};
+ghost use Rattle.qmp_rules.specs.Places.{HasLookPlace, HasPlace};
 ghost use Rattle.qmp_rules.specs.Table.{Table};
-
-/// The asks of each command stand in the order of their refusals, and so do those of each action.
-#[tactic(auto, using(crate::proofs::OrderLemmas::command_asks_ascend, crate::proofs::OrderLemmas::action_asks_ascend))]
-pub fn asks_ascend()
-    ensures commands { (c : Cmd) → Ascends (asks_of c) }
-    ensures actions { (a : Act) → Ascends (action_asks a) }
-{}
 
 /// Where an ask of the line or the table is not met, the refusal has the ask's place.
 #[tactic(auto, using(crate::proofs::PlaceLemmas::has_place))]

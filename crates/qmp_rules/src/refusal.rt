@@ -1,9 +1,9 @@
 //! Why a command is refused.
 
-use crate::name::Name;
 use blk_base::{DevNo, FaultFrom};
 use blk_graph::Perm;
 use q2_image::ImageStop;
+use qmp_asks::Name;
 use std::alloc::AllocError;
 
 /// What there can be too many of.

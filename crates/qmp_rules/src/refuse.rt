@@ -2,9 +2,9 @@
 ghost use Rattle.std.specs.Prelude.{◌≡◌, IfOk, Some};
 ghost use Rattle.qmp_rules.specs.Refusals.{refused};
 
-use crate::name::Name;
 use crate::refusal::{Crowd, FileFault, Refusal};
 use blk_base::NoMemory;
+use qmp_asks::Name;
 use std::alloc::Global;
 
 /// What a look at something gives: the refusal, where it is refused.

@@ -1,8 +1,8 @@
 //! The rows of the names table.
 ghost use Rattle.std.specs.Prelude.{◌≡◌, IfOk};
 
-use crate::name::Name;
 use blk_graph::{Kind, NodeId};
+use qmp_asks::Name;
 use qmp_codec::{BitmapMode, JobKind};
 use std::alloc::AllocError;
 use std::marker::Model;

@@ -13,10 +13,10 @@ mod room;
 mod writing;
 
 use crate::find;
-use crate::name::Name;
 use crate::rows::{BitmapRow, Device, FileRow, FileState, JobRecord, NodeRecord};
 use blk_base::NoMemory;
 use blk_graph::{Conflict, Edge, EdgeList, NodeId, Parent, Role};
+use qmp_asks::Name;
 use std::alloc::Global;
 use std::marker::Model;
 

@@ -3,11 +3,11 @@ ghost use Rattle.std.specs.Prelude.{◌≡◌, ◌++◌, IfOk, OnOk, decimal, co
 ghost use Rattle.q2_image.specs.Text.{stop_text};
 ghost use Rattle.qmp_rules.specs.Refusals.{conflict_text, crowd_text, file_fault_text, io_text, negotiation_text, perm_text, refusal_class, refusal_text};
 
-use crate::name::Name;
 use crate::refusal::{Crowd, FileFault, Refusal};
 use blk_base::{FaultFrom, NoMemory};
 use blk_graph::Perm;
 use q2_image::ImageStop;
+use qmp_asks::Name;
 use qmp_codec::Class;
 use std::alloc::Global;
 

@@ -1,40 +1,13 @@
 //! What a command's answer takes from elsewhere than the table.
 
 ghost use Rattle.std.specs.Prelude.{◌≡◌};
-ghost use Rattle.qmp_rules.specs.Asks.{same_look};
 ghost use Rattle.qmp_rules.specs.Table.{has_name};
 
 use crate::refusal::Refusal;
 use blk_base::Names1;
+use qmp_asks::Look;
 use std::alloc::Global;
 use std::marker::Model;
-
-/// What the store's files decide, in the order of the refusals.
-#[derive(Clone, Copy, PartialEq, Eq)]
-pub enum Look {
-    /// Whether a part begins within the file that is opened.
-    Begin,
-    /// Whether it ends there.
-    End,
-    /// Whether the file can be opened, or made of that length.
-    File,
-    /// Whether the image in it is sound.
-    Image,
-    /// Whether the image names a backing file.
-    Backing,
-    /// Whether the image has the size of its backing node.
-    Size,
-    /// Whether a file node could be formatted.
-    Format,
-}
-
-impl Look {
-    pub(crate) fn is(self, other: Look) -> bool
-        ensures { result ≡ same_look self other }
-    {
-        self == other
-    }
-}
 
 /// A refusal that the files decide. A failed call stands in the place of what it would have told.
 #[derive(Drop)]

@@ -3,21 +3,21 @@ ghost use Rattle.std.specs.Prelude.{◌≡◌, ◌&&◌, ◌||◌, IfOk, not, na
 ghost use Rattle.std.specs.Option.{option_copied};
 ghost use Rattle.qmp_rules.specs.Asks.{busy, differ, file_node, held_by, if_named, if_there, in_use, in_use_at, is_lost, lost, name_of_file, part_begins, part_ends, part_too_long, sizes_differ, takes, told_at};
 ghost use Rattle.qmp_rules.specs.Chains.{holder, is_settled};
-ghost use Rattle.qmp_rules.specs.Naming.{inline_name, is_file_name, is_name};
+ghost use Rattle.qmp_asks.specs.Naming.{inline_name, is_file_name, is_name};
 ghost use Rattle.qmp_rules.specs.Refusals.{refused};
-ghost use Rattle.qmp_rules.specs.Seen.{seen_text};
+ghost use Rattle.qmp_asks.specs.Seen.{seen_text};
 ghost use Rattle.qmp_rules.specs.Table.{bitmap_named, child, device_named, has_name, id_named, job_named, node_named};
 ghost use Rattle.blk_graph.specs.declared.edge.Role.TheVariants.{Backing};
 
-use crate::ask::Drivers;
-use crate::naming::{inline_name, is_file_name, is_name};
 use crate::refusal::{Crowd, FileFault, Refusal};
 use crate::refuse::{self, Found};
 use crate::rows::{BitmapRow, FileState, JobRecord, NodeRecord};
 use crate::table::Names;
-use crate::told::{Look, Told};
-use crate::values::{begins_within, ends_within, part_fits};
+use crate::told::Told;
 use blk_graph::{Edge, Kind, NodeId, Role};
+use qmp_asks::{
+    Drivers, Look, begins_within, ends_within, inline_name, is_file_name, is_name, part_fits,
+};
 use qmp_codec::Amount;
 use std::alloc::Global;
 

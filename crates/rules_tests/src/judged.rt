@@ -1,8 +1,9 @@
 //! Lines that a table judges one after another.
 use blk_base::{FaultFrom, Names1, NoMemory, Text};
 use q2_image::ImageStop;
+use qmp_asks::{Look, Name};
 use qmp_codec::read_command;
-use qmp_rules::{Amounts, FileFault, Look, Name, Names, PrepareStop, Refusal, Stopped, Told};
+use qmp_rules::{Amounts, FileFault, Names, PrepareStop, Refusal, Stopped, Told};
 use std::alloc::Global;
 use std::test::Fail;
 

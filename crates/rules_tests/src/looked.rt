@@ -1,6 +1,6 @@
 //! What files refuse comes at its place among what the table refuses.
 use crate::judged::{LENGTH, Line, Said, said};
-use qmp_rules::Look;
+use qmp_asks::Look;
 use std::test::Fail;
 
 const F0: Line = (

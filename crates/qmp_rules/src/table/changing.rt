@@ -7,10 +7,10 @@ ghost use Rattle.qmp_rules.specs.Room.{KeepsSpare};
 ghost use Rattle.qmp_rules.specs.Table.{with_file};
 
 use crate::edit;
-use crate::name::Name;
 use crate::rows::{Asked, BitmapRow, Device, FileState, JobRecord, NodeRecord, UsedBitmap};
 use crate::table::Names;
 use blk_graph::{Edge, NodeId, Parent, Perms};
+use qmp_asks::Name;
 
 impl Names {
     pub(crate) fn put_node(&mut self, row: NodeRecord)

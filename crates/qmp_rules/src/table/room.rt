@@ -1,6 +1,6 @@
 //! Copies of the table, and room for changes.
 ghost use Rattle.std.specs.Prelude.{◌≡◌, ◌+◌, ◌<◌, ◌≤◌, ◌^◌, IfOk, IsTrue, OnOk, vec_capacity, vec_len};
-ghost use Rattle.qmp_rules.specs.Room.{HasRoom};
+ghost use Rattle.qmp_rules.specs.Room.{HasRoomForChanges};
 
 use crate::table::Names;
 use blk_base::NoMemory;
@@ -27,7 +27,7 @@ impl Names {
     /// Takes the memory for so many changes.
     pub(crate) fn reserve(&mut self, changes: usize) -> Result<(), NoMemory>
         ensures table { self.new.table ≡ self.old.table }
-        ensures room { OnOk result (HasRoom changes self.new) }
+        ensures room { OnOk result (HasRoomForChanges changes self.new) }
     {
         if !self.has_numbers(changes) {
             return Err(NoMemory);

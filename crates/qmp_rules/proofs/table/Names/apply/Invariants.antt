@@ -1,13 +1,13 @@
 use Rattle.std.proofs.Common.{◌≡◌, length}
 use Rattle.qmp_rules.specs.Changes.{all_changed}
-use Rattle.qmp_rules.specs.Fitting.{AllFit}
-use Rattle.qmp_rules.specs.Room.{HasRoom}
+use Rattle.qmp_rules.specs.Fitting.{AllChangesFit}
+use Rattle.qmp_rules.specs.Room.{HasRoomForChanges}
 use Rattle.qmp_rules.proofs.table.Names.apply.Given as goal
 
 abbrev pub invariant-loop-change : goal.invariant-loop-change
 invariant-loop-change l = record {
-  room : HasRoom (length l.edits) l.self;
-  fit : AllFit l.self.table l.edits;
+  room : HasRoomForChanges (length l.edits) l.self;
+  fit : AllChangesFit l.self.table l.edits;
   rest : all_changed l.self.table l.edits ≡ all_changed l.fn.self.table l.fn.edits;
 }
 

@@ -1,4 +1,4 @@
-use Rattle.qmp_rules.specs.Seen.{seen_text}
+use Rattle.qmp_asks.specs.Seen.{seen_text}
 use Rattle.qmp_rules.proofs.table.Names.clear.Goals as goal
 
 pub returns-in-Commit : goal.returns-in-Commit

@@ -5,7 +5,7 @@ use Rattle.blk_graph.specs.declared.edge.Edge.{Edge}
 use Rattle.qmp_rules.specs.declared.refusal.Refusal.{Refusal}
 use Rattle.qmp_rules.specs.Asks.{id_or, in_use, second_into}
 use Rattle.qmp_rules.specs.Chains.{overlay_edge}
-use Rattle.qmp_rules.specs.Seen.{seen_text}
+use Rattle.qmp_asks.specs.Seen.{seen_text}
 use Rattle.qmp_rules.specs.Table.{name_at}
 use Rattle.qmp_rules.proofs.table.Names.clear_top.Goals as goal
 

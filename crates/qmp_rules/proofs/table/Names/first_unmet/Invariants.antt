@@ -1,6 +1,6 @@
 use Rattle.std.proofs.Common.{◌≡◌, drop}
 use Rattle.qmp_rules.specs.Asks.{first}
-use Rattle.qmp_rules.specs.Seen.{seen_asks}
+use Rattle.qmp_asks.specs.Seen.{seen_asks}
 use Rattle.qmp_rules.proofs.table.Names.first_unmet.Given as goal
 
 abbrev pub invariant-loop-ask : goal.invariant-loop-ask

@@ -1,0 +1,10 @@
+use Rattle.std.proofs.Common.{◌≡◌, ◌++◌, drop, map}
+use Rattle.qmp_codec.specs.Bitmaps.{seen_source}
+use Rattle.qmp_asks.specs.BitmapAsks.{all_source_names}
+use Rattle.qmp_asks.specs.Seen.{seen_asks}
+use Rattle.qmp_asks.proofs.bitmap_asks.put_all_source_names.Given as goal
+
+abbrev pub invariant-loop-source : goal.invariant-loop-source
+invariant-loop-source l =
+    seen_asks l.asks.items ++ all_source_names (map seen_source (drop l.source-index l.sources))
+    ≡ seen_asks l.initial.asks.items ++ all_source_names (map seen_source l.sources)

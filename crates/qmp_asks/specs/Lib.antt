@@ -1,0 +1,9 @@
+pub mod Naming
+pub mod Values
+pub mod Asking
+pub mod NodeAsks
+pub mod JobAsks
+pub mod BitmapAsks
+pub mod CommandAsks
+pub mod Order
+pub mod Seen
