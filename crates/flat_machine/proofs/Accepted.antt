@@ -22,8 +22,8 @@ use Rattle.qmp_codec.specs.declared.nodes.Created.{Created}
 use Rattle.qmp_codec.specs.declared.nodes.Created.TheVariants as created
 use Rattle.qmp_codec.specs.declared.nodes.DeviceAdd.{DeviceAdd}
 use Rattle.qmp_codec.specs.declared.nodes.Snapshot.{Snapshot}
-use Rattle.qmp_rules.specs.declared.ask.Ask.TheVariants as ask
-use Rattle.qmp_rules.specs.declared.ask.Drivers.TheVariants as drivers
+use Rattle.qmp_asks.specs.declared.ask.Ask.TheVariants as ask
+use Rattle.qmp_asks.specs.declared.ask.Drivers.TheVariants as drivers
 use Rattle.qmp_rules.specs.declared.change.Change.{Change}
 use Rattle.qmp_rules.specs.declared.change.Change.TheVariants as change
 use Rattle.qmp_rules.specs.declared.refusal.FileFault.TheVariants.{Absent}
@@ -32,18 +32,19 @@ use Rattle.qmp_rules.specs.declared.rows.NodeRecord.{NodeRecord}
 use Rattle.qmp_rules.specs.declared.rows.Device.{Device}
 use Rattle.qmp_rules.specs.declared.rows.FileState.{FileState}
 use Rattle.qmp_rules.specs.declared.rows.FileState.TheVariants.{Made, Formatted, Used}
-use Rattle.qmp_rules.specs.declared.told.Look.{Look}
-use Rattle.qmp_rules.specs.declared.told.Look.TheVariants as look
+use Rattle.qmp_asks.specs.declared.look.Look.{Look}
+use Rattle.qmp_asks.specs.declared.look.Look.TheVariants as look
 use Rattle.qmp_rules.specs.declared.told.Stopped.{Stopped}
 use Rattle.qmp_rules.specs.declared.told.Told.{Told}
 use Rattle.qmp_rules.specs.Table.{Table, device_named, node_at, node_named, id_named, file_state, first_into}
 use Rattle.qmp_rules.specs.Chains.{filter_role, is_settled, disk_node}
 use Rattle.qmp_rules.specs.Changes.{changed}
 use Rattle.qmp_rules.specs.Edits.{snapshot_edits, ids, free_id, next_free_id, file_row, inline_row, raw_edits, qcow2_edits, added_edits, add_edits, length_told, edits_of, uses, with_inline, goes_with_node, of_row, row_gone, file_under, created_change, create_edits, del_edits, device_uses, new_device, device_add_edits, device_del_edits, merges, merge_edits}
-use Rattle.qmp_rules.specs.NodeAsks.{snapshot_values, snapshot_names, snapshot_rest, add_asks, option_values, added_values, added_names, is_read_only, added_rest, raw_rest, qcow2_rest, copy_on_read_rest, is_added, backing_name}
+use Rattle.qmp_asks.specs.NodeAsks.{snapshot_values, snapshot_names, snapshot_rest, add_asks, option_values, added_values, added_names, is_read_only, added_rest, raw_rest, qcow2_rest, copy_on_read_rest, is_added, backing_name}
 use Rattle.qmp_rules.specs.Looks.{absent, add_told, is_unopened}
-use Rattle.qmp_rules.specs.Asks.{id_or, Asking, holds, first, takes, stands_for, is_lost, is_file, name_of_file, told_at}
-use Rattle.qmp_rules.specs.CommandAsks.{asks_of, negotiates}
+use Rattle.qmp_asks.specs.Asking.{Asking}
+use Rattle.qmp_rules.specs.Asks.{id_or, holds, first, takes, stands_for, is_lost, is_file, name_of_file, told_at}
+use Rattle.qmp_asks.specs.CommandAsks.{asks_of, negotiates}
 use Rattle.qmp_rules.specs.Answers.{unbuilt, out_of_turn, refusal_of, command_edits}
 use Rattle.blk_history.specs.Fold.{With}
 use Rattle.flat_machine.specs.State.{State, Content, Bytes, Blank, Unknown, content_in}
@@ -53,7 +54,7 @@ use Rattle.flat_machine.specs.Sights.{told_by, MayStop, may_be_large, is_opened}
 use Rattle.flat_machine.specs.Agreement.{HasDisk}
 use Rattle.flat_machine.specs.Performing.{IsWholly, IsReadable, IsBacking, CanAddFile, Can, AllCan}
 use Rattle.flat_machine.specs.Wiring.{StandsFor}
-use Rattle.flat_machine.specs.Standing.{Stands, IsOfState, IsOpen, IsKnownWhole}
+use Rattle.flat_machine.specs.Standing.{Stands, IsOfState, IsOpenlyKnown, IsKnownWhole}
 use Rattle.flat_machine.proofs.Finds.{bytes_eq-same}
 use Rattle.flat_machine.proofs.Kept.{own_disk}
 use Rattle.flat_machine.proofs.Fresh.{lowest_free-free, free-row, found-longer, found-new}
@@ -317,7 +318,7 @@ readable_under s name row stands found driver lone lost = by_name row.filename r
     by_content filename is None e some = absurd cc
     by_content filename is (Some content) e some =
         let over : StandsFor s.table filename row = record { there = there; filename = is } in
-        let is_open : IsOpen s.table filename = λ other stands_too under. no_edge row.id s.table.edges lone under.edge under.there
+        let is_open : IsOpenlyKnown s.table filename = λ other stands_too under. no_edge row.id s.table.edges lone under.edge under.there
         (under.child ∙ stands.table.alone filename other row stands_too over) in
         by_state (file_state s.table filename) content (rw is at lost) (stands.states filename content e is_open)
 

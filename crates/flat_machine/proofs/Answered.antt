@@ -20,7 +20,7 @@ use Rattle.qmp_rules.specs.Refusals.{refusal_text}
 use Rattle.qmp_rules.specs.Table.{Table}
 use Rattle.qmp_rules.specs.Edits.{edits_of, added_edits, raw_edits, qcow2_edits}
 use Rattle.qmp_rules.specs.Answers.{refusal_of, command_edits}
-use Rattle.qmp_rules.specs.NodeAsks.{is_read_only, backing_name}
+use Rattle.qmp_asks.specs.NodeAsks.{is_read_only, backing_name}
 use Rattle.flat_machine.specs.State.{State}
 use Rattle.flat_machine.specs.Sights.{IsTold, expected}
 use Rattle.flat_machine.specs.Replies.{is_accepted, is_failed_call, desc_of, edits_by, replied, failed_edits}

@@ -4,15 +4,16 @@ use Rattle.std.specs.Prelude.{not, is_none}
 use Rattle.std.specs.List.{list_any}
 use Rattle.std.proofs.lemmas.Bool.{ltb-false, not-false}
 use Rattle.blk_graph.specs.declared.edge.Edge.{Edge}
-use Rattle.qmp_rules.specs.declared.ask.Ask.TheVariants as ask
-use Rattle.qmp_rules.specs.declared.ask.Drivers.{Drivers}
+use Rattle.qmp_asks.specs.declared.ask.Ask.TheVariants as ask
+use Rattle.qmp_asks.specs.declared.ask.Drivers.{Drivers}
 use Rattle.qmp_rules.specs.declared.refusal.Refusal.{Refusal}
 use Rattle.qmp_rules.specs.declared.rows.NodeRecord.{NodeRecord}
 use Rattle.qmp_rules.specs.declared.told.Told.{Told}
 use Rattle.qmp_rules.specs.Table.{Table, node_named, file_state, first_into}
 use Rattle.qmp_rules.specs.Chains.{is_settled}
 use Rattle.qmp_rules.specs.Refusals.{refused, or_else}
-use Rattle.qmp_rules.specs.Asks.{Asking, holds, first, takes, stands_for, is_lost, is_file, name_of_file, in_use}
+use Rattle.qmp_asks.specs.Asking.{Asking}
+use Rattle.qmp_rules.specs.Asks.{holds, first, takes, stands_for, is_lost, is_file, name_of_file, in_use}
 
 -- ---- lists
 

@@ -20,7 +20,7 @@ use Rattle.qmp_rules.specs.Table.{Table, kinds_of}
 use Rattle.qmp_rules.specs.Changes.{changed, without_device}
 use Rattle.flat_machine.specs.State.{State, drive_of}
 use Rattle.flat_machine.specs.Changed.{stepped}
-use Rattle.flat_machine.specs.Wiring.{AreNumbered, HasNumber, TableStands}
+use Rattle.flat_machine.specs.Wiring.{AreNumbered, HasDeviceNumber, TableStands}
 use Rattle.flat_machine.specs.Standing.{IsUsedUp, WritingStands, Stands}
 use Rattle.flat_machine.specs.Suiting.{IsThere}
 use Rattle.flat_machine.proofs.Finds.{find-filter}
@@ -90,7 +90,7 @@ module _ (t now : Table) (number : ℕ) (nodes : now.nodes ≡ t.nodes) (kinds :
       numbers : AreNumbered now
       numbers device there =
           let old = Contains-filter (λ d. not (d.number == number)) t.devices device (subst (λ ds. Contains ds device) devices there) in
-          subst (λ gs. HasNumber gs device) (sym guests) (h.numbers device old.0)
+          subst (λ gs. HasDeviceNumber gs device) (sym guests) (h.numbers device old.0)
 
   -- other guests keep their drives
   pub drive_left : (other : ℕ) → other ≢ number → drive_of now other ≡ drive_of t other

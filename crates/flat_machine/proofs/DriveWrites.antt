@@ -14,16 +14,16 @@ use Rattle.qmp_rules.specs.Chains.{filter_role, disk_node}
 use Rattle.blk_history.specs.Fold.{With}
 use Rattle.flat_machine.specs.State.{State, Unknown, Left, content_in}
 use Rattle.flat_machine.specs.Agreement.{HasDisk}
-use Rattle.flat_machine.specs.Writing.{IsWritable}
+use Rattle.flat_machine.specs.Writing.{IsGuestWritable}
 use Rattle.flat_machine.specs.Wiring.{StandsFor, LeadsToFile, IsDiskOf, writes_through}
-use Rattle.flat_machine.specs.Standing.{IsUsedUp, MayWrite, Stands}
+use Rattle.flat_machine.specs.Standing.{IsUsedUp, MayGuestWrite, Stands}
 use Rattle.flat_machine.proofs.Kept.{own_disk}
 use Rattle.flat_machine.proofs.WritingKept.{role_edge, WritesFile, writes_file}
 
 -- A guest on a node writes what may be written, where a `file` node has its flat disk and was used.
 pub drive_may : (s : State) (device : Device) (row : NodeRecord) → Stands s → Contains s.table.nodes row → device.read_only ≡ row.read_only
     → (IsSome row.filename → row.is_settled ≡ true) → ((name : List ℕ) → row.filename ≡ Some name → content_in s.files name ≡ Some Unknown)
-    → MayWrite s device row.id
+    → MayGuestWrite s device row.id
 drive_may s device row h there same settled known writes = by_disk (node_at s.table disk) refl (h.table.reads row.id row (h.table.apart row there))
   where
     disk : ℕ
@@ -32,7 +32,7 @@ drive_may s device row h there same settled known writes = by_disk (node_at s.ta
     did : writes_through s.table row.read_only row.id ≡ true
     did = subst (λ b. writes_through s.table b row.id ≡ true) same writes
 
-    by_disk : (found : Option NodeRecord) → node_at s.table disk ≡ found → With found (IsDiskOf s.table row) → IsWritable s disk
+    by_disk : (found : Option NodeRecord) → node_at s.table disk ≡ found → With found (IsDiskOf s.table row) → IsGuestWritable s disk
     by_disk None e of = absurd of
     by_disk (Some d) e of = record {
       disk = subst (λ n. IsSome (find (λ x. x.node == n) s.disks)) id_is (h.writing.disks d here of.own);
@@ -129,8 +129,8 @@ drive_may s device row h there same settled known writes = by_disk (node_at s.ta
 
 -- so does one on a node that may be written, and is neither a filter nor a `file` node
 pub own_writable : (s : State) (row : NodeRecord) → Stands s → Contains s.table.nodes row → filter_role row.kind ≡ None → row.filename ≡ None
-    → row.read_only ≡ false → IsWritable s row.id
+    → row.read_only ≡ false → IsGuestWritable s row.id
 own_writable s row h there own none writable =
-    subst (IsWritable s) (own_disk s.table row.id row (h.table.apart row there) own)
+    subst (IsGuestWritable s) (own_disk s.table row.id row (h.table.apart row there) own)
     (drive_may s (record { id = []; number = 0; share_rw = false; read_only = row.read_only }) row h there refl
     (λ some. absurd (let bad = subst IsSome none some in cc)) (λ name is. absurd cc) (rw writable refl))

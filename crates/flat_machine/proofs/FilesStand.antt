@@ -18,8 +18,8 @@ use Rattle.flat_machine.specs.State.{State, Content, Bytes, Unknown, Left, conte
 use Rattle.flat_machine.specs.Contents.{with_content, formatted}
 use Rattle.flat_machine.specs.Changed.{stepped, format_name}
 use Rattle.flat_machine.specs.Wiring.{AreApart, StandsFor, IsUnder, LeadsToFile, TableStands}
-use Rattle.flat_machine.specs.Standing.{IsLostBy, IsOfState, IsOpen, IsUsedUp, WritingStands, Stands}
-use Rattle.flat_machine.specs.Suiting.{IsThere, IsClosed, FormattingSuits}
+use Rattle.flat_machine.specs.Standing.{IsLostBy, IsOfState, IsOpenlyKnown, IsUsedUp, WritingStands, Stands}
+use Rattle.flat_machine.specs.Suiting.{IsThere, HasNoNode, FormattingSuits}
 use Rattle.flat_machine.proofs.Finds.{content_in-with, content_in-with_other, cases_name, name_differs}
 use Rattle.flat_machine.proofs.Tables.{file_state-with, file_state-other}
 use Rattle.flat_machine.proofs.Rows.{IsLike, SameRows, rows-same, rows-mapped, same_row, changed_row, like_lost, like_unsettled, kept_lost, kept_unsettled}
@@ -178,13 +178,13 @@ module _ (s now : State) (name : List ℕ) (state : FileState) (content : Conten
       lost_as_before other row later like differ (inr (inr under)) =
           inr (inr (subst (λ es. IsUnder es later.id) (sym edges) (subst (IsUnder s.table.edges) (sym like.id) under)))
 
-      open_before : (other : List ℕ) → IsOpen now.table other → IsOpen s.table other
+      open_before : (other : List ℕ) → IsOpenlyKnown now.table other → IsOpenlyKnown s.table other
       open_before other is_open row over under =
           let after = stands_later other row over in
           is_open after.0 after.1.0
           (subst (λ es. IsUnder es after.0.id) (sym edges) (subst (IsUnder s.table.edges) (sym after.1.1.id) under))
 
-      by_name : (other : List ℕ) (what : Content) → content_in now.files other ≡ Some what → IsOpen now.table other
+      by_name : (other : List ℕ) (what : Content) → content_in now.files other ≡ Some what → IsOpenlyKnown now.table other
           → ((other ≡ name) ⊎ (other ≢ name)) → IsOfState (file_state now.table other) what
       by_name other what found is_open (inl same) =
           let here : content_in now.files name ≡ Some what = subst (λ n. content_in now.files n ≡ Some what) same found in
@@ -243,7 +243,7 @@ spoil_stands s name h =
     tt (λ never. absurd cc) (rows_table s.table now.table rows refl refl refl h.table)
     (files_writing s now name Used Unknown rows refl files h refl refl refl (λ n named. has_name-grows name n s.named named) (inr refl) (inl refl)) h
 
-pub make_stands : (s : State) (name : List ℕ) (size : ℕ) → IsClosed s.table name → Stands s → Stands (stepped s (change.MakeFile name size))
+pub make_stands : (s : State) (name : List ℕ) (size : ℕ) → HasNoNode s.table name → Stands s → Stands (stepped s (change.MakeFile name size))
 unfolding changed
 make_stands s name size closed h =
     let now : State = stepped s (change.MakeFile name size) in

@@ -6,7 +6,7 @@ use Rattle.std.proofs.lemmas.Bool.{eqb-true, eq-eqb, ne_eqb, false_from_ne_true,
 use Rattle.std.proofs.lemmas.List.Folds.{list_any-append}
 use Rattle.std.proofs.lemmas.Slice.Eq.{bytes_eq-Decides}
 use Rattle.qmp_rules.specs.Table.{has_name}
-use Rattle.flat_machine.specs.State.{Disk, Content, Known, bytes_in, content_in}
+use Rattle.flat_machine.specs.State.{Disk, Content, KnownFile, bytes_in, content_in}
 use Rattle.flat_machine.specs.Changed.{with_bytes_of}
 use Rattle.flat_machine.specs.Contents.{with_content}
 
@@ -112,7 +112,7 @@ cases_name a b = by_test (bytes_eq a b) refl
     by_test true e = inl (same-bytes_eq a b e)
     by_test false e = inr (name_differs a b e)
 
-pub content_in-with : (name : List ℕ) (content : Content) (files : List Known)
+pub content_in-with : (name : List ℕ) (content : Content) (files : List KnownFile)
     → content_in (with_content name content files) name ≡ Some content
 content_in-with name content [] = rw (bytes_eq-same name) refl
 content_in-with name content (known ∷ files) = by_test (bytes_eq known.name name) refl (content_in-with name content files)
@@ -123,7 +123,7 @@ content_in-with name content (known ∷ files) = by_test (bytes_eq known.name na
     by_test true e ih = rw (bytes_eq-same name) refl
     by_test false e ih = rw e ih
 
-pub content_in-with_other : (name other : List ℕ) (content : Content) (files : List Known) → other ≢ name
+pub content_in-with_other : (name other : List ℕ) (content : Content) (files : List KnownFile) → other ≢ name
     → content_in (with_content name content files) other ≡ content_in files other
 content_in-with_other name other content [] differ = rw (bytes_eq-other name other (λ k. differ (sym k))) refl
 content_in-with_other name other content (known ∷ files) differ =

@@ -28,7 +28,7 @@ use Rattle.qmp_rules.specs.Table.{Table, device_named, node_named, job_at}
 use Rattle.qmp_rules.specs.Chains.{disk_node, written_under}
 use Rattle.qmp_rules.specs.Changes.{changed, all_changed}
 use Rattle.qmp_rules.specs.Refusals.{refusal_text, refusal_class}
-use Rattle.qmp_rules.specs.NodeAsks.{is_read_only, backing_name}
+use Rattle.qmp_asks.specs.NodeAsks.{is_read_only, backing_name}
 use Rattle.qmp_rules.specs.Edits.{edits_of, uses, file_under, with_inline, goes_with_node, row_gone, of_row, created_change, spoiled, raw_edits, qcow2_edits, added_edits, new_device, device_uses, merges}
 use Rattle.qmp_rules.specs.Asks.{is_file}
 use Rattle.qmp_rules.specs.Answers.{unbuilt, refusal_of, command_edits, answer, answer_by, answer_for, line_answer, line_text, reply_data}

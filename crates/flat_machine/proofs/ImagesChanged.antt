@@ -27,8 +27,8 @@ use Rattle.flat_machine.specs.Agreement.{Contents, AreAsKnown, Agrees}
 use Rattle.flat_machine.specs.Performing.{HeldSame, Nothing, Can, Performed, AllCan, AllPerformed}
 use Rattle.flat_machine.specs.Writing.{written_file}
 use Rattle.flat_machine.specs.Wiring.{TableStands}
-use Rattle.flat_machine.specs.Standing.{IsOpen, Stands}
-use Rattle.flat_machine.specs.Suiting.{IsThere, IsClosed, SuitsFile, SuitsFormat, SuitsFilter, FormattingSuits, RemovalSuits, Suits, AllSuit}
+use Rattle.flat_machine.specs.Standing.{IsOpenlyKnown, Stands}
+use Rattle.flat_machine.specs.Suiting.{IsThere, HasNoNode, SuitsFile, SuitsFormat, SuitsFilter, FormattingSuits, RemovalSuits, Suits, AllSuit}
 use Rattle.flat_machine.specs.Imaging.{maps_some, image_at, is_qcow2, is_qcow2_at, ShowsImage, ShowsImages, StayInFiles, KeepsImages, AllKeepImages}
 use Rattle.flat_machine.proofs.Finds.{find-filter}
 use Rattle.flat_machine.proofs.Fresh.{found-new}
@@ -158,15 +158,15 @@ over_rewired s now old new edges images nodes derived same held h =
 
 -- a file in which no image is gets other bytes
 over_file : (s now : State) (old new : Contents) (name : List ℕ) → now.images ≡ s.images → AreOverFiles s.table now.table → TableStands s.table
-    → IsOpen s.table name → HeldSame (λ other. other ≡ name) old new → ShowsImages s old → ShowsImages now new
+    → IsOpenlyKnown s.table name → HeldSame (λ other. other ≡ name) old new → ShowsImages s old → ShowsImages now new
 over_file s now old new name images over stands is_open held h =
     images_still s now old new images over
     (λ node other image is. held other (λ same. no_image s.table stands name is_open node image (is ∙ ap Some same))) h
 
-pub closed_open : (t : Table) (name : List ℕ) → IsClosed t name → IsOpen t name
+pub closed_open : (t : Table) (name : List ℕ) → HasNoNode t name → IsOpenlyKnown t name
 closed_open t name closed row over under = closed row over
 
-pub formatted_open : (t : Table) (node : ℕ) (name : List ℕ) → TableStands t → FormattingSuits t node name → IsOpen t name
+pub formatted_open : (t : Table) (node : ℕ) (name : List ℕ) → TableStands t → FormattingSuits t node name → IsOpenlyKnown t name
 formatted_open t node name h suits row over under =
     suits.alone under.edge under.there (under.child ∙ h.alone name row suits.row over suits.stands ∙ suits.is_node)
 

@@ -17,7 +17,7 @@ use Rattle.flat_machine.specs.Sights.{AgreesWith, mapped_at}
 use Rattle.flat_machine.specs.Agreement.{Contents}
 use Rattle.flat_machine.specs.Writing.{written_file}
 use Rattle.flat_machine.specs.Wiring.{AreApart, AreFileNodes, TableStands}
-use Rattle.flat_machine.specs.Standing.{IsOpen}
+use Rattle.flat_machine.specs.Standing.{IsOpenlyKnown}
 use Rattle.flat_machine.specs.Imaging.{maps_some, image_at, is_qcow2, is_qcow2_at, ImagesAreSound, ShowsImage, ShowsImages, StayInFiles}
 use Rattle.flat_machine.proofs.Finds.{find-map}
 use Rattle.flat_machine.proofs.WritingKept.{role_edge, writes_file}
@@ -266,7 +266,7 @@ image_in_file t apart drivers node name is file =
     ]
 
 -- no image is in a file without a format node
-pub no_image : (t : Table) → TableStands t → (name : List ℕ) → IsOpen t name → (node : ℕ) → is_qcow2_at t node ≡ true
+pub no_image : (t : Table) → TableStands t → (name : List ℕ) → IsOpenlyKnown t name → (node : ℕ) → is_qcow2_at t node ≡ true
     → written_file t node ≡ Some name → ⊥
 no_image t h name is_open node is file =
     let of = image_in_file t h.apart h.drivers node name is file in

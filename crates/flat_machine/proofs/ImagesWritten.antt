@@ -23,7 +23,7 @@ use Rattle.flat_machine.specs.Sights.{AgreesWith, mapped_at}
 use Rattle.flat_machine.specs.Agreement.{Contents}
 use Rattle.flat_machine.specs.Performing.{HeldSame, Nothing}
 use Rattle.flat_machine.specs.Writing.{PieceDone, written_file}
-use Rattle.flat_machine.specs.Wiring.{LeadsToFile, IsTaken, TableStands}
+use Rattle.flat_machine.specs.Wiring.{LeadsToFile, IsUnderOne, TableStands}
 use Rattle.flat_machine.specs.Imaging.{maps_some, image_at, is_qcow2_at, ShowsImage, ShowsImages, KeepsMapping}
 use Rattle.flat_machine.proofs.Finds.{find-map}
 use Rattle.flat_machine.proofs.WritingKept.{role_edge, IsEntered, drive-enters, disk-enters, WritesFile, writes_file}
@@ -100,7 +100,7 @@ module _ (s now : State) (node : ℕ) (old new : Contents) (images : now.images 
       ids : of.row.id ≡ under.0.id
       ids = stands.alone name of.row under.0 of.stands (record { there = under.1.under_there; filename = under.2 })
 
-      taken : IsTaken s.table mine.0 under.0
+      taken : IsUnderOne s.table mine.0 under.0
       taken = stands.taken mine.0 under.0 under.1 (subst IsSome (sym under.2) refl)
 
       by_from : ((of.row.id ≡ node) ⊎ (child s.table node File ≡ Some of.row.id)) → ⊥

@@ -25,7 +25,7 @@ use Rattle.flat_machine.specs.Contents.{file_bytes, image_bytes, formatted, leng
 use Rattle.flat_machine.specs.Changed.{put, make, name_file, name_if, stepped, all_stepped, filename_or, content_under, bytes_below, format_bytes, format_name, know_if, note_image, with_bytes_of, leave, left_in, left_disk, file_of, overlay_file}
 use Rattle.flat_machine.specs.Final.{IsDiskIn}
 use Rattle.flat_machine.specs.Agreement.{Contents, HasDisk, ReadAsDisks, IsBlank, IsAsKnown, AreAsKnown, AreAbsent, IsLeftAs, Agrees}
-use Rattle.flat_machine.specs.Performing.{ReadSame, HeldSame, Nothing, IsQuiet, Puts, Removes, Makes, IsWholly, IsReadable, CanRead, IsBacking, CanAddFile, CanAddFormat, CanAddFilter, Can, Performed, AllCan, AllPerformed, held_bytes, backing_reads, format_as, IsFormatted}
+use Rattle.flat_machine.specs.Performing.{ReadSame, HeldSame, Nothing, IsQuiet, Puts, Removes, Makes, IsWholly, IsReadable, CanFileBeRead, IsBacking, CanAddFile, CanAddFormat, CanAddFilter, Can, Performed, AllCan, AllPerformed, held_bytes, backing_reads, format_as, IsFormatted}
 use Rattle.flat_machine.proofs.Finds.{find-map, bytes_eq-same}
 use Rattle.flat_machine.proofs.Agreeing.{RowsBut, rows_same, rows_pushed, rows_filter, rows_mapped, rows_dropped, less_unsettled, same_unsettled, less_writable, same_writable, disks_kept, disks_but, disks_put, disks_dropped, known_kept, known_put, absent_kept, absent_put, unchanged_kept, unchanged_named, left_kept, left_forgot}
 
@@ -176,7 +176,7 @@ module _ (opening : List ℕ → Option (List ℕ)) where
       by_held (Some bytes) blank = created_disk new bytes below blank.created
   image_reads s old (Some name) below (Some Unknown) known is can = absurd can
 
-  format_reads : (s : State) (old : Contents) (row : NodeRecord) (file : ℕ) (backing : Option ℕ) (driver : Kind) → CanRead s file driver
+  format_reads : (s : State) (old : Contents) (row : NodeRecord) (file : ℕ) (backing : Option ℕ) (driver : Kind) → CanFileBeRead s file driver
       → IsBacking s backing → Agrees opening s old → format_as s old row file backing driver ≡ format_bytes s row file backing driver
   format_reads s old row file backing Raw can backed h =
       ap (raw_disk row.offset row.size) (raw_bytes s old file h.disks (node_at s.table file) refl can)

@@ -44,7 +44,7 @@ use Rattle.flat_machine.specs.Changed.{stepped, all_stepped, name_if, leave, kno
 use Rattle.flat_machine.specs.Jobs.{unsure}
 use Rattle.flat_machine.specs.Machine.{after, admitted, finished, past_piece, with_disk, written, with_part, with_piece, flight_of, path, note, noted, is_noted, read_through, copies_through}
 use Rattle.flat_machine.specs.Replies.{edits_by, command_in, IsAnswer}
-use Rattle.flat_machine.specs.Legal.{IsNext, IsRefusedFor, guest_disk, MayStand, Fits, Legal}
+use Rattle.flat_machine.specs.Legal.{IsNext, IsRefusedFor, guest_disk, MayHappen, Fits, Legal}
 use Rattle.flat_machine.specs.Courses.{Course, Begins, IsNextOf, IsGiven, IsWatched, IsOwn, onward, KeepsOrder, course_of, rest_of, past_waits}
 use Rattle.flat_machine.specs.Opening.{start, new_guest}
 use Rattle.flat_machine.specs.Comes.{jobs_from, transcript_of}
@@ -266,7 +266,7 @@ module _ (o : Opening) (guests : AreGuests o.guests) (s : State) (c : Course) (a
   is-guest : (g : ℕ) (P : Guest → Type 0) → With (guest_at s g) P → g < length o.guests
   is-guest g P h = let less = guest-there s g P h in omega arith
 
-  done-same : (a b : ℕ) (r q : List ℕ) → MayStand s (Done a) → MayStand s (Done b)
+  done-same : (a b : ℕ) (r q : List ℕ) → MayHappen s (Done a) → MayHappen s (Done b)
       → words_then (actor-word o guests a ∷ []) r ≡ words_then (actor-word o guests b ∷ []) q → a ≡ b
   unfolding actor-word
   done-same zero zero r q h k e = refl

@@ -8,10 +8,10 @@ use Rattle.qmp_codec.specs.declared.nodes.BlockdevAdd.{BlockdevAdd}
 use Rattle.qmp_codec.specs.declared.nodes.InlineFile.{InlineFile}
 use Rattle.qmp_rules.specs.Asks.{holds}
 use Rattle.qmp_rules.specs.Edits.{goes_with, inline_row, next_free_id}
-use Rattle.qmp_rules.specs.Naming.{inline_name, is_name}
-use Rattle.qmp_rules.specs.NodeAsks.{add_asks, add_names, add_values, added_rest, is_read_only}
+use Rattle.qmp_asks.specs.Naming.{inline_name, is_name}
+use Rattle.qmp_asks.specs.NodeAsks.{add_asks, add_names, add_values, added_rest, is_read_only}
 use Rattle.qmp_rules.specs.Table.{Table, node_at, node_named}
-use Rattle.qmp_rules.specs.declared.ask.Ask.TheVariants as ask
+use Rattle.qmp_asks.specs.declared.ask.Ask.TheVariants as ask
 use Rattle.qmp_rules.specs.declared.rows.NodeRecord.{NodeRecord}
 use Rattle.qmp_rules.specs.declared.told.Told.{Told}
 use Rattle.blk_history.specs.Fold.{With}

@@ -16,9 +16,9 @@ use Rattle.blk_history.specs.Fold.{With}
 use Rattle.flat_machine.specs.State.{State, Disk, Left, filename_of, drive_of}
 use Rattle.flat_machine.specs.Changed.{file_of}
 use Rattle.flat_machine.specs.Agreement.{HasDisk}
-use Rattle.flat_machine.specs.Writing.{IsWritable, written_file}
+use Rattle.flat_machine.specs.Writing.{IsGuestWritable, written_file}
 use Rattle.flat_machine.specs.Wiring.{StandsFor, IsUnder, writes_through}
-use Rattle.flat_machine.specs.Standing.{HasBytes, IsLostBy, IsUsedUp, MayWrite, Stands}
+use Rattle.flat_machine.specs.Standing.{HasBytes, IsLostBy, IsUsedUp, MayGuestWrite, Stands}
 use Rattle.flat_machine.proofs.Kept.{own_disk}
 use Rattle.flat_machine.proofs.Rows.{same_row}
 use Rattle.flat_machine.proofs.TablesKept.{own_copies}
@@ -27,7 +27,7 @@ use Rattle.flat_machine.proofs.Redirected.{LiesOver, Redirects, node_found, over
 module _ (s : State) (es : List Edge) (node overlay : NodeRecord) (to : ℕ → ℕ) (over : LiesOver s.table node overlay)
     (r : Redirects s.table es node.id overlay.id to) (disks : List Disk)
     (more : (n : ℕ) → HasBytes s n → IsSome (find (λ d. d.node == n) disks))
-    (writes : to node.id ≡ overlay.id → IsWritable s overlay.id) (h : Stands s) where
+    (writes : to node.id ≡ overlay.id → IsGuestWritable s overlay.id) (h : Stands s) where
   abbrev pub led_state : State
   led_state = record s { table = record s.table { edges = es }; disks = disks }
 
@@ -102,7 +102,7 @@ module _ (s : State) (es : List Edge) (node overlay : NodeRecord) (to : ℕ → 
       by_row None is = is
       by_row (Some row) is = by_kind row row.kind is
 
-  still_writable : (n : ℕ) → IsWritable s n → IsWritable led_state n
+  still_writable : (n : ℕ) → IsGuestWritable s n → IsGuestWritable led_state n
   still_writable n can = record {
     disk = more n can.disk;
     under = λ file row is found has. by_child (child s.table n File) refl file row (sym (r.children n File (λ same. absurd cc)) ∙ is) found has;
@@ -122,48 +122,48 @@ module _ (s : State) (es : List Edge) (node overlay : NodeRecord) (to : ℕ → 
       ]
 
   -- so may be the place to which an edge into it leads
-  led_writable : (n : ℕ) → IsWritable s n → IsWritable led_state (to n)
+  led_writable : (n : ℕ) → IsGuestWritable s n → IsGuestWritable led_state (to n)
   led_writable n can = elim (cases_eq n node.id) [
-    | inr other ↦ subst (IsWritable led_state) (sym (r.others n other)) (still_writable n can)
+    | inr other ↦ subst (IsGuestWritable led_state) (sym (r.others n other)) (still_writable n can)
     | inl at_it ↦ elim r.at_node [
-      | inl on ↦ subst (IsWritable led_state) (at_it ∙ sym on ∙ ap to (sym at_it)) (still_writable n can)
-      | inr over_it ↦ subst (IsWritable led_state) (sym (ap to at_it ∙ over_it)) (still_writable overlay.id (writes over_it))
+      | inl on ↦ subst (IsGuestWritable led_state) (at_it ∙ sym on ∙ ap to (sym at_it)) (still_writable n can)
+      | inr over_it ↦ subst (IsGuestWritable led_state) (sym (ap to at_it ∙ over_it)) (still_writable overlay.id (writes over_it))
     ]
   ]
 
   -- a device that may write its disk may write it where its drive leads
-  on_node : (device : Device) → MayWrite s device node.id → MayWrite led_state device node.id
+  on_node : (device : Device) → MayGuestWrite s device node.id → MayGuestWrite led_state device node.id
   on_node device may w =
       let found = node_found s.table es node overlay to over r h.table in
       let own = over.disk.own in
       let copies = own_copies led_state.table node.id node found own ∙ sym (own_copies s.table node.id node found own) in
       let did : writes_through s.table device.read_only node.id ≡ true = ap (λ b. not device.read_only || b) (sym copies) ∙ w in
-      subst (IsWritable led_state) (sym (own_disk led_state.table node.id node found own))
-      (still_writable node.id (subst (IsWritable s) (own_disk s.table node.id node found own) (may did)))
+      subst (IsGuestWritable led_state) (sym (own_disk led_state.table node.id node found own))
+      (still_writable node.id (subst (IsGuestWritable s) (own_disk s.table node.id node found own) (may did)))
 
-  on_overlay : (device : Device) → to node.id ≡ overlay.id → MayWrite led_state device overlay.id
+  on_overlay : (device : Device) → to node.id ≡ overlay.id → MayGuestWrite led_state device overlay.id
   on_overlay device over_it w =
       let found = overlay_found s.table es node overlay to over r h.table in
       let own = overlay_own s.table es node overlay to over r h.table in
-      subst (IsWritable led_state) (sym (own_disk led_state.table overlay.id overlay found own))
+      subst (IsGuestWritable led_state) (sym (own_disk led_state.table overlay.id overlay found own))
       (still_writable overlay.id (writes over_it))
 
-  elsewhere : (device : Device) (drive : ℕ) → drive ≢ node.id → MayWrite s device drive → MayWrite led_state device drive
+  elsewhere : (device : Device) (drive : ℕ) → drive ≢ node.id → MayGuestWrite s device drive → MayGuestWrite led_state device drive
   elsewhere device drive other may w =
-      subst (IsWritable led_state) (sym (disk_led s.table es node overlay to over r h.table drive other))
+      subst (IsGuestWritable led_state) (sym (disk_led s.table es node overlay to over r h.table drive other))
       (led_writable (disk_node s.table drive)
       (may (sym (writes_led s.table es node overlay to over r h.table device.read_only drive other) ∙ w)))
 
-  may_still : (device : Device) (drive : ℕ) → MayWrite s device drive → MayWrite led_state device (to drive)
+  may_still : (device : Device) (drive : ℕ) → MayGuestWrite s device drive → MayGuestWrite led_state device (to drive)
   may_still device drive may = elim (cases_eq drive node.id) [
-    | inr other ↦ subst (MayWrite led_state device) (sym (r.others drive other)) (elsewhere device drive other may)
+    | inr other ↦ subst (MayGuestWrite led_state device) (sym (r.others drive other)) (elsewhere device drive other may)
     | inl at_it ↦ elim r.at_node [
-      | inl on ↦ subst (MayWrite led_state device) (sym (ap to at_it ∙ on)) (on_node device (subst (MayWrite s device) at_it may))
-      | inr over_it ↦ subst (MayWrite led_state device) (sym (ap to at_it ∙ over_it)) (on_overlay device over_it)
+      | inl on ↦ subst (MayGuestWrite led_state device) (sym (ap to at_it ∙ on)) (on_node device (subst (MayGuestWrite s device) at_it may))
+      | inr over_it ↦ subst (MayGuestWrite led_state device) (sym (ap to at_it ∙ over_it)) (on_overlay device over_it)
     ]
   ]
 
-  drives_still : (device : Device) (drive : Option ℕ) → With drive (MayWrite s device) → With (option_map to drive) (MayWrite led_state device)
+  drives_still : (device : Device) (drive : Option ℕ) → With drive (MayGuestWrite s device) → With (option_map to drive) (MayGuestWrite led_state device)
   drives_still device None may = may
   drives_still device (Some drive) may = may_still device drive may
 
@@ -198,7 +198,7 @@ module _ (s : State) (es : List Edge) (node overlay : NodeRecord) (to : ℕ → 
       disks = λ row there own. more row.id (h.writing.disks row there own);
       left = All-weaker (IsUsedUp s) (IsUsedUp led_state) used_still s.left h.writing.left;
       writers = λ g device found.
-          subst (λ drive. With drive (MayWrite led_state device)) (sym (r.drives g))
+          subst (λ drive. With drive (MayGuestWrite led_state device)) (sym (r.drives g))
           (drives_still device (drive_of s.table g) (h.writing.writers g device found));
     };
   }

@@ -42,9 +42,9 @@ use Rattle.flat_machine.specs.Machine.{disk_changed, with_disk, written, with_pa
 use Rattle.flat_machine.specs.Jobs.{unsure}
 use Rattle.flat_machine.specs.Sights.{IsTold, told_by, MayStop, expected}
 use Rattle.flat_machine.specs.Replies.{replied, edits_by, failed_edits, is_accepted, is_failure, desc_of, is_failed_call, command_in, IsToldOf, IsAnswer}
-use Rattle.flat_machine.specs.Writing.{IsWritable, CanWrite}
+use Rattle.flat_machine.specs.Writing.{IsGuestWritable, CanWrite}
 use Rattle.flat_machine.specs.Wiring.{StandsFor, IsUnder, InlineAreUnder, TableStands, TableAtRest}
-use Rattle.flat_machine.specs.Standing.{HasBytes, IsLostBy, IsOfState, IsUsedUp, MayWrite, Stands, StandsAtRest}
+use Rattle.flat_machine.specs.Standing.{HasBytes, IsLostBy, IsOfState, IsUsedUp, MayGuestWrite, Stands, StandsAtRest}
 use Rattle.flat_machine.specs.Suiting.{IsThere}
 use Rattle.flat_machine.proofs.Finds.{find-map}
 use Rattle.flat_machine.proofs.Kept.{own_disk}
@@ -349,10 +349,10 @@ pub guest_can : (s : State) (g : ℕ) (device : Device) (drive : ℕ) (op : Op) 
     → drive_of s.table g ≡ Some drive → (is_write op ≡ true → device.read_only ≡ false) → CanWrite s drive op
 guest_can s g device drive op h found is writes = by_op op writes
   where
-    may : MayWrite s device drive
-    may = at_with (MayWrite s device) (drive_of s.table g) drive is (h.stands.writing.writers g device found)
+    may : MayGuestWrite s device drive
+    may = at_with (MayGuestWrite s device) (drive_of s.table g) drive is (h.stands.writing.writers g device found)
 
-    can : device.read_only ≡ false → IsWritable s (disk_node s.table drive)
+    can : device.read_only ≡ false → IsGuestWritable s (disk_node s.table drive)
     can e = may (ap (λ b. not b || copies_through s.table drive) e)
 
     copies : (a b : Bool) → b ≡ true → (a || b) ≡ true

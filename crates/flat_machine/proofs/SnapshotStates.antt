@@ -6,13 +6,13 @@ use Rattle.qmp_rules.specs.declared.change.Change.TheVariants as change
 use Rattle.qmp_rules.specs.declared.rows.NodeRecord.{NodeRecord}
 use Rattle.qmp_rules.specs.declared.told.Told.{Told}
 use Rattle.qmp_rules.specs.Table.{child, kinds_of}
-use Rattle.qmp_rules.specs.NodeAsks.{snapshot_values, snapshot_names, snapshot_rest}
+use Rattle.qmp_asks.specs.NodeAsks.{snapshot_values, snapshot_names, snapshot_rest}
 use Rattle.qmp_rules.specs.Edits.{snapshot_edits}
 use Rattle.qmp_rules.specs.Changes.{changed}
 use Rattle.qmp_rules.specs.Chains.{filter_role}
 use Rattle.flat_machine.specs.State.{State, Disk, bytes_at_node}
 use Rattle.flat_machine.specs.Changed.{with_bytes_of}
-use Rattle.flat_machine.specs.Writing.{IsWritable, written_file}
+use Rattle.flat_machine.specs.Writing.{IsGuestWritable, written_file}
 use Rattle.flat_machine.specs.Standing.{Stands}
 use Rattle.flat_machine.specs.Suiting.{AllSuit}
 use Rattle.flat_machine.proofs.Asked.{NoneHolds}
@@ -39,7 +39,7 @@ module _ (s : State) (node overlay : NodeRecord) (over : LiesOver s.table node o
       (attached s.table node overlay (kinds_of s.table.nodes) bare) disks
       (λ n has. bytes-put overlay.id n (bytes_at_node s node.id) s.disks has) (λ same. absurd (over.other (sym same))) h
 
-  overlay_can : IsWritable attached_state overlay.id
+  overlay_can : IsGuestWritable attached_state overlay.id
   overlay_can = own_writable attached_state overlay attached_holds over.overlay_there (ap filter_role over.driver)
       (overlay_named s.table (attached_edges s.table node overlay over bare h.table) node overlay staying over
       (attached s.table node overlay (kinds_of s.table.nodes) bare) h.table)

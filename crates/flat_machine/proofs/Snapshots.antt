@@ -11,15 +11,15 @@ use Rattle.blk_graph.specs.Edits.{with_edge, with_replaced}
 use Rattle.blk_graph.specs.Permissions.{node_edge}
 use Rattle.blk_graph.specs.Refreshed.{refreshed}
 use Rattle.qmp_codec.specs.declared.nodes.Snapshot.{Snapshot}
-use Rattle.qmp_rules.specs.declared.ask.Ask.TheVariants as ask
-use Rattle.qmp_rules.specs.declared.ask.Drivers.TheVariants as drivers
+use Rattle.qmp_asks.specs.declared.ask.Ask.TheVariants as ask
+use Rattle.qmp_asks.specs.declared.ask.Drivers.TheVariants as drivers
 use Rattle.qmp_rules.specs.declared.change.Change.{Change}
 use Rattle.qmp_rules.specs.declared.change.Change.TheVariants as change
 use Rattle.qmp_rules.specs.declared.rows.NodeRecord.{NodeRecord}
 use Rattle.qmp_rules.specs.declared.told.Told.{Told}
 use Rattle.qmp_rules.specs.Table.{Table, node_named, child, kinds_of}
 use Rattle.qmp_rules.specs.Asks.{holds, takes}
-use Rattle.qmp_rules.specs.NodeAsks.{snapshot_values, snapshot_names, snapshot_rest}
+use Rattle.qmp_asks.specs.NodeAsks.{snapshot_values, snapshot_names, snapshot_rest}
 use Rattle.qmp_rules.specs.Edits.{snapshot_edits}
 use Rattle.qmp_rules.specs.Changes.{changed, all_changed}
 use Rattle.qmp_rules.specs.Chains.{filter_role}

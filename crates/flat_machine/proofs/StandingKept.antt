@@ -27,7 +27,7 @@ use Rattle.flat_machine.specs.State.{State, Content, Unknown, content_in, filena
 use Rattle.flat_machine.specs.Contents.{with_content, mapped_in}
 use Rattle.flat_machine.specs.Changed.{stepped, all_stepped, know_if, content_under, format_bytes, left_disk}
 use Rattle.flat_machine.specs.Wiring.{StandsFor, IsUnder, TableStands}
-use Rattle.flat_machine.specs.Standing.{IsLostBy, IsOfState, IsOpen, FilesAreOfState, IsUsedUp, WritingStands, Stands}
+use Rattle.flat_machine.specs.Standing.{IsLostBy, IsOfState, IsOpenlyKnown, FilesAreOfState, IsUsedUp, WritingStands, Stands}
 use Rattle.flat_machine.specs.Suiting.{IsThere, FileSuits, FormatSuits, SuitsFilter, RemovalSuits, DeviceSuits, Suits, AllSuit}
 use Rattle.flat_machine.proofs.Finds.{content_in-with, content_in-with_other, cases_name}
 use Rattle.flat_machine.proofs.Accepted.{added_files}
@@ -121,7 +121,7 @@ module _ (s now : State) (between : Table) (new : NodeRecord) where
 -- what is open was open before
 open-before : (s now : State) → HasEdges s now
     → ((name : List ℕ) (row : NodeRecord) → StandsFor s.table name row → (later : NodeRecord) × (StandsFor now.table name later × (later.id ≡ row.id)))
-    → (name : List ℕ) → IsOpen now.table name → IsOpen s.table name
+    → (name : List ℕ) → IsOpenlyKnown now.table name → IsOpenlyKnown s.table name
 open-before s now es forth name is_open row over under =
     let later = forth name row over in
     is_open later.0 later.1.0 (under-kept s now es later.0.id (subst (IsUnder s.table.edges) (sym later.1.1) under))
@@ -298,7 +298,7 @@ format_node_stands s row file backing suits h =
 
     -- a file under the node is not open
     closed_now : (name : List ℕ) (found : Option NodeRecord) → node_at s.table file ≡ found → option_and_then (λ r. r.filename) found ≡ Some name
-        → IsOpen now.table name → ⊥
+        → IsOpenlyKnown now.table name → ⊥
     closed_now name None e is is_open = cc
     closed_now name (Some r) e is is_open =
         let passed = find-Some (λ x. x.id == file) s.table.nodes r e in
@@ -306,7 +306,7 @@ format_node_stands s row file backing suits h =
         let later = stands-pushed s.table between now.table row rows refl name r (record { there = passed.0; filename = is }) in
         is_open later.0 later.1.0 (subst (IsUnder now.table.edges) (sym (later.1.1 ∙ id_is)) under_new)
 
-    by_file : (name : List ℕ) (what : Content) → IsOpen now.table name
+    by_file : (name : List ℕ) (what : Content) → IsOpenlyKnown now.table name
         → ((filename_of s.table file ≡ Some name) ⊎ (content_in s.files name ≡ Some what)) → IsOfState (file_state now.table name) what
     by_file name what is_open (inl under) = absurd (closed_now name (node_at s.table file) refl under is_open)
     by_file name what is_open (inr found) = h.states name what found
@@ -486,14 +486,14 @@ remove_stands s node suits h = record {
     ]
 
     -- of a file that was not used what is open was open
-    open_so : (name : List ℕ) → (file_state s.table name ≡ Some Used → ⊥) → IsOpen now.table name → IsOpen s.table name
+    open_so : (name : List ℕ) → (file_state s.table name ≡ Some Used → ⊥) → IsOpenlyKnown now.table name → IsOpenlyKnown s.table name
     open_so name unused is_open row over under = elim (under_stays name row over under) [
       | inl used ↦ unused used
       | inr stays_under ↦ is_open row (stays name row over (λ same. unused (suits.own name row over same))) stays_under
     ]
 
     by_state : (name : List ℕ) (what : Content) (state : Option FileState) → file_state s.table name ≡ state
-        → content_in s.files name ≡ Some what → IsOpen now.table name → IsOfState (file_state s.table name) what
+        → content_in s.files name ≡ Some what → IsOpenlyKnown now.table name → IsOfState (file_state s.table name) what
     by_state name what None e found is_open = h.states name what found (open_so name (λ used. cc) is_open)
     by_state name what (Some Made) e found is_open = h.states name what found (open_so name (λ used. cc) is_open)
     by_state name what (Some Formatted) e found is_open = h.states name what found (open_so name (λ used. cc) is_open)

@@ -26,8 +26,8 @@ use Rattle.qmp_codec.specs.declared.nodes.BlockdevAdd.{BlockdevAdd}
 use Rattle.qmp_codec.specs.declared.nodes.Created.{Created}
 use Rattle.qmp_codec.specs.declared.nodes.Created.TheVariants as created
 use Rattle.qmp_codec.specs.declared.nodes.DeviceAdd.{DeviceAdd}
-use Rattle.qmp_rules.specs.declared.ask.Ask.TheVariants as ask
-use Rattle.qmp_rules.specs.declared.ask.Drivers.TheVariants as drivers
+use Rattle.qmp_asks.specs.declared.ask.Ask.TheVariants as ask
+use Rattle.qmp_asks.specs.declared.ask.Drivers.TheVariants as drivers
 use Rattle.qmp_rules.specs.declared.change.Change.{Change}
 use Rattle.qmp_rules.specs.declared.change.Change.TheVariants as change
 use Rattle.qmp_rules.specs.declared.rows.NodeRecord.{NodeRecord}
@@ -39,11 +39,12 @@ use Rattle.qmp_rules.specs.Table.{Table, node_at, node_named, device_at, device_
 use Rattle.qmp_rules.specs.Chains.{filter_role}
 use Rattle.qmp_rules.specs.Changes.{changed, without_row}
 use Rattle.qmp_rules.specs.Edits.{place_from, unused_from, device_number, inline_row, raw_edits, qcow2_edits, added_edits, add_edits, length_told, edits_of, uses, file_under, name_of_file_at, goes_with_node, with_inline, created_change, file_of_node, del_edits, new_device, device_add_edits, merges}
-use Rattle.qmp_rules.specs.NodeAsks.{create_values, create_names, create_rest, del_asks, device_add_asks, add_asks, option_values, added_values, added_names, is_read_only, added_rest, raw_rest, qcow2_rest, is_added, backing_name}
+use Rattle.qmp_asks.specs.NodeAsks.{create_values, create_names, create_rest, del_asks, device_add_asks, add_asks, option_values, added_values, added_names, is_read_only, added_rest, raw_rest, qcow2_rest, is_added, backing_name}
 use Rattle.qmp_rules.specs.Looks.{is_unopened}
-use Rattle.qmp_rules.specs.Asks.{id_or, Asking, holds, first, takes, is_file, is_lost, name_of_file}
-use Rattle.qmp_rules.specs.BitmapAsks.{source_name, source_node}
-use Rattle.qmp_rules.specs.CommandAsks.{asks_of, negotiates}
+use Rattle.qmp_asks.specs.Asking.{Asking}
+use Rattle.qmp_rules.specs.Asks.{id_or, holds, first, takes, is_file, is_lost, name_of_file}
+use Rattle.qmp_asks.specs.BitmapAsks.{source_name, source_node}
+use Rattle.qmp_asks.specs.CommandAsks.{asks_of, negotiates}
 use Rattle.qmp_rules.specs.Answers.{unbuilt, out_of_turn, refusal_of, command_edits}
 use Rattle.blk_history.specs.Fold.{With}
 use Rattle.flat_machine.specs.State.{State, Unknown, content_in}

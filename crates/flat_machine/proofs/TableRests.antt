@@ -32,10 +32,10 @@ use Rattle.qmp_rules.specs.declared.told.Told.{Told}
 use Rattle.qmp_rules.specs.Table.{Table, device_named, node_at, node_named, id_named, child, kinds_of}
 use Rattle.qmp_rules.specs.Changes.{changed, all_changed, node_changed, unsettled, lost_with, with_unsettled, without_row, format_edges}
 use Rattle.qmp_rules.specs.Edits.{file_of_node, next_free_id, raw_row, image_row, length_told, goes_with, goes_with_node, with_inline, uses, file_under, del_edits, added_edits, raw_edits, qcow2_edits, add_edits, inline_row, edits_of, created_change, spoiled, device_add_edits, new_device, device_uses, of_row, bitmap_add_edits, bitmap_remove_edits, bitmap_clear_edits, bitmap_turn_edits, merges, merge_edits}
-use Rattle.qmp_rules.specs.Naming.{inline_name}
-use Rattle.qmp_rules.specs.NodeAsks.{add_asks, del_asks, device_add_asks, is_read_only, backing_name}
+use Rattle.qmp_asks.specs.Naming.{inline_name}
+use Rattle.qmp_asks.specs.NodeAsks.{add_asks, del_asks, device_add_asks, is_read_only, backing_name}
 use Rattle.qmp_rules.specs.Asks.{first, is_file}
-use Rattle.qmp_rules.specs.CommandAsks.{asks_of, negotiates}
+use Rattle.qmp_asks.specs.CommandAsks.{asks_of, negotiates}
 use Rattle.qmp_rules.specs.Answers.{unbuilt, out_of_turn, refusal_of, command_edits}
 use Rattle.qmp_rules.specs.Chains.{written_under, unsettled_over}
 use Rattle.flat_machine.specs.Wiring.{LeadsToFile, IsInline, InlineAreUnder, TableStands, TableAtRest}

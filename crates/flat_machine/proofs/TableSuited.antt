@@ -17,8 +17,8 @@ use Rattle.qmp_codec.specs.declared.nodes.Added.{Added}
 use Rattle.qmp_codec.specs.declared.nodes.Added.TheVariants as added
 use Rattle.qmp_codec.specs.declared.nodes.BlockdevAdd.{BlockdevAdd}
 use Rattle.qmp_codec.specs.declared.nodes.DeviceAdd.{DeviceAdd}
-use Rattle.qmp_rules.specs.declared.ask.Ask.TheVariants as ask
-use Rattle.qmp_rules.specs.declared.ask.Drivers.TheVariants as drivers
+use Rattle.qmp_asks.specs.declared.ask.Ask.TheVariants as ask
+use Rattle.qmp_asks.specs.declared.ask.Drivers.TheVariants as drivers
 use Rattle.qmp_rules.specs.declared.change.Change.TheVariants as change
 use Rattle.qmp_rules.specs.declared.rows.NodeRecord.{NodeRecord}
 use Rattle.qmp_rules.specs.declared.rows.Device.{Device}
@@ -27,11 +27,11 @@ use Rattle.qmp_rules.specs.Table.{Table, node_at, node_named, id_named, kinds_of
 use Rattle.qmp_rules.specs.Chains.{filter_role, is_settled}
 use Rattle.qmp_rules.specs.Changes.{changed}
 use Rattle.qmp_rules.specs.Edits.{free_id, next_free_id, place_from, unused_from, file_row, format_row, inline_row, image_row, raw_row, length_told, size_of, raw_edits, qcow2_edits, added_edits, add_edits, uses, new_device, device_add_edits}
-use Rattle.qmp_rules.specs.Naming.{is_name}
-use Rattle.qmp_rules.specs.NodeAsks.{device_add_asks, add_asks, add_names, add_values, file_names, added_names, is_read_only, added_rest, raw_rest, qcow2_rest, copy_on_read_rest, is_added, backing_name}
+use Rattle.qmp_asks.specs.Naming.{is_name}
+use Rattle.qmp_asks.specs.NodeAsks.{device_add_asks, add_asks, add_names, add_values, file_names, added_names, is_read_only, added_rest, raw_rest, qcow2_rest, copy_on_read_rest, is_added, backing_name}
 use Rattle.qmp_rules.specs.Asks.{id_or, holds, takes, is_file}
 use Rattle.flat_machine.specs.Wiring.{IsNumberBy, TableStands}
-use Rattle.flat_machine.specs.Suiting.{IsThere, IsAlone, IsFree, SuitsFile, SuitsBacking, SuitsDevice, AllTableSuit}
+use Rattle.flat_machine.specs.Suiting.{IsThere, IsAlone, IsUnderNoFormat, SuitsFile, SuitsBacking, SuitsDevice, AllTableSuit}
 use Rattle.flat_machine.proofs.Finds.{bytes_eq-same, same-bytes_eq}
 use Rattle.flat_machine.proofs.Fresh.{found-longer, found-new}
 use Rattle.flat_machine.proofs.Tables.{refreshed-old}
@@ -60,7 +60,7 @@ module _ (t : Table) (told : Told) (h : TableStands t) where
   named-there name row found = subst IsSome (sym (named-at name row found)) refl
 
   -- a `file` node with a flat disk is under no format node
-  pub settled-free : (row : NodeRecord) → Contains t.nodes row → row.is_settled ≡ true → IsFree t row.id
+  pub settled-free : (row : NodeRecord) → Contains t.nodes row → row.is_settled ≡ true → IsUnderNoFormat t row.id
   settled-free row there settled other found some under =
       let of = h.single under.edge under.there under.over in
       let parent_there = (h.edges under.edge under.there).parent of.0 of.1.0 in
@@ -101,7 +101,7 @@ module _ (t : Table) (told : Told) (h : TableStands t) where
       by_name (Some name) e some = ap filter_role (h.drivers name row (record { there = there; filename = e }))
 
   -- a settled node is no `file` node under another one
-  pub free-node : (row : NodeRecord) → Contains t.nodes row → is_settled t row.id ≡ true → IsFree t row.id
+  pub free-node : (row : NodeRecord) → Contains t.nodes row → is_settled t row.id ≡ true → IsUnderNoFormat t row.id
   free-node row there settled other found some under =
       let at_row = h.apart row there in
       let same : other ≡ row = cc in
@@ -176,7 +176,7 @@ module _ (t : Table) (told : Told) (h : TableStands t) where
     pub row : NodeRecord
     pub there : Contains t.nodes row
     pub id_is : row.id ≡ node
-    pub free : IsFree t node
+    pub free : IsUnderNoFormat t node
     pub own : filter_role row.kind ≡ None
     pub name : List ℕ
     pub said : back ≡ Some name
@@ -197,7 +197,7 @@ module _ (t : Table) (told : Told) (h : TableStands t) where
             row = row;
             there = here.0;
             id_is = same;
-            free = subst (IsFree t) same (free-node row here.0 (settled-node t told name row named.1 settled));
+            free = subst (IsUnderNoFormat t) same (free-node row here.0 (settled-node t told name row named.1 settled));
             own = no_filter row.kind (takes-driver t told name drivers.FileRawOrQcow2 row named.1 drives);
             name = name;
             said = refl;
@@ -362,7 +362,7 @@ module _ (t : Table) (told : Told) (h : TableStands t) where
     unfolding changed
     there-with r there = found-longer (λ x. x.id == r.id) t.nodes row r (h.apart r there)
 
-    free-with : (r : NodeRecord) → Contains t.nodes r → IsFree t r.id → IsFree with_node r.id
+    free-with : (r : NodeRecord) → Contains t.nodes r → IsUnderNoFormat t r.id → IsUnderNoFormat with_node r.id
     unfolding changed
     free-with r there free other found some under =
         let at_row = there-with r there in
@@ -379,7 +379,7 @@ module _ (t : Table) (told : Told) (h : TableStands t) where
           there = subst IsSome (sym found) refl;
           other = λ same.
               not-there t (free_id t) (free_fresh t room) (subst (IsThere t) (b.id_is ∙ same) (subst IsSome (sym (h.apart b.row b.there)) refl));
-          free = subst (IsFree with_node) b.id_is (free-with b.row b.there (subst (IsFree t) (sym b.id_is) b.free));
+          free = subst (IsUnderNoFormat with_node) b.id_is (free-with b.row b.there (subst (IsUnderNoFormat t) (sym b.id_is) b.free));
           plain = plain-row with_node b.row node b.own found;
         }
 

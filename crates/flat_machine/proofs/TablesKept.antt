@@ -27,7 +27,7 @@ use Rattle.qmp_rules.specs.Chains.{filter_role, filtered, disk_from, disk_node}
 use Rattle.qmp_rules.specs.Changes.{node_changed, unsettled, with_unsettled, without_row, backed, format_edges, device_edge}
 use Rattle.blk_history.specs.Fold.{With}
 use Rattle.flat_machine.specs.Machine.{copies_at, copies_through, is_copying, path, path_from}
-use Rattle.flat_machine.specs.Wiring.{AreApart, EdgesHaveEnds, StandsFor, IsFileOf, LeadsToFile, HasOwnName, IsTaken, IsDiskOf, AreNumbered, HasNumber, TableStands, writes_through}
+use Rattle.flat_machine.specs.Wiring.{AreApart, EdgesHaveEnds, StandsFor, IsFileOf, LeadsToFile, HasOwnName, IsUnderOne, IsDiskOf, AreNumbered, HasDeviceNumber, TableStands, writes_through}
 use Rattle.flat_machine.specs.Suiting.{IsThere, IsAlone, SuitsFile, SuitsFormat, SuitsFilter, SuitsDevice}
 use Rattle.flat_machine.proofs.Finds.{find-filter}
 use Rattle.flat_machine.proofs.Fresh.{found-longer, found-new}
@@ -78,7 +78,7 @@ rows_grow t now rows edges h = record {
 
 same_numbers : (t now : Table) → now.guests ≡ t.guests → now.devices ≡ t.devices → AreNumbered t → AreNumbered now
 same_numbers t now guests devices h device there =
-    subst (λ gs. HasNumber gs device) (sym guests) (h device (subst (λ ds. Contains ds device) devices there))
+    subst (λ gs. HasDeviceNumber gs device) (sym guests) (h device (subst (λ ds. Contains ds device) devices there))
 
 pub rows_table : (t now : Table) → SameRows t now → now.edges ≡ t.edges → now.guests ≡ t.guests → now.devices ≡ t.devices
     → TableStands t → TableStands now
@@ -447,7 +447,7 @@ module _ (t now : Table) (row : NodeRecord) (file : ℕ) (backing : Option ℕ) 
     reads = λ r is. subst (λ x. With (node_at now (disk_node now x.id)) (IsDiskOf now x)) (sym is) (own_reads now row found_row suits.format);
   }
 
-  format_taken : (over under : NodeRecord) (f : LeadsToFile now over under) → IsNewEdge f.edge → IsTaken now over under
+  format_taken : (over under : NodeRecord) (f : LeadsToFile now over under) → IsNewEdge f.edge → IsUnderOne now over under
   format_taken over under f is_new =
       let own = of_file f.edge is_new f.role in
       let over_is = is_row over f.over_there (id_of f.edge over.id is_new f.parent) in
@@ -786,6 +786,6 @@ module _ (t now : Table) (device : Device) (node : ℕ) (suits : SuitsDevice t d
     where
       numbers : AreNumbered now
       numbers other there = elim (pushed-cases t.devices device other (subst (λ ds. Contains ds other) devices there)) [
-        | inl old ↦ subst (λ gs. HasNumber gs other) (sym guests) (h.numbers other old)
-        | inr is ↦ subst (λ gs. HasNumber gs other) (sym guests) (subst (HasNumber t.guests) (sym is) suits.number)
+        | inl old ↦ subst (λ gs. HasDeviceNumber gs other) (sym guests) (h.numbers other old)
+        | inr is ↦ subst (λ gs. HasDeviceNumber gs other) (sym guests) (subst (HasDeviceNumber t.guests) (sym is) suits.number)
       ]

@@ -16,7 +16,7 @@ use Rattle.qmp_rules.specs.Table.{Table, node_at, child}
 use Rattle.qmp_rules.specs.Chains.{filter_role, filtered, disk_node}
 use Rattle.blk_history.specs.Fold.{With}
 use Rattle.flat_machine.specs.Machine.{copies_at, is_copying, copies_through}
-use Rattle.flat_machine.specs.Wiring.{AreApart, HasEnds, StandsFor, IsFileOf, LeadsToFile, HasOwnName, IsTaken, IsDiskOf, AreNumbered, TableStands}
+use Rattle.flat_machine.specs.Wiring.{AreApart, HasEnds, StandsFor, IsFileOf, LeadsToFile, HasOwnName, IsUnderOne, IsDiskOf, AreNumbered, TableStands}
 use Rattle.flat_machine.proofs.Tables.{HasLike}
 use Rattle.flat_machine.proofs.Rows.{IsLike, BothAt, disk_node-same, disk_node-there, copies-at, copies-same}
 
@@ -60,7 +60,7 @@ pub record NewEdges (t now : Table) (IsNewEdge : Edge → Type 0) : Type 0 where
   pub ends : (e : Edge) → IsNewEdge e → HasEnds now e
   pub roles : (e : Edge) (row : NodeRecord) → IsNewEdge e → Contains now.nodes row → e.parent ≡ Node row.id → has_role row.kind e.role ≡ true
   pub single : (e : Edge) → IsNewEdge e → e.role ≡ File → (node : ℕ) × IsFileOf now e node
-  pub taken : (over under : NodeRecord) (f : LeadsToFile now over under) → IsNewEdge f.edge → IsSome under.filename → IsTaken now over under
+  pub taken : (over under : NodeRecord) (f : LeadsToFile now over under) → IsNewEdge f.edge → IsSome under.filename → IsUnderOne now over under
   pub filtered : (over under : NodeRecord) (f : LeadsToFile now over under) → IsNewEdge f.edge → under.filename ≡ None
       → IsSome (filter_role over.kind)
   pub on_top : (e : Edge) (row : NodeRecord) (over : ℕ) → IsNewEdge e → Contains now.nodes row → e.parent ≡ Node over → e.child ≡ row.id
@@ -199,7 +199,7 @@ module _ (t now : Table) (P : ℕ → Type 0) (IsNewRow : NodeRecord → Type 0)
   stood_for name later old over = record { there = old.there; filename = sym old.like.filename ∙ over.filename }
 
   module _ (rows : NewRows t now IsNewRow) (edges : NewEdges t now IsNewEdge) (h : TableStands t) where
-    taken_still : (over under : NodeRecord) (w : WasFile over under) → IsSome under.filename → IsTaken now over under
+    taken_still : (over under : NodeRecord) (w : WasFile over under) → IsSome under.filename → IsUnderOne now over under
     taken_still over under w some =
         let some_before = subst IsSome w.under_row.like.filename some in
         let k = h.taken w.over_row.row w.under_row.row w.file some_before in

@@ -31,7 +31,7 @@ use Rattle.flat_machine.specs.State.{State, Disk, Left, Unknown, content_in, fil
 use Rattle.flat_machine.specs.Contents.{with_content, mapped_in, file_bytes}
 use Rattle.flat_machine.specs.Changed.{stepped, put, name_file, add_file, filename_or, with_bytes_of, know_if, content_under, format_bytes, left_disk, left_in, leave, file_of}
 use Rattle.flat_machine.specs.Wiring.{StandsFor, IsUnder, LeadsToFile, EdgesHaveEnds}
-use Rattle.flat_machine.specs.Standing.{HasBytes, IsUsedUp, MayWrite, WritingStands, Stands}
+use Rattle.flat_machine.specs.Standing.{HasBytes, IsUsedUp, MayGuestWrite, WritingStands, Stands}
 use Rattle.flat_machine.specs.Suiting.{IsThere, FileSuits, FormatSuits, SuitsFilter, RemovalSuits, DeviceSuits}
 use Rattle.flat_machine.proofs.Finds.{find-filter, find-push, bytes_eq-same, cases_name, content_in-with, content_in-with_other}
 use Rattle.flat_machine.proofs.Kept.{with_format, left_alone}
@@ -110,7 +110,7 @@ drive_there t ends g node is = let e = role_edge (Guest g) Drive t.edges node is
 pub same_devices : (s now : State) → now.table.devices ≡ s.table.devices → ((g : ℕ) → drive_of now.table g ≡ drive_of s.table g)
     → (number : ℕ) (device : Device) → device_at now.table number ≡ Some device
     → ((device_at s.table number ≡ Some device) × (drive_of now.table number ≡ drive_of s.table number))
-    ⊎ With (drive_of now.table number) (MayWrite now device)
+    ⊎ With (drive_of now.table number) (MayGuestWrite now device)
 same_devices s now devices drives number device found =
     inl (subst (λ ds. find (λ d. d.number == number) ds ≡ Some device) devices found, drives number)
 
@@ -571,7 +571,7 @@ device_writing s device node suits h =
       emptied = λ other name here entered of none. none;
       devices = λ number other found. elim (find-push (λ d. d.number == number) s.table.devices device other found) [
         | inl was ↦ inl (was, by_other number other was)
-        | inr is_new ↦ inr (subst (λ d. With (drive_of now.table number) (MayWrite now d)) (sym is_new.1) (on_node number (eqb-true device.number number is_new.0)))
+        | inr is_new ↦ inr (subst (λ d. With (drive_of now.table number) (MayGuestWrite now d)) (sym is_new.1) (on_node number (eqb-true device.number number is_new.0)))
       ];
       drives = λ g drive is. drive_there s.table h.table.edges g drive is;
     })
@@ -603,13 +603,13 @@ device_writing s device node suits h =
         let none = subst (λ n. device_at s.table n ≡ None) is suits.fresh in
         cc))
 
-    may : MayWrite now device node
+    may : MayGuestWrite now device node
     may = may_still s now (IsThere s.table) NoRow New grow device node suits.suits.there
         (record { bytes = λ some. some; known = λ name of known. known; left = λ name of none. none; named = λ name named. named })
         suits.writes
 
-    on_node : (number : ℕ) → device.number ≡ number → With (drive_of now.table number) (MayWrite now device)
-    on_node number is = subst (λ drive. With drive (MayWrite now device)) (sym (to_node number is)) may
+    on_node : (number : ℕ) → device.number ≡ number → With (drive_of now.table number) (MayGuestWrite now device)
+    on_node number is = subst (λ drive. With drive (MayGuestWrite now device)) (sym (to_node number is)) may
       where
         to_node : (number : ℕ) → device.number ≡ number → drive_of now.table number ≡ Some node
         to_node number is = subst (λ n. drive_of now.table n ≡ Some node) is

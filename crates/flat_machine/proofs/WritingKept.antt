@@ -23,9 +23,9 @@ use Rattle.qmp_rules.specs.Chains.{filter_role, filtered, disk_node}
 use Rattle.blk_history.specs.Fold.{With}
 use Rattle.flat_machine.specs.State.{State, Unknown, Left, content_in, filename_of, drive_of}
 use Rattle.flat_machine.specs.Changed.{file_of}
-use Rattle.flat_machine.specs.Writing.{IsWritable, written_file}
+use Rattle.flat_machine.specs.Writing.{IsGuestWritable, written_file}
 use Rattle.flat_machine.specs.Wiring.{AreApart, StandsFor, LeadsToFile, writes_through}
-use Rattle.flat_machine.specs.Standing.{HasBytes, IsUsedUp, MayWrite, WritingStands}
+use Rattle.flat_machine.specs.Standing.{HasBytes, IsUsedUp, MayGuestWrite, WritingStands}
 use Rattle.flat_machine.proofs.Rows.{BothAt, disk_node-there}
 use Rattle.flat_machine.proofs.Wired.{OldRow, Grows, was_file, stood_for, same_disk, disk_there, same_copies}
 
@@ -192,7 +192,7 @@ module _ (s now : State) (P : ℕ → Type 0) (IsNewRow : NodeRecord → Type 0)
     pub left : (name : List ℕ) → WritesFile s.table node name → All (λ l. l.file ≢ name) s.left → All (λ l. l.file ≢ name) now.left
     pub named : (name : List ℕ) → has_name name s.named ≡ true → has_name name now.named ≡ true
 
-  pub still_writable : (node : ℕ) → P node → LeavesFile node → IsWritable s node → IsWritable now node
+  pub still_writable : (node : ℕ) → P node → LeavesFile node → IsGuestWritable s node → IsGuestWritable now node
   still_writable node here leaves can = record {
     disk = leaves.bytes can.disk;
     under = λ file later is found disk.
@@ -212,13 +212,13 @@ module _ (s now : State) (P : ℕ → Type 0) (IsNewRow : NodeRecord → Type 0)
       of_file : (name : List ℕ) → written_file now.table node ≡ Some name → WritesFile s.table node name
       of_file name is = writes_file s.table node name (sym (file_same node here) ∙ is)
 
-  pub may_still : (device : Device) (drive : ℕ) → P drive → LeavesFile (disk_node s.table drive) → MayWrite s device drive
-      → MayWrite now device drive
+  pub may_still : (device : Device) (drive : ℕ) → P drive → LeavesFile (disk_node s.table drive) → MayGuestWrite s device drive
+      → MayGuestWrite now device drive
   may_still device drive here leaves may writes =
       let disk = same_disk s.table now.table P IsNewRow IsNewEdge g drive here in
       let copies = same_copies s.table now.table P IsNewRow IsNewEdge g drive here in
       let did : writes_through s.table device.read_only drive ≡ true = ap (λ b. not device.read_only || b) (sym copies) ∙ writes in
-      subst (IsWritable now) (sym disk)
+      subst (IsGuestWritable now) (sym disk)
       (still_writable (disk_node s.table drive) (disk_there s.table now.table P IsNewRow IsNewEdge g drive here) leaves (may did))
 
   -- ---- all of it
@@ -246,11 +246,11 @@ module _ (s now : State) (P : ℕ → Type 0) (IsNewRow : NodeRecord → Type 0)
     -- a device was there, with its drive, or it may write as it does
     pub devices : (number : ℕ) (device : Device) → device_at now.table number ≡ Some device
         → ((device_at s.table number ≡ Some device) × (drive_of now.table number ≡ drive_of s.table number))
-        ⊎ With (drive_of now.table number) (MayWrite now device)
+        ⊎ With (drive_of now.table number) (MayGuestWrite now device)
     pub drives : (number drive : ℕ) → drive_of s.table number ≡ Some drive → P drive
 
   drive_still : Leaves → AreApart s.table → (device : Device) (number : ℕ) (found : Option ℕ) → drive_of s.table number ≡ found
-      → With found (MayWrite s device) → With found (MayWrite now device)
+      → With found (MayGuestWrite s device) → With found (MayGuestWrite now device)
   drive_still keeps apart device number None is may = may
   drive_still keeps apart device number (Some drive) is may =
       let here = keeps.drives number drive is in
@@ -289,7 +289,7 @@ module _ (s now : State) (P : ℕ → Type 0) (IsNewRow : NodeRecord → Type 0)
     left = keeps.left;
     writers = λ number device found. elim (keeps.devices number device found) [
       | inl was ↦
-          subst (λ drive. With drive (MayWrite now device)) (sym was.1)
+          subst (λ drive. With drive (MayGuestWrite now device)) (sym was.1)
           (drive_still keeps apart device number (drive_of s.table number) refl (h.writers number device was.0))
       | inr may ↦ may
     ];

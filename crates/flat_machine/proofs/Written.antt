@@ -21,7 +21,7 @@ use Rattle.flat_machine.specs.Jobs.{unsure}
 use Rattle.flat_machine.specs.Final.{IsDiskIn}
 use Rattle.flat_machine.specs.Agreement.{Contents, HasDisk, ReadAsDisks, IsAsKnown, IsLeftAs, Agrees}
 use Rattle.flat_machine.specs.Performing.{HeldSame, IsQuiet}
-use Rattle.flat_machine.specs.Writing.{IsWritable, ReadsWritten, Writes, Copies, PieceDone, CanWrite, written_file}
+use Rattle.flat_machine.specs.Writing.{IsGuestWritable, ReadsWritten, WritesDisks, Copies, PieceDone, CanWrite, written_file}
 use Rattle.flat_machine.proofs.Finds.{find-map, cases_name}
 use Rattle.flat_machine.proofs.Agreeing.{HadDisk, rows_same, rows_mapped}
 use Rattle.flat_machine.proofs.Kept.{own_disk, quiet_keeps}
@@ -88,7 +88,7 @@ not_over t node n row found disk =
 module _ (opening : List ℕ → Option (List ℕ)) (s now : State) (node : ℕ) (old new : Contents) where
   -- its file alone changes, of which nothing is known
   file_written : ReadAsDisks now new → now.files ≡ s.files → now.left ≡ s.left → now.named ≡ s.named
-      → IsWritable s node → HeldSame (λ name. written_file s.table node ≡ Some name) old new → Agrees opening s old → Agrees opening now new
+      → IsGuestWritable s node → HeldSame (λ name. written_file s.table node ≡ Some name) old new → Agrees opening s old → Agrees opening now new
   file_written disks files left named can did h = record {
     disks = disks;
     known = λ name content found.
@@ -128,7 +128,7 @@ module _ (opening : List ℕ → Option (List ℕ)) (s now : State) (node : ℕ)
   -- a read that copies
   copied_keeps : now.table.nodes ≡ s.table.nodes → ((n : ℕ) → bytes_in now.disks n ≡ bytes_in s.disks n)
       → now.files ≡ s.files → now.left ≡ s.left → now.named ≡ s.named
-      → IsWritable s node → Copies s node old new → Agrees opening s old → Agrees opening now new
+      → IsGuestWritable s node → Copies s node old new → Agrees opening s old → Agrees opening now new
   copied_keeps nodes disks files left named can did h =
       file_written (λ n row found disk. elim (rows_same s now nodes n row found disk) [
         | inl never ↦ absurd never
@@ -139,7 +139,7 @@ module _ (opening : List ℕ → Option (List ℕ)) (s now : State) (node : ℕ)
 module _ (opening : List ℕ → Option (List ℕ)) (s now : State) (node : ℕ) (op : Op) (part : Extent) (done : ℕ) (old new : Contents) where
   write_keeps : now.table.nodes ≡ map (unsettled_over s.table node) s.table.nodes
       → now.disks ≡ map (disk_changed node (done_in op part done)) s.disks → now.files ≡ s.files → now.left ≡ s.left → now.named ≡ s.named
-      → IsWritable s node → Writes s node op part done old new → Agrees opening s old → Agrees opening now new
+      → IsGuestWritable s node → WritesDisks s node op part done old new → Agrees opening s old → Agrees opening now new
   write_keeps nodes disks files left named can did h =
       file_written opening s now node old new (λ n row found disk.
       let in_list = subst (λ rows. find (λ r. r.id == n) rows ≡ Some row) nodes found in

@@ -77,7 +77,7 @@ abbrev pub guests_after : Opening → List Event → List Guest
 guests_after o h = run guest_step (map (λ name. new_guest) o.guests) h
 
 -- A run that is done: script and traces are used up, each actor is done, and no request is in flight.
-pub record IsDone (o : Opening) (script : List Order) (traces : List (List Wish))
+pub record IsRunDone (o : Opening) (script : List Order) (traces : List (List Wish))
     (h : List Event) : Type 0 where
   pub guests : length traces ≡ length o.guests
   pub whole : IsWhole script traces h
@@ -86,6 +86,6 @@ pub record IsDone (o : Opening) (script : List Order) (traces : List (List Wish)
 -- Where the store tells its files, what was done is a history of that opening, after which no job is left.
 pub record HasEnded (o : Opening) (is_told : Bool) (script : List Order) (traces : List (List Wish))
     (h : List Event) : Type 0 where
-  pub done : IsDone o script traces h
+  pub done : IsRunDone o script traces h
   pub history : is_told ≡ true → IsHistoryOf o h
   pub jobs : is_told ≡ true → (replay (start o) h).table.jobs ≡ []

@@ -12,14 +12,14 @@ use Rattle.q2_format.specs.Created.{Creation, created_length}
 use Rattle.q2_format.specs.declared.entries.L2Entry.{L2Entry}
 use Rattle.q2_format.specs.declared.entries.L2Entry.TheVariants.{Unallocated}
 use Rattle.q2_format.specs.declared.header.Header.{Header}
-use Rattle.flat_machine.specs.State.{Content, Bytes, Blank, Unknown, Known, Mapped, MapsNone, MapsSome, Unsure}
+use Rattle.flat_machine.specs.State.{Content, Bytes, Blank, Unknown, KnownFile, Mapped, MapsNone, MapsSome, Unsure}
 
 -- a file as it was found
-abbrev pub found : File → Known
+abbrev pub found : File → KnownFile
 found file = record { name = file.name; content = Bytes file.bytes }
 
 -- the files with this known of one
-abbrev pub with_content : List ℕ → Content → List Known → List Known
+abbrev pub with_content : List ℕ → Content → List KnownFile → List KnownFile
 with_content name content [] = record { name = name; content = content } ∷ []
 with_content name content (known ∷ files) =
     if bytes_eq known.name name then record { name = name; content = content } ∷ files

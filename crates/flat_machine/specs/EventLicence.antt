@@ -69,18 +69,18 @@ IsOnTheWay t sources drive (Some dev) = With drive (λ node. ReachesDevice t sou
 
 -- ---- commands: the store, the device of the node that it names, or that of the file that it opens
 
-abbrev pub IsDeviceOf : Table → Sources → Counts → ℕ → FileRef (List ℕ) → Type 0
-IsDeviceOf t sources before dev (file_ref.Name name) =
+abbrev pub IsDeviceFor : Table → Sources → Counts → ℕ → FileRef (List ℕ) → Type 0
+IsDeviceFor t sources before dev (file_ref.Name name) =
     With (id_named t name) (λ node. sources.device_of node ≡ Some dev)
-IsDeviceOf t sources before dev (file_ref.Inline file) = dev ≡ length before.devices
+IsDeviceFor t sources before dev (file_ref.Inline file) = dev ≡ length before.devices
 
 abbrev pub IsOfAddition : Table → Sources → Counts → ℕ → Added (List ℕ) → Type 0
-IsOfAddition t sources before dev (added.Qcow2 image) = IsDeviceOf t sources before dev image.file
+IsOfAddition t sources before dev (added.Qcow2 image) = IsDeviceFor t sources before dev image.file
 IsOfAddition t sources before dev driver = ⊥
 
 abbrev pub IsOfCreation : Table → Sources → Counts → ℕ → Created (List ℕ) → Type 0
 IsOfCreation t sources before dev (created.Qcow2 c) =
-    IsDeviceOf t sources before dev (file_ref.Name c.file)
+    IsDeviceFor t sources before dev (file_ref.Name c.file)
 IsOfCreation t sources before dev options = ⊥
 
 abbrev pub IsCalledBy : Table → Sources → Counts → FaultFrom → Option Cmd → Type 0

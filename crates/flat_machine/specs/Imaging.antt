@@ -15,7 +15,7 @@ use Rattle.flat_machine.specs.Changed.{stepped}
 use Rattle.flat_machine.specs.Sights.{AgreesWith, mapped_at}
 use Rattle.flat_machine.specs.Agreement.{Contents}
 use Rattle.flat_machine.specs.Writing.{written_file}
-use Rattle.flat_machine.specs.Standing.{IsOpen}
+use Rattle.flat_machine.specs.Standing.{IsOpenlyKnown}
 
 -- ---- one image
 
@@ -58,7 +58,7 @@ StayInFiles t now = (node : ℕ) (name : List ℕ) → is_qcow2_at t node ≡ tr
 -- A file in which there is an image isn't spoiled, and parents of nodes that move stay over their
 -- files where they are images. Of every other kind of change nothing more is asked.
 abbrev pub KeepsImages : State → Change → Type 0
-KeepsImages s (change.SpoilFile name) = IsOpen s.table name
+KeepsImages s (change.SpoilFile name) = IsOpenlyKnown s.table name
 KeepsImages s (change.PutFilter row node) =
     StayInFiles s.table (changed s.table (change.PutFilter row node))
 KeepsImages s (change.Move from to but) =

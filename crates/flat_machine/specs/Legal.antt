@@ -53,8 +53,8 @@ abbrev pub IsNotDone : State → ℕ → Type 0
 IsNotDone s actor = Contains s.ended actor → ⊥
 
 -- the next request of a guest that is attached, which is judged by whether it is read-only and by its disk's size
-abbrev pub IsJudged : State → ℕ → ℕ → (Bool → ℕ → Type 0) → Type 0
-IsJudged s g r P = IsNotDone s (g + 1) × With (guest_at s g) (λ row. IsNext row r)
+abbrev pub IsNextJudged : State → ℕ → ℕ → (Bool → ℕ → Type 0) → Type 0
+IsNextJudged s g r P = IsNotDone s (g + 1) × With (guest_at s g) (λ row. IsNext row r)
     × With (device_at s.table g)
     (λ device. With (disk_of_guest s.table g) (λ node. P device.read_only (size_of s.table node)))
 
@@ -125,38 +125,38 @@ pub record IsAtRest (s : State) : Type 0 where
   pub started : AllStarted s
   pub ended : s.ending ≡ None
 
-abbrev pub IsMember : Option Ending → JobRecord → Type 0
-IsMember None row = Unit {0}
-IsMember (Some ending) row = row.group ≡ Some ending.group
+abbrev pub IsInGroup : Option Ending → JobRecord → Type 0
+IsInGroup None row = Unit {0}
+IsInGroup (Some ending) row = row.group ≡ Some ending.group
 
 -- Behind the reply to a command stand the starts of its jobs in their order, and beside the end of a member of a group
 -- those of the others.
 abbrev pub InTurn : State → Event → Type 0
 InTurn s (Start job) = (job ≡ s.starts) × (s.starts < s.table.started)
-InTurn s (End job outcome offset) = AllStarted s × With (job_at s.table job) (IsMember s.ending)
+InTurn s (End job outcome offset) = AllStarted s × With (job_at s.table job) (IsInGroup s.ending)
 InTurn s e = IsAtRest s
 
 -- ---- each entry
 
-abbrev pub MayStand : State → Event → Type 0
-MayStand s (Admit g r op) = IsJudged s g r (CanAdmit op)
-MayStand s (Refuse g r op why) =
-    IsJudged s g r (λ read_only size. IsRefusedFor op read_only size why)
-MayStand s (Piece g r k outcome got) =
+abbrev pub MayHappen : State → Event → Type 0
+MayHappen s (Admit g r op) = IsNextJudged s g r (CanAdmit op)
+MayHappen s (Refuse g r op why) =
+    IsNextJudged s g r (λ read_only size. IsRefusedFor op read_only size why)
+MayHappen s (Piece g r k outcome got) =
     IsInFlight s g r (λ f. IsNextPiece f k outcome (guest_disk s g) got)
-MayStand s (Retire g r) = IsInFlight s g r IsOver
-MayStand s (Reply line given command text) = IsNotDone s 0 × IsAnswer s given command text
-MayStand s (Reached line what) = IsNotDone s 0 × IsMet s what
-MayStand s (Start job) = IsSome (job_at s.table job)
-MayStand s (Ready job) =
+MayHappen s (Retire g r) = IsInFlight s g r IsOver
+MayHappen s (Reply line given command text) = IsNotDone s 0 × IsAnswer s given command text
+MayHappen s (Reached line what) = IsNotDone s 0 × IsMet s what
+MayHappen s (Start job) = IsSome (job_at s.table job)
+MayHappen s (Ready job) =
     With (job_at s.table job) (λ row. (can_be_ready row row.kind ≡ true) × (row.is_ready ≡ false))
-MayStand s (End job outcome offset) = With (job_at s.table job) (CanEnd s outcome offset)
-MayStand s (Done zero) = IsNotDone s 0
-MayStand s (Done (suc g)) = IsNotDone s (g + 1) × With (guest_at s g) (λ row. row.flight ≡ None)
+MayHappen s (End job outcome offset) = With (job_at s.table job) (CanEnd s outcome offset)
+MayHappen s (Done zero) = IsNotDone s 0
+MayHappen s (Done (suc g)) = IsNotDone s (g + 1) × With (guest_at s g) (λ row. row.flight ≡ None)
 
 -- the entry fits the state before it
 abbrev pub Fits : State → Event → Type 0
-Fits s e = InTurn s e × MayStand s e
+Fits s e = InTurn s e × MayHappen s e
 
 -- a history is legal where each of its entries fits
 abbrev pub Legal : State → List Event → Type 0

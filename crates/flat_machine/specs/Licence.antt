@@ -2,7 +2,7 @@
 use Rattle.std.specs.Prelude.{◌≡◌, ℕ, ◌+◌, ◌-◌, ◌*◌, ◌≤◌, ◌==◌, if◌then◌else◌, List, [], ◌∷◌, slice_get, drop, fold, codes, nat_eq, AllPairs, All, Option, Some, None, option_and_then}
 use Rattle.std.specs.List.{slice_split, starts_with, filter_map}
 use Rattle.std.specs.Str.{bytes_eq}
-use Rattle.blk_base.specs.Counts.{Rose}
+use Rattle.blk_base.specs.Counts.{HasFailedSince}
 use Rattle.blk_base.specs.declared.fault.Fault.TheVariants as faults
 use Rattle.blk_base.specs.declared.fault.FaultAt.{FaultAt}
 use Rattle.blk_base.specs.declared.fault.FaultFrom.{FaultFrom}
@@ -78,7 +78,7 @@ faults_of h = filter_map named_in h
 
 -- the count lies above the one at the opening, and is at most the one at the end
 pub record IsBetween (opening closing : Counts) (fault : FaultAt) : Type 0 where
-  pub risen : With (count_of opening fault.from) (λ before. Rose before fault.count)
+  pub risen : With (count_of opening fault.from) (λ before. HasFailedSince before fault.count)
   pub reached : With (count_of closing fault.from) (λ now. fault.count ≤ now)
 
 -- a count stands still at its last value

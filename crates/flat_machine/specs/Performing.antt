@@ -19,8 +19,8 @@ use Rattle.flat_machine.specs.Agreement.{Contents, HasDisk}
 -- ---- when a change can be made, by the state alone
 
 -- no node has the id yet
-abbrev pub IsFresh : State → NodeRecord → Type 0
-IsFresh s row = node_at s.table row.id ≡ None
+abbrev pub IsNewNode : State → NodeRecord → Type 0
+IsNewNode s row = node_at s.table row.id ≡ None
 
 -- all bytes of the file are known
 abbrev pub IsWholly : Content → Type 0
@@ -28,7 +28,7 @@ IsWholly content = (bytes : List ℕ) × (content ≡ Bytes bytes)
 
 -- a `file` node over a file whose bytes are known
 pub record CanAddFile (s : State) (row : NodeRecord) : Type 0 where
-  pub fresh : IsFresh s row
+  pub fresh : IsNewNode s row
   pub driver : row.kind ≡ Protocol
   pub known : With (content_in s.files (filename_or row)) IsWholly
 
@@ -43,19 +43,19 @@ IsReadable (Bytes bytes) = Unit {0}
 IsReadable (Blank new len) = Unit {0}
 IsReadable content = ⊥
 
-abbrev pub CanRead : State → ℕ → Kind → Type 0
-CanRead s file Raw = With (node_at s.table file) HasDisk
-CanRead s file Qcow2 = With (content_under s file) IsReadable
-CanRead s file driver = ⊥
+abbrev pub CanFileBeRead : State → ℕ → Kind → Type 0
+CanFileBeRead s file Raw = With (node_at s.table file) HasDisk
+CanFileBeRead s file Qcow2 = With (content_under s file) IsReadable
+CanFileBeRead s file driver = ⊥
 
 pub record CanAddFormat (s : State) (row : NodeRecord) (file : ℕ) (backing : Option ℕ) : Type 0
   where
-    pub fresh : IsFresh s row
-    pub readable : CanRead s file row.kind
+    pub fresh : IsNewNode s row
+    pub readable : CanFileBeRead s file row.kind
     pub backed : IsBacking s backing
 
 pub record CanAddFilter (s : State) (row : NodeRecord) : Type 0 where
-  pub fresh : IsFresh s row
+  pub fresh : IsNewNode s row
   pub filter : IsSome (filter_role row.kind)
 
 abbrev pub Can : State → Change → Type 0

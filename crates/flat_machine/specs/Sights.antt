@@ -18,8 +18,8 @@ use Rattle.qmp_codec.specs.declared.nodes.Added.{Added}
 use Rattle.qmp_codec.specs.declared.nodes.Added.TheVariants as added
 use Rattle.qmp_codec.specs.declared.nodes.Created.{Created}
 use Rattle.qmp_codec.specs.declared.nodes.Created.TheVariants as created
-use Rattle.qmp_rules.specs.declared.told.Look.{Look}
-use Rattle.qmp_rules.specs.declared.told.Look.TheVariants as look
+use Rattle.qmp_asks.specs.declared.look.Look.{Look}
+use Rattle.qmp_asks.specs.declared.look.Look.TheVariants as look
 use Rattle.qmp_rules.specs.declared.told.Stopped.{Stopped}
 use Rattle.qmp_rules.specs.declared.told.Told.{Told}
 use Rattle.qmp_rules.specs.declared.refusal.FileFault.TheVariants.{Absent}

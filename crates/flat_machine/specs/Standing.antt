@@ -9,7 +9,7 @@ use Rattle.qmp_rules.specs.Chains.{filter_role, disk_node}
 use Rattle.blk_history.specs.Fold.{With}
 use Rattle.flat_machine.specs.State.{State, Content, Bytes, Blank, Unknown, Left, content_in, drive_of}
 use Rattle.flat_machine.specs.Wiring.{StandsFor, IsUnder, LeadsToFile, TableStands, InlineAreUnder, writes_through}
-use Rattle.flat_machine.specs.Writing.{IsWritable}
+use Rattle.flat_machine.specs.Writing.{IsGuestWritable}
 
 -- ---- `file` nodes
 
@@ -54,13 +54,13 @@ IsOfState (Some Formatted) content = IsBlankFile content
 IsOfState (Some Used) content = Unit {0}
 
 -- so it is with each file of which there is word, but for one under a format node
-abbrev pub IsOpen : Table → List ℕ → Type 0
-IsOpen t name = (row : NodeRecord) → StandsFor t name row → IsUnder t.edges row.id → ⊥
+abbrev pub IsOpenlyKnown : Table → List ℕ → Type 0
+IsOpenlyKnown t name = (row : NodeRecord) → StandsFor t name row → IsUnder t.edges row.id → ⊥
 
 abbrev pub FilesAreOfState : State → Type 0
 FilesAreOfState s =
     (name : List ℕ) (content : Content) → content_in s.files name ≡ Some content
-    → IsOpen s.table name
+    → IsOpenlyKnown s.table name
     → IsOfState (file_state s.table name) content
 
 -- of one under a format node nothing is known
@@ -90,19 +90,19 @@ HaveBytes s =
 pub record IsUsedUp (s : State) (left : Left) : Type 0 where
   pub used : file_state s.table left.file ≡ Some Used
   pub gone : (row : NodeRecord) → StandsFor s.table left.file row → row.is_settled ≡ false
-  pub is_open : IsOpen s.table left.file
+  pub is_open : IsOpenlyKnown s.table left.file
 
 -- ---- devices
 
 -- a device has a drive; where it may write its disk, or its reads do, that may be written
-abbrev pub MayWrite : State → Device → ℕ → Type 0
-MayWrite s device drive =
-    writes_through s.table device.read_only drive ≡ true → IsWritable s (disk_node s.table drive)
+abbrev pub MayGuestWrite : State → Device → ℕ → Type 0
+MayGuestWrite s device drive =
+    writes_through s.table device.read_only drive ≡ true → IsGuestWritable s (disk_node s.table drive)
 
 abbrev pub WritersStand : State → Type 0
 WritersStand s =
     (g : ℕ) (device : Device) → device_at s.table g ≡ Some device
-    → With (drive_of s.table g) (MayWrite s device)
+    → With (drive_of s.table g) (MayGuestWrite s device)
 
 -- ---- all of it
 

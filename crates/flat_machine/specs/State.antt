@@ -34,7 +34,7 @@ pub data Content : Type 0 where
   Blank : Creation → Option ℕ → Content
   Unknown : Content
 
-pub record Known : Type 0 where
+pub record KnownFile : Type 0 where
   pub name : List ℕ
   pub content : Content
 
@@ -78,7 +78,7 @@ pub record State : Type 0 where
   pub guests : List Guest
   pub disks : List Disk
   pub left : List Left
-  pub files : List Known
+  pub files : List KnownFile
   -- the files that were named for writing so far
   pub named : List (List ℕ)
   pub images : List Image
@@ -119,7 +119,7 @@ flat_disk_of s node = if is_settled s.table node then Some (bytes_at_node s node
 
 -- ---- files
 
-abbrev pub content_in : List Known → List ℕ → Option Content
+abbrev pub content_in : List KnownFile → List ℕ → Option Content
 content_in files name =
     option_map (λ known. known.content) (find (λ known. bytes_eq known.name name) files)
 

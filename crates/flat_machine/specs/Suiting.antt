@@ -15,23 +15,23 @@ use Rattle.qmp_rules.specs.Chains.{filter_role}
 use Rattle.qmp_rules.specs.Changes.{changed}
 use Rattle.flat_machine.specs.State.{State, content_in}
 use Rattle.flat_machine.specs.Changed.{stepped}
-use Rattle.flat_machine.specs.Wiring.{StandsFor, IsUnder, HasNumber, HasOwnName, TableStands}
-use Rattle.flat_machine.specs.Standing.{MayWrite, Stands}
+use Rattle.flat_machine.specs.Wiring.{StandsFor, IsUnder, HasDeviceNumber, HasOwnName, TableStands}
+use Rattle.flat_machine.specs.Standing.{MayGuestWrite, Stands}
 
 abbrev pub IsThere : Table → ℕ → Type 0
 IsThere t node = IsSome (node_at t node)
 
 -- no node stands for the file
-abbrev pub IsClosed : Table → List ℕ → Type 0
-IsClosed t name = (row : NodeRecord) → StandsFor t name row → ⊥
+abbrev pub HasNoNode : Table → List ℕ → Type 0
+HasNoNode t name = (row : NodeRecord) → StandsFor t name row → ⊥
 
 -- no edge leads to the node
 abbrev pub IsAlone : Table → ℕ → Type 0
 IsAlone t node = (edge : Edge) → Contains t.edges edge → edge.child ≡ node → ⊥
 
 -- it is no `file` node that a format node is over
-abbrev pub IsFree : Table → ℕ → Type 0
-IsFree t node =
+abbrev pub IsUnderNoFormat : Table → ℕ → Type 0
+IsUnderNoFormat t node =
     (row : NodeRecord) → node_at t node ≡ Some row → IsSome row.filename → IsUnder t.edges node → ⊥
 
 -- ---- tables
@@ -43,14 +43,14 @@ pub record SuitsFile (t : Table) (row : NodeRecord) : Type 0 where
   pub driver : row.kind ≡ Protocol
   pub name : List ℕ
   pub filename : row.filename ≡ Some name
-  pub closed : IsClosed t name
+  pub closed : HasNoNode t name
 
 -- the backing node of a new one
 pub record SuitsBacking (t : Table) (row : NodeRecord) (file backing : ℕ) : Type 0 where
   pub role : has_role row.kind Backing ≡ true
   pub there : IsThere t backing
   pub other : backing ≢ file
-  pub free : IsFree t backing
+  pub free : IsUnderNoFormat t backing
   pub plain : (row : NodeRecord) → node_at t backing ≡ Some row → row.kind ≢ CopyOnRead
 
 -- a new format node over a `file` node that has no parent
@@ -82,8 +82,8 @@ pub record SuitsFilter (t : Table) (row : NodeRecord) (child : ℕ) : Type 0 whe
 
 pub record SuitsDevice (t : Table) (device : Device) (node : ℕ) : Type 0 where
   pub there : IsThere t node
-  pub free : IsFree t node
-  pub number : HasNumber t.guests device
+  pub free : IsUnderNoFormat t node
+  pub number : HasDeviceNumber t.guests device
 
 -- Of the kinds that jobs and snapshots bring it is asked that they leave it.
 abbrev pub TableSuits : Table → Change → Type 0
@@ -148,13 +148,13 @@ pub record FormattingSuits (t : Table) (node : ℕ) (name : List ℕ) : Type 0 w
 pub record DeviceSuits (s : State) (device : Device) (node : ℕ) : Type 0 where
   pub suits : SuitsDevice s.table device node
   pub fresh : device_at s.table device.number ≡ None
-  pub writes : MayWrite s device node
+  pub writes : MayGuestWrite s device node
 
 abbrev pub Suits : State → Change → Type 0
 Suits s change.Negotiate = Unit {0}
 Suits s (change.KeepId id) = Unit {0}
 Suits s (change.DropId id) = Unit {0}
-Suits s (change.MakeFile name size) = IsClosed s.table name
+Suits s (change.MakeFile name size) = HasNoNode s.table name
 Suits s (change.FormatFile node name size backing_file backing_fmt) =
     FormattingSuits s.table node name
 Suits s (change.SpoilFile name) = Unit {0}

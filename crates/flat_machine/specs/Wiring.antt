@@ -10,7 +10,7 @@ use Rattle.qmp_rules.specs.declared.rows.Device.{Device}
 use Rattle.qmp_rules.specs.Table.{Table, node_at, child}
 use Rattle.qmp_rules.specs.Chains.{filter_role, disk_node}
 use Rattle.qmp_rules.specs.Edits.{place_from}
-use Rattle.qmp_rules.specs.Naming.{inline_name, is_name}
+use Rattle.qmp_asks.specs.Naming.{inline_name, is_name}
 use Rattle.blk_history.specs.Fold.{With}
 use Rattle.flat_machine.specs.Machine.{copies_through}
 
@@ -88,7 +88,7 @@ pub record LeadsToFile (t : Table) (over under : NodeRecord) : Type 0 where
 
 -- A `file` node that is under another one: that is no filter and the only one over it. It has no flat disk, and may be written
 -- where the node over it may.
-pub record IsTaken (t : Table) (over under : NodeRecord) : Type 0 where
+pub record IsUnderOne (t : Table) (over under : NodeRecord) : Type 0 where
   pub format : filter_role over.kind ≡ None
   pub gone : under.is_settled ≡ false
   pub sole : (edge : Edge) → Contains t.edges edge → edge.child ≡ under.id
@@ -98,7 +98,7 @@ pub record IsTaken (t : Table) (over under : NodeRecord) : Type 0 where
 abbrev pub FilesAreTaken : Table → Type 0
 FilesAreTaken t =
     (over under : NodeRecord) → LeadsToFile t over under → IsSome under.filename
-    → IsTaken t over under
+    → IsUnderOne t over under
 
 -- no node is over one that copies what is read
 abbrev pub CopiesAreOnTop : Table → Type 0
@@ -137,11 +137,11 @@ abbrev pub IsNumberBy : ℕ → ℕ → Option ℕ → Type 0
 IsNumberBy count number None = count ≤ number
 IsNumberBy count number (Some guest) = number ≡ guest
 
-abbrev pub HasNumber : List (List ℕ) → Device → Type 0
-HasNumber guests device = IsNumberBy (length guests) device.number (place_from 0 device.id guests)
+abbrev pub HasDeviceNumber : List (List ℕ) → Device → Type 0
+HasDeviceNumber guests device = IsNumberBy (length guests) device.number (place_from 0 device.id guests)
 
 abbrev pub AreNumbered : Table → Type 0
-AreNumbered t = (device : Device) → Contains t.devices device → HasNumber t.guests device
+AreNumbered t = (device : Device) → Contains t.devices device → HasDeviceNumber t.guests device
 
 -- ---- all of it
 

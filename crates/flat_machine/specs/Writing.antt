@@ -24,7 +24,7 @@ written_file t node = option_and_then (λ row. file_of t row row.kind) (node_at 
 
 -- A node that a guest may write: it has a flat disk, the `file` node under it has none, and of its file nothing is known, no
 -- disk is left in it, and a command named it.
-pub record IsWritable (s : State) (node : ℕ) : Type 0 where
+pub record IsGuestWritable (s : State) (node : ℕ) : Type 0 where
   pub disk : IsSome (find (λ d. d.node == node) s.disks)
   pub under : (file : ℕ) (row : NodeRecord) → child s.table node File ≡ Some file
       → node_at s.table file ≡ Some row → HasDisk row → ⊥
@@ -42,7 +42,7 @@ ReadsWritten t node other =
     (disk_node t other ≡ node) ⊎ ((child t node File ≡ Some other) ⊎ (is_over t node other ≡ true))
 
 -- so many bytes of a part of the request are done
-pub record Writes (s : State) (node : ℕ) (op : Op) (part : Extent) (done : ℕ)
+pub record WritesDisks (s : State) (node : ℕ) (op : Op) (part : Extent) (done : ℕ)
     (old new : Contents) : Type 0 where
   pub written : new.reads node ≡ done_in op part done (old.reads node)
   pub nodes : ReadSame (ReadsWritten s.table node) old new
@@ -62,14 +62,14 @@ ReadDone s drive old new =
 abbrev pub PieceDone : State → ℕ → Op → Outcome → Extent → Contents → Contents → Type 0
 PieceDone s drive (Read span) outcome part old new = ReadDone s drive old new
 PieceDone s drive (Write span payload) outcome part old new =
-    Writes s (disk_node s.table drive) (Write span payload) part (done_by outcome part) old new
+    WritesDisks s (disk_node s.table drive) (Write span payload) part (done_by outcome part) old new
 PieceDone s drive (Zero span) outcome part old new =
-    Writes s (disk_node s.table drive) (Zero span) part (done_by outcome part) old new
+    WritesDisks s (disk_node s.table drive) (Zero span) part (done_by outcome part) old new
 PieceDone s drive op outcome part old new = IsQuiet old new
 
 abbrev pub CanWrite : State → ℕ → Op → Type 0
 CanWrite s drive (Read span) =
-    copies_through s.table drive ≡ true → IsWritable s (disk_node s.table drive)
-CanWrite s drive (Write span payload) = IsWritable s (disk_node s.table drive)
-CanWrite s drive (Zero span) = IsWritable s (disk_node s.table drive)
+    copies_through s.table drive ≡ true → IsGuestWritable s (disk_node s.table drive)
+CanWrite s drive (Write span payload) = IsGuestWritable s (disk_node s.table drive)
+CanWrite s drive (Zero span) = IsGuestWritable s (disk_node s.table drive)
 CanWrite s drive op = Unit {0}

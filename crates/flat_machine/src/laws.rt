@@ -16,7 +16,7 @@ ghost use Rattle.qmp_codec.specs.Commands.{Cmd};
 ghost use Rattle.qmp_codec.specs.declared.nodes.Created.{Created};
 ghost use Rattle.qmp_rules.specs.declared.told.Told.{Told};
 ghost use Rattle.qmp_rules.specs.declared.rows.Device.{Device};
-ghost use Rattle.qmp_rules.specs.Naming.{inline_name, is_name};
+ghost use Rattle.qmp_asks.specs.Naming.{inline_name, is_name};
 ghost use Rattle.qmp_rules.specs.Table.{Table, device_at, node_named};
 ghost use Rattle.qmp_rules.specs.Chains.{disk_node, written_under};
 ghost use Rattle.qmp_rules.specs.Changes.{all_changed};
@@ -114,7 +114,8 @@ pub fn transcripts_have_one_history()
         → HaveOneHistory o script traces }
 {}
 
-/// A guest whose device may write is on a drive whose disk it can write.
+/// Where a request that writes comes of a guest whose device may, its drive is one whose disk it can write; and a read through
+/// `copy-on-read` goes in at a drive into whose image it may put what it reads.
 pub fn guests_can_write()
     ensures { (s : State) (g : ℕ) (device : Device) (drive : ℕ) (op : Op) → StandsAtRest s
         → device_at s.table g ≡ Some device → drive_of s.table g ≡ Some drive
@@ -122,7 +123,7 @@ pub fn guests_can_write()
 {}
 
 /// Where nodes and files are what the flat machine says, they are so after a piece of a guest's request on a drive: a write
-/// changes the written node alone among those that keep their flat disks.
+/// changes the written node alone among those that keep their flat disks, and a read that is kept changes none of them.
 pub fn pieces_keep_disks()
     ensures { (opening : List ℕ → Option (List ℕ)) (s : State) (drive : ℕ) (op : Op)
         (outcome : Outcome) (part : Extent) (old new : Contents) → CanWrite s drive op
