@@ -13,18 +13,18 @@ use Rattle.qmp_codec.specs.declared.nodes.FileRef.TheVariants as file_ref
 use Rattle.qmp_rules.specs.Answers.{refusal_of, untold}
 use Rattle.qmp_rules.specs.Table.{Table}
 use Rattle.qmp_rules.specs.declared.refusal.Refusal.{Refusal}
-use Rattle.qmp_rules.specs.declared.told.Look.TheVariants as look
+use Rattle.qmp_asks.specs.declared.look.Look.TheVariants as look
 use Rattle.qmp_rules.specs.declared.told.Told.{Told}
 use Rattle.flat_machine.specs.State.{State}
 use Rattle.flat_machine.specs.declared.opening.Opening.{Opening}
 use Rattle.world_parts.specs.Adding.{Adding, Opens, Taken}
 use Rattle.world_commands.specs.Carrying.{IsCaused, as_held, fault_told}
-use Rattle.world_parts.specs.Coherent.{DevicesTell, IsCoherent, IsWhole}
-use Rattle.world_commands.specs.Comes.{Shows}
+use Rattle.world_parts.specs.Coherent.{DevicesTell, IsCoherent, IsWholeWorld}
+use Rattle.world_commands.specs.Comes.{ShowsState}
 use Rattle.world_commands.specs.Counting.{HidesNoFault, RunsOn}
 use Rattle.world_parts.specs.Face.{Face}
 use Rattle.world_parts.specs.Looking.{AreIn, LooksAtImage, LooksAtPart, LooksBy, LooksOut, Site}
-use Rattle.world_parts.specs.Staging.{HasEnded, IsAdditionOf, opened_name, site_of, store_of}
+use Rattle.world_parts.specs.Staging.{HasAdditionEnded, IsAdditionOf, opened_name, site_of, store_of}
 use Rattle.blk_world.proofs.AddCarried.{sited}
 use Rattle.blk_world.proofs.AddCause.{causes}
 use Rattle.blk_world.proofs.AddClosed.{closed-in}
@@ -39,7 +39,7 @@ use Rattle.blk_world.proofs.AddUnder.{seen-under}
 
 -- ---- what was seen
 
-module _ (o : Opening) (s : State) (w : Face) (shows : Shows o s w) (coherent : IsCoherent w.table w.nodes w.opened w.progress)
+module _ (o : Opening) (s : State) (w : Face) (shows : ShowsState o s w) (coherent : IsCoherent w.table w.nodes w.opened w.progress)
     (tell : DevicesTell w.files w.nodes.devices) (files : List File) (told_files : w.files ≡ Some files) (c : Adding) (now : Site)
     (out : Option Taken) (image : Option Known) (told : Told) where
   seen-out : (at : Opens) → OpensAs c at → LooksOut w.table c at (site_of w) now out image told → IsSeenHeld s w c told
@@ -73,7 +73,7 @@ module _ (o : Opening) (s : State) (w : Face) (shows : Shows o s w) (coherent : 
 
 -- ---- all of it
 
-module _ (w : Face) (whole : IsWhole w) (joined : IsJoined w.nodes) (given : List ℕ) (c : Adding) (x : Site) (u : Table) (text : List ℕ)
+module _ (w : Face) (whole : IsWholeWorld w) (joined : IsJoined w.nodes) (given : List ℕ) (c : Adding) (x : Site) (u : Table) (text : List ℕ)
     (is : IsAdditionOf w.table given c (site_of w) x u text) where
   closed : AreIn w.table w.opened
   closed name unopened = closed-in w.table w.nodes w.opened name whole.coherent.out unopened
@@ -84,7 +84,7 @@ module _ (w : Face) (whole : IsWhole w) (joined : IsJoined w.nodes) (given : Lis
   pub runs-so : RunsOn w (sited w x u)
   runs-so = by_end is.ends
     where
-      by_end : HasEnded w.table given c is.told is.out is.image is.between x u text → RunsOn w (sited w x u)
+      by_end : HasAdditionEnded w.table given c is.told is.out is.image is.between x u text → RunsOn w (sited w x u)
       by_end (inl refused) = runs-back w (sited w x u) refl is.between c.driver is.out so refused.is
       by_end (inr ends) = runs-added w (sited w x u) refl is.between c.driver is.out w.table c is.image so ends.store ends.added
 
@@ -97,7 +97,7 @@ module _ (w : Face) (whole : IsWhole w) (joined : IsJoined w.nodes) (given : Lis
         seen-by o s w shows whole.coherent whole.tell files.0 files.1 c is.between is.out is.image is.told c.driver refl is.looked;
   }
     where
-      by_end : HasEnded w.table given c is.told is.out is.image is.between x u text → (cause : Refusal)
+      by_end : HasAdditionEnded w.table given c is.told is.out is.image is.between x u text → (cause : Refusal)
           → refusal_of w.table is.told (command.BlockdevAdd c) ≡ Some cause → IsCaused w (sited w x u) (command.BlockdevAdd c) cause
       by_end (inl refused) cause some =
           causes w (sited w x u) c refl whole.counted whole.coherent runs-so is.between is.out is.image is.told closed is.looked refused.is cause some
@@ -106,7 +106,7 @@ module _ (w : Face) (whole : IsWhole w) (joined : IsJoined w.nodes) (given : Lis
       over : IsLookedOver w c is.told is.between is.out
       over = looked-over w whole joined c is.told is.between is.out closed is.image is.looked
 
-      hides_end : HasEnded w.table given c is.told is.out is.image is.between x u text
+      hides_end : HasAdditionEnded w.table given c is.told is.out is.image is.between x u text
           → HidesNoFault w (sited w x u) (fault_told (refusal_of w.table is.told (command.BlockdevAdd c)))
       hides_end (inl refused) =
           subst (λ (r : Option Refusal). HidesNoFault w (sited w x u) (fault_told r)) (sym refused.staged.is)

@@ -31,7 +31,7 @@ pub out-closed : (t : Table) (nodes : Nodes) (opened : List Opened) (o : Opened)
 out-closed t nodes opened o count back was = record {
   each = λ held there.
       let is = was.each held there in
-      record { opening = is.opening; there = get-before opened o is.opening held.number.0 is.there; out = is.out; named = is.named; faults = is.faults };
+      record { opening = is.opening; there = get-before opened o is.opening held.number.0 is.there; out = is.out; named = is.named; capacity = is.capacity; faults = is.faults };
   once = was.once;
   order = was.order;
   all = λ n other there out. elim (get-cases opened o other n there) [

@@ -17,14 +17,14 @@ use Rattle.qmp_rules.specs.Asks.{id_or}
 use Rattle.qmp_rules.specs.Changes.{all_changed}
 use Rattle.qmp_rules.specs.Edits.{added_edits, edits_of, free_id, image_row, qcow2_edits, raw_edits}
 use Rattle.qmp_rules.specs.Looks.{file_stop, raw_stop}
-use Rattle.qmp_rules.specs.NodeAsks.{backing_name, is_read_only}
+use Rattle.qmp_asks.specs.NodeAsks.{backing_name, is_read_only}
 use Rattle.qmp_rules.specs.Table.{Table, id_named}
 use Rattle.qmp_rules.specs.declared.change.Change.{Change}
-use Rattle.qmp_rules.specs.declared.told.Look.TheVariants as look
+use Rattle.qmp_asks.specs.declared.look.Look.TheVariants as look
 use Rattle.qmp_rules.specs.declared.told.Told.{Told}
 use Rattle.flat_machine.specs.Performing.{AllPerformed, IsQuiet}
 use Rattle.flat_machine.specs.State.{State}
-use Rattle.world_parts.specs.Adding.{Adding, IsTakenOut, Taken, Tells, TellsInside, TellsLength}
+use Rattle.world_parts.specs.Adding.{Adding, IsTakenOut, Taken, TellsAddition, TellsInside, TellsLength}
 use Rattle.world_parts.specs.Coherent.{IsCoherent}
 use Rattle.world_parts.specs.Face.{Face, contents_of, told_bytes}
 use Rattle.world_parts.specs.Joining.{HasAdded, HasAddedBy, HasAddedFile, HasAddedImage, HasAddedPart}
@@ -78,7 +78,7 @@ module _ (w : Face) (coherent : IsCoherent w.table w.nodes w.opened w.progress) 
   did-file-by filename e looks has table =
       let taken = taken-out w.table told c none (record { filename = filename; what = look.File }) (AsFile e refl) (store_of w) now.store out image looks.looks in
       let tells : TellsLength (file_stop filename taken.inside.first.size) taken.inside.first taken.device image told =
-      subst (λ (d : Added (List ℕ)). Tells w.table c.node_name filename d taken.inside.first taken.device image told) e taken.inside.tells in
+      subst (λ (d : Added (List ℕ)). TellsAddition w.table c.node_name filename d taken.inside.first taken.device image told) e taken.inside.tells in
       let short = file-short w.table told c none filename taken.inside.first.size (ap (λ (a : Told). a.stopped) tells.is) (rw e refl) in
       let fresh = fresh-of (store_of w) now.store filename taken.inside.first taken.device told taken.inside.out tells.kept (ap (λ (a : Told). a.length) tells.is) short in
       let made : HasAddedFile c (Some taken.device) w.nodes v.nodes =
@@ -100,7 +100,7 @@ module _ (w : Face) (coherent : IsCoherent w.table w.nodes w.opened w.progress) 
   did-part-by raw (file_ref.Inline file) e f looks has table =
       let taken = taken-out w.table told c none (record { filename = file.filename; what = look.Begin }) (AsPart raw file e f refl refl) (store_of w) now.store out image looks.looks in
       let tells : TellsLength (raw_stop file.filename raw taken.inside.first.size) taken.inside.first taken.device image told =
-      subst (λ (d : Added (List ℕ)). Tells w.table c.node_name file.filename d taken.inside.first taken.device image told) e taken.inside.tells in
+      subst (λ (d : Added (List ℕ)). TellsAddition w.table c.node_name file.filename d taken.inside.first taken.device image told) e taken.inside.tells in
       let short = part-short w.table told c none raw file e f file.filename taken.inside.first.size (ap (λ (a : Told). a.stopped) tells.is) in
       let fresh = fresh-of (store_of w) now.store file.filename taken.inside.first taken.device told taken.inside.out tells.kept (ap (λ (a : Told). a.length) tells.is) short in
       let made =
@@ -130,7 +130,7 @@ module _ (w : Face) (coherent : IsCoherent w.table w.nodes w.opened w.progress) 
   did-image-by q (file_ref.Inline file) e f looks has table =
       let taken = taken-out w.table told c none (record { filename = file.filename; what = look.File }) (AsImage q file e f refl refl) (store_of w) now.store out image looks.looks in
       let tells : TellsInside w.table c.node_name file.filename q taken.inside.first taken.device image told =
-      subst (λ (d : Added (List ℕ)). Tells w.table c.node_name file.filename d taken.inside.first taken.device image told) e taken.inside.tells in
+      subst (λ (d : Added (List ℕ)). TellsAddition w.table c.node_name file.filename d taken.inside.first taken.device image told) e taken.inside.tells in
       let there = image-inside w.table told c none q file e f file.filename taken.inside.first taken.device image tells in
       let short = short-file file.filename taken.inside.first.size there.2.fits in
       let fresh = fresh-of (store_of w) now.store file.filename taken.inside.first taken.device told taken.inside.out there.2.on.kept (ap (λ (a : Told). a.length) there.2.is) short in

@@ -2,7 +2,7 @@
 use Rattle.std.proofs.Common.{◌≡◌, ◌⊎◌, ℕ, ◌+◌, ◌<◌, ◌≤◌, Bool, true, false, List, [], ◌∷◌, ◌++◌, length, map, drop, inl, inr, refl, sym, ◌∙◌, ap, subst, arith, Option, Some, None}
 use Rattle.std.specs.Prelude.{if◌then◌else◌, option_and_then, option_map, slice_get}
 use Rattle.std.proofs.lemmas.Option.{slice_get-map}
-use Rattle.blk_base.specs.Counts.{Rose}
+use Rattle.blk_base.specs.Counts.{HasFailedSince, Rose}
 use Rattle.blk_base.specs.declared.fault.DevNo.{DevNo}
 use Rattle.blk_base.specs.declared.fault.FaultFrom.TheVariants.{Dev}
 use Rattle.blk_base.specs.declared.file.Opened.{Opened}
@@ -28,11 +28,11 @@ use Rattle.qmp_rules.specs.Table.{Table, id_named, node_named}
 use Rattle.qmp_rules.specs.declared.refusal.Refusal.{Refusal}
 use Rattle.qmp_rules.specs.declared.refusal.Refusal.TheVariants as refusal
 use Rattle.qmp_rules.specs.declared.rows.NodeRecord.{NodeRecord}
-use Rattle.qmp_rules.specs.declared.told.Look.{Look}
-use Rattle.qmp_rules.specs.declared.told.Look.TheVariants as look
+use Rattle.qmp_asks.specs.declared.look.Look.{Look}
+use Rattle.qmp_asks.specs.declared.look.Look.TheVariants as look
 use Rattle.qmp_rules.specs.declared.told.Stopped.{Stopped}
 use Rattle.qmp_rules.specs.declared.told.Told.{Told}
-use Rattle.world_parts.specs.Adding.{Adding, CountFits, HasOpeningFailed, IsAbsent, IsTakenOut, Looks, LooksBadly, LooksUnder, Opens, Taken, LooksAtFile, LooksInVain, Tells, TellsInside, TellsLength, look_in_vain, of_node, opened_sight, put_back, unopened}
+use Rattle.world_parts.specs.Adding.{Adding, CountFits, HasOpeningFailed, IsAbsent, IsTakenOut, Looks, LooksBadly, LooksUnder, Opens, Taken, LooksAtFile, LooksInVain, TellsAddition, TellsInside, TellsLength, look_in_vain, of_node, opened_sight, put_back, unopened}
 use Rattle.world_commands.specs.Carrying.{IsCaused, is_failed}
 use Rattle.world_parts.specs.Coherent.{IsCoherent}
 use Rattle.world_commands.specs.Counting.{RunsOn, counts_within}
@@ -77,7 +77,8 @@ module _ (w v : Face) (c : Adding) (first_same : v.first_faults ≡ w.first_faul
   store-failed now filename why failed same =
       let rose = failed.rose in
       let least = counted in
-      let since : Rose v.first_faults now.faults = omega (arith, rose, least, first_same) in
+      let since : HasFailedSince v.first_faults now.faults = omega (arith, rose, least, first_same) in
+      let again : HasFailedSince w.faults now.faults = omega (arith, rose) in
       let reached : now.faults ≤ v.faults = omega (arith, same) in
       rw failed.is
       (record {
@@ -85,7 +86,7 @@ module _ (w v : Face) (c : Adding) (first_same : v.first_faults ≡ w.first_faul
         numbered = tt;
         reached = record {
           rise = record { risen = since; reached = reached };
-          new = record { risen = rose; reached = reached };
+          new = record { risen = again; reached = reached };
           fits = failed.fits;
         };
       })
@@ -95,6 +96,9 @@ module _ (w v : Face) (c : Adding) (first_same : v.first_faults ≡ w.first_faul
   module _ (q : AddQcow2 (List ℕ)) (file : InlineFile (List ℕ)) (e : c.driver ≡ added.Qcow2 q) (f : q.file ≡ file_ref.Inline file)
       (opening : Opened) (opened : v.opened ≡ w.opened ++ opening ∷ []) (number : DevNo) (is : number ≡ record { 0 = length w.opened }) (n : ℕ)
       (back : opening.returned ≡ Some n) (rose : Rose opening.faults n) (fits : n ≤ 18446744073709551615) where
+    since : HasFailedSince opening.faults n
+    since = omega (arith, rose)
+
     at : number.0 ≡ length w.opened
     at = ap (λ (d : DevNo). d.0) is
 
@@ -125,11 +129,11 @@ module _ (w v : Face) (c : Adding) (first_same : v.first_faults ≡ w.first_faul
       numbered = small;
       reached = record {
         rise = record {
-          risen = with-of (slice_get (first_counts v).devices number.0) opening.faults (λ before. Rose before n) first rose;
+          risen = with-of (slice_get (first_counts v).devices number.0) opening.faults (λ before. HasFailedSince before n) first since;
           reached = with-of (slice_get (counts_now v).devices number.0) n (λ now. n ≤ now) now-count (omega arith);
         };
         new = record {
-          risen = with-of (slice_get (counts_within w v).devices number.0) opening.faults (λ before. Rose before n) within rose;
+          risen = with-of (slice_get (counts_within w v).devices number.0) opening.faults (λ before. HasFailedSince before n) within since;
           reached = with-of (slice_get (counts_now v).devices number.0) n (λ now. n ≤ now) now-count (omega arith);
         };
         fits = fits;
@@ -238,7 +242,7 @@ module _ (w v : Face) (c : Adding) (first_same : v.first_faults ≡ w.first_faul
 
     by-store : (at : Opens)
         → ((first device : Taken) → out ≡ Some device → IsTakenOut (store_of w) now.store at.filename first → is_unopened w.table at.filename ≡ false
-        → Tells w.table c.node_name at.filename c.driver first device image told → IsCaused w v cmd cause)
+        → TellsAddition w.table c.node_name at.filename c.driver first device image told → IsCaused w v cmd cause)
         → LooksOut w.table c at (site_of w) now out image told → IsCaused w v cmd cause
     by-store at inside looks = by_looks looks.looks
       where
@@ -289,7 +293,7 @@ module _ (w v : Face) (c : Adding) (first_same : v.first_faults ≡ w.first_faul
         by-store (record { filename = file.filename; what = look.Begin })
         (λ first device is taken free tells.
         let its : TellsLength (raw_stop file.filename raw first.size) first device image told =
-        subst (λ (d : Added (List ℕ)). Tells w.table c.node_name file.filename d first device image told) e tells in
+        subst (λ (d : Added (List ℕ)). TellsAddition w.table c.node_name file.filename d first device image told) e tells in
         calm-by (raw_stop file.filename raw first.size) (ap (λ (a : Told). a.stopped) its.is) (calm-part file.filename raw first.size))
         looks
 
@@ -300,7 +304,7 @@ module _ (w v : Face) (c : Adding) (first_same : v.first_faults ≡ w.first_faul
         by-store (record { filename = file.filename; what = look.File })
         (λ first device is taken free tells.
         let its : TellsInside w.table c.node_name file.filename q first device image told =
-        subst (λ (d : Added (List ℕ)). Tells w.table c.node_name file.filename d first device image told) e tells in
+        subst (λ (d : Added (List ℕ)). TellsAddition w.table c.node_name file.filename d first device image told) e tells in
         by-inside q file e f first device is taken free (rw (e, f) refl) image its)
         looks
 
@@ -309,7 +313,7 @@ module _ (w v : Face) (c : Adding) (first_same : v.first_faults ≡ w.first_faul
         by-store (record { filename = filename; what = look.File })
         (λ first device is taken free tells.
         let its : TellsLength (file_stop filename first.size) first device image told =
-        subst (λ (d : Added (List ℕ)). Tells w.table c.node_name filename d first device image told) e tells in
+        subst (λ (d : Added (List ℕ)). TellsAddition w.table c.node_name filename d first device image told) e tells in
         calm-by (file_stop filename first.size) (ap (λ (a : Told). a.stopped) its.is) (calm-long filename _))
         looks
     by-driver (added.Raw raw) e looks = by-part raw raw.file e looks

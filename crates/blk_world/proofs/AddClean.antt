@@ -13,16 +13,16 @@ use Rattle.qmp_codec.specs.declared.nodes.FileRef.{FileRef}
 use Rattle.qmp_codec.specs.declared.nodes.FileRef.TheVariants as file_ref
 use Rattle.qmp_rules.specs.Asks.{if_there}
 use Rattle.qmp_rules.specs.Looks.{ImageSight, image_stop, raw_stop, stop_at, told_as, too_long}
-use Rattle.qmp_rules.specs.NodeAsks.{backing_name}
+use Rattle.qmp_asks.specs.NodeAsks.{backing_name}
 use Rattle.qmp_rules.specs.Refusals.{refused}
 use Rattle.qmp_rules.specs.Table.{Table, node_named}
-use Rattle.qmp_rules.specs.Values.{begins_within, ends_within, part_fits}
+use Rattle.qmp_asks.specs.Values.{begins_within, ends_within, part_fits}
 use Rattle.qmp_rules.specs.declared.refusal.Refusal.TheVariants as refusal
 use Rattle.qmp_rules.specs.declared.rows.NodeRecord.{NodeRecord}
-use Rattle.qmp_rules.specs.declared.told.Look.TheVariants as look
+use Rattle.qmp_asks.specs.declared.look.Look.TheVariants as look
 use Rattle.qmp_rules.specs.declared.told.Stopped.{Stopped}
 use Rattle.qmp_rules.specs.declared.told.Told.{Told}
-use Rattle.world_parts.specs.Adding.{Adding, HasOpeningFailed, IsAbsent, Looks, LooksUnder, Opens, Taken, Tells, TellsInside, opened_sight, unopened}
+use Rattle.world_parts.specs.Adding.{Adding, HasOpeningFailed, IsAbsent, Looks, LooksUnder, Opens, Taken, TellsAddition, TellsInside, opened_sight, unopened}
 use Rattle.world_commands.specs.Carrying.{IsOfFiles, StopsByFiles}
 use Rattle.world_parts.specs.Looking.{HasLooked, LooksAtImage, LooksAtPart, LooksBy, Site}
 use Rattle.world_parts.specs.Stores.{StoreInRun}
@@ -95,7 +95,7 @@ module _ (t : Table) (node filename : List ℕ) (first now : Taken) (told : Told
       by-files _ _ _ told long.is (subst StopsByFiles long.long (files-long filename (nat_lt 549755813888 first.size)))
   clean-inside c None (inr why) = by-files _ _ _ told why.is (subst IsOfFiles (sym why.on.is) (files-unopened first.number why.on.cause))
 
-  clean-tells : (driver : Added (List ℕ)) (image : Option Known) → Tells t node filename driver first now image told → (told.dirty ≡ []) × StopsByFiles told.stopped
+  clean-tells : (driver : Added (List ℕ)) (image : Option Known) → TellsAddition t node filename driver first now image told → (told.dirty ≡ []) × StopsByFiles told.stopped
   clean-tells (added.File own) image is = by-files _ _ _ told is.is (files-long filename (nat_lt 549755813888 first.size))
   clean-tells (added.Raw raw) image is = by-files _ _ _ told is.is (files-part filename raw first.size)
   clean-tells (added.Qcow2 c) image is = clean-inside c image is

@@ -15,12 +15,12 @@ use Rattle.qmp_rules.specs.Answers.{command_edits, refusal_of}
 use Rattle.qmp_rules.specs.Changes.{all_changed}
 use Rattle.qmp_rules.specs.Edits.{added_edits, edits_of, qcow2_edits, raw_edits}
 use Rattle.qmp_rules.specs.Looks.{file_stop, raw_stop}
-use Rattle.qmp_rules.specs.NodeAsks.{backing_name, is_read_only}
+use Rattle.qmp_asks.specs.NodeAsks.{backing_name, is_read_only}
 use Rattle.qmp_rules.specs.Table.{Table}
-use Rattle.qmp_rules.specs.declared.told.Look.TheVariants as look
+use Rattle.qmp_asks.specs.declared.look.Look.TheVariants as look
 use Rattle.qmp_rules.specs.declared.told.Told.{Told}
 use Rattle.flat_machine.proofs.TableRests.{command_rests}
-use Rattle.world_parts.specs.Adding.{Adding, Taken, Tells, TellsInside, TellsLength}
+use Rattle.world_parts.specs.Adding.{Adding, Taken, TellsAddition, TellsInside, TellsLength}
 use Rattle.world_parts.specs.Coherent.{IsCoherent}
 use Rattle.world_parts.specs.Joining.{HasAdded, HasAddedBy, HasAddedFile, HasAddedImage, HasAddedPart}
 use Rattle.world_parts.specs.Looking.{HasCalled, HasLooked, LooksAtImage, LooksAtPart, LooksBy, Site}
@@ -60,7 +60,7 @@ module _ (t : Table) (told : Told) (c : Adding) (none : refusal_of t told (comma
   file-case filename e looks has =
       let taken = taken-out t told c none (record { filename = filename; what = look.File }) (AsFile e refl) old.store now.store out image looks.looks in
       let tells : TellsLength (file_stop filename taken.inside.first.size) taken.inside.first taken.device image told =
-      subst (λ (d : Added (List ℕ)). Tells t c.node_name filename d taken.inside.first taken.device image told) e taken.inside.tells in
+      subst (λ (d : Added (List ℕ)). TellsAddition t c.node_name filename d taken.inside.first taken.device image told) e taken.inside.tells in
       let short = file-short t told c none filename taken.inside.first.size (ap (λ (a : Told). a.stopped) tells.is) (rw e refl) in
       let fresh = fresh-of old.store now.store filename taken.inside.first taken.device told taken.inside.out tells.kept (ap (λ (a : Told). a.length) tells.is) short in
       let made : HasAddedFile c (Some taken.device) now.nodes new.nodes = subst (λ (o : Option Taken). HasAddedFile c o now.nodes new.nodes) taken.is has in
@@ -77,7 +77,7 @@ module _ (t : Table) (told : Told) (c : Adding) (none : refusal_of t told (comma
   part-case raw (file_ref.Inline file) e f looks has =
       let taken = taken-out t told c none (record { filename = file.filename; what = look.Begin }) (AsPart raw file e f refl refl) old.store now.store out image looks.looks in
       let tells : TellsLength (raw_stop file.filename raw taken.inside.first.size) taken.inside.first taken.device image told =
-      subst (λ (d : Added (List ℕ)). Tells t c.node_name file.filename d taken.inside.first taken.device image told) e taken.inside.tells in
+      subst (λ (d : Added (List ℕ)). TellsAddition t c.node_name file.filename d taken.inside.first taken.device image told) e taken.inside.tells in
       let short = part-short t told c none raw file e f file.filename taken.inside.first.size (ap (λ (a : Told). a.stopped) tells.is) in
       let fresh = fresh-of old.store now.store file.filename taken.inside.first taken.device told taken.inside.out tells.kept (ap (λ (a : Told). a.length) tells.is) short in
       let made = subst (λ (o : Option Taken). HasAddedPart t c raw (file_ref.Inline file) o now.nodes new.nodes) taken.is has in
@@ -100,7 +100,7 @@ module _ (t : Table) (told : Told) (c : Adding) (none : refusal_of t told (comma
   image-case qcow2 (file_ref.Inline file) e f looks has =
       let taken = taken-out t told c none (record { filename = file.filename; what = look.File }) (AsImage qcow2 file e f refl refl) old.store now.store out image looks.looks in
       let tells : TellsInside t c.node_name file.filename qcow2 taken.inside.first taken.device image told =
-      subst (λ (d : Added (List ℕ)). Tells t c.node_name file.filename d taken.inside.first taken.device image told) e taken.inside.tells in
+      subst (λ (d : Added (List ℕ)). TellsAddition t c.node_name file.filename d taken.inside.first taken.device image told) e taken.inside.tells in
       let there = image-inside t told c none qcow2 file e f file.filename taken.inside.first taken.device image tells in
       let short = short-file file.filename taken.inside.first.size there.2.fits in
       let fresh = fresh-of old.store now.store file.filename taken.inside.first taken.device told taken.inside.out there.2.on.kept (ap (λ (a : Told). a.length) there.2.is) short in

@@ -31,13 +31,13 @@ use Rattle.qmp_rules.specs.Looks.{file_stop, image_stop, is_unopened, raw_stop}
 use Rattle.qmp_rules.specs.Table.{Table}
 use Rattle.qmp_rules.specs.declared.refusal.Refusal.{Refusal}
 use Rattle.qmp_rules.specs.declared.refusal.Refusal.TheVariants as refusal
-use Rattle.qmp_rules.specs.declared.told.Look.TheVariants as look
+use Rattle.qmp_asks.specs.declared.look.Look.TheVariants as look
 use Rattle.qmp_rules.specs.declared.told.Stopped.{Stopped}
 use Rattle.qmp_rules.specs.declared.told.Told.{Told}
 use Rattle.flat_machine.specs.Licence.{fault_at}
-use Rattle.world_parts.specs.Adding.{Adding, HasOpeningFailed, IsAbsent, IsBack, IsLookReached, IsTakenOut, Looks, LooksAtFile, LooksBadly, LooksInVain, LooksUnder, Opens, Taken, Tells, TellsInside, TellsRefusal, look_in_vain, of_node, opened_sight, opening_of, opens, put_back, unopened}
+use Rattle.world_parts.specs.Adding.{Adding, HasOpeningFailed, IsAbsent, IsBackIfOut, IsLookReached, IsTakenOut, Looks, LooksAtFile, LooksBadly, LooksInVain, LooksUnder, Opens, Taken, TellsAddition, TellsInside, TellsRefusal, look_in_vain, of_node, opened_sight, opening_of, opens, put_back, unopened}
 use Rattle.world_commands.specs.Carrying.{HasFailed as HasFailedIn, fault_named, is_failed}
-use Rattle.world_parts.specs.Coherent.{AreOut, IsWhole}
+use Rattle.world_parts.specs.Coherent.{AreOut, IsWholeWorld}
 use Rattle.world_commands.specs.Counting.{HidesNoFault, RunsOn}
 use Rattle.world_parts.specs.Face.{Face, count_of_opening, counts_from, device_numbered}
 use Rattle.world_parts.specs.Joining.{HasAdded}
@@ -118,7 +118,7 @@ module _ (w : Face) (c : Adding) (told : Told) (now : Site) (out : Option Taken)
 same-site : (old now : Site) → now.store ≡ old.store → now.nodes ≡ old.nodes → now ≡ old
 same-site old now store nodes = ap (λ (s : StoreInRun). site s now.nodes) store ∙ ap (site old.store) nodes
 
-module _ (w : Face) (whole : IsWhole w) (joined : IsJoined w.nodes) (c : Adding) (told : Told) (now : Site) (out : Option Taken)
+module _ (w : Face) (whole : IsWholeWorld w) (joined : IsJoined w.nodes) (c : Adding) (told : Told) (now : Site) (out : Option Taken)
     (closed : AreIn w.table w.opened) where
   abbrev cmd' : Cmd
   cmd' = command.BlockdevAdd c
@@ -225,17 +225,17 @@ module _ (w : Face) (whole : IsWhole w) (joined : IsJoined w.nodes) (c : Adding)
     -- what a file that was opened told
     told-over : (first device : Taken) (image : Option Known) → out ≡ Some device → IsTakenOut (store_of w) now.store at.filename first
         → is_unopened w.table at.filename ≡ false → IsLookReached w.table cmd' at.what
-        → Tells w.table c.node_name at.filename c.driver first device image told → (opens : OpensAs c at) → IsLookedOver w c told now out
+        → TellsAddition w.table c.node_name at.filename c.driver first device image told → (opens : OpensAs c at) → IsLookedOver w c told now out
     told-over first device image is taken free reached tells (AsFile e what) =
-        let its = subst (λ (d : Added (List ℕ)). Tells w.table c.node_name at.filename d first device image told) e tells in
+        let its = subst (λ (d : Added (List ℕ)). TellsAddition w.table c.node_name at.filename d first device image told) e tells in
         calm-as (file_stop at.filename first.size) (ap (λ (a : Told). a.stopped) its.is) (calm-long at.filename _)
         (out-as first (is ∙ ap (λ (d : Taken). Some d) its.kept) taken free)
     told-over first device image is taken free reached tells (AsPart raw file e f name what) =
-        let its = subst (λ (d : Added (List ℕ)). Tells w.table c.node_name at.filename d first device image told) e tells in
+        let its = subst (λ (d : Added (List ℕ)). TellsAddition w.table c.node_name at.filename d first device image told) e tells in
         calm-as (raw_stop at.filename raw first.size) (ap (λ (a : Told). a.stopped) its.is) (calm-part at.filename raw first.size)
         (out-as first (is ∙ ap (λ (d : Taken). Some d) its.kept) taken free)
     told-over first device image is taken free reached tells (AsImage q file e f name what) =
-        by_image image (subst (λ (d : Added (List ℕ)). Tells w.table c.node_name at.filename d first device image told) e tells)
+        by_image image (subst (λ (d : Added (List ℕ)). TellsAddition w.table c.node_name at.filename d first device image told) e tells)
       where
         by_image : (found : Option Known) → TellsInside w.table c.node_name at.filename q first device found told → IsLookedOver w c told now out
         by_image (Some open_image) its =
@@ -395,7 +395,7 @@ numbered-last (x ∷ ds) d n none is = by_test (x.number.0 == n) none (λ rest. 
     by_test false none rest = rest none
 
 -- no device has the number of the next opening
-next-free : (w : Face) → IsWhole w → device_numbered w.nodes.devices (length w.opened) ≡ None
+next-free : (w : Face) → IsWholeWorld w → device_numbered w.nodes.devices (length w.opened) ≡ None
 next-free w whole = by_found (device_numbered w.nodes.devices (length w.opened)) refl
   where
     by_found : (found : Option DeviceState) → device_numbered w.nodes.devices (length w.opened) ≡ found → found ≡ None
@@ -407,7 +407,7 @@ next-free w whole = by_found (device_numbered w.nodes.devices (length w.opened))
         let within = slice_get_within w.opened x.number.0 out.opening out.there in
         absurd (omega (arith, within, number))
 
-module _ (w v : Face) (whole : IsWhole w) (now : Site) (driver : Added (List ℕ)) (out : Option Taken) (t : Table) (c : Adding)
+module _ (w v : Face) (whole : IsWholeWorld w) (now : Site) (driver : Added (List ℕ)) (out : Option Taken) (t : Table) (c : Adding)
     (image : Option Known) where
   -- its nodes are there
   pub calm-added : IsLookedCalmly (opened_name driver) (site_of w) now out → store_of v ≡ now.store → HasAdded t c out image now.nodes v.nodes
@@ -438,7 +438,7 @@ module _ (w v : Face) (whole : IsWhole w) (now : Site) (driver : Added (List ℕ
 
 -- ---- by the answer
 
-module _ (w v : Face) (whole : IsWhole w) (c : Adding) (told : Told) (now : Site) (out : Option Taken) (image : Option Known)
+module _ (w v : Face) (whole : IsWholeWorld w) (c : Adding) (told : Told) (now : Site) (out : Option Taken) (image : Option Known)
     (over : IsLookedOver w c told now out) where
   pub hides-refused : site_of v ≡ site (back_if c.driver out now.store) now.nodes → (cause : Refusal)
       → refusal_of w.table told (command.BlockdevAdd c) ≡ Some cause → HidesNoFault w v (fault_named cause)
@@ -468,7 +468,7 @@ module _ (w v : Face) (whole : IsWhole w) (c : Adding) (told : Told) (now : Site
 
 -- ---- want of memory
 
-module _ (w : Face) (whole : IsWhole w) (joined : IsJoined w.nodes) (c : Adding) (x : Site) (u : Table) where
+module _ (w : Face) (whole : IsWholeWorld w) (joined : IsJoined w.nodes) (c : Adding) (x : Site) (u : Table) where
   -- at most one call failed, and the addition made it
   abbrev pub HidesAtMostOne : Type 0
   HidesAtMostOne = (fault : Option FaultAt) × HidesNoFault w (sited w x u) fault
@@ -477,7 +477,7 @@ module _ (w : Face) (whole : IsWhole w) (joined : IsJoined w.nodes) (c : Adding)
   closed-all : AreIn w.table w.opened
   closed-all name unopened = closed-in w.table w.nodes w.opened name whole.coherent.out unopened
 
-  back-hides : (name : List ℕ) → x.nodes ≡ w.nodes → IsBack (store_of w) x.store name → HidesAtMostOne
+  back-hides : (name : List ℕ) → x.nodes ≡ w.nodes → IsBackIfOut (store_of w) x.store name → HidesAtMostOne
   back-hides name nodes (inl same) =
       (None, hides-same w (sited w x u) (ap (λ (s : StoreInRun). s.opened) same) (ap (λ (s : StoreInRun). s.faults) same) (ap (λ (n : Nodes). n.devices) nodes), tt)
   back-hides name nodes (inr again) =

@@ -18,13 +18,13 @@ use Rattle.flat_machine.specs.declared.opening.Opening.{Opening}
 use Rattle.world_parts.specs.Adding.{Adding}
 use Rattle.world_commands.specs.Carrying.{IsCarriedAs, IsCaused, fault_told}
 use Rattle.world_parts.specs.Coherent.{DevicesTell, IsCoherent}
-use Rattle.world_commands.specs.Comes.{Shows}
+use Rattle.world_commands.specs.Comes.{ShowsState}
 use Rattle.world_parts.specs.Face.{Face, contents_of}
 use Rattle.world_commands.specs.Counting.{HidesNoFault}
 use Rattle.world_commands.specs.Leaving.{clean_told}
 use Rattle.world_parts.specs.Looking.{AreIn, HasLooked, Site}
 use Rattle.world_parts.specs.Saying.{IsSaid}
-use Rattle.world_parts.specs.Staging.{HasEnded, IsAddedSo, IsAdditionOf, IsRefusedSo, opened_name, site_of}
+use Rattle.world_parts.specs.Staging.{HasAdditionEnded, IsAddedSo, IsAdditionOf, IsRefusedSo, opened_name, site_of}
 use Rattle.world_parts.specs.Stores.{StoreInRun}
 use Rattle.blk_world.proofs.AddBack.{added-tell, back-both}
 use Rattle.blk_world.proofs.AddCarried.{did-all, sited}
@@ -44,7 +44,7 @@ use Rattle.world_commands.proofs.Placed.{answer-is}
 pub record IsAccounted (w v : Face) (c : Adding) (told : Told) : Type 0 where
   pub causes : (cause : Refusal) → refusal_of w.table told (command.BlockdevAdd c) ≡ Some cause → IsCaused w v (command.BlockdevAdd c) cause
   pub hides : HidesNoFault w v (fault_told (refusal_of w.table told (command.BlockdevAdd c)))
-  pub seen : is_some w.files ≡ true → (o : Opening) (s : State) → Shows o s w → IsSeenHeld s w c told
+  pub seen : is_some w.files ≡ true → (o : Opening) (s : State) → ShowsState o s w → IsSeenHeld s w c told
 
 pub some-files : (f : Option (List File)) → is_some f ≡ true → (files : List File) × (f ≡ Some files)
 some-files None bad = absurd (let e : false ≡ true = bad in cc e)
@@ -159,7 +159,7 @@ module _ (w : Face) (coherent : IsCoherent w.table w.nodes w.opened w.progress) 
   pub carried-as : (is : IsAdditionOf w.table given c (site_of w) x u text) → IsAccounted w v c is.told → IsCarriedAs w v given cmd text
   carried-as is account = by_end is.ends
     where
-      by_end : HasEnded w.table given c is.told is.out is.image is.between x u text → IsCarriedAs w v given cmd text
+      by_end : HasAdditionEnded w.table given c is.told is.out is.image is.between x u text → IsCarriedAs w v given cmd text
       by_end (inl refused) = refused-as is refused account
       by_end (inr added) = added-as is added account
 
@@ -167,7 +167,7 @@ module _ (w : Face) (coherent : IsCoherent w.table w.nodes w.opened w.progress) 
   pub carried-both : IsAdditionOf w.table given c (site_of w) x u text → IsCoherent u x.nodes x.store.opened w.progress × DevicesTell x.store.files x.nodes.devices
   carried-both is = by_end is.ends
     where
-      by_end : HasEnded w.table given c is.told is.out is.image is.between x u text
+      by_end : HasAdditionEnded w.table given c is.told is.out is.image is.between x u text
           → IsCoherent u x.nodes x.store.opened w.progress × DevicesTell x.store.files x.nodes.devices
       by_end (inl refused) =
           let both = back-both w coherent tell is.between c.driver is.out x (so is) refused.is in

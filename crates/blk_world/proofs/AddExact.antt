@@ -16,12 +16,12 @@ use Rattle.qmp_rules.specs.declared.told.Told.{Told}
 use Rattle.flat_machine.specs.Final.{bytes_named}
 use Rattle.flat_machine.specs.Performing.{AllPerformed}
 use Rattle.flat_machine.specs.Sights.{Fails, IsTold}
-use Rattle.flat_machine.specs.State.{State, Known, Content, Bytes, content_in}
+use Rattle.flat_machine.specs.State.{State, KnownFile, Content, Bytes, content_in}
 use Rattle.flat_machine.specs.declared.opening.Opening.{Opening}
 use Rattle.flat_machine.proofs.Finds.{find-map}
 use Rattle.world_parts.specs.Adding.{Adding, Looks, Opens, Taken}
 use Rattle.world_commands.specs.Carrying.{IsCarriedIn, StopsExactly, as_held, held_known, known_as}
-use Rattle.world_commands.specs.Comes.{Shows}
+use Rattle.world_commands.specs.Comes.{ShowsState}
 use Rattle.world_parts.specs.Face.{Face, contents_of, held, told_bytes}
 use Rattle.world_parts.specs.Stores.{StoreInRun}
 use Rattle.blk_world.proofs.AddClosed.{closed-held}
@@ -31,30 +31,30 @@ use Rattle.world_parts.proofs.AddSights.{IsExact, IsSeenAs, expects, known-absen
 
 -- ---- what is known as it is held
 
-content-held : (w : Face) (files : List Known) (name : List ℕ)
-    → content_in (map (held_known w) files) name ≡ option_map (λ (k : Known). (held_known w k).content) (find (λ (k : Known). bytes_eq k.name name) files)
+content-held : (w : Face) (files : List KnownFile) (name : List ℕ)
+    → content_in (map (held_known w) files) name ≡ option_map (λ (k : KnownFile). (held_known w k).content) (find (λ (k : KnownFile). bytes_eq k.name name) files)
 content-held w files name =
-    ap (option_map (λ (k : Known). k.content)) (find-map (λ (k : Known). bytes_eq k.name name) (held_known w) (λ k. refl) files)
-    ∙ by_found (find (λ (k : Known). bytes_eq k.name name) files)
+    ap (option_map (λ (k : KnownFile). k.content)) (find-map (λ (k : KnownFile). bytes_eq k.name name) (held_known w) (λ k. refl) files)
+    ∙ by_found (find (λ (k : KnownFile). bytes_eq k.name name) files)
   where
-    by_found : (found : Option Known) → option_map (λ (k : Known). k.content) (option_map (held_known w) found) ≡ option_map (λ (k : Known). (held_known w k).content) found
+    by_found : (found : Option KnownFile) → option_map (λ (k : KnownFile). k.content) (option_map (held_known w) found) ≡ option_map (λ (k : KnownFile). (held_known w k).content) found
     by_found None = refl
     by_found (Some k) = refl
 
 -- of a file that is known wholly, or of which there is no word
-pub held-none : (w : Face) (files : List Known) (name : List ℕ) → content_in files name ≡ None → content_in (map (held_known w) files) name ≡ None
-held-none w files name none = content-held w files name ∙ by_found (find (λ (k : Known). bytes_eq k.name name) files) none
+pub held-none : (w : Face) (files : List KnownFile) (name : List ℕ) → content_in files name ≡ None → content_in (map (held_known w) files) name ≡ None
+held-none w files name none = content-held w files name ∙ by_found (find (λ (k : KnownFile). bytes_eq k.name name) files) none
   where
-    by_found : (found : Option Known) → option_map (λ (k : Known). k.content) found ≡ None → option_map (λ (k : Known). (held_known w k).content) found ≡ None
+    by_found : (found : Option KnownFile) → option_map (λ (k : KnownFile). k.content) found ≡ None → option_map (λ (k : KnownFile). (held_known w k).content) found ≡ None
     by_found None is = refl
     by_found (Some k) is = absurd (let bad : ⊥ = cc is in bad)
 
-pub held-bytes : (w : Face) (files : List Known) (name bytes : List ℕ) → content_in files name ≡ Some (Bytes bytes)
+pub held-bytes : (w : Face) (files : List KnownFile) (name bytes : List ℕ) → content_in files name ≡ Some (Bytes bytes)
     → content_in (map (held_known w) files) name ≡ Some (Bytes bytes)
-held-bytes w files name bytes is = content-held w files name ∙ by_found (find (λ (k : Known). bytes_eq k.name name) files) is
+held-bytes w files name bytes is = content-held w files name ∙ by_found (find (λ (k : KnownFile). bytes_eq k.name name) files) is
   where
-    by_found : (found : Option Known) → option_map (λ (k : Known). k.content) found ≡ Some (Bytes bytes)
-        → option_map (λ (k : Known). (held_known w k).content) found ≡ Some (Bytes bytes)
+    by_found : (found : Option KnownFile) → option_map (λ (k : KnownFile). k.content) found ≡ Some (Bytes bytes)
+        → option_map (λ (k : KnownFile). (held_known w k).content) found ≡ Some (Bytes bytes)
     by_found None is = absurd (let bad : ⊥ = cc is in bad)
     by_found (Some k) is =
         let same : k.content ≡ Bytes bytes = cc is in
@@ -70,7 +70,7 @@ exact-held w s c stopped same (inr fails) =
 
 -- ---- a look at the store
 
-module _ (o : Opening) (s : State) (w : Face) (shows : Shows o s w) (files : List File) (told_files : w.files ≡ Some files) (c : Adding) where
+module _ (o : Opening) (s : State) (w : Face) (shows : ShowsState o s w) (files : List File) (told_files : w.files ≡ Some files) (c : Adding) where
   own : (name : List ℕ) → is_unopened s.table name ≡ false → held w name ≡ bytes_named files name
   own name closed =
       closed-held w name (subst (λ (t : Table). is_unopened t name ≡ false) shows.table.table_is closed)
@@ -138,7 +138,7 @@ held-of s w c told same is = record {
   same = is.same;
 }
 
-pub carried-in : (o : Opening) (s : State) (w v : Face) (c : Adding) (told : Told) → Shows o s w → IsSeenHeld s w c told
+pub carried-in : (o : Opening) (s : State) (w v : Face) (c : Adding) (told : Told) → ShowsState o s w → IsSeenHeld s w c told
     → AllPerformed s (answer w.table told (command.BlockdevAdd c)).changes (contents_of w) (contents_of v) → IsCarriedIn s w v (command.BlockdevAdd c) told
 carried-in o s w v c told shows is did = record {
   seen = is.seen;

@@ -11,21 +11,22 @@ use Rattle.qmp_codec.specs.declared.command.Command.TheVariants as command
 use Rattle.qmp_codec.specs.declared.nodes.AddQcow2.{AddQcow2}
 use Rattle.qmp_codec.specs.declared.nodes.AddRaw.{AddRaw}
 use Rattle.qmp_rules.specs.Answers.{conflict_after, conflict_in, conflict_refusal, is_joined, out_of_turn, refusal_of, untold}
-use Rattle.qmp_rules.specs.Asks.{Asking, first, holds, if_there, place, same_look, told_at}
+use Rattle.qmp_asks.specs.Asking.{Asking, place, same_look}
+use Rattle.qmp_rules.specs.Asks.{first, holds, if_there, told_at}
 use Rattle.qmp_rules.specs.Changes.{all_changed}
 use Rattle.qmp_rules.specs.Edits.{edits_of, ids}
 use Rattle.qmp_rules.specs.Looks.{ImageSight, image_stop, raw_stop, stop_at, too_long}
-use Rattle.qmp_rules.specs.NodeAsks.{add_asks, backing_name}
+use Rattle.qmp_asks.specs.NodeAsks.{add_asks, backing_name}
 use Rattle.qmp_rules.specs.Refusals.{place_of, refused}
 use Rattle.qmp_rules.specs.Table.{Table, node_named}
-use Rattle.qmp_rules.specs.Values.{begins_within, ends_within, part_fits}
-use Rattle.qmp_rules.specs.declared.ask.Ask.TheVariants as ask
+use Rattle.qmp_asks.specs.Values.{begins_within, ends_within, part_fits}
+use Rattle.qmp_asks.specs.declared.ask.Ask.TheVariants as ask
 use Rattle.qmp_rules.specs.declared.change.Change.{Change}
 use Rattle.qmp_rules.specs.declared.refusal.Refusal.{Refusal}
 use Rattle.qmp_rules.specs.declared.refusal.Refusal.TheVariants as refusal
 use Rattle.qmp_rules.specs.declared.rows.NodeRecord.{NodeRecord}
-use Rattle.qmp_rules.specs.declared.told.Look.{Look}
-use Rattle.qmp_rules.specs.declared.told.Look.TheVariants as look
+use Rattle.qmp_asks.specs.declared.look.Look.{Look}
+use Rattle.qmp_asks.specs.declared.look.Look.TheVariants as look
 use Rattle.qmp_rules.specs.declared.told.Stopped.{Stopped}
 use Rattle.qmp_rules.specs.declared.told.Told.{Told}
 use Rattle.qmp_rules.proofs.PlaceLemmas.{has_place}

@@ -8,7 +8,7 @@ use Rattle.qmp_codec.specs.declared.command.Command.TheVariants as command
 use Rattle.qmp_rules.specs.Table.{Table}
 use Rattle.flat_machine.specs.Bitmaps.{AreBitmapsOf}
 use Rattle.world_commands.specs.Carrying.{HasFailed, IsCarriedAs, IsPutBackBy}
-use Rattle.world_parts.specs.Coherent.{IsWhole}
+use Rattle.world_parts.specs.Coherent.{IsWholeWorld}
 use Rattle.world_parts.specs.Face.{Face}
 use Rattle.world_parts.specs.Looking.{Site}
 use Rattle.world_parts.specs.Staging.{CanLook, IsAdditionBy, IsNotAddedBy, is_addition, site_of}
@@ -20,21 +20,21 @@ use Rattle.blk_world.proofs.AddEnds.{carried-as, carried-both}
 use Rattle.blk_world.proofs.AddPut.{put-back, put-both, put-fault, put-runs, put-so}
 use Rattle.world_commands.proofs.BitmapsLeft.{left-listed}
 
-pub can-look : (w : Face) → IsWhole w → CanLook w.table (site_of w)
+pub can-look : (w : Face) → IsWholeWorld w → CanLook w.table (site_of w)
 can-look w whole = record {
   alike = whole.coherent.alike;
   rests = whole.coherent.table;
   closed = λ name unopened. closed-in w.table w.nodes w.opened name whole.coherent.out unopened;
 }
 
-module _ (w : Face) (whole : IsWhole w) (joined : IsJoined w.nodes) (given : List ℕ) (x : Site) (u : Table) where
+module _ (w : Face) (whole : IsWholeWorld w) (joined : IsJoined w.nodes) (given : List ℕ) (x : Site) (u : Table) where
   carried-by : (text : List ℕ) (c : Cmd) → is_addition c ≡ true → IsAdditionBy w.table given c (site_of w) x u text
       → IsCarriedAs w (sited w x u) given c text
   carried-by text (command.BlockdevAdd c) sure is =
       carried-as w whole.coherent whole.tell joined whole.bitmaps given c x u text is (accounted w whole joined given c x u text is)
   carried-by text c sure is = absurd (let bad : ⊥ = cc sure in bad)
 
-  whole-by : (text : List ℕ) (c : Cmd) → is_addition c ≡ true → IsAdditionBy w.table given c (site_of w) x u text → IsWhole (sited w x u)
+  whole-by : (text : List ℕ) (c : Cmd) → is_addition c ≡ true → IsAdditionBy w.table given c (site_of w) x u text → IsWholeWorld (sited w x u)
   whole-by text (command.BlockdevAdd c) sure is =
       let both = carried-both w whole.coherent whole.tell joined whole.bitmaps given c x u text is in
       let carried = carried-as w whole.coherent whole.tell joined whole.bitmaps given c x u text is (accounted w whole joined given c x u text is) in
@@ -49,7 +49,7 @@ module _ (w : Face) (whole : IsWhole w) (joined : IsJoined w.nodes) (given : Lis
       }
   whole-by text c sure is = absurd (let bad : ⊥ = cc sure in bad)
 
-  put-by : (c : Cmd) → is_addition c ≡ true → IsNotAddedBy w.table c (site_of w) x → u ≡ w.table → IsPutBackBy w (sited w x u) c × IsWhole (sited w x u)
+  put-by : (c : Cmd) → is_addition c ≡ true → IsNotAddedBy w.table c (site_of w) x → u ≡ w.table → IsPutBackBy w (sited w x u) c × IsWholeWorld (sited w x u)
   put-by (command.BlockdevAdd c) sure is table =
       let put = put-so w whole.coherent whole.tell x c is in
       let hides = put-hides w whole joined c x u (put-runs w whole.coherent whole.tell x put u) is in
@@ -88,10 +88,10 @@ module _ (w : Face) (whole : IsWhole w) (joined : IsJoined w.nodes) (given : Lis
         by_result (Err e) is same = (put-by c sure is same).0
 
     pub addition-whole : IfOk r (λ a. IsAdditionBy w.table given c (site_of w) x u (text a)) → OnErr r (IsNotAddedBy w.table c (site_of w) x)
-        → OnErr r (u ≡ w.table) → IsWhole (sited w x u)
+        → OnErr r (u ≡ w.table) → IsWholeWorld (sited w x u)
     addition-whole ok back same = by_result r ok back same
       where
         by_result : (r : Result A E) → IfOk r (λ a. IsAdditionBy w.table given c (site_of w) x u (text a)) → OnErr r (IsNotAddedBy w.table c (site_of w) x)
-            → OnErr r (u ≡ w.table) → IsWhole (sited w x u)
+            → OnErr r (u ≡ w.table) → IsWholeWorld (sited w x u)
         by_result (Ok a) ok back same = whole-by (text a) c sure ok
         by_result (Err e) ok back same = (put-by c sure back same).1

@@ -10,9 +10,9 @@ use Rattle.qmp_codec.specs.declared.nodes.Added.TheVariants as added
 use Rattle.qmp_codec.specs.declared.nodes.FileRef.{FileRef}
 use Rattle.qmp_codec.specs.declared.nodes.FileRef.TheVariants as file_ref
 use Rattle.qmp_rules.specs.Table.{Table}
-use Rattle.qmp_rules.specs.declared.told.Look.TheVariants as look
+use Rattle.qmp_asks.specs.declared.look.Look.TheVariants as look
 use Rattle.qmp_rules.specs.declared.told.Told.{Told}
-use Rattle.world_parts.specs.Adding.{Adding, HasOpeningFailed, IsAbsent, IsTakenOut, Looks, Opens, Taken, Tells, TellsInside, of_node}
+use Rattle.world_parts.specs.Adding.{Adding, HasOpeningFailed, IsAbsent, IsTakenOut, Looks, Opens, Taken, TellsAddition, TellsInside, of_node}
 use Rattle.world_parts.specs.Joining.{HasAdded, HasAddedBy, HasAddedImage, HasAddedPart}
 use Rattle.world_parts.specs.Looking.{AreIn, HasCalled, HasLooked, IsSameButFaults, LooksAtImage, LooksAtPart, LooksBy, Site}
 use Rattle.world_parts.specs.Staging.{opened_name}
@@ -50,7 +50,7 @@ read-inside t node filename c first now None told (inl long) =
 read-inside t node filename c first now None told (inr why) = record { same = why.on.kept; faults = why.on.faults }
 
 pub read-tells : (t : Table) (node filename : List ℕ) (driver : Added (List ℕ)) (first now : Taken) (image : Option Known) (told : Told)
-    → Tells t node filename driver first now image told → IsSameButFaults first now
+    → TellsAddition t node filename driver first now image told → IsSameButFaults first now
 read-tells t node filename (added.File own) first now image told is = subst (IsSameButFaults first) (sym is.kept) (record { same = refl; faults = omega arith })
 read-tells t node filename (added.Raw raw) first now image told is = subst (IsSameButFaults first) (sym is.kept) (record { same = refl; faults = omega arith })
 read-tells t node filename (added.Qcow2 c) first now image told is = read-inside t node filename c first now image told is

@@ -24,23 +24,23 @@ use Rattle.qmp_rules.specs.declared.refusal.FileFault.TheVariants.{Absent, TooLo
 use Rattle.qmp_rules.specs.declared.refusal.Refusal.{Refusal}
 use Rattle.qmp_rules.specs.declared.refusal.Refusal.TheVariants as refusal
 use Rattle.qmp_rules.specs.declared.rows.NodeRecord.{NodeRecord}
-use Rattle.qmp_rules.specs.declared.told.Look.{Look}
-use Rattle.qmp_rules.specs.declared.told.Look.TheVariants as look
+use Rattle.qmp_asks.specs.declared.look.Look.{Look}
+use Rattle.qmp_asks.specs.declared.look.Look.TheVariants as look
 use Rattle.qmp_rules.specs.declared.told.Stopped.{Stopped}
 use Rattle.qmp_rules.specs.declared.told.Told.{Told}
 use Rattle.qmp_rules.specs.Table.{Table, node_named}
 use Rattle.qmp_rules.specs.Refusals.{refused}
 use Rattle.qmp_rules.specs.Asks.{if_there}
 use Rattle.qmp_rules.specs.Looks.{ImageSight, file_stop, first_stop, image_stop, is_unopened, raw_stop, stop_at, told_as, too_long}
-use Rattle.qmp_rules.specs.NodeAsks.{add_asks, backing_name}
-use Rattle.qmp_rules.specs.Values.{begins_within, ends_within, part_fits}
+use Rattle.qmp_asks.specs.NodeAsks.{add_asks, backing_name}
+use Rattle.qmp_asks.specs.Values.{begins_within, ends_within, part_fits}
 use Rattle.qmp_rules.specs.Answers as rules
 use Rattle.flat_machine.specs.State.{State, Bytes, content_in}
 use Rattle.flat_machine.specs.Agreement.{Agrees, Contents}
 use Rattle.flat_machine.specs.Final.{bytes_named}
 use Rattle.flat_machine.specs.Sights.{IsFailure, IsReached, calls_at, image_sight, is_opened, order_of, stop_for}
 use Rattle.flat_machine.specs.Standing.{Stands}
-use Rattle.world_parts.specs.Adding.{Adding, HasOpeningFailed, IsAbsent, IsTakenOut, Looks, LooksInVain, Opens, Taken, Tells, TellsImage, TellsInside, TellsLength, TellsLong, TellsRefusal, look_in_vain, opened_sight, probe, unopened}
+use Rattle.world_parts.specs.Adding.{Adding, HasOpeningFailed, IsAbsent, IsTakenOut, Looks, LooksInVain, Opens, Taken, TellsAddition, TellsAddedImage, TellsInside, TellsLength, TellsLong, TellsRefusal, look_in_vain, opened_sight, probe, unopened}
 use Rattle.world_parts.specs.Stores.{StoreInRun}
 use Rattle.world_parts.proofs.AddSights.{IsSeenAs, expects, fails, known-absent, known-there, seen-stopped, seen-unreached, seen-whole}
 use Rattle.world_parts.proofs.AddSeen.{AsFile, AsImage, AsPart, OpensAs, expects-absent, expects-closed, expects-file, expects-image, expects-part, has-at, looks-as}
@@ -313,7 +313,7 @@ module _ (opening : List ℕ → Option (List ℕ)) (s : State) (held : Contents
           (first_stop (file_stop at.filename (length holds.bytes)) (image_stop s.table c.node_name image (image_sight (Bytes holds.bytes))))
       expected = expects-image s c at.filename holds.bytes free known image file e f name
 
-      inside-image : (now : Taken) (open_image : Known) (told : Told) → TellsImage s.table c.node_name at.filename image first now open_image told
+      inside-image : (now : Taken) (open_image : Known) (told : Told) → TellsAddedImage s.table c.node_name at.filename image first now open_image told
           → IsSeenAs s c told
       inside-image now open_image told tells =
           let its = tells.on.on.known holds.bytes holds.content in
@@ -370,18 +370,18 @@ module _ (opening : List ℕ → Option (List ℕ)) (s : State) (held : Contents
               (inl (stops ∙ ap (λ (r : Refusal). Some (record { look = look.Image; refusal = r })) why ∙ sym also))
 
     -- what it tells, by the driver
-    seen-tells : (now : Taken) (image : Option Known) (told : Told) → Tells s.table c.node_name at.filename c.driver first now image told
+    seen-tells : (now : Taken) (image : Option Known) (told : Told) → TellsAddition s.table c.node_name at.filename c.driver first now image told
         → OpensAs c at → IsSeenAs s c told
     seen-tells now image told tells (AsFile e what) =
         let its : TellsLength (file_stop at.filename first.size) first now image told =
-        subst (λ (d : Added (List ℕ)). Tells s.table c.node_name at.filename d first now image told) e tells in
+        subst (λ (d : Added (List ℕ)). TellsAddition s.table c.node_name at.filename d first now image told) e tells in
         seen-whole s c told (expects-file s c at.filename holds.bytes free known e ∙ rw (← holds.size) refl ∙ sym its.is)
     seen-tells now image told tells (AsPart raw file e f name what) =
         let its : TellsLength (raw_stop at.filename raw first.size) first now image told =
-        subst (λ (d : Added (List ℕ)). Tells s.table c.node_name at.filename d first now image told) e tells in
+        subst (λ (d : Added (List ℕ)). TellsAddition s.table c.node_name at.filename d first now image told) e tells in
         seen-whole s c told (expects-part s c at.filename holds.bytes free known raw file e f name ∙ rw (← holds.size) refl ∙ sym its.is)
     seen-tells now image told tells (AsImage added' file e f name what) =
-        by_image image (subst (λ (d : Added (List ℕ)). Tells s.table c.node_name at.filename d first now image told) e tells)
+        by_image image (subst (λ (d : Added (List ℕ)). TellsAddition s.table c.node_name at.filename d first now image told) e tells)
       where
         by_image : (found : Option Known) → TellsInside s.table c.node_name at.filename added' first now found told → IsSeenAs s c told
         by_image (Some open_image) its = inside-image added' file e f name now open_image told its

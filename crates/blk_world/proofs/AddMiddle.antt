@@ -125,7 +125,7 @@ out-over t t' nodes now opened same named was =
     (record {
       each = λ held there.
           let is = was.each held there in
-          record { opening = is.opening; there = is.there; out = is.out; named = named held there ∙ is.named; faults = is.faults };
+          record { opening = is.opening; there = is.there; out = is.out; named = named held there ∙ is.named; capacity = is.capacity; faults = is.faults };
       once = was.once;
       order = was.order;
       all = was.all;

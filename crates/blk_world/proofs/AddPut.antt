@@ -6,7 +6,7 @@ use Rattle.blk_base.specs.declared.file.File.{File}
 use Rattle.blk_base.specs.declared.file.Opened.{Opened}
 use Rattle.qmp_codec.specs.declared.nodes.Added.{Added}
 use Rattle.qmp_rules.specs.Table.{Table}
-use Rattle.world_parts.specs.Adding.{Adding, IsBack, Opens, Taken, opens}
+use Rattle.world_parts.specs.Adding.{Adding, IsBackIfOut, Opens, Taken, opens}
 use Rattle.world_commands.specs.Carrying.{IsPutBack}
 use Rattle.world_parts.specs.Coherent.{DevicesTell, IsCoherent}
 use Rattle.world_commands.specs.Counting.{HidesNoFault, LeavesNoneOut, RunsOn}
@@ -123,7 +123,7 @@ module _ (w : Face) (coherent : IsCoherent w.table w.nodes w.opened w.progress) 
   looked-back : (driver : Added (List ℕ)) → IsLookedBack driver (site_of w) x → IsPutSo w x
   looked-back driver is = record { store = by_opens (opens driver) is.store; called = subst (HasCalled w.nodes) (sym is.kept) (called_itself w.nodes) }
     where
-      by_back : (name : List ℕ) → IsBack (store_of w) x.store name → IsCounted (store_of w) x.store ⊎ IsOverAgain (store_of w) x.store
+      by_back : (name : List ℕ) → IsBackIfOut (store_of w) x.store name → IsCounted (store_of w) x.store ⊎ IsOverAgain (store_of w) x.store
       by_back name (inl same) = inl (counted-same same)
       by_back name (inr again) =
           inr

@@ -18,7 +18,7 @@ use Rattle.world_parts.specs.Staging.{back_if, opened_name, site_of, store_of}
 use Rattle.world_parts.specs.Stores.{StoreInRun}
 use Rattle.blk_world.proofs.AddKinds.{IsLookedSo, has-device, no-device-more}
 use Rattle.world_commands.proofs.AddRuns.{back-is, closed-opening, counts-more, not-fallen-itself, runs-opened}
-use Rattle.world_commands.proofs.CountLemmas.{not-fallen, same-risen, with-of}
+use Rattle.world_commands.proofs.CountLemmas.{goes-on, not-fallen, same-risen, with-of}
 
 -- ---- no opening more
 
@@ -32,7 +32,7 @@ runs-still w v told room first earlier store opened same = record {
   store = store;
   openings = λ n o is.
       subst (λ (all : List Opened). With (slice_get all n) (IsLater o)) (sym opened)
-      (with-of (slice_get w.opened n) o (IsLater o) is (record { name = refl; first = refl; back = λ back. refl }));
+      (with-of (slice_get w.opened n) o (IsLater o) is (goes-on o));
   devices =
       subst (λ (all : List Opened). HaveNotFallen (counts_now w).devices (counts_from v.nodes.devices 0 all)) (sym opened)
       (not-fallen w.nodes.devices v.nodes.devices same w.opened 0);

@@ -20,12 +20,12 @@ use Rattle.blk_nodes.specs.declared.row.Driver.TheVariants as driver
 use Rattle.blk_nodes.specs.declared.row.Row.{Row}
 use Rattle.qmp_rules.specs.Changes.{changed, format_edges, node_changed, unsettled}
 use Rattle.qmp_rules.specs.Table.{Table, kinds_of, node_at}
-use Rattle.qmp_rules.specs.Values.{most_length}
+use Rattle.qmp_asks.specs.Values.{most_length}
 use Rattle.qmp_rules.specs.declared.change.Change.TheVariants.{AddFile, AddFilter, AddFormat}
 use Rattle.qmp_rules.specs.declared.rows.NodeRecord.{NodeRecord}
 use Rattle.flat_machine.specs.State.{filename_of}
 use Rattle.world_parts.specs.Adding.{Taken, opening_of}
-use Rattle.world_parts.specs.Coherent.{IsRowOf, IsSmall}
+use Rattle.world_parts.specs.Coherent.{IsRowOf, IsOfFileLength}
 use Rattle.world_parts.specs.Joining.{IsFileAdded, HasOver}
 use Rattle.world_parts.specs.Progress.{Progress}
 use Rattle.world_parts.proofs.AddFacts.{alike-filed, alike-filtered, alike-formatted, filed-filename, held-other}
@@ -90,8 +90,8 @@ module _ (t : Table) (nodes : Nodes) (opened : List Opened) (p : Progress) (was 
     abbrev own : Row
     own = record { driver = driver.File; size = device.size; is_read_only = row.read_only }
 
-    small : IsSmall row.kind row.size
-    small = subst (λ (k : Kind). IsSmall k row.size) (sym kind) (subst (λ (n : ℕ). n ≤ most_length) (sym size) short)
+    small : IsOfFileLength row.kind row.size
+    small = subst (λ (k : Kind). IsOfFileLength k row.size) (sym kind) (subst (λ (n : ℕ). n ≤ most_length) (sym size) short)
 
     file-grows : Grows t (changed t (AddFile row)) row.id row.id (λ r. r)
     file-grows = grows-filed t nodes was.alike joined row has.lowest.free

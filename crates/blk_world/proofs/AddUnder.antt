@@ -28,24 +28,25 @@ use Rattle.qmp_rules.specs.declared.refusal.Refusal.TheVariants as refusal
 use Rattle.qmp_rules.specs.declared.rows.FileState.{FileState}
 use Rattle.qmp_rules.specs.declared.rows.FileState.TheVariants.{Made, Formatted, Used}
 use Rattle.qmp_rules.specs.declared.rows.NodeRecord.{NodeRecord}
-use Rattle.qmp_rules.specs.declared.told.Look.{Look}
-use Rattle.qmp_rules.specs.declared.told.Look.TheVariants as look
+use Rattle.qmp_asks.specs.declared.look.Look.{Look}
+use Rattle.qmp_asks.specs.declared.look.Look.TheVariants as look
 use Rattle.qmp_rules.specs.declared.told.Stopped.{Stopped}
 use Rattle.qmp_rules.specs.declared.told.Told.{Told}
 use Rattle.qmp_rules.specs.Answers.{out_of_turn, refusal_of, untold}
-use Rattle.qmp_rules.specs.Asks.{Asking, file_node, first, holds, if_there, is_file, is_lost, lost, name_of_file}
+use Rattle.qmp_asks.specs.Asking.{Asking}
+use Rattle.qmp_rules.specs.Asks.{file_node, first, holds, if_there, is_file, is_lost, lost, name_of_file}
 use Rattle.qmp_rules.specs.Refusals.{or_else, refused}
-use Rattle.qmp_rules.specs.declared.ask.Ask.TheVariants as ask
-use Rattle.qmp_rules.specs.declared.ask.Drivers.TheVariants as drivers
+use Rattle.qmp_asks.specs.declared.ask.Ask.TheVariants as ask
+use Rattle.qmp_asks.specs.declared.ask.Drivers.TheVariants as drivers
 use Rattle.qmp_rules.specs.Looks.{FileSight, ImageSight, add_told, image_stop, image_told, is_free_file, told_as}
-use Rattle.qmp_rules.specs.NodeAsks.{add_asks, added_names, added_values, backing_name, is_added, option_values}
+use Rattle.qmp_asks.specs.NodeAsks.{add_asks, added_names, added_values, backing_name, is_added, option_values}
 use Rattle.qmp_rules.specs.Table.{Table, file_state, first_into, node_named}
 use Rattle.blk_history.specs.Fold.{With}
 use Rattle.flat_machine.specs.Agreement.{IsBlank}
 use Rattle.flat_machine.specs.Marking.{dirty_bytes}
 use Rattle.flat_machine.specs.Sights.{Fails, IsTold, MayStop, blank_stop, file_of_ref, image_sight, sight_of, stop_for, too_large}
 use Rattle.flat_machine.specs.Standing.{IsOfState}
-use Rattle.flat_machine.specs.State.{State, Known, Content, Bytes, Blank, Unknown, content_in}
+use Rattle.flat_machine.specs.State.{State, KnownFile, Content, Bytes, Blank, Unknown, content_in}
 use Rattle.flat_machine.specs.Wiring.{IsUnder, StandsFor, TableStands}
 use Rattle.flat_machine.specs.declared.opening.Opening.{Opening}
 use Rattle.flat_machine.proofs.Accepted.{is_protocol}
@@ -55,7 +56,7 @@ use Rattle.blk_nodes.specs.Nodes.{Nodes, DeviceState, device_in, is_of}
 use Rattle.world_parts.specs.Adding.{Adding, IsFreeFile, LooksUnder, opened_sight, probe, unopened}
 use Rattle.world_commands.specs.Carrying.{StopsExactly, as_held, held_known, known_as}
 use Rattle.world_parts.specs.Coherent.{IsCoherent, DevicesTell}
-use Rattle.world_commands.specs.Comes.{Shows}
+use Rattle.world_commands.specs.Comes.{ShowsState}
 use Rattle.world_parts.specs.Face.{Face, held, held_by, node_over}
 use Rattle.blk_world.proofs.AddBlank.{header-is, image-large}
 use Rattle.blk_world.proofs.AddDid.{over-one}
@@ -175,15 +176,15 @@ module _ (new : Creation) (len : Option ℕ) (bytes : List ℕ) (blank : IsBlank
 
 -- ---- what is known of a file, by its bytes
 
-held-content : (w : Face) (files : List Known) (file : List ℕ) (content : Content) → content_in files file ≡ Some content
+held-content : (w : Face) (files : List KnownFile) (file : List ℕ) (content : Content) → content_in files file ≡ Some content
     → content_in (map (held_known w) files) file ≡ Some (known_as content (held w file))
 held-content w [] file content is = absurd (let bad : ⊥ = cc is in bad)
 held-content w (k ∷ files) file content is = by_test (bytes_eq k.name file) refl is (held-content w files file content)
   where
     by_test : (b : Bool) → bytes_eq k.name file ≡ b
-        → option_map (λ (known : Known). known.content) (cond b (Some k) (find (λ (known : Known). bytes_eq known.name file) files)) ≡ Some content
+        → option_map (λ (known : KnownFile). known.content) (cond b (Some k) (find (λ (known : KnownFile). bytes_eq known.name file) files)) ≡ Some content
         → (content_in files file ≡ Some content → content_in (map (held_known w) files) file ≡ Some (known_as content (held w file)))
-        → option_map (λ (known : Known). known.content) (cond b (Some (held_known w k)) (find (λ (known : Known). bytes_eq known.name file) (map (held_known w) files)))
+        → option_map (λ (known : KnownFile). known.content) (cond b (Some (held_known w k)) (find (λ (known : KnownFile). bytes_eq known.name file) (map (held_known w) files)))
         ≡ Some (known_as content (held w file))
     by_test true same here rest =
         let equal : k.content ≡ content = cc here in
@@ -248,7 +249,7 @@ free-of t stands name node is =
 
 -- ---- what is seen
 
-module _ (o : Opening) (s : State) (w : Face) (shows : Shows o s w) (coherent : IsCoherent w.table w.nodes w.opened w.progress) (tell : DevicesTell w.files w.nodes.devices)
+module _ (o : Opening) (s : State) (w : Face) (shows : ShowsState o s w) (coherent : IsCoherent w.table w.nodes w.opened w.progress) (tell : DevicesTell w.files w.nodes.devices)
     (files : List File) (told_files : w.files ≡ Some files) (c : Adding) (q : AddQcow2 (List ℕ)) (name : List ℕ) (e : c.driver ≡ added.Qcow2 q) (f : q.file ≡ file_ref.Name name) where
   abbrev sight : State → Option FileSight
   sight st = option_map sight_of (option_and_then (content_in st.files) (file_of_ref st.table (file_ref.Name name)))
@@ -564,7 +565,7 @@ module _ (o : Opening) (s : State) (w : Face) (shows : Shows o s w) (coherent : 
       seen-badly bad.node under bad.device bad.held bad.cause told bad.memory
       (λ bytes content. bad.stopped.on.named bytes (ap (λ (d : DeviceState). d.content) same ∙ content)) bad.is
 
-pub seen-under : (o : Opening) (s : State) (w : Face) → Shows o s w → IsCoherent w.table w.nodes w.opened w.progress → DevicesTell w.files w.nodes.devices → (files : List File)
+pub seen-under : (o : Opening) (s : State) (w : Face) → ShowsState o s w → IsCoherent w.table w.nodes w.opened w.progress → DevicesTell w.files w.nodes.devices → (files : List File)
     → w.files ≡ Some files → (c : Adding) (q : AddQcow2 (List ℕ)) (name : List ℕ) → c.driver ≡ added.Qcow2 q → q.file ≡ file_ref.Name name → (now : Nodes) (image : Option Image)
     (told : Told) → LooksUnder w.table c q name w.nodes now image told → IsSeenHeld s w c told
 seen-under o s w shows coherent tell files told_files c q name e f now image told looks =

@@ -21,7 +21,7 @@ use Rattle.flat_machine.proofs.ImagesChanged.{all_images_keep}
 use Rattle.flat_machine.proofs.ImagesKept.{sound_same}
 use Rattle.world_parts.specs.Progress.{Progress, ended_in}
 use Rattle.world_parts.specs.Face.{Face, first_counts, counts_now, contents_of, dirty_of, held}
-use Rattle.world_commands.specs.Comes.{Comes, Shows}
+use Rattle.world_commands.specs.Comes.{Comes, ShowsState}
 use Rattle.world_commands.specs.Tabling.{IsTableAfter}
 use Rattle.world_commands.specs.Carrying.{IsPutBack, IsPutBackBy, IsPutBackIn}
 use Rattle.blk_world.proofs.AddQuiet.{quiet-called}
@@ -29,7 +29,7 @@ use Rattle.world_commands.proofs.CountLemmas.{between-on}
 use Rattle.world_commands.proofs.Placed.{put_back, put_back_by, put_back_in}
 
 module _ (w v : Face) (is : IsPutBack w v) (o : Opening) (comes : Comes o w) where
-  still-shows : is_some w.files ≡ true → (s : State) → Shows o s w → Shows o s v
+  still-shows : is_some w.files ≡ true → (s : State) → ShowsState o s w → ShowsState o s v
   still-shows told s shows =
       let now = changes_keep (bytes_named o.files) [] s (contents_of w) (contents_of v) tt (quiet-called w v is.files is.table is.called) shows.contents in
       record {
@@ -79,7 +79,7 @@ module _ (w v : Face) (is : IsPutBack w v) (o : Opening) (comes : Comes o w) whe
     coherent = is.coherent comes.coherent;
     shows = λ told.
         let was = sym is.runs.told ∙ told in
-        subst (λ (es : List Event). Shows o (replay (start o) es) v) (sym same-events) (still-shows was (replay (start o) w.progress.log.events) (comes.shows was));
+        subst (λ (es : List Event). ShowsState o (replay (start o) es) v) (sym same-events) (still-shows was (replay (start o) w.progress.log.events) (comes.shows was));
     sound = still-sound;
   }
 

@@ -29,7 +29,7 @@ use Rattle.flat_machine.specs.declared.opening.Opening.{Opening}
 use Rattle.world_parts.specs.Progress.{Progress, with_entry}
 use Rattle.world_parts.specs.Face.{Face, counts_now, contents_of, dirty_of, held, seen_state}
 use Rattle.world_commands.specs.Counting.{sources_of, counts_within, RunsOn, HidesNoFault}
-use Rattle.world_commands.specs.Comes.{Comes, Shows}
+use Rattle.world_commands.specs.Comes.{Comes, ShowsState}
 use Rattle.world_parts.specs.Saying.{Given, IsSaid}
 use Rattle.world_commands.specs.Carrying.{IsCarried, IsCarriedIn, IsCarriedAs, HasAnswerCause, HasFitted, IsReplied, counted, counts_of, reply_entry, would_pass, IsLate, IsPutOff, fault_named, fault_told}
 use Rattle.world_commands.specs.Leaving.{Leaves, LeavesBitmaps, clean_told}
@@ -183,7 +183,7 @@ module _ (w : Face) (line : Given) (text : List ℕ) (why : Stop) (bad : command
         shows = λ told o s shows. rw bad (quiet-self (contents_of w));
       }
 
-  fits : (o : Opening) (s : State) → IsNotDone (seen_state w) 0 → Shows o s w → Fits s entry
+  fits : (o : Opening) (s : State) → IsNotDone (seen_state w) 0 → ShowsState o s w → Fits s entry
   fits o s not_done shows = (
     shows.table.rest,
     (
@@ -223,7 +223,7 @@ module _ (w : Face) (line : Given) (text : List ℕ) (why : Stop) (bad : command
       (λ was. coherent-same w.table w.nodes w.opened w.progress was (with_entry entry w.progress) refl) names-none (λ s. unmarked s.table)
       (λ s shows. (
         fits o s not_done shows,
-        subst (λ (now : State). Shows o now (onward w (with_entry entry))) (sym (stays s))
+        subst (λ (now : State). ShowsState o now (onward w (with_entry entry))) (sym (stays s))
             (shows-onward o s w (with_entry entry w.progress) s.guests s.ended shows shows.guests.guests_are
             (shows.guests.ended_are ∙ sym (ended-push w.progress.log.events entry refl))),
       ))

@@ -18,21 +18,21 @@ use Rattle.blk_nodes.specs.Nodes.{Nodes}
 use Rattle.world_parts.specs.declared.carried.Carried.{Carried}
 use Rattle.world_parts.specs.declared.carried.Carried.TheVariants as carried
 use Rattle.world_commands.specs.Carrying.{IsCarried, IsCarriedAs, IsCarriedOut, IsLate, IsPutBackBy, held_for}
-use Rattle.world_parts.specs.Coherent.{IsWhole}
-use Rattle.world_commands.specs.Comes.{Shows}
+use Rattle.world_parts.specs.Coherent.{IsWholeWorld}
+use Rattle.world_commands.specs.Comes.{ShowsState}
 use Rattle.world_commands.specs.Detaching.{Scene, scene}
 use Rattle.world_parts.specs.Face.{Face, seen_state}
 use Rattle.world_parts.specs.Handling.{DoneIf}
 use Rattle.world_parts.specs.Saying.{IsSaid}
-use Rattle.world_commands.specs.Snapshots.{HasCovered, HasToBeLater, IsCoveredBy, IsSnapshot, IsToldOf, is_snapshot}
+use Rattle.world_commands.specs.Snapshots.{HasCovered, HasToBeLater, IsCoveredBy, IsSnapshot, TellsMappedAlone, is_snapshot}
 use Rattle.world_commands.proofs.BitmapsLeft.{kept-bitmaps, left-dirty}
 use Rattle.world_commands.proofs.CoverCarried.{by_files, covering_done, late_in, refused_covered}
 use Rattle.blk_world.proofs.DetachedCarried.{staged, whole-drains}
 use Rattle.world_commands.proofs.Placed.{answer-is, put_back_by}
 
-module _ (w : Face) (whole : IsWhole w) (joined : IsJoined w.nodes) (given : List ℕ) (y : Scene)
-    (may : (c : Snapshot (List ℕ)) (told : Told) → IsToldOf w.table w.nodes (command.BlockdevSnapshot c) told → (o : Opening) (s : State)
-    → is_some w.files ≡ true → Shows o s w → MayMap s (c.overlay ∷ []) told.mapped) where
+module _ (w : Face) (whole : IsWholeWorld w) (joined : IsJoined w.nodes) (given : List ℕ) (y : Scene)
+    (may : (c : Snapshot (List ℕ)) (told : Told) → TellsMappedAlone w.table w.nodes (command.BlockdevSnapshot c) told → (o : Opening) (s : State)
+    → is_some w.files ≡ true → ShowsState o s w → MayMap s (c.overlay ∷ []) told.mapped) where
   abbrev x : Scene
   x = scene w.table w.nodes w.drains
 
@@ -40,7 +40,7 @@ module _ (w : Face) (whole : IsWhole w) (joined : IsJoined w.nodes) (given : Lis
   v = staged w y
 
   abbrev Answered : Cmd → List ℕ → Face → Type 0
-  Answered c text f = IsCarriedAs w f given c text × IsWhole f
+  Answered c text f = IsCarriedAs w f given c text × IsWholeWorld f
 
   said_so : (f : Face) (c : Snapshot (List ℕ)) (told : Told) (refusal : Option Refusal) (text : List ℕ) → f.bitmaps ≡ w.bitmaps
       → ((is : IsCarried w f (command.BlockdevSnapshot c) refusal) × (is.told ≡ told))
@@ -55,7 +55,7 @@ module _ (w : Face) (whole : IsWhole w) (joined : IsJoined w.nodes) (given : Lis
 
   -- ---- it is answered
 
-  by_refusal : (c : Snapshot (List ℕ)) (text : List ℕ) (told : Told) → IsToldOf w.table w.nodes (command.BlockdevSnapshot c) told
+  by_refusal : (c : Snapshot (List ℕ)) (text : List ℕ) (told : Told) → TellsMappedAlone w.table w.nodes (command.BlockdevSnapshot c) told
       → IsSaid given (answer w.table told (command.BlockdevSnapshot c)).reply text
       → y.table ≡ all_changed w.table (answer w.table told (command.BlockdevSnapshot c)).changes
       → (refusal : Option Refusal) → refusal_of w.table told (command.BlockdevSnapshot c) ≡ refusal
@@ -84,7 +84,7 @@ module _ (w : Face) (whole : IsWhole w) (joined : IsJoined w.nodes) (given : Lis
 
   -- ---- it has to wait
 
-  snapshot_late : (c : Cmd) (g r : ℕ) → is_snapshot c ≡ true → HasToBeLater (seen_state w) c x y g r → IsLate w v c g r × IsWhole v
+  snapshot_late : (c : Cmd) (g r : ℕ) → is_snapshot c ≡ true → HasToBeLater (seen_state w) c x y g r → IsLate w v c g r × IsWholeWorld v
   snapshot_late (command.BlockdevSnapshot c) g r is has =
       let left : v ≡ held_for (command.BlockdevSnapshot c) w = ap (staged w) has.left in (
         record {
@@ -95,7 +95,7 @@ module _ (w : Face) (whole : IsWhole w) (joined : IsJoined w.nodes) (given : Lis
           left = left;
           shows = λ some o s shows. late_in w c has.told has.tells (may c has.told has.tells) o s some shows;
         },
-        subst IsWhole (sym left) (whole-drains w (after_later (drained_by w.table (command.BlockdevSnapshot c)) w.drains) whole),
+        subst IsWholeWorld (sym left) (whole-drains w (after_later (drained_by w.table (command.BlockdevSnapshot c)) w.drains) whole),
       )
   snapshot_late c g r is has = absurd (let bad : ⊥ = cc is in bad)
 
@@ -103,7 +103,7 @@ module _ (w : Face) (whole : IsWhole w) (joined : IsJoined w.nodes) (given : Lis
 
   module _ (c : Cmd) (is : is_snapshot c ≡ true) {E : Type 0} (r : Result Carried E)
       (ok : IfOk r (λ a. (s : State) → s.table ≡ w.table → s.guests ≡ w.progress.guests → IsSnapshot s given c x y a)) where
-    both : (a : Carried) → IsSnapshot (seen_state w) given c x y a → IsCarriedOut w v given c a × IsWhole v
+    both : (a : Carried) → IsSnapshot (seen_state w) given c x y a → IsCarriedOut w v given c a × IsWholeWorld v
     both (carried.Said text) has = snapshot_said c (string_bytes text) is has
     both (carried.Later g n) has = snapshot_late c g n is has
 
@@ -115,13 +115,13 @@ module _ (w : Face) (whole : IsWhole w) (joined : IsJoined w.nodes) (given : Lis
         by_result (Ok a) has = (both a (has (seen_state w) refl refl)).0
         by_result (Err e) has = has
 
-    pub snapshot_whole : OnErr r (y ≡ x) → IsWhole v
+    pub snapshot_whole : OnErr r (y ≡ x) → IsWholeWorld v
     snapshot_whole back = by_result r ok back
       where
         by_result : (r : Result Carried E) → IfOk r (λ a. (s : State) → s.table ≡ w.table → s.guests ≡ w.progress.guests → IsSnapshot s given c x y a)
-            → OnErr r (y ≡ x) → IsWhole v
+            → OnErr r (y ≡ x) → IsWholeWorld v
         by_result (Ok a) has back = (both a (has (seen_state w) refl refl)).1
-        by_result (Err e) has back = subst IsWhole (ap (staged w) (sym back)) whole
+        by_result (Err e) has back = subst IsWholeWorld (ap (staged w) (sym back)) whole
 
     pub snapshot_back : OnErr r (y ≡ x) → OnErr r (IsPutBackBy w v c)
     snapshot_back back = by_result r back

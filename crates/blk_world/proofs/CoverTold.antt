@@ -12,14 +12,14 @@ use Rattle.flat_machine.specs.State.{State}
 use Rattle.flat_machine.specs.declared.opening.Opening.{Opening}
 use Rattle.blk_nodes.specs.Joined.{IsJoined}
 use Rattle.blk_nodes.specs.Overlays.{IsFresh}
-use Rattle.world_parts.specs.Coherent.{IsWhole}
-use Rattle.world_commands.specs.Comes.{Shows}
+use Rattle.world_parts.specs.Coherent.{IsWholeWorld}
+use Rattle.world_commands.specs.Comes.{ShowsState}
 use Rattle.world_parts.specs.Face.{Face}
-use Rattle.world_commands.specs.Snapshots.{IsToldOf}
+use Rattle.world_commands.specs.Snapshots.{TellsMappedAlone}
 use Rattle.blk_world.proofs.ImageTold.{may_map}
 
-pub may_be_told : (w : Face) → IsWhole w → IsJoined w.nodes → (c : Snapshot (List ℕ)) (told : Told)
-    → IsToldOf w.table w.nodes (command.BlockdevSnapshot c) told → (o : Opening) (s : State) → is_some w.files ≡ true → Shows o s w
+pub may_be_told : (w : Face) → IsWholeWorld w → IsJoined w.nodes → (c : Snapshot (List ℕ)) (told : Told)
+    → TellsMappedAlone w.table w.nodes (command.BlockdevSnapshot c) told → (o : Opening) (s : State) → is_some w.files ≡ true → ShowsState o s w
     → MayMap s (c.overlay ∷ []) told.mapped
 may_be_told w whole joined c told tells o s some shows =
     may_map s w shows.table.table_is shows.images whole.coherent.alike joined whole.coherent.table.stands (whole.tell some) (c.overlay ∷ []) told.mapped

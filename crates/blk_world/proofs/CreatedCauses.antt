@@ -1,7 +1,7 @@
 -- Why a creation failed: the store or the device that it calls failed in it, or the device had no space.
 use Rattle.std.proofs.Common.{◌≡◌, ℕ, ◌<◌, ◌≤◌, ◌^◌, List, refl, sym, ap, subst, arith, Option, Some, None, Err}
 use Rattle.std.specs.Prelude.{unwrap_or}
-use Rattle.blk_base.specs.Counts.{Rose}
+use Rattle.blk_base.specs.Counts.{HasFailedSince}
 use Rattle.blk_base.specs.declared.fault.DevNo.{DevNo}
 use Rattle.blk_base.specs.declared.fault.FaultFrom.TheVariants.{Dev}
 use Rattle.q2_format.specs.Created.{created_length}
@@ -27,8 +27,8 @@ use Rattle.flat_machine.specs.EventLicence.{IsOfCreation}
 use Rattle.flat_machine.specs.Licence.{fault_at}
 use Rattle.world_commands.specs.Carrying.{IsCaused}
 use Rattle.world_parts.specs.Coherent.{AreOut}
-use Rattle.world_commands.specs.Counting.{IsNumbered, RunsOn, IsReached, sources_of}
-use Rattle.world_parts.specs.Creating.{CanCreate, CanFormat, HasMakingFailed, HasStopped, IsFailed, creation_for}
+use Rattle.world_commands.specs.Counting.{IsNumbered, RunsOn, IsFaultReached, sources_of}
+use Rattle.world_parts.specs.Creating.{CanCreate, CanFormat, HasMakingFailed, HasFormatFailed, IsFailed, creation_for}
 use Rattle.world_parts.specs.Deleting.{ground_of}
 use Rattle.world_parts.specs.Face.{Face, counts_now}
 use Rattle.world_commands.proofs.CountLemmas.{numbered, reached-held}
@@ -56,7 +56,8 @@ module _ (w v : Face) (c : BlockdevCreate (List ℕ)) (runs : RunsOn w v) (count
       let rose = failed.rose in
       let least = counted in
       let first_same = runs.first in
-      let since : Rose v.first_faults v.faults = omega (arith, rose, least, first_same) in
+      let since : HasFailedSince v.first_faults v.faults = omega (arith, rose, least, first_same) in
+      let again : HasFailedSince w.faults v.faults = omega (arith, rose) in
       let small = subst FitsSo failed.names fits in
       rw failed.names
       (record {
@@ -64,7 +65,7 @@ module _ (w v : Face) (c : BlockdevCreate (List ℕ)) (runs : RunsOn w v) (count
         numbered = tt;
         reached = record {
           rise = record { risen = since; reached = omega arith };
-          new = record { risen = rose; reached = omega arith };
+          new = record { risen = again; reached = omega arith };
           fits = small.1;
         };
       })
@@ -94,7 +95,7 @@ module _ (w v : Face) (c : BlockdevCreate (List ℕ)) (runs : RunsOn w v) (count
         subst (λ (d : DevNo). StoppedBy made.before made.after d count) named has.1 in
         let there = (find-Some (is_of (id_or 0 w.table (Some q.file))) w.nodes.devices made.before made.held).0 in
         let there_now = (find-Some (is_of (id_or 0 w.table (Some q.file))) v.nodes.devices made.after made.left).0 in
-        let reached : IsReached w v (fault_at (Dev made.before.number) count) =
+        let reached : IsFaultReached w v (fault_at (Dev made.before.number) count) =
         reached-held w v made.before made.after count runs opened out out_now there there_now made.formatted.number stopped small.1 in
         rw (same, named)
         (record {
@@ -120,7 +121,7 @@ module _ (w v : Face) (c : BlockdevCreate (List ℕ)) (runs : RunsOn w v) (count
           passes = (taken, rw found has.0);
         })
 
-    image-failed : (cause : Refusal) → HasStopped (id_or 0 w.table (Some q.file)) (ground_of w) (ground_of v) (creation_for q) cause → FitsSo cause
+    image-failed : (cause : Refusal) → HasFormatFailed (id_or 0 w.table (Some q.file)) (ground_of w) (ground_of v) (creation_for q) cause → FitsSo cause
         → IsCaused w v (cmd (created.Qcow2 q)) cause
     image-failed cause failed fits = by_why failed.why refl
       where

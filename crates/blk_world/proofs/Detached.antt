@@ -42,7 +42,7 @@ use Rattle.blk_nodes.specs.Adding.{without_guest}
 use Rattle.blk_nodes.specs.Contents.{disk_of}
 use Rattle.blk_nodes.specs.Joined.{IsJoined}
 use Rattle.blk_nodes.specs.Nodes.{Nodes, row_at}
-use Rattle.world_parts.specs.Coherent.{AreAlike, AreAllowed, AreHeld, AreNodesOf, AreOnDisks, AreOnWritable, AreWithin, AskToWrite, HaveDrives, IsCoherent, IsWhole, node_row}
+use Rattle.world_parts.specs.Coherent.{AreAlike, AreAllowed, AreHeld, AreNodesOf, AreOnDisks, AreOnWritable, AreWithin, AskToWrite, HaveDrives, IsCoherent, IsWholeWorld, node_row}
 use Rattle.world_commands.specs.Detaching.{IsDetached}
 use Rattle.world_parts.specs.Face.{Face, contents_of, held_by}
 use Rattle.world_parts.specs.Progress.{flight_at}
@@ -71,7 +71,7 @@ without_it : (t : Table) (number : ℕ) → IsWithoutDevice t (changed t (Remove
 unfolding changed
 without_it t number = record { rows = refl; edges = refl; devices = refl; guests = refl; jobs = refl }
 
-module _ (w : Face) (whole : IsWhole w) (joined : IsJoined w.nodes) (id : List ℕ) (none : refusal_of w.table untold (command.DeviceDel id) ≡ None)
+module _ (w : Face) (whole : IsWholeWorld w) (joined : IsJoined w.nodes) (id : List ℕ) (none : refusal_of w.table untold (command.DeviceDel id) ≡ None)
     (device : Device) (named : device_named w.table id ≡ Some device) (calm : AreCalm w.table w.progress.guests (device_disk w.table id)) where
   was : IsCoherent w.table w.nodes w.opened w.progress
   was = whole.coherent
@@ -246,7 +246,7 @@ module _ (w : Face) (whole : IsWhole w) (joined : IsJoined w.nodes) (id : List �
   are_out = record {
     each = λ d held.
         let out = was.out.each d held in
-        record { opening = out.opening; there = out.there; out = out.out; named = same_filename d.node ∙ out.named; faults = out.faults };
+        record { opening = out.opening; there = out.there; out = out.out; named = same_filename d.node ∙ out.named; capacity = out.capacity; faults = out.faults };
     once = was.out.once;
     order = was.out.order;
     all = was.out.all;
@@ -298,7 +298,7 @@ module _ (w : Face) (whole : IsWhole w) (joined : IsJoined w.nodes) (id : List �
       by_over name (Some other) = refl
 
   pub detached_carried : ((other : ℕ) → disk_of nodes other ≡ disk_of w.nodes other)
-      → CarriedUntold w v (command.DeviceDel id) None × IsWhole v
+      → CarriedUntold w v (command.DeviceDel id) None × IsWholeWorld v
   detached_carried disks = (
     carried_by w v (command.DeviceDel id) refl refl none table_so refl refl calm refl
         (runs-devices w v refl refl refl refl refl refl (same-devices w.nodes.devices)) (hides-same w v refl refl refl)
@@ -314,13 +314,13 @@ module _ (w : Face) (whole : IsWhole w) (joined : IsJoined w.nodes) (id : List �
   )
 
 -- as it was said to go
-pub detachment_done : (w : Face) (whole : IsWhole w) (joined : IsJoined w.nodes) (id : List ℕ) (none : refusal_of w.table untold (command.DeviceDel id) ≡ None)
+pub detachment_done : (w : Face) (whole : IsWholeWorld w) (joined : IsJoined w.nodes) (id : List ℕ) (none : refusal_of w.table untold (command.DeviceDel id) ≡ None)
     (calm : AreCalm w.table w.progress.guests (device_disk w.table id)) (now : Nodes) (x : Table) → IsDetached w.table id w.nodes now
     → x ≡ all_changed w.table (answer w.table untold (command.DeviceDel id)).changes
-    → CarriedUntold w (record w { nodes = now; table = x }) (command.DeviceDel id) None × IsWhole (record w { nodes = now; table = x })
+    → CarriedUntold w (record w { nodes = now; table = x }) (command.DeviceDel id) None × IsWholeWorld (record w { nodes = now; table = x })
 detachment_done w whole joined id none calm now x done table =
     let number : ℕ = done.device.number in
     let all = detached_carried w whole joined id none done.device done.named calm (λ other. ap (λ (n : Nodes). disk_of n other) (sym done.gone) ∙ done.disks other) in
     let same : x ≡ changed w.table (RemoveDevice number) = table ∙ sym (table_so w whole joined id none done.device done.named calm) in
-    let P : Nodes → Table → Type 0 = λ n y. CarriedUntold w (record w { nodes = n; table = y }) (command.DeviceDel id) None × IsWhole (record w { nodes = n; table = y }) in
+    let P : Nodes → Table → Type 0 = λ n y. CarriedUntold w (record w { nodes = n; table = y }) (command.DeviceDel id) None × IsWholeWorld (record w { nodes = n; table = y }) in
     subst (λ (n : Nodes). P n x) (sym done.gone) (subst (P (without_guest number w.nodes)) (sym same) all)

@@ -19,7 +19,7 @@ use Rattle.blk_nodes.specs.Nodes.{Nodes}
 use Rattle.world_parts.specs.declared.carried.Carried.{Carried}
 use Rattle.world_parts.specs.declared.carried.Carried.TheVariants as carried
 use Rattle.world_commands.specs.Carrying.{IsCarriedAs, IsCarriedOut, IsLate, IsPutBackBy, held_for, prints_counts}
-use Rattle.world_parts.specs.Coherent.{AreNodesOf, IsWhole}
+use Rattle.world_parts.specs.Coherent.{AreNodesOf, IsWholeWorld}
 use Rattle.world_parts.specs.Deleting.{ground_of}
 use Rattle.world_commands.specs.Detaching.{HasDetached, HasToWaitFor, IsDetachedBy, IsDetachment, Scene, is_detachment, scene}
 use Rattle.world_parts.specs.Face.{Face, dirty_of, seen_state}
@@ -46,13 +46,13 @@ few_drives t nodes alike joined g some = by_drive (drive_of t g) refl some
         subst (HasParent nodes.graph) edge.from fits.parent
 
 -- the world with other drains belongs together as before
-pub whole-drains : (w : Face) (drains : Drained) → IsWhole w → IsWhole (record w { drains = drains })
+pub whole-drains : (w : Face) (drains : Drained) → IsWholeWorld w → IsWholeWorld (record w { drains = drains })
 whole-drains w drains is = record { coherent = is.coherent; tell = is.tell; counted = is.counted; bitmaps = is.bitmaps }
 
 abbrev pub staged : Face → Scene → Face
 staged w y = record w { nodes = y.nodes; table = y.table; drains = y.drains }
 
-module _ (w : Face) (whole : IsWhole w) (joined : IsJoined w.nodes) (given : List ℕ) (y : Scene) where
+module _ (w : Face) (whole : IsWholeWorld w) (joined : IsJoined w.nodes) (given : List ℕ) (y : Scene) where
   abbrev x : Scene
   x = scene w.table w.nodes w.drains
 
@@ -66,14 +66,14 @@ module _ (w : Face) (whole : IsWhole w) (joined : IsJoined w.nodes) (given : Lis
   dirty_same drains id = left-dirty w (record v { drains = drains }) untold (command.DeviceDel id) refl refl whole.bitmaps
 
   detachment_said : (c : Cmd) (text : List ℕ) → is_detachment c ≡ true → HasDetached (seen_state w) given c x y text
-      → IsCarriedAs w v given c text × IsWhole v
+      → IsCarriedAs w v given c text × IsWholeWorld v
   detachment_said (command.DeviceDel id) text is has =
-      subst (λ (drains : Drained). IsCarriedAs w (record v { drains = drains }) given (command.DeviceDel id) text × IsWhole (record v { drains = drains }))
+      subst (λ (drains : Drained). IsCarriedAs w (record v { drains = drains }) given (command.DeviceDel id) text × IsWholeWorld (record v { drains = drains }))
       (sym has.drains) (by_refusal has.handled.refusal has.handled.judged has.handled.done_is)
     where
       by_refusal : (refusal : Option Refusal) → refusal_of w.table untold (command.DeviceDel id) ≡ refusal
           → DoneIf refusal (IsDetachedBy w.table (command.DeviceDel id) w.nodes y.nodes) (y.nodes ≡ w.nodes)
-          → IsCarriedAs w (record v { drains = w.drains }) given (command.DeviceDel id) text × IsWhole (record v { drains = w.drains })
+          → IsCarriedAs w (record v { drains = w.drains }) given (command.DeviceDel id) text × IsWholeWorld (record v { drains = w.drains })
       by_refusal None none done =
           let all = detachment_done w whole joined id none (has.calm none) y.nodes y.table done has.handled.table in
           (said_as w given (record v { drains = w.drains }) text (command.DeviceDel id) None all.0 has.handled.said (dirty_same w.drains id) (record { new = None; is_new = tt; are = refl }), all.1)
@@ -92,7 +92,7 @@ module _ (w : Face) (whole : IsWhole w) (joined : IsJoined w.nodes) (given : Lis
   prints_none (command.DeviceDel id) is = refl
   prints_none c is = absurd (let bad : ⊥ = cc is in bad)
 
-  detachment_late : (c : Cmd) (g r : ℕ) → is_detachment c ≡ true → HasToWaitFor (seen_state w) c x y g r → IsLate w v c g r × IsWhole v
+  detachment_late : (c : Cmd) (g r : ℕ) → is_detachment c ≡ true → HasToWaitFor (seen_state w) c x y g r → IsLate w v c g r × IsWholeWorld v
   detachment_late c g r is has =
       let left : v ≡ held_for c w = ap (staged w) has.left in (
         record {
@@ -103,14 +103,14 @@ module _ (w : Face) (whole : IsWhole w) (joined : IsJoined w.nodes) (given : Lis
           left = left;
           shows = λ told o s shows. late_nothing o s w c (opens_none c is) (prints_none c is);
         },
-        subst IsWhole (sym left) (whole-drains w (after_later (drained_by w.table c) w.drains) whole),
+        subst IsWholeWorld (sym left) (whole-drains w (after_later (drained_by w.table c) w.drains) whole),
       )
 
   -- ---- whichever it is
 
   module _ (c : Cmd) (is : is_detachment c ≡ true) {E : Type 0} (r : Result Carried E)
       (ok : IfOk r (λ a. (s : State) → s.table ≡ w.table → s.guests ≡ w.progress.guests → IsDetachment s given c x y a)) where
-    both : (a : Carried) → IsDetachment (seen_state w) given c x y a → IsCarriedOut w v given c a × IsWhole v
+    both : (a : Carried) → IsDetachment (seen_state w) given c x y a → IsCarriedOut w v given c a × IsWholeWorld v
     both (carried.Said text) has = detachment_said c (string_bytes text) is has
     both (carried.Later g n) has = detachment_late c g n is has
 
@@ -122,13 +122,13 @@ module _ (w : Face) (whole : IsWhole w) (joined : IsJoined w.nodes) (given : Lis
         by_result (Ok a) has = (both a (has (seen_state w) refl refl)).0
         by_result (Err e) has = has
 
-    pub detachment_whole : OnErr r (y ≡ x) → IsWhole v
+    pub detachment_whole : OnErr r (y ≡ x) → IsWholeWorld v
     detachment_whole back = by_result r ok back
       where
         by_result : (r : Result Carried E) → IfOk r (λ a. (s : State) → s.table ≡ w.table → s.guests ≡ w.progress.guests → IsDetachment s given c x y a)
-            → OnErr r (y ≡ x) → IsWhole v
+            → OnErr r (y ≡ x) → IsWholeWorld v
         by_result (Ok a) has back = (both a (has (seen_state w) refl refl)).1
-        by_result (Err e) has back = subst IsWhole (ap (staged w) (sym back)) whole
+        by_result (Err e) has back = subst IsWholeWorld (ap (staged w) (sym back)) whole
 
     pub detachment_back : OnErr r (y ≡ x) → OnErr r (IsPutBackBy w v c)
     detachment_back back = by_result r back

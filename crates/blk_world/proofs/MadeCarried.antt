@@ -13,7 +13,7 @@ use Rattle.qmp_rules.specs.Changes.{all_changed}
 use Rattle.qmp_rules.specs.Edits.{create_edits, spoiled}
 use Rattle.qmp_rules.specs.Looks.{create_told}
 use Rattle.qmp_rules.specs.Table.{Table}
-use Rattle.qmp_rules.specs.Values.{amount_or}
+use Rattle.qmp_asks.specs.Values.{amount_or}
 use Rattle.qmp_rules.specs.declared.refusal.Refusal.{Refusal}
 use Rattle.std.proofs.lemmas.Bool.{false≢true}
 use Rattle.blk_graph.proofs.Members.{find-Some}
@@ -28,7 +28,7 @@ use Rattle.blk_nodes.specs.Joined.{IsJoined}
 use Rattle.blk_nodes.specs.Nodes.{AreTold, DeviceState, Nodes, device_in}
 use Rattle.blk_nodes.specs.Reading.{OnlyAt}
 use Rattle.blk_nodes.specs.declared.stop.FormatStop.{FormatStop}
-use Rattle.world_parts.specs.Coherent.{IsWhole}
+use Rattle.world_parts.specs.Coherent.{IsWholeWorld}
 use Rattle.world_commands.specs.Counting.{AreSameDevices}
 use Rattle.world_parts.specs.Creating.{HasMakingFailed, HasFormatted, with_made}
 use Rattle.world_parts.specs.Deleting.{Ground, ground_of}
@@ -51,7 +51,7 @@ others-told name (Some files) new left = ap (λ (f : Option (List StoreFile)). i
 
 -- ---- files
 
-module _ (w : Face) (whole : IsWhole w) (id : List ℕ) (c : CreateFile (List ℕ)) where
+module _ (w : Face) (whole : IsWholeWorld w) (id : List ℕ) (c : CreateFile (List ℕ)) where
   abbrev size : ℕ
   size = amount_or 0 (Some c.size)
 
@@ -122,7 +122,7 @@ told-only old new file before after joined now same only held left same_told tol
     ∙ ap content held_was
     ∙ told was.0 was.1
 
-module _ (w : Face) (whole : IsWhole w) (joined : IsJoined w.nodes) (x : Ground) (after : IsJoined x.nodes) (node : ℕ) (image : Creation) (outcome : Result (Unit {0}) FormatStop)
+module _ (w : Face) (whole : IsWholeWorld w) (joined : IsJoined w.nodes) (x : Ground) (after : IsJoined x.nodes) (node : ℕ) (image : Creation) (outcome : Result (Unit {0}) FormatStop)
     (formatted : HasFormatted node (ground_of w) x image outcome) where
   abbrev at : IsFormatAt node w.nodes.devices x.nodes.devices image outcome
   at = formatted.format
@@ -130,7 +130,7 @@ module _ (w : Face) (whole : IsWhole w) (joined : IsJoined w.nodes) (x : Ground)
   pub devices-then : AreSameDevices w.nodes.devices x.nodes.devices
   devices-then =
       same-only node w.nodes.devices x.nodes.devices at.before at.after joined.once at.only at.held at.left
-      (record { node = at.formatted.node; number = at.formatted.number; faults = at.formatted.faults })
+      (record { node = at.formatted.node; number = at.formatted.number; capacity = at.formatted.capacity; faults = at.formatted.faults })
 
   pub moves_image : (u : Table) → IsEasedTo w.table u → Moves w (placed w x u)
   moves_image u eased = record {

@@ -13,7 +13,7 @@ use Rattle.blk_nodes.specs.Nodes.{DeviceState, Nodes}
 use Rattle.blk_nodes.specs.declared.stop.FormatStop.{FormatStop}
 use Rattle.blk_nodes.specs.declared.stop.FormatStop.TheVariants as stop
 use Rattle.world_commands.specs.Carrying.{fault_named}
-use Rattle.world_parts.specs.Coherent.{IsWhole}
+use Rattle.world_parts.specs.Coherent.{IsWholeWorld}
 use Rattle.world_commands.specs.Counting.{AreSameDevices, HidesNoFault}
 use Rattle.world_parts.specs.Creating.{HasMakingFailed, HasFormatted, unformatted}
 use Rattle.world_parts.specs.Deleting.{Ground, ground_of}
@@ -23,7 +23,7 @@ use Rattle.world_commands.proofs.CountLemmas.{out-same, same-only}
 use Rattle.world_commands.proofs.CountsKept.{counts-same, hides-none, hides-stopped, hides-store, only-same}
 use Rattle.world_commands.proofs.Placed.{placed}
 
-module _ (w : Face) (whole : IsWhole w) (joined : IsJoined w.nodes) (x : Ground) (u : Table) where
+module _ (w : Face) (whole : IsWholeWorld w) (joined : IsJoined w.nodes) (x : Ground) (u : Table) where
   abbrev v : Face
   v = placed w x u
 
@@ -55,7 +55,7 @@ module _ (w : Face) (whole : IsWhole w) (joined : IsJoined w.nodes) (x : Ground)
     devices : AreSameDevices w.nodes.devices x.nodes.devices
     devices =
         same-only node w.nodes.devices x.nodes.devices at.before at.after joined.once at.only at.held at.left
-        (record { node = at.formatted.node; number = at.formatted.number; faults = at.formatted.faults })
+        (record { node = at.formatted.node; number = at.formatted.number; capacity = at.formatted.capacity; faults = at.formatted.faults })
 
     -- an image was created
     pub hides_formatted : HasFormatCause at.before at.after (created_length image) (Ok tt) → HidesNoFault w v None

@@ -13,21 +13,21 @@ use Rattle.qmp_rules.specs.Changes.{all_changed}
 use Rattle.qmp_rules.specs.Edits.{create_edits, spoiled}
 use Rattle.qmp_rules.specs.Looks.{create_told, stop_at, too_long}
 use Rattle.qmp_rules.specs.Table.{Table}
-use Rattle.qmp_rules.specs.Values.{amount_or}
+use Rattle.qmp_asks.specs.Values.{amount_or}
 use Rattle.qmp_rules.specs.declared.change.Change.{Change}
 use Rattle.qmp_rules.specs.declared.refusal.Refusal.{Refusal}
 use Rattle.qmp_rules.specs.declared.refusal.Refusal.TheVariants as refusal
-use Rattle.qmp_rules.specs.declared.told.Look.TheVariants as look
+use Rattle.qmp_asks.specs.declared.look.Look.TheVariants as look
 use Rattle.qmp_rules.specs.declared.told.Told.{Told}
 use Rattle.flat_machine.specs.Performing.{AllPerformed}
 use Rattle.blk_nodes.specs.Joined.{IsJoined}
 use Rattle.world_commands.specs.Carrying.{IsCarried, IsCarriedAs, IsCaused, StopsByFiles, is_failed}
-use Rattle.world_parts.specs.Coherent.{IsWhole}
+use Rattle.world_parts.specs.Coherent.{IsWholeWorld}
 use Rattle.world_commands.specs.Counting.{HidesNoFault}
 use Rattle.world_parts.specs.Deleting.{Ground, ground_of}
 use Rattle.world_parts.specs.Face.{Face, contents_of}
 use Rattle.world_parts.specs.Handling.{IsUntouched}
-use Rattle.world_commands.specs.Making.{IsMade, MadeSo, is_creation}
+use Rattle.world_commands.specs.Making.{IsAnswerMade, MadeSo, is_creation}
 use Rattle.world_parts.specs.Saying.{IsSaid}
 use Rattle.world_commands.proofs.CarryPlain.{quiet_named, quiet-self}
 use Rattle.world_commands.proofs.CountLemmas.{runs-devices, same-devices}
@@ -82,7 +82,7 @@ refused_first w c cause some =
     quiet_one w c (refusal.NoSpace dev) bad = absurd (let e : ⊥ = cc bad in e)
     quiet_one w c _ is = tt
 
-said_so : (w : Face) (given : List ℕ) (v : Face) (text : List ℕ) (c : Cmd) (refusal : Option Refusal) (told : Told) → IsWhole w → keeps_bitmaps c ≡ true → v.bitmaps ≡ w.bitmaps
+said_so : (w : Face) (given : List ℕ) (v : Face) (text : List ℕ) (c : Cmd) (refusal : Option Refusal) (told : Told) → IsWholeWorld w → keeps_bitmaps c ≡ true → v.bitmaps ≡ w.bitmaps
     → CarriedTold w v c refusal told → IsSaid given (answer w.table told c).reply text → IsCarriedAs w v given c text
 said_so w given v text c refusal told whole keeps bitmaps carried said = record {
   refusal = refusal;
@@ -92,14 +92,14 @@ said_so w given v text c refusal told whole keeps bitmaps carried said = record 
   bitmaps = kept-bitmaps w.table c refusal w.bitmaps v.bitmaps keeps bitmaps;
 }
 
-module _ (w : Face) (whole : IsWhole w) (joined : IsJoined w.nodes) (given : List ℕ) (x : Ground) (after : IsJoined x.nodes) (least : w.faults ≤ x.store.faults) (u : Table) where
-  creation_said : (text : List ℕ) (c : Cmd) → is_creation c ≡ true → IsMade given w.table c (ground_of w) x u text
-      → IsCarriedAs w (placed w x u) given c text × IsWhole (placed w x u)
+module _ (w : Face) (whole : IsWholeWorld w) (joined : IsJoined w.nodes) (given : List ℕ) (x : Ground) (after : IsJoined x.nodes) (least : w.faults ≤ x.store.faults) (u : Table) where
+  creation_said : (text : List ℕ) (c : Cmd) → is_creation c ≡ true → IsAnswerMade given w.table c (ground_of w) x u text
+      → IsCarriedAs w (placed w x u) given c text × IsWholeWorld (placed w x u)
   creation_said text (command.BlockdevCreate c) is made = by_refusal made.refusal made.judged made.done_is
     where
       by_refusal : (refusal : Option Refusal) → refusal_of w.table made.told (command.BlockdevCreate c) ≡ refusal
           → MadeSo w.table (command.BlockdevCreate c) (ground_of w) x made.told refusal
-          → IsCarriedAs w (placed w x u) given (command.BlockdevCreate c) text × IsWhole (placed w x u)
+          → IsCarriedAs w (placed w x u) given (command.BlockdevCreate c) text × IsWholeWorld (placed w x u)
       by_refusal None none done =
           let cmd : Cmd = command.BlockdevCreate c in
           let first : refusal_of w.table (create_told c.options w.room) cmd ≡ None = subst (λ (t : Told). refusal_of w.table t cmd ≡ None) done.0 none in
@@ -109,7 +109,7 @@ module _ (w : Face) (whole : IsWhole w) (joined : IsJoined w.nodes) (given : Lis
             said_so w given (placed w x u) text cmd None made.told whole refl refl
                 (subst (λ (v : Face). CarriedTold w v cmd None made.told) same
                 (subst (λ (t : Told). CarriedTold w (placed w x (all_changed w.table (create_edits w.table c))) cmd None t) (sym done.0) all.0)) made.said,
-            subst IsWhole same all.1,
+            subst IsWholeWorld same all.1,
           )
       by_refusal (Some cause) some (inl done) =
           let cmd : Cmd = command.BlockdevCreate c in
@@ -122,7 +122,7 @@ module _ (w : Face) (whole : IsWhole w) (joined : IsJoined w.nodes) (given : Lis
             said_so w given (placed w x u) text cmd (Some cause) made.told whole refl refl
                 (subst (λ (v : Face). CarriedTold w v cmd (Some cause) made.told) same
                 (subst (λ (t : Told). CarriedTold w w cmd (Some cause) t) (sym done.0) (refused_first w c cause first))) made.said,
-            subst IsWhole same whole,
+            subst IsWholeWorld same whole,
           )
       by_refusal (Some cause) some (inr fails) =
           let cmd : Cmd = command.BlockdevCreate c in
@@ -133,22 +133,22 @@ module _ (w : Face) (whole : IsWhole w) (joined : IsJoined w.nodes) (given : Lis
             said_so w given (placed w x u) text cmd (Some cause) made.told whole refl refl
                 (subst (λ (v : Face). CarriedTold w v cmd (Some cause) made.told) same
                 (subst (λ (t : Told). CarriedTold w (placed w x (all_changed w.table (spoiled w.table c.options))) cmd (Some cause) t) (sym fails.told_is) all.0)) made.said,
-            subst IsWhole same all.1,
+            subst IsWholeWorld same all.1,
           )
   creation_said text c is made = absurd (let bad : ⊥ = cc is in bad)
 
   -- answers of a call
-  module _ {A E : Type 0} (r : Result A E) (text : A → List ℕ) (c : Cmd) (is : is_creation c ≡ true) (made : IfOk r (λ a. IsMade given w.table c (ground_of w) x u (text a))) where
+  module _ {A E : Type 0} (r : Result A E) (text : A → List ℕ) (c : Cmd) (is : is_creation c ≡ true) (made : IfOk r (λ a. IsAnswerMade given w.table c (ground_of w) x u (text a))) where
     pub creation_texts : IfOk r (λ a. IsCarriedAs w (placed w x u) given c (text a))
     creation_texts = by_result r made
       where
-        by_result : (r : Result A E) → IfOk r (λ a. IsMade given w.table c (ground_of w) x u (text a)) → IfOk r (λ a. IsCarriedAs w (placed w x u) given c (text a))
+        by_result : (r : Result A E) → IfOk r (λ a. IsAnswerMade given w.table c (ground_of w) x u (text a)) → IfOk r (λ a. IsCarriedAs w (placed w x u) given c (text a))
         by_result (Ok a) made = (creation_said (text a) c is made).0
         by_result (Err e) made = made
 
-    pub creation_whole : OnErr r (IsUntouched w.table u (x ≡ ground_of w)) → IsWhole (placed w x u)
+    pub creation_whole : OnErr r (IsUntouched w.table u (x ≡ ground_of w)) → IsWholeWorld (placed w x u)
     creation_whole kept = by_result r made kept
       where
-        by_result : (r : Result A E) → IfOk r (λ a. IsMade given w.table c (ground_of w) x u (text a)) → OnErr r (IsUntouched w.table u (x ≡ ground_of w)) → IsWhole (placed w x u)
+        by_result : (r : Result A E) → IfOk r (λ a. IsAnswerMade given w.table c (ground_of w) x u (text a)) → OnErr r (IsUntouched w.table u (x ≡ ground_of w)) → IsWholeWorld (placed w x u)
         by_result (Ok a) made kept = (creation_said (text a) c is made).1
         by_result (Err e) made kept = untouched_whole w x u whole kept

@@ -18,7 +18,7 @@ use Rattle.qmp_codec.specs.declared.nodes.Created.TheVariants as created
 use Rattle.qmp_rules.specs.Asks.{stands_for}
 use Rattle.qmp_rules.specs.Edits.{create_edits, spoiled}
 use Rattle.qmp_rules.specs.Table.{Table, node_at}
-use Rattle.qmp_rules.specs.Values.{amount_or}
+use Rattle.qmp_asks.specs.Values.{amount_or}
 use Rattle.qmp_codec.specs.declared.words.ImageFormat.{ImageFormat}
 use Rattle.qmp_rules.specs.declared.change.Change.TheVariants.{FormatFile, KeepId, SpoilFile}
 use Rattle.qmp_rules.specs.declared.rows.NodeRecord.{NodeRecord}
@@ -34,11 +34,11 @@ use Rattle.blk_world.proofs.MadeCarried.{made_ground, made_table, failed_table}
 use Rattle.blk_world.proofs.MadeMoves.{IsLoneFile, node_over_it, over_none, shape_made, shape_spoiled, stands-name}
 use Rattle.world_commands.proofs.Placed.{placed}
 use Rattle.std.specs.List.{list_any}
-use Rattle.world_parts.specs.Coherent.{IsWhole}
+use Rattle.world_parts.specs.Coherent.{IsWholeWorld}
 
 -- ---- files
 
-module _ (w : Face) (whole : IsWhole w) (id : List ℕ) (c : CreateFile (List ℕ)) (closed : list_any (stands_for c.filename) w.table.nodes ≡ false) where
+module _ (w : Face) (whole : IsWholeWorld w) (id : List ℕ) (c : CreateFile (List ℕ)) (closed : list_any (stands_for c.filename) w.table.nodes ≡ false) where
   pub performed_made : (s : State) → is_some w.files ≡ true
       → AllPerformed s (create_edits w.table (record { job_id = id; options = created.File c })) (contents_of w) (contents_of (placed w (made_ground w whole id c) (made_table w whole id c)))
   performed_made s told = by_files w.files refl told
@@ -70,7 +70,7 @@ module _ (w : Face) (whole : IsWhole w) (id : List ℕ) (c : CreateFile (List �
 
 -- ---- images
 
-module _ (w : Face) (whole : IsWhole w) (x : Ground) (u : Table) (row : NodeRecord) (name : List ℕ) (lone : IsLoneFile w.table row name) (eased : IsEased w.table u)
+module _ (w : Face) (whole : IsWholeWorld w) (x : Ground) (u : Table) (row : NodeRecord) (name : List ℕ) (lone : IsLoneFile w.table row name) (eased : IsEased w.table u)
     (image : Creation) (outcome : Result (Unit {0}) FormatStop) (formatted : HasFormatted row.id (ground_of w) x image outcome) (told : is_some w.files ≡ true) where
   abbrev image_then : Face
   image_then = placed w x u

@@ -10,11 +10,11 @@ use Rattle.qmp_rules.specs.Answers.{answer, refusal_of}
 use Rattle.qmp_rules.specs.Asks.{told_at}
 use Rattle.qmp_rules.specs.Looks.{create_told, stop_at, too_long}
 use Rattle.qmp_rules.specs.Table.{Table}
-use Rattle.qmp_rules.specs.Values.{amount_or}
+use Rattle.qmp_asks.specs.Values.{amount_or}
 use Rattle.qmp_rules.specs.declared.judge.PrepareStop.TheVariants.{Refused}
 use Rattle.qmp_rules.specs.declared.refusal.Refusal.{Refusal}
 use Rattle.qmp_rules.specs.declared.refusal.Refusal.TheVariants as refusal
-use Rattle.qmp_rules.specs.declared.told.Look.TheVariants as look
+use Rattle.qmp_asks.specs.declared.look.Look.TheVariants as look
 use Rattle.qmp_rules.specs.declared.told.Told.{Told}
 use Rattle.flat_machine.specs.Marking.{dirty_bytes}
 use Rattle.flat_machine.specs.Performing.{AllPerformed}
@@ -24,7 +24,7 @@ use Rattle.flat_machine.specs.declared.opening.Opening.{Opening}
 use Rattle.blk_nodes.specs.declared.stop.FormatStop.{FormatStop}
 use Rattle.blk_nodes.specs.declared.stop.FormatStop.TheVariants as stop
 use Rattle.world_commands.specs.Carrying.{IsCarriedIn, counted}
-use Rattle.world_commands.specs.Comes.{Shows}
+use Rattle.world_commands.specs.Comes.{ShowsState}
 use Rattle.world_parts.specs.Creating.{IsFailed, unformatted}
 use Rattle.world_parts.specs.Deleting.{Ground}
 use Rattle.world_parts.specs.Face.{Face, contents_of}
@@ -60,7 +60,7 @@ is-told s c told tells stops =
 
 -- ---- where no call failed
 
-pub told_by_room : (o : Opening) (s : State) (w v : Face) (c : BlockdevCreate (List ℕ)) → Shows o s w
+pub told_by_room : (o : Opening) (s : State) (w v : Face) (c : BlockdevCreate (List ℕ)) → ShowsState o s w
     → AllPerformed s (answer w.table (create_told c.options w.room) (command.BlockdevCreate c)).changes (contents_of w) (contents_of v)
     → IsCarriedIn s w v (command.BlockdevCreate c) (create_told c.options w.room)
 told_by_room o s w v c shows did =
@@ -102,7 +102,7 @@ calls-so s id (created.File c) old now t cause failed = refl
 calls-so s id (created.Qcow2 c) old now t cause failed = refl
 calls-so s id created.Unknown old now t cause failed = absurd failed
 
-pub told_by_failure : (o : Opening) (s : State) (w v : Face) (id : List ℕ) (options : Created (List ℕ)) (old now : Ground) (cause : Refusal) → Shows o s w
+pub told_by_failure : (o : Opening) (s : State) (w v : Face) (id : List ℕ) (options : Created (List ℕ)) (old now : Ground) (cause : Refusal) → ShowsState o s w
     → refusal_of w.table (create_told options w.room) (command.BlockdevCreate (record { job_id = id; options = options })) ≡ None → IsFailed w.table options old now cause
     → AllPerformed s
     (answer w.table (record (create_told options w.room) { stopped = Some (record { look = look_of options; refusal = cause }) })

@@ -14,7 +14,7 @@ use Rattle.qmp_rules.specs.Edits.{create_edits, edits_of, file_of_node, spoiled}
 use Rattle.qmp_rules.specs.Looks.{create_told}
 use Rattle.qmp_rules.specs.Table.{Table}
 use Rattle.qmp_rules.specs.Asks.{id_or}
-use Rattle.qmp_rules.specs.Values.{amount_or}
+use Rattle.qmp_asks.specs.Values.{amount_or}
 use Rattle.qmp_rules.specs.declared.change.Change.TheVariants.{FormatFile, KeepId}
 use Rattle.blk_nodes.specs.Nodes.{Nodes}
 use Rattle.qmp_rules.specs.declared.change.Change.{Change}
@@ -27,7 +27,7 @@ use Rattle.flat_machine.specs.Wiring.{TableAtRest}
 use Rattle.flat_machine.proofs.TableRests.{command_rests, spoiled_rests}
 use Rattle.blk_nodes.specs.Joined.{IsJoined}
 use Rattle.world_commands.specs.Carrying.{IsCarried, IsOfFiles, StopsByFiles, fault_named, opened_names}
-use Rattle.world_parts.specs.Coherent.{IsWhole}
+use Rattle.world_parts.specs.Coherent.{IsWholeWorld}
 use Rattle.world_commands.specs.Counting.{HidesNoFault}
 use Rattle.world_parts.specs.Creating.{HasCreated, HasFormatted, creation_for}
 use Rattle.world_parts.specs.Deleting.{Ground, ground_of}
@@ -79,13 +79,13 @@ clean_failed id options room cause =
 
 -- ---- accepted
 
-module _ (w : Face) (whole : IsWhole w) (c : BlockdevCreate (List ℕ)) (none : refusal_of w.table (create_told c.options w.room) (command.BlockdevCreate c) ≡ None)
+module _ (w : Face) (whole : IsWholeWorld w) (c : BlockdevCreate (List ℕ)) (none : refusal_of w.table (create_told c.options w.room) (command.BlockdevCreate c) ≡ None)
     (x : Ground) (created_is : HasCreated w.table c.options (ground_of w) x) where
   abbrev v : Face
   v = placed w x (all_changed w.table (create_edits w.table c))
 
   pub accepted_carried : Moves w v → HidesNoFault w v None → ((s : State) → is_some w.files ≡ true → s.table ≡ w.table → AllPerformed s (create_edits w.table c) (contents_of w) (contents_of v))
-      → CarriedTold w v (command.BlockdevCreate c) None (create_told c.options w.room) × IsWhole v
+      → CarriedTold w v (command.BlockdevCreate c) None (create_told c.options w.room) × IsWholeWorld v
   accepted_carried moves hides performed =
       let told : Told = create_told c.options w.room in
       let changes = changes-created w.table told c none in
@@ -123,14 +123,14 @@ files-of (refusal.Io source count) fits = tt
 files-of (refusal.NoSpace dev) fits = tt
 files-of _ fits = absurd fits
 
-module _ (w : Face) (whole : IsWhole w) (c : BlockdevCreate (List ℕ)) (none : refusal_of w.table (create_told c.options w.room) (command.BlockdevCreate c) ≡ None)
+module _ (w : Face) (whole : IsWholeWorld w) (c : BlockdevCreate (List ℕ)) (none : refusal_of w.table (create_told c.options w.room) (command.BlockdevCreate c) ≡ None)
     (x : Ground) (cause : Refusal) (ended : HasEndedSo w.table (command.BlockdevCreate c) (ground_of w) x cause) where
   abbrev failed_then : Face
   failed_then = placed w x (all_changed w.table (spoiled w.table c.options))
 
   pub stopped_carried : Moves w failed_then → HidesNoFault w failed_then (fault_named cause)
       → ((s : State) → is_some w.files ≡ true → s.table ≡ w.table → AllPerformed s (spoiled w.table c.options) (contents_of w) (contents_of failed_then))
-      → CarriedTold w failed_then (command.BlockdevCreate c) (Some cause) (told_failed (command.BlockdevCreate c) w.room cause) × IsWhole failed_then
+      → CarriedTold w failed_then (command.BlockdevCreate c) (Some cause) (told_failed (command.BlockdevCreate c) w.room cause) × IsWholeWorld failed_then
   stopped_carried moves hides performed =
       let told : Told = told_failed (command.BlockdevCreate c) w.room cause in
       let some : refusal_of w.table told (command.BlockdevCreate c) ≡ Some cause = fails-so w.table c.job_id c.options w.room cause none in
@@ -162,7 +162,7 @@ module _ (w : Face) (whole : IsWhole w) (c : BlockdevCreate (List ℕ)) (none : 
 
 -- ---- by what is created
 
-module _ (w : Face) (whole : IsWhole w) (joined : IsJoined w.nodes) (id : List ℕ) (x : Ground) (after : IsJoined x.nodes) where
+module _ (w : Face) (whole : IsWholeWorld w) (joined : IsJoined w.nodes) (id : List ℕ) (x : Ground) (after : IsJoined x.nodes) where
   abbrev asks_for : Created (List ℕ) → BlockdevCreate (List ℕ)
   asks_for options = record { job_id = id; options = options }
 
@@ -171,11 +171,11 @@ module _ (w : Face) (whole : IsWhole w) (joined : IsJoined w.nodes) (id : List �
 
   pub made_world : (options : Created (List ℕ)) → refusal_of w.table (create_told options w.room) (command.BlockdevCreate (asks_for options)) ≡ None
       → HasCreated w.table options (ground_of w) x
-      → CarriedTold w (made_then options x) (command.BlockdevCreate (asks_for options)) None (create_told options w.room) × IsWhole (made_then options x)
+      → CarriedTold w (made_then options x) (command.BlockdevCreate (asks_for options)) None (create_told options w.room) × IsWholeWorld (made_then options x)
   made_world (created.File c) none is =
       let asked = file_asked w.table (create_told (created.File c) w.room) id c none in
       subst (λ (y : Ground). CarriedTold w (made_then (created.File c) y) (command.BlockdevCreate (asks_for (created.File c))) None (create_told (created.File c) w.room)
-      × IsWhole (made_then (created.File c) y)) (sym is)
+      × IsWholeWorld (made_then (created.File c) y)) (sym is)
       (accepted_carried w whole (asks_for (created.File c)) none (made_ground w whole id c) refl (moves_made w whole id c)
       (hides-same w (made_then (created.File c) (made_ground w whole id c)) refl refl refl)
       (λ s told same. performed_made w whole id c asked.closed s told))
@@ -204,7 +204,7 @@ module _ (w : Face) (whole : IsWhole w) (joined : IsJoined w.nodes) (id : List �
   pub spoiled_world : (options : Created (List ℕ)) (cause : Refusal) → refusal_of w.table (create_told options w.room) (command.BlockdevCreate (asks_for options)) ≡ None
       → HasEndedSo w.table (command.BlockdevCreate (asks_for options)) (ground_of w) x cause → w.faults ≤ x.store.faults
       → CarriedTold w (spoiled_then options x) (command.BlockdevCreate (asks_for options)) (Some cause) (told_failed (command.BlockdevCreate (asks_for options)) w.room cause)
-      × IsWhole (spoiled_then options x)
+      × IsWholeWorld (spoiled_then options x)
   spoiled_world (created.File c) cause none ended least =
       let asked = file_asked w.table (create_told (created.File c) w.room) id c none in
       let nodes = sym ended.failed.0 in

@@ -15,7 +15,7 @@ use Rattle.flat_machine.specs.declared.opening.Opening.{Opening}
 use Rattle.blk_nodes.specs.Contents.{Unfolds}
 use Rattle.blk_nodes.specs.Joined.{IsJoined}
 use Rattle.blk_nodes.specs.Nodes.{Nodes}
-use Rattle.world_parts.specs.Coherent.{IsCoherent, IsWhole}
+use Rattle.world_parts.specs.Coherent.{IsCoherent, IsWholeWorld}
 use Rattle.world_commands.specs.Comes.{Comes}
 use Rattle.world_parts.specs.Face.{Face}
 use Rattle.blk_pieces.specs.Pieces.{CanTransfer, Transfers}
@@ -85,14 +85,14 @@ made_of w nodes table p bitmaps g drive node f outcome op on is_node asks noted 
 
 module _ (w v : Face) (g : ℕ) (outcome : Outcome) (next : With (flight_at w.progress.guests g) HasNext)
     (made : (f : Flight) → flight_at w.progress.guests g ≡ Some f → IsPieceMade w v g f outcome) (joined : IsJoined w.nodes)
-    (whole : IsWhole w) where
+    (whole : IsWholeWorld w) where
   flight : IsThere (flight_at w.progress.guests g) HasNext
   flight = there (flight_at w.progress.guests g) HasNext next
 
   pub made_comes : Unfolds w.nodes → IsJoined v.nodes → (o : Opening) → Comes o w → Comes o v
   made_comes unfolds = piece_comes w v g flight.at outcome (made flight.at flight.is) flight.holds flight.is joined whole.coherent unfolds whole.tell whole.bitmaps
 
-  pub made_whole : IsJoined v.nodes → IsWhole v
+  pub made_whole : IsJoined v.nodes → IsWholeWorld v
   made_whole = piece_whole w v g flight.at outcome (made flight.at flight.is) flight.holds flight.is joined whole.coherent whole.tell whole.counted whole.bitmaps
 
   pub made_licence : (f : Flight) (flies : flight_at w.progress.guests g ≡ Some f) → (m : IsPieceMade w v g f outcome) × HasPieceLicence w v g f outcome m

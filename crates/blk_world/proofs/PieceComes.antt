@@ -35,10 +35,10 @@ use Rattle.blk_nodes.specs.Copying.{IsBeside}
 use Rattle.blk_nodes.specs.Joined.{IsJoined}
 use Rattle.blk_nodes.specs.Nodes.{DeviceState, AreTold, is_of}
 use Rattle.blk_nodes.specs.Reading.{LeadsTo, StoppedAt, StoppedBy}
-use Rattle.blk_nodes.specs.Writing.{IsApart}
-use Rattle.world_parts.specs.Coherent.{IsCoherent, IsWhole, DevicesTell}
-use Rattle.world_commands.specs.Comes.{Comes, Shows}
-use Rattle.world_commands.specs.Counting.{RunsOn, IsReached, IsReachedBy, sources_of, counts_within, HidesNoFault}
+use Rattle.blk_nodes.specs.Writing.{IsApartFrom}
+use Rattle.world_parts.specs.Coherent.{IsCoherent, IsWholeWorld, DevicesTell}
+use Rattle.world_commands.specs.Comes.{Comes, ShowsState}
+use Rattle.world_commands.specs.Counting.{RunsOn, IsFaultReached, IsReachedBy, sources_of, counts_within, HidesNoFault}
 use Rattle.world_parts.specs.Face.{Face, dirty_of, held, counts_now, node_over, contents_of}
 use Rattle.blk_pieces.specs.Pieces.{CanTransfer}
 use Rattle.blk_pieces.proofs.Payloads.{payload_length, putting_by}
@@ -146,7 +146,7 @@ module _ (w v : Face) (g : ℕ) (f : Flight) (outcome : Outcome) (made : IsPiece
   tell_then tell now = λ tells.
       told_after w.table f.op w.nodes v.nodes made.drive node part outcome made.buffer joined now moved.devices went (tell (sym (ap (λ (x : Face). is_some x.files) made.kept) ∙ tells))
 
-  pub piece_whole : DevicesTell w.files w.nodes.devices → w.first_faults ≤ w.faults → AreBitmapsOf w.table.bitmaps w.bitmaps → IsJoined v.nodes → IsWhole v
+  pub piece_whole : DevicesTell w.files w.nodes.devices → w.first_faults ≤ w.faults → AreBitmapsOf w.table.bitmaps w.bitmaps → IsJoined v.nodes → IsWholeWorld v
   piece_whole tell counted bitmaps now = record {
     coherent = piece_coherent;
     tell = tell_then tell now;
@@ -175,13 +175,13 @@ module _ (w v : Face) (g : ℕ) (f : Flight) (outcome : Outcome) (made : IsPiece
       subst (λ (drive : Option ℕ). With drive (λ n. ReachesDevice w.table (sources_of w) n dev.0)) (sym made.on) reached
 
   reached_by : (dev : DevNo) (count : ℕ) (stop : StoppedOn w.nodes v.nodes made.drive outcome dev) → StoppedBy stop.before stop.after dev count → count ≤ 18446744073709551615
-      → IsReached w v (fault_at (Dev dev) count)
+      → IsFaultReached w v (fault_at (Dev dev) count)
   reached_by dev count stop by fits =
       let same = same_in w.nodes.devices v.nodes.devices stop.file stop.before stop.after moved.devices stop.held stop.left in
       let held = (find-Some (is_of stop.file) w.nodes.devices stop.before stop.held).0 in
       let held_now = (find-Some (is_of stop.file) v.nodes.devices stop.after stop.left).0 in
       let own : StoppedBy stop.before stop.after stop.before.number count = subst (λ (d : DevNo). StoppedBy stop.before stop.after d count) by.named by in
-      subst (λ (d : DevNo). IsReached w v (fault_at (Dev d) count)) (sym by.named)
+      subst (λ (d : DevNo). IsFaultReached w v (fault_at (Dev d) count)) (sym by.named)
       (reached-held w v stop.before stop.after count piece_runs opened_kept was.out (out-same w.table w.nodes v.nodes w.opened moved.devices was.out) held held_now same.number own fits)
 
   reached : (o : Outcome) → outcome ≡ o → IsSmallOutcome o → IsReachedBy w v (named_by o)
@@ -252,13 +252,13 @@ module _ (w v : Face) (g : ℕ) (f : Flight) (outcome : Outcome) (made : IsPiece
       (λ changes. else_by w.table w.nodes was.alike node disk.row disk.at disk.id_is disk.own disk.own_at disk.alike (writes_file w.table made.drive f.op) n name
       (over-row w.table name n was.table.stands.apart is) (none changes) changes))
 
-  apart : (other : ℕ) → (ReadsWritten w.table node other → ⊥) → IsApart w.nodes other node
+  apart : (other : ℕ) → (ReadsWritten w.table node other → ⊥) → IsApartFrom w.nodes other node
   apart = is_apart w.table w.nodes joined was.alike was.table.stands node disk.row disk.at disk.held disk.id_is disk.has disk.own disk.own_at disk.alike
 
   beside : (other : ℕ) → (child w.table node File ≡ Some other → ⊥) → IsBeside w.nodes other node
   beside = is_beside w.table w.nodes joined was.alike was.table.stands node disk.row disk.at disk.held disk.id_is disk.has disk.own disk.own_at disk.alike
 
-  module _ (o : Opening) (s : State) (unfolds : Unfolds w.nodes) (told : AreTold w.nodes.devices) (bitmaps : AreBitmapsOf w.table.bitmaps w.bitmaps) (shows : Shows o s w)
+  module _ (o : Opening) (s : State) (unfolds : Unfolds w.nodes) (told : AreTold w.nodes.devices) (bitmaps : AreBitmapsOf w.table.bitmaps w.bitmaps) (shows : ShowsState o s w)
       (joined_now : IsJoined v.nodes) where
     on_then : drive_of s.table g ≡ Some made.drive
     on_then = ap (λ (t : Table). drive_of t g) shows.table.table_is ∙ made.on
@@ -268,7 +268,7 @@ module _ (w v : Face) (g : ℕ) (f : Flight) (outcome : Outcome) (made : IsPiece
         let device = allows w.table g f.op (device_at w.table g) refl (was.allowed g f flies) in
         guest_can s g device.0 made.drive f.op shows.stands (ap (λ (t : Table). device_at t g) shows.table.table_is ∙ device.1) on_then device.2
 
-    pub shows_then : Shows o (after s entry) v
+    pub shows_then : ShowsState o (after s entry) v
     shows_then =
         piece_shows o s w v g f.next made.drive f outcome entry (done_at w.progress.guests g) (shown_by f outcome made.buffer) refl shows on_then
         (ap (λ (guests : List Guest). flight_at guests g) shows.guests.guests_are ∙ flies)

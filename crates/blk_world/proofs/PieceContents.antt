@@ -66,9 +66,9 @@ module _ (old new : Nodes) (node n : ℕ) where
   file_content place bytes outcome wrote apart =
       only_content wrote.file old.devices new.devices wrote.at.only n (apart wrote.row wrote.file wrote.there wrote.own)
 
-  image_content : (fits : ℕ → Type 0) (own : Option ℕ) (m : ℕ) (outcome : Outcome) (row : Row) (d : Driver) → row_at old node ≡ Some row → row.driver ≡ d
-      → (wrote : WritesImage fits own old new node m outcome) → own_file old node d ≡ Some wrote.file → NotItsFile → content_in new.devices n ≡ content_in old.devices n
-  image_content fits own m outcome row d there driver wrote is apart = elim wrote.devices [
+  image_content : (fits : ℕ → Type 0) (own rest : Option ℕ) (m : ℕ) (outcome : Outcome) (row : Row) (d : Driver) → row_at old node ≡ Some row → row.driver ≡ d
+      → (wrote : WritesImage fits own rest old new node m outcome) → own_file old node d ≡ Some wrote.file → NotItsFile → content_in new.devices n ≡ content_in old.devices n
+  image_content fits own rest m outcome row d there driver wrote is apart = elim wrote.devices [
     | inl only ↦ only_content wrote.file old.devices new.devices only n (apart row wrote.file there (ap (own_file old node) driver ∙ is))
     | inr risen ↦ risen_content old.devices new.devices risen n
   ]
@@ -77,14 +77,14 @@ module _ (old new : Nodes) (node n : ℕ) where
       → NotItsFile → content_in new.devices n ≡ content_in old.devices n
   write_content part bytes outcome row there drivers.File driver wrote apart = file_content part.start bytes outcome wrote apart
   write_content part bytes outcome row there (drivers.Raw p) driver wrote apart = file_content part.start bytes outcome wrote apart
-  write_content part bytes outcome row there (drivers.Qcow2 image) driver wrote apart = image_content _ _ _ outcome row (drivers.Qcow2 image) there driver wrote wrote.edge apart
+  write_content part bytes outcome row there (drivers.Qcow2 image) driver wrote apart = image_content _ _ _ _ outcome row (drivers.Qcow2 image) there driver wrote wrote.edge apart
   write_content part bytes outcome row there drivers.CopyOnRead driver wrote apart = file_content part.start bytes outcome wrote apart
 
   zero_content : (part : Extent) (outcome : Outcome) (row : Row) → row_at old node ≡ Some row → (d : Driver) → row.driver ≡ d → ZerosBy d old new node part outcome
       → NotItsFile → content_in new.devices n ≡ content_in old.devices n
   zero_content part outcome row there drivers.File driver wrote apart = file_content part.start (replicate part.len 0) outcome wrote apart
   zero_content part outcome row there (drivers.Raw p) driver wrote apart = file_content part.start (replicate part.len 0) outcome wrote apart
-  zero_content part outcome row there (drivers.Qcow2 image) driver wrote apart = image_content _ _ _ outcome row (drivers.Qcow2 image) there driver wrote wrote.edge apart
+  zero_content part outcome row there (drivers.Qcow2 image) driver wrote apart = image_content _ _ _ _ outcome row (drivers.Qcow2 image) there driver wrote wrote.edge apart
   zero_content part outcome row there drivers.CopyOnRead driver wrote apart = file_content part.start (replicate part.len 0) outcome wrote apart
 
   flush_content : (file : ℕ) (outcome : Outcome) → IsFlushAt file old.devices new.devices outcome → content_in new.devices n ≡ content_in old.devices n
@@ -103,7 +103,7 @@ module _ (old new : Nodes) (node n : ℕ) where
     read_content (inr (inl full)) apart = ap (λ (ns : Nodes). content_in ns.devices n) full.room.same
     read_content (inr (inr into)) apart =
         let wrote = into_image t old new drive node part outcome buffer into in
-        image_content _ _ _ outcome into.copied.row (drivers.Qcow2 into.copied.image) into.copied.there into.copied.driver wrote wrote.edge (apart into.copied.copies)
+        image_content _ _ _ _ outcome into.copied.row (drivers.Qcow2 into.copied.image) into.copied.there into.copied.driver wrote wrote.edge (apart into.copied.copies)
 
     pub content_after : (op : Op) → Went t op old new drive node part outcome buffer → IsElse (writes_file t drive op) old node n → content_in new.devices n ≡ content_in old.devices n
     content_after (Read span) went apart = read_content went apart

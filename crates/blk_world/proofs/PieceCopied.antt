@@ -304,7 +304,7 @@ writes_file t drive Flush = is_write Flush
 writes_file t drive (Discard span) = is_write (Discard span)
 
 module _ (t : Table) (old new : Nodes) (drive : ℕ) (part : Extent) (outcome : Outcome) (buffer : List ℕ) where
-  only_stopped : StopsUnread old new drive outcome → OnlyReads old new drive outcome
+  only_stopped : StopsUnread old new drive part outcome → OnlyReads old new drive outcome
   only_stopped stops = record { devices = stops.devices; below = subst (IsReadBelow old new drive) (sym stops.is) stops.stopped }
 
   read_went : IsMet t old drive part.start → ReadsPart old new drive part outcome buffer → ReadWent t old new drive (disk_node t drive) part outcome buffer

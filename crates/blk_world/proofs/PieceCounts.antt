@@ -14,6 +14,7 @@ use Rattle.blk_nodes.specs.Reading.{IsReadBelow, StoppedAt}
 use Rattle.blk_nodes.specs.Writing.{IsWriteAt, WritesImage, WritesBy, ZerosBy, HasCauseOf, HasPieceCause}
 use Rattle.blk_nodes.specs.declared.row.Driver.{Driver}
 use Rattle.blk_nodes.specs.declared.row.Driver.TheVariants as drivers
+use Rattle.blk_nodes.proofs.Leading.{stopped_piece}
 use Rattle.qmp_rules.specs.Table.{Table}
 use Rattle.world_commands.proofs.CountsKept.{AreSame, faults_at, only-same}
 use Rattle.blk_world.proofs.PieceCopied.{ReadWent, Went, into_image}
@@ -49,11 +50,11 @@ module _ (old new : Nodes) (joined : IsJoined old) where
       by_cause (NoSpace dev) cause =
           only-same file old.devices new.devices at.before at.after joined.once at.only at.held at.left at.wrote.number cause.2
 
-  image-counted : (fits : ℕ → Type 0) (own : Option ℕ) (node n : ℕ) (outcome : Outcome) → WritesImage fits own old new node n outcome
+  image-counted : (fits : ℕ → Type 0) (own rest : Option ℕ) (node n : ℕ) (outcome : Outcome) → WritesImage fits own rest old new node n outcome
       → AreCounted outcome old.devices new.devices
-  image-counted fits own node n outcome wrote = by_cause outcome wrote.cause
+  image-counted fits own rest node n outcome wrote = by_cause outcome wrote.cause
     where
-      by_cause : (o : Outcome) → HasPieceCause (fits wrote.before.capacity) own n wrote.file old new node wrote.before wrote.after o
+      by_cause : (o : Outcome) → HasPieceCause (fits wrote.before.capacity) own rest n wrote.file old new node wrote.before wrote.after o
           → AreCounted o old.devices new.devices
       by_cause Good cause =
           only-same wrote.file old.devices new.devices wrote.before wrote.after joined.once cause.2 wrote.held wrote.left wrote.device.number
@@ -62,21 +63,22 @@ module _ (old new : Nodes) (joined : IsJoined old) where
         wrote.file,
         record { before = wrote.before; after = wrote.after; held = wrote.held; left = wrote.left; stopped = cause.2; only = cause.3 },
       )
-      by_cause (Io dev count) cause = (cause.1.file, cause.1.stopped)
+      by_cause (Io dev count) cause =
+          let stopped = stopped_piece old new node dev count fits own rest n outcome wrote cause in (stopped.file, stopped.stopped)
       by_cause (NoSpace dev) cause = same-of old.devices new.devices (ap (λ (m : Nodes). m.devices) cause.2)
 
   write-counted : (node : ℕ) (part : Extent) (bytes : List ℕ) (outcome : Outcome) (d : Driver) → WritesBy d old new node part bytes outcome
       → AreCounted outcome old.devices new.devices
   write-counted node part bytes outcome drivers.File wrote = file-counted wrote.file wrote.start bytes outcome wrote.at
   write-counted node part bytes outcome (drivers.Raw p) wrote = file-counted wrote.file wrote.start bytes outcome wrote.at
-  write-counted node part bytes outcome (drivers.Qcow2 image) wrote = image-counted _ _ node _ outcome wrote
+  write-counted node part bytes outcome (drivers.Qcow2 image) wrote = image-counted _ _ _ node _ outcome wrote
   write-counted node part bytes outcome drivers.CopyOnRead wrote = file-counted wrote.file wrote.start bytes outcome wrote.at
 
   zero-counted : (node : ℕ) (part : Extent) (outcome : Outcome) (d : Driver) → ZerosBy d old new node part outcome
       → AreCounted outcome old.devices new.devices
   zero-counted node part outcome drivers.File wrote = file-counted wrote.file wrote.start (replicate part.len 0) outcome wrote.at
   zero-counted node part outcome (drivers.Raw p) wrote = file-counted wrote.file wrote.start (replicate part.len 0) outcome wrote.at
-  zero-counted node part outcome (drivers.Qcow2 image) wrote = image-counted _ _ node _ outcome wrote
+  zero-counted node part outcome (drivers.Qcow2 image) wrote = image-counted _ _ _ node _ outcome wrote
   zero-counted node part outcome drivers.CopyOnRead wrote = file-counted wrote.file wrote.start (replicate part.len 0) outcome wrote.at
 
   flush-counted : (file : ℕ) (outcome : Outcome) → IsFlushAt file old.devices new.devices outcome → AreCounted outcome old.devices new.devices
@@ -98,7 +100,7 @@ module _ (old new : Nodes) (joined : IsJoined old) where
     went-counted : ReadWent t old new drive node part outcome buffer → AreCounted outcome old.devices new.devices
     went-counted (inl only) = read-counted drive outcome only.below
     went-counted (inr (inl full)) = full-counted outcome full.room.dev full.room.is (same-of old.devices new.devices (ap (λ (n : Nodes). n.devices) full.room.same))
-    went-counted (inr (inr into)) = image-counted _ _ node _ outcome (into_image t old new drive node part outcome buffer into)
+    went-counted (inr (inr into)) = image-counted _ _ _ node _ outcome (into_image t old new drive node part outcome buffer into)
 
     pub piece-counted : (op : Op) → Went t op old new drive node part outcome buffer → AreCounted outcome old.devices new.devices
     piece-counted (Read span) went = went-counted went

@@ -31,7 +31,7 @@ use Rattle.blk_nodes.specs.Nodes.{Nodes, DeviceState, AreTold, device_in}
 use Rattle.blk_nodes.specs.Reading.{LeadsTo}
 use Rattle.blk_nodes.proofs.Leading.{leads_on}
 use Rattle.world_parts.specs.Coherent.{AreNodesOf}
-use Rattle.world_commands.specs.Comes.{Shows}
+use Rattle.world_commands.specs.Comes.{ShowsState}
 use Rattle.world_commands.specs.Counting.{AreSameDevices, IsSameDevice, sources_of}
 use Rattle.world_parts.specs.Face.{Face}
 use Rattle.blk_pieces.specs.Pieces.{Transfers}
@@ -72,7 +72,7 @@ flat_is s t g drive row table on at has =
 with_flight : (guests : List Guest) (g : ℕ) (f : Flight) (P : Flight → Type 0) → flight_at guests g ≡ Some f → P f → With (flight_at guests g) P
 with_flight guests g f P is holds = subst (λ (x : Option Flight). With x P) (sym is) holds
 
-pub piece_fits : (o : Opening) (s : State) (w v : Face) (g drive : ℕ) (f : Flight) (outcome : Outcome) (buffer : List ℕ) (row : NodeRecord) → Shows o s w → AreTold w.nodes.devices
+pub piece_fits : (o : Opening) (s : State) (w v : Face) (g drive : ℕ) (f : Flight) (outcome : Outcome) (buffer : List ℕ) (row : NodeRecord) → ShowsState o s w → AreTold w.nodes.devices
     → drive_of w.table g ≡ Some drive → node_at w.table (disk_node w.table drive) ≡ Some row → HasDisk row → flight_at w.progress.guests g ≡ Some f → HasNext f
     → disk_of w.nodes (disk_node w.table drive) ≡ disk_of w.nodes drive
     → Transfers f.op w.nodes v.nodes drive (disk_node w.table drive) (part_of f) outcome buffer → Fits s (piece_entry w g f outcome buffer)

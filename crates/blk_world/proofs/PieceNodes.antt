@@ -15,6 +15,8 @@ use Rattle.blk_history.specs.Fold.{With}
 use Rattle.qmp_rules.specs.Table.{Table, node_at}
 use Rattle.qmp_rules.specs.declared.rows.NodeRecord.{NodeRecord}
 use Rattle.flat_machine.specs.EventLicence.{device_in as device_named}
+use Rattle.blk_nodes.specs.Changing.{IsImageWritten, IsZeroed, LeavesRow}
+use Rattle.blk_nodes.specs.Contents.{IsToldDisk}
 use Rattle.blk_nodes.specs.Copying.{AtSome, LacksRoomIn}
 use Rattle.blk_nodes.specs.Flushing.{base_in, base_of, HasFlushCause, IsFlushAt}
 use Rattle.blk_nodes.specs.Joined.{IsJoined}
@@ -26,12 +28,13 @@ use Rattle.blk_nodes.specs.declared.row.Driver.TheVariants as drivers
 use Rattle.blk_nodes.specs.declared.row.Row.{Row}
 use Rattle.blk_pieces.proofs.Kept.{LacksItsRoom}
 use Rattle.blk_pieces.proofs.Rows.{RowsAfter, rows_kept, rows_after}
-use Rattle.blk_nodes.proofs.Leading.{leads_on, child_leads}
+use Rattle.blk_nodes.proofs.Leading.{leads_on, child_leads, stopped_piece}
 use Rattle.world_parts.specs.Coherent.{AreNodesOf, AreAlike, IsRowOf, offset_of}
 use Rattle.world_commands.specs.Counting.{AreSameDevices}
 use Rattle.blk_pieces.specs.Pieces.{Transfers}
 use Rattle.world_commands.specs.Piecing.{PassesBy, write_passes, read_passes, piece_passes}
 use Rattle.world_commands.proofs.CountLemmas.{same-devices, same-risen, same-only}
+use Rattle.blk_world.proofs.PieceCapacity.{HasItsCapacity, bound_written, bound_zeroed}
 use Rattle.blk_world.proofs.PieceCopied.{ReadWent, Went, into_image}
 
 -- ---- nodes after it
@@ -51,27 +54,36 @@ module _ (old new : Nodes) (joined : IsJoined old) where
   file_devices : (node place : ℕ) (bytes : List ℕ) (outcome : Outcome) → WritesFile old new node place bytes outcome → AreSameDevices old.devices new.devices
   file_devices node place bytes outcome wrote =
       same-only wrote.file old.devices new.devices wrote.at.before wrote.at.after joined.once wrote.at.only wrote.at.held wrote.at.left
-      (record { node = wrote.at.wrote.node; number = wrote.at.wrote.number; faults = wrote.at.wrote.faults })
+      (record { node = wrote.at.wrote.node; number = wrote.at.wrote.number; capacity = wrote.at.wrote.capacity; faults = wrote.at.wrote.faults })
 
-  image_devices : (fits : ℕ → Type 0) (own : Option ℕ) (node n : ℕ) (outcome : Outcome) → WritesImage fits own old new node n outcome → AreSameDevices old.devices new.devices
-  image_devices fits own node n outcome wrote = elim wrote.devices [
+  image_devices : (fits : ℕ → Type 0) (own rest : Option ℕ) (node n : ℕ) (outcome : Outcome) (wrote : WritesImage fits own rest old new node n outcome)
+      → HasItsCapacity wrote.before wrote.after → AreSameDevices old.devices new.devices
+  image_devices fits own rest node n outcome wrote capacity = elim wrote.devices [
     | inl only ↦
         same-only wrote.file old.devices new.devices wrote.before wrote.after joined.once only wrote.held wrote.left
-        (record { node = wrote.device.node; number = wrote.device.number; faults = wrote.device.faults })
+        (record { node = wrote.device.node; number = wrote.device.number; capacity = capacity; faults = wrote.device.faults })
     | inr risen ↦ same-risen old.devices new.devices risen
   ]
 
-  write_devices : (node : ℕ) (part : Extent) (bytes : List ℕ) (outcome : Outcome) (d : Driver) → WritesBy d old new node part bytes outcome → AreSameDevices old.devices new.devices
-  write_devices node part bytes outcome drivers.File wrote = file_devices node part.start bytes outcome wrote
-  write_devices node part bytes outcome (drivers.Raw p) wrote = file_devices node part.start bytes outcome wrote
-  write_devices node part bytes outcome (drivers.Qcow2 image) wrote = image_devices _ _ node _ outcome wrote
-  write_devices node part bytes outcome drivers.CopyOnRead wrote = file_devices node part.start bytes outcome wrote
+  write_devices : (node : ℕ) (part : Extent) (bytes : List ℕ) (outcome : Outcome) (row : Row) (d : Driver) → WritesBy d old new node part bytes outcome
+      → LeavesRow (IsImageWritten (IsToldDisk old node) part bytes) d row old new node outcome → AreSameDevices old.devices new.devices
+  write_devices node part bytes outcome row drivers.File wrote left = file_devices node part.start bytes outcome wrote
+  write_devices node part bytes outcome row (drivers.Raw p) wrote left = file_devices node part.start bytes outcome wrote
+  write_devices node part bytes outcome row (drivers.Qcow2 image) wrote left =
+      image_devices _ _ _ node _ outcome wrote
+      (bound_written image left.now wrote.before wrote.after (IsToldDisk old node) part bytes outcome
+      (left.changed wrote.file wrote.before wrote.after wrote.edge wrote.held wrote.left))
+  write_devices node part bytes outcome row drivers.CopyOnRead wrote left = file_devices node part.start bytes outcome wrote
 
-  zero_devices : (node : ℕ) (part : Extent) (outcome : Outcome) (d : Driver) → ZerosBy d old new node part outcome → AreSameDevices old.devices new.devices
-  zero_devices node part outcome drivers.File wrote = file_devices node part.start (replicate part.len 0) outcome wrote
-  zero_devices node part outcome (drivers.Raw p) wrote = file_devices node part.start (replicate part.len 0) outcome wrote
-  zero_devices node part outcome (drivers.Qcow2 image) wrote = image_devices _ _ node _ outcome wrote
-  zero_devices node part outcome drivers.CopyOnRead wrote = file_devices node part.start (replicate part.len 0) outcome wrote
+  zero_devices : (node : ℕ) (part : Extent) (outcome : Outcome) (row : Row) (d : Driver) → ZerosBy d old new node part outcome
+      → LeavesRow (IsZeroed (IsToldDisk old node) part) d row old new node outcome → AreSameDevices old.devices new.devices
+  zero_devices node part outcome row drivers.File wrote left = file_devices node part.start (replicate part.len 0) outcome wrote
+  zero_devices node part outcome row (drivers.Raw p) wrote left = file_devices node part.start (replicate part.len 0) outcome wrote
+  zero_devices node part outcome row (drivers.Qcow2 image) wrote left =
+      image_devices _ _ _ node _ outcome wrote
+      (bound_zeroed image left.now wrote.before wrote.after (IsToldDisk old node) part outcome
+      (left.changed wrote.file wrote.before wrote.after wrote.edge wrote.held wrote.left))
+  zero_devices node part outcome row drivers.CopyOnRead wrote left = file_devices node part.start (replicate part.len 0) outcome wrote
 
   flush_devices : (file : ℕ) (outcome : Outcome) → IsFlushAt file old.devices new.devices outcome → AreSameDevices old.devices new.devices
   flush_devices file outcome flushed =
@@ -79,6 +91,7 @@ module _ (old new : Nodes) (joined : IsJoined old) where
       (record {
         node = ap (λ (d : DeviceState). d.node) flushed.flush.is;
         number = ap (λ (d : DeviceState). d.number) flushed.flush.is;
+        capacity = ap (λ (d : DeviceState). d.capacity) flushed.flush.is;
         faults = flushed.flush.faults;
       })
 
@@ -86,12 +99,14 @@ module _ (old new : Nodes) (joined : IsJoined old) where
     read_devices : ReadWent t old new drive node part outcome buffer → AreSameDevices old.devices new.devices
     read_devices (inl only) = same-risen old.devices new.devices only.devices
     read_devices (inr (inl full)) = subst (λ (n : Nodes). AreSameDevices old.devices n.devices) (sym full.room.same) (same-devices old.devices)
-    read_devices (inr (inr into)) = image_devices _ _ node _ outcome (into_image t old new drive node part outcome buffer into)
+    read_devices (inr (inr into)) =
+        let wrote = into.maps.wrote in
+        write_devices node part buffer outcome wrote.row wrote.row.driver wrote.wrote wrote.left
 
     devices_after : (op : Op) → Went t op old new drive node part outcome buffer → AreSameDevices old.devices new.devices
     devices_after (Read span) went = read_devices went
-    devices_after (Write span payload) went = write_devices node part (payload_in (Write span payload) part) outcome went.0.row.driver went.0.wrote
-    devices_after (Zero span) went = zero_devices node part outcome went.0.row.driver went.0.wrote
+    devices_after (Write span payload) went = write_devices node part (payload_in (Write span payload) part) outcome went.0.row went.0.row.driver went.0.wrote went.0.left
+    devices_after (Zero span) went = zero_devices node part outcome went.0.row went.0.row.driver went.0.wrote went.0.left
     devices_after Flush went = flush_devices (base_of old node) outcome went.flushed
     devices_after (Discard span) went = absurd went
 
@@ -192,9 +207,9 @@ module _ (old new : Nodes) (node : ℕ) where
     stop = write_stop_by wrote.at.before wrote.at.after wrote.start (length bytes) outcome dev named wrote.at.wrote.cause;
   }
 
-  image_stop : (fits : ℕ → Type 0) (own : Option ℕ) (n : ℕ) (outcome : Outcome) (dev : DevNo) → device_named outcome ≡ Some dev
-      → (wrote : WritesImage fits own old new node n outcome) → StoppedOn old new node outcome dev
-  image_stop fits own n outcome dev named wrote = by_cause outcome refl named wrote.cause
+  image_stop : (fits : ℕ → Type 0) (own rest : Option ℕ) (n : ℕ) (outcome : Outcome) (dev : DevNo) → device_named outcome ≡ Some dev
+      → (wrote : WritesImage fits own rest old new node n outcome) → StoppedOn old new node outcome dev
+  image_stop fits own rest n outcome dev named wrote = by_cause outcome refl named wrote.cause
     where
       here : IsStop wrote.before wrote.after outcome dev → StoppedOn old new node outcome dev
       here stop = record {
@@ -207,7 +222,7 @@ module _ (old new : Nodes) (node : ℕ) where
         stop = stop;
       }
 
-      by_cause : (o : Outcome) → outcome ≡ o → device_named o ≡ Some dev → HasPieceCause (fits wrote.before.capacity) own n wrote.file old new node wrote.before wrote.after o
+      by_cause : (o : Outcome) → outcome ≡ o → device_named o ≡ Some dev → HasPieceCause (fits wrote.before.capacity) own rest n wrote.file old new node wrote.before wrote.after o
           → StoppedOn old new node outcome dev
       by_cause Good is named cause = absurd (let bad : ⊥ = cc named in bad)
       by_cause (Torn done other count) is named cause =
@@ -215,7 +230,8 @@ module _ (old new : Nodes) (node : ℕ) where
           here (subst (λ (o : Outcome). IsStop wrote.before wrote.after o dev) (sym is) (subst (λ (d : DevNo). StoppedBy wrote.before wrote.after d count) same cause.2))
       by_cause (Io other count) is named cause =
           let same : other ≡ dev = cc named in
-          stop_below outcome dev count (is ∙ ap (λ (d : DevNo). Io d count) same) (subst (λ (d : DevNo). StoppedBelow old new node d count) same cause.1)
+          let stopped = stopped_piece old new node other count fits own rest n outcome wrote cause in
+          stop_below outcome dev count (is ∙ ap (λ (d : DevNo). Io d count) same) (subst (λ (d : DevNo). StoppedBelow old new node d count) same stopped)
       by_cause (NoSpace other) is named cause =
           let same : other ≡ dev = cc named in
           here (subst (λ (o : Outcome). IsStop wrote.before wrote.after o dev) (sym is) (sym same ∙ cause.1))
@@ -278,14 +294,14 @@ module _ (old new : Nodes) (node : ℕ) where
       → (d : Driver) → row.driver ≡ d → WritesBy d old new node part bytes outcome → StoppedOn old new node outcome dev
   written_stop part bytes outcome dev row named there may drivers.File driver wrote = plain_stop part.start bytes outcome dev row drivers.File named there driver tt wrote
   written_stop part bytes outcome dev row named there may (drivers.Raw p) driver wrote = plain_stop part.start bytes outcome dev row (drivers.Raw p) named there driver tt wrote
-  written_stop part bytes outcome dev row named there may (drivers.Qcow2 image) driver wrote = image_stop old new node _ _ _ outcome dev named wrote
+  written_stop part bytes outcome dev row named there may (drivers.Qcow2 image) driver wrote = image_stop old new node _ _ _ _ outcome dev named wrote
   written_stop part bytes outcome dev row named there may drivers.CopyOnRead driver wrote = absurd (not_copying row there driver may)
 
   zeroed_stop : (part : Extent) (outcome : Outcome) (dev : DevNo) (row : Row) → device_named outcome ≡ Some dev → row_at old node ≡ Some row → MayWrite old node
       → (d : Driver) → row.driver ≡ d → ZerosBy d old new node part outcome → StoppedOn old new node outcome dev
   zeroed_stop part outcome dev row named there may drivers.File driver wrote = plain_stop part.start (replicate part.len 0) outcome dev row drivers.File named there driver tt wrote
   zeroed_stop part outcome dev row named there may (drivers.Raw p) driver wrote = plain_stop part.start (replicate part.len 0) outcome dev row (drivers.Raw p) named there driver tt wrote
-  zeroed_stop part outcome dev row named there may (drivers.Qcow2 image) driver wrote = image_stop old new node _ _ _ outcome dev named wrote
+  zeroed_stop part outcome dev row named there may (drivers.Qcow2 image) driver wrote = image_stop old new node _ _ _ _ outcome dev named wrote
   zeroed_stop part outcome dev row named there may drivers.CopyOnRead driver wrote = absurd (not_copying row there driver may)
 
 -- a node above leads there too
@@ -322,7 +338,7 @@ module _ (t : Table) (old new : Nodes) (drive node : ℕ) (part : Extent) (outco
   read_stopped : ReadWent t old new drive node part outcome buffer → StoppedOn old new drive outcome dev
   read_stopped (inl only) = read_stop old new drive outcome dev named only.below
   read_stopped (inr (inl full)) = full_stop full.room
-  read_stopped (inr (inr into)) = above (image_stop old new node _ _ _ outcome dev named (into_image t old new drive node part outcome buffer into))
+  read_stopped (inr (inr into)) = above (image_stop old new node _ _ _ _ outcome dev named (into_image t old new drive node part outcome buffer into))
 
   -- The device that a piece names is one that its drive leads to.
   pub stop_of : (op : Op) → (is_write op ≡ true → MayWrite old node) → Went t op old new drive node part outcome buffer → StoppedOn old new drive outcome dev
@@ -364,10 +380,10 @@ module _ (old new : Nodes) (node : ℕ) (part : Extent) (dev : DevNo) (row : Row
         passes = subst (λ (x : Driver). PassesBy x op part wrote.at.before.capacity) (sym driver) (is (omega (arith, cause.0, start, len)));
       }
 
-  image_full : (op : Op) (fits : ℕ → Type 0) (own : Option ℕ) (n : ℕ) (d : Driver) → row.driver ≡ d → own_file old node d ≡ file_of old node
-      → (wrote : WritesImage fits own old new node n (NoSpace dev))
+  image_full : (op : Op) (fits : ℕ → Type 0) (own rest : Option ℕ) (n : ℕ) (d : Driver) → row.driver ≡ d → own_file old node d ≡ file_of old node
+      → (wrote : WritesImage fits own rest old new node n (NoSpace dev))
       → PassesBy d op part wrote.before.capacity → IsFull old node op part dev
-  image_full op fits own n d driver below wrote passes = record {
+  image_full op fits own rest n d driver below wrote passes = record {
     row = row;
     there = there;
     file = wrote.file;
@@ -382,13 +398,13 @@ module _ (old new : Nodes) (node : ℕ) (part : Extent) (dev : DevNo) (row : Row
       → WritesBy d old new node part bytes (NoSpace dev) → IsFull old node (Write span payload) part dev
   write_full span payload bytes len may drivers.File driver wrote = plain_full (Write span payload) bytes drivers.File driver len wrote (λ past. past)
   write_full span payload bytes len may (drivers.Raw p) driver wrote = plain_full (Write span payload) bytes (drivers.Raw p) driver len wrote (λ past. past)
-  write_full span payload bytes len may (drivers.Qcow2 image) driver wrote = image_full (Write span payload) _ _ _ (drivers.Qcow2 image) driver refl wrote wrote.cause.0
+  write_full span payload bytes len may (drivers.Qcow2 image) driver wrote = image_full (Write span payload) _ _ _ _ (drivers.Qcow2 image) driver refl wrote wrote.cause.0
   write_full span payload bytes len may drivers.CopyOnRead driver wrote = absurd (not_copying old new node row there driver may)
 
   zero_full : (span : Extent) → MayWrite old node → (d : Driver) → row.driver ≡ d → ZerosBy d old new node part (NoSpace dev) → IsFull old node (Zero span) part dev
   zero_full span may drivers.File driver wrote = plain_full (Zero span) (replicate part.len 0) drivers.File driver (length-replicate part.len 0) wrote (λ past. past)
   zero_full span may (drivers.Raw p) driver wrote = plain_full (Zero span) (replicate part.len 0) (drivers.Raw p) driver (length-replicate part.len 0) wrote (λ past. past)
-  zero_full span may (drivers.Qcow2 image) driver wrote = image_full (Zero span) _ _ _ (drivers.Qcow2 image) driver refl wrote wrote.cause.0
+  zero_full span may (drivers.Qcow2 image) driver wrote = image_full (Zero span) _ _ _ _ (drivers.Qcow2 image) driver refl wrote wrote.cause.0
   zero_full span may drivers.CopyOnRead driver wrote = absurd (not_copying old new node row there driver may)
 
 module _ (t : Table) (old new : Nodes) (drive node : ℕ) (part : Extent) (buffer : List ℕ) (dev : DevNo) where

@@ -25,14 +25,14 @@ use Rattle.flat_machine.specs.Agreement.{HasDisk}
 use Rattle.flat_machine.specs.Legal.{IsForbidden}
 use Rattle.flat_machine.specs.Machine.{copies_through}
 use Rattle.flat_machine.specs.State.{drive_of, disk_of_guest, size_of}
-use Rattle.flat_machine.specs.Wiring.{LeadsToFile, IsTaken, IsDiskOf, TableStands}
+use Rattle.flat_machine.specs.Wiring.{LeadsToFile, IsUnderOne, IsDiskOf, TableStands}
 use Rattle.flat_machine.specs.Writing.{ReadsWritten}
 use Rattle.blk_nodes.specs.Contents.{below, disk_by, disk_of, Unfolds}
 use Rattle.blk_nodes.specs.Copying.{AtEach, IsBeside, images_met}
 use Rattle.blk_nodes.specs.Joined.{IsJoined, IsCopying, HasBelow}
 use Rattle.blk_nodes.specs.Nodes.{Nodes, row_at, file_of, kind_of, size_by, size_of as size_in}
 use Rattle.blk_nodes.specs.Reading.{LeadsTo}
-use Rattle.blk_nodes.specs.Writing.{MayWrite, CanBeWritten, IsOverApart, OwnsFile, IsApart, own_file}
+use Rattle.blk_nodes.specs.Writing.{MayWrite, CanBeWritten, IsOverApart, OwnsFile, IsApartFrom, own_file}
 use Rattle.blk_nodes.specs.declared.row.Driver.{Driver}
 use Rattle.blk_nodes.specs.declared.row.Driver.TheVariants as drivers
 use Rattle.blk_nodes.specs.declared.row.Row.{Row}
@@ -96,7 +96,7 @@ module _ (t : Table) (nodes : Nodes) (joined : IsJoined nodes) (are : AreNodesOf
   record IsOverFile (file : ℕ) : Type 0 where
     under : NodeRecord
     under_is : under.id ≡ file
-    taken : IsTaken t row under
+    taken : IsUnderOne t row under
 
   over_file : (file : ℕ) → child t node File ≡ Some file → IsOverFile file
   over_file file is =
@@ -235,7 +235,7 @@ module _ (t : Table) (nodes : Nodes) (joined : IsJoined nodes) (are : AreNodesOf
         by_driver (drivers.Qcow2 image) here = by_file (sym (in_table node) ∙ here) leads
         by_driver drivers.CopyOnRead here = let bad : ⊥ = cc here in bad
 
-    pub is_apart : (other : ℕ) → (ReadsWritten t node other → ⊥) → IsApart nodes other node
+    pub is_apart : (other : ℕ) → (ReadsWritten t node other → ⊥) → IsApartFrom nodes other node
     is_apart other none found file there is leads =
         let same : own ≡ found = cc (sym own_at ∙ there) in
         apart_by found.driver other file none is (subst (λ (es : List Edge). LeadsTo es other file) are.edges leads)

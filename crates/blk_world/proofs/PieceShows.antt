@@ -20,7 +20,7 @@ use Rattle.flat_machine.specs.Jobs.{unsure}
 use Rattle.flat_machine.specs.Machine.{after, with_guest, with_part, with_piece, with_disk, past_piece, flight_of, note, noted, is_noted, path, written, read_through, copies_through}
 use Rattle.flat_machine.specs.Performing.{IsQuiet}
 use Rattle.flat_machine.specs.State.{State, drive_of}
-use Rattle.flat_machine.specs.Writing.{PieceDone, ReadDone, Copies, CanWrite, Writes, ReadsWritten, written_file}
+use Rattle.flat_machine.specs.Writing.{PieceDone, ReadDone, Copies, CanWrite, WritesDisks, ReadsWritten, written_file}
 use Rattle.flat_machine.specs.declared.opening.Opening.{Opening}
 use Rattle.flat_machine.proofs.Resting.{piece_rests}
 use Rattle.flat_machine.proofs.Written.{piece_keeps}
@@ -29,8 +29,8 @@ use Rattle.flat_machine.specs.Imaging.{ShowsImages, KeepsMapping}
 use Rattle.blk_nodes.specs.Contents.{disk_of}
 use Rattle.blk_nodes.specs.Copying.{AtEach, IsBeside, images_met}
 use Rattle.blk_nodes.specs.Nodes.{AreTold}
-use Rattle.blk_nodes.specs.Writing.{IsApart}
-use Rattle.world_commands.specs.Comes.{Shows}
+use Rattle.blk_nodes.specs.Writing.{IsApartFrom}
+use Rattle.world_commands.specs.Comes.{ShowsState}
 use Rattle.flat_machine.specs.Recording.{dirty_by}
 use Rattle.flat_machine.proofs.Recorded.{part-dirty}
 use Rattle.world_parts.specs.Face.{Face, dirty_of, held, contents_of}
@@ -110,8 +110,8 @@ module _ (t : Table) (w v : Face) (drive : ℕ) (op : Op) (outcome : Outcome) (p
   abbrev node : ℕ
   node = disk_node t drive
 
-  puts_done : IsPutting op → ((other : ℕ) → (ReadsWritten t node other → ⊥) → IsApart w.nodes other node) → PutsPart w.nodes v.nodes node part outcome (payload_in op part)
-      → (s : State) → s.table ≡ t → Writes s node op part (done_by outcome part) (contents_of w) (contents_of v)
+  puts_done : IsPutting op → ((other : ℕ) → (ReadsWritten t node other → ⊥) → IsApartFrom w.nodes other node) → PutsPart w.nodes v.nodes node part outcome (payload_in op part)
+      → (s : State) → s.table ≡ t → WritesDisks s node op part (done_by outcome part) (contents_of w) (contents_of v)
   puts_done putting apart puts s table = record {
     written = puts.disk told ∙ ap (with_bytes (disk_of w.nodes node) part.start) (taken_is op part outcome putting);
     nodes = λ other none. puts.others other (apart other (subst (λ (u : Table). ReadsWritten u node other → ⊥) table none));
@@ -161,17 +161,17 @@ pub piece_done : (s : State) (t : Table) (w v : Face) (drive : ℕ) (op : Op) (o
     → Transfers op w.nodes v.nodes drive (disk_node t drive) part outcome buffer
     → IsMet t w.nodes drive part.start
     → ((other : ℕ) → (child t (disk_node t drive) File ≡ Some other → ⊥) → IsBeside w.nodes other (disk_node t drive))
-    → ((other : ℕ) → (ReadsWritten t (disk_node t drive) other → ⊥) → IsApart w.nodes other (disk_node t drive))
+    → ((other : ℕ) → (ReadsWritten t (disk_node t drive) other → ⊥) → IsApartFrom w.nodes other (disk_node t drive))
     → AreTold w.nodes.devices
     → ((name : List ℕ) → (writes_file t drive op ≡ true → written_file t (disk_node t drive) ≡ Some name → ⊥) → held v name ≡ held w name)
     → PieceDone s drive op outcome part (contents_of w) (contents_of v)
 piece_done s t w v drive (Read span) outcome part buffer table did met beside apart told held_else =
     read_done t w v drive outcome part buffer told held_else did met beside s table
 piece_done s t w v drive (Write span payload) outcome part buffer table did met beside apart told held_else =
-    subst (λ (u : Table). Writes s (disk_node u drive) (Write span payload) part (done_by outcome part) (contents_of w) (contents_of v)) (sym table)
+    subst (λ (u : Table). WritesDisks s (disk_node u drive) (Write span payload) part (done_by outcome part) (contents_of w) (contents_of v)) (sym table)
     (puts_done t w v drive (Write span payload) outcome part told held_else tt apart did.1 s table)
 piece_done s t w v drive (Zero span) outcome part buffer table did met beside apart told held_else =
-    subst (λ (u : Table). Writes s (disk_node u drive) (Zero span) part (done_by outcome part) (contents_of w) (contents_of v)) (sym table)
+    subst (λ (u : Table). WritesDisks s (disk_node u drive) (Zero span) part (done_by outcome part) (contents_of w) (contents_of v)) (sym table)
     (puts_done t w v drive (Zero span) outcome part told held_else tt apart did.1 s table)
 piece_done s t w v drive Flush outcome part buffer table did met beside apart told held_else =
     quiet_done t w v drive Flush outcome part told held_else did.disks (λ bad. let e : ⊥ = cc bad in e)
@@ -180,7 +180,7 @@ piece_done s t w v drive (Discard span) outcome part buffer table did met beside
 -- ---- what is shown
 
 module _ (o : Opening) (s : State) (w v : Face) (g k drive : ℕ) (f : Flight) (outcome : Outcome) (e : Event) (r : ℕ) (got : List ℕ) (e_is : e ≡ Piece g r k outcome got)
-    (shows : Shows o s w) (on : drive_of s.table g ≡ Some drive) (flies : flight_of s g ≡ Some f) where
+    (shows : ShowsState o s w) (on : drive_of s.table g ≡ Some drive) (flies : flight_of s g ≡ Some f) where
   abbrev now : State
   now = with_part drive f.op outcome (piece f.op k) s
 
@@ -204,8 +204,8 @@ module _ (o : Opening) (s : State) (w v : Face) (g k drive : ℕ) (f : Flight) (
     images : ShowsImages now (contents_of v)
     images = piece_images_keep s g drive shows.stands.stands.table on f.op outcome (piece f.op k) (contents_of w) (contents_of v) done keeps shows.images
 
-    pub piece_shows : Shows o (after s e) v
-    piece_shows = subst (λ (x : State). Shows o x v) (sym after_is) (record {
+    pub piece_shows : ShowsState o (after s e) v
+    piece_shows = subst (λ (x : State). ShowsState o x v) (sym after_is) (record {
       stands = stands-onward now (change g (past_piece outcome) now.guests) now.ended (piece_rests s drive f.op outcome (piece f.op k) shows.stands);
       dirty =
           part-dirty s drive f.op outcome (piece f.op k)

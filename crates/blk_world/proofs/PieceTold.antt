@@ -56,8 +56,8 @@ module _ (old new : Nodes) (n : ℕ) where
       only_told wrote.file old.devices new.devices wrote.at.before wrote.at.after wrote.at.only wrote.at.held wrote.at.left
       (ap is_some wrote.at.wrote.content ∙ some_mapped _ wrote.at.before.content) n
 
-  image_told : (fits : ℕ → Type 0) (own : Option ℕ) (node m : ℕ) (outcome : Outcome) → WritesImage fits own old new node m outcome → is_told new.devices n ≡ is_told old.devices n
-  image_told fits own node m outcome wrote = elim wrote.devices [
+  image_told : (fits : ℕ → Type 0) (own rest : Option ℕ) (node m : ℕ) (outcome : Outcome) → WritesImage fits own rest old new node m outcome → is_told new.devices n ≡ is_told old.devices n
+  image_told fits own rest node m outcome wrote = elim wrote.devices [
     | inl only ↦ only_told wrote.file old.devices new.devices wrote.before wrote.after only wrote.held wrote.left wrote.device.told n
     | inr risen ↦ ap is_some (risen_content old.devices new.devices risen n)
   ]
@@ -65,13 +65,13 @@ module _ (old new : Nodes) (n : ℕ) where
   write_told : (node : ℕ) (part : Extent) (bytes : List ℕ) (outcome : Outcome) (d : Driver) → WritesBy d old new node part bytes outcome → is_told new.devices n ≡ is_told old.devices n
   write_told node part bytes outcome drivers.File wrote = file_told node part.start bytes outcome wrote
   write_told node part bytes outcome (drivers.Raw p) wrote = file_told node part.start bytes outcome wrote
-  write_told node part bytes outcome (drivers.Qcow2 image) wrote = image_told _ _ node _ outcome wrote
+  write_told node part bytes outcome (drivers.Qcow2 image) wrote = image_told _ _ _ node _ outcome wrote
   write_told node part bytes outcome drivers.CopyOnRead wrote = file_told node part.start bytes outcome wrote
 
   zero_told : (node : ℕ) (part : Extent) (outcome : Outcome) (d : Driver) → ZerosBy d old new node part outcome → is_told new.devices n ≡ is_told old.devices n
   zero_told node part outcome drivers.File wrote = file_told node part.start (replicate part.len 0) outcome wrote
   zero_told node part outcome (drivers.Raw p) wrote = file_told node part.start (replicate part.len 0) outcome wrote
-  zero_told node part outcome (drivers.Qcow2 image) wrote = image_told _ _ node _ outcome wrote
+  zero_told node part outcome (drivers.Qcow2 image) wrote = image_told _ _ _ node _ outcome wrote
   zero_told node part outcome drivers.CopyOnRead wrote = file_told node part.start (replicate part.len 0) outcome wrote
 
   flush_told : (file : ℕ) (outcome : Outcome) → IsFlushAt file old.devices new.devices outcome → is_told new.devices n ≡ is_told old.devices n
@@ -83,7 +83,7 @@ module _ (old new : Nodes) (n : ℕ) where
     read_told : ReadWent t old new drive node part outcome buffer → is_told new.devices n ≡ is_told old.devices n
     read_told (inl only) = ap is_some (risen_content old.devices new.devices only.devices n)
     read_told (inr (inl full)) = ap (λ (ns : Nodes). is_told ns.devices n) full.room.same
-    read_told (inr (inr into)) = image_told _ _ node _ outcome (into_image t old new drive node part outcome buffer into)
+    read_told (inr (inr into)) = image_told _ _ _ node _ outcome (into_image t old new drive node part outcome buffer into)
 
     told_same : (op : Op) → Went t op old new drive node part outcome buffer → is_told new.devices n ≡ is_told old.devices n
     told_same (Read span) went = read_told went

@@ -21,7 +21,8 @@ use crate::turned::Turned;
 use blk_base::{Device, Names1, NoMemory, Room, Store};
 use blk_bitmaps::Bitmaps;
 use blk_nodes::Nodes;
-use qmp_rules::{Name, Names};
+use qmp_asks::Name;
+use qmp_rules::Names;
 use std::alloc::Global;
 use std::marker::Model;
 use trace_codec::{Await, Op};
@@ -42,14 +43,14 @@ pub struct World<S: Store> {
 
 impl<S: Store> Model for World<S> {
     ghost use Rattle.world_parts.specs.Face.{Face, face_of};
-    ghost use Rattle.world_parts.specs.Coherent.{IsWhole};
+    ghost use Rattle.world_parts.specs.Coherent.{IsWholeWorld};
 
     ghost Value = { Face };
 
     ghost view = { λ w. face_of w.store w.first_faults w.nodes w.names.table w.progress w.drained
         w.bitmaps };
 
-    ghost invariant = { λ w. IsWhole
+    ghost invariant = { λ w. IsWholeWorld
         (face_of w.store w.first_faults w.nodes w.names.table w.progress w.drained w.bitmaps) };
 }
 
@@ -103,7 +104,7 @@ impl<S: Store> World<S> {
     ghost use Rattle.world_parts.specs.Face.{held, seen_state};
     ghost use Rattle.world_commands.specs.Comes.{Comes};
     ghost use Rattle.world_parts.specs.Progress.{IsFree, HasRoomFor, flight_at, answered_in, with_retirement};
-    ghost use Rattle.world_parts.specs.Steps.{new_world, seen_store, IsOpeningOf, onward, after_admission, IsAnswered, after_wait, after_end, IsIdle};
+    ghost use Rattle.world_parts.specs.Steps.{new_world, seen_store, IsOpeningOf, onward, after_admission, IsAnswered, after_wait, after_end, IsActorIdle};
 
     /// A world over a store, with guests that have asked for nothing yet and room for what a run adds to its history.
     fn put_world(alloc: Global, store: S, guests: Names1, room: Room) -> Result<Self, (NoMemory, S)>
@@ -278,7 +279,7 @@ impl<S: Store> World<S> {
     pub fn finish(&mut self, actor: u32)
         requires known { actor ≤ length self.old.progress.guests }
         requires open { IsNotDone (seen_state self.old) actor }
-        requires idle { IsIdle self.old.progress.guests actor }
+        requires idle { IsActorIdle self.old.progress.guests actor }
         requires room { 0 < self.old.progress.spare.entries }
         ensures kept { self.new ≡ after_end self.old actor }
         ensures comes { (o : Opening) → Comes o self.old → Comes o self.new }

@@ -80,11 +80,12 @@ module _ (t t' : Table) (nodes : Nodes) (opened : List Opened) (out : AreOut t n
         there = get-before opened (opening_of filename device) was.opening held.number.0 was.there;
         out = was.out;
         named = named held there ∙ was.named;
+        capacity = was.capacity;
         faults = was.faults;
       }
 
   new_out : IsOut t' more (of_node id device)
-  new_out = record { opening = opening_of filename device; there = last; out = refl; named = own; faults = omega arith }
+  new_out = record { opening = opening_of filename device; there = last; out = refl; named = own; capacity = refl; faults = omega arith }
 
   -- each is out, of an opening of its node's file
   pub each-out : (held : DeviceState) → Contains held_then held → IsOut t' more held

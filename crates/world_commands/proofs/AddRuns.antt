@@ -9,12 +9,12 @@ use Rattle.blk_base.specs.declared.file.Opened.{Opened}
 use Rattle.blk_base.proofs.Openings.{back-opened, put-same}
 use Rattle.blk_history.specs.Fold.{With}
 use Rattle.blk_nodes.specs.Nodes.{DeviceState}
-use Rattle.world_parts.specs.Adding.{IsTakenOut, Taken, put_back}
+use Rattle.world_parts.specs.Adding.{IsTakenOut, Taken, opening_of, put_back}
 use Rattle.world_commands.specs.Counting.{HaveNotFallen, IsLater, RunsOn}
 use Rattle.world_parts.specs.Face.{Face, count_of_opening, counts_from, counts_now, device_numbered}
 use Rattle.world_parts.specs.Stores.{StoreInRun}
 use Rattle.world_commands.proofs.AddOut.{get-before}
-use Rattle.world_commands.proofs.CountLemmas.{there, with-of}
+use Rattle.world_commands.proofs.CountLemmas.{goes-on, there, with-of}
 
 -- ---- counts
 
@@ -65,8 +65,7 @@ module _ (w v : Face) (told : is_some v.files ≡ is_some w.files) (room : v.roo
     store = store;
     openings = λ n was is.
         subst (λ (all : List Opened). With (slice_get all n) (IsLater was)) (sym opened)
-        (with-of (slice_get (w.opened ++ o ∷ []) n) was (IsLater was) (get-before w.opened o was n is)
-        (record { name = refl; first = refl; back = λ back. refl }));
+        (with-of (slice_get (w.opened ++ o ∷ []) n) was (IsLater was) (get-before w.opened o was n is) (goes-on was));
     devices =
         subst (λ (all : List Opened). HaveNotFallen (counts_now w).devices (counts_from v.nodes.devices 0 all)) (sym opened)
         (subst (HaveNotFallen (counts_now w).devices) (sym (counts-append v.nodes.devices 0 w.opened o))
@@ -96,13 +95,13 @@ module _ (old between : StoreInRun) (name : List ℕ) (first now : Taken) (out :
   files-back (Some files) its = returned-same name first.content first.capacity first.is_flushed files its
 
   abbrev pub closed-opening : Opened
-  closed-opening = record { name = name; faults = first.faults; returned = Some now.faults }
+  closed-opening = record (opening_of name first) { returned = Some now.faults }
 
   pub back-is : put_back name now between ≡ record old { opened = old.opened ++ closed-opening ∷ [] }
   back-is =
       let none : IsTrue (is_out name old.opened) → ⊥ = λ is. false≢true (sym inside ∙ is) in
       let opened : given_back name now.faults between.opened ≡ old.opened ++ closed-opening ∷ [] =
-      ap (λ (s : StoreInRun). given_back name now.faults s.opened) out.kept ∙ back-opened name old.opened first.faults now.faults none in
+      ap (λ (s : StoreInRun). given_back name now.faults s.opened) out.kept ∙ back-opened name old.opened first.size first.capacity first.faults now.faults none in
       let files : files_with_returned name now.content now.capacity now.is_flushed between.files ≡ old.files =
       ap (λ (d : Taken). files_with_returned name d.content d.capacity d.is_flushed between.files) same
       ∙ ap (λ (s : StoreInRun). files_with_returned name first.content first.capacity first.is_flushed s.files) out.kept

@@ -16,10 +16,10 @@ use Rattle.qmp_codec.specs.declared.nodes.DeviceAdd.{DeviceAdd}
 use Rattle.qmp_rules.specs.Answers.{command_edits, conflict_in, conflict_refusal, out_of_turn, refusal_behind, refusal_of, unbuilt, untold}
 use Rattle.qmp_rules.specs.Asks.{first, holds, is_file}
 use Rattle.qmp_rules.specs.Changes.{changed, all_changed, device_edge}
-use Rattle.qmp_rules.specs.CommandAsks.{asks_of, negotiates}
+use Rattle.qmp_asks.specs.CommandAsks.{asks_of, negotiates}
 use Rattle.qmp_rules.specs.Edits.{device_uses, edits_of, new_device, of_row, uses}
-use Rattle.qmp_rules.specs.Fitting.{AllFit}
-use Rattle.qmp_rules.specs.NodeAsks.{device_add_asks}
+use Rattle.qmp_rules.specs.Fitting.{AllChangesFit}
+use Rattle.qmp_asks.specs.NodeAsks.{device_add_asks}
 use Rattle.qmp_rules.specs.Table.{Table, device_at, device_named, id_named, kinds_of, node_at}
 use Rattle.qmp_rules.specs.declared.change.Change.{Change}
 use Rattle.qmp_rules.specs.declared.change.Change.TheVariants.{AddDevice}
@@ -202,16 +202,16 @@ module _ (t : Table) (h : TableStands t) (c : DeviceAdd (List ℕ)) (none : refu
           ∙ no_conflict;
     }
 
-  pub small_of : AllFit t (command_edits t untold (command.DeviceAdd c)) → device.number < 80
-  small_of fit = by_file file (subst (AllFit t) edits fit)
+  pub small_of : AllChangesFit t (command_edits t untold (command.DeviceAdd c)) → device.number < 80
+  small_of fit = by_file file (subst (AllChangesFit t) edits fit)
     where
-      by_file : (name : Option (List ℕ)) → AllFit t (uses name ++ AddDevice device of.row.id ∷ []) → device.number < 80
+      by_file : (name : Option (List ℕ)) → AllChangesFit t (uses name ++ AddDevice device of.row.id ∷ []) → device.number < 80
       by_file None all = all.0
       by_file (Some name) all = all.1.0
 
 -- whatever the command is called
 pub attachment_can : (t u : Table) (c : Cmd) (nodes : Nodes) → is_attachment c ≡ true → TableStands t → AreNodesOf t nodes → IsJoined nodes
-    → refusal_of t untold c ≡ None → AllFit t (command_edits t untold c) → u ≡ all_changed t (command_edits t untold c) → CanAttachBy u c nodes
+    → refusal_of t untold c ≡ None → AllChangesFit t (command_edits t untold c) → u ≡ all_changed t (command_edits t untold c) → CanAttachBy u c nodes
 attachment_can t u (command.DeviceAdd c) nodes is h alike joined none fit changed_is =
     subst (λ (x : Table). CanAttach x c nodes) (sym (changed_is ∙ table_is t h c none))
     (can_attach t h c none nodes alike joined (small_of t h c none fit))

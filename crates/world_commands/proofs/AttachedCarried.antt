@@ -45,7 +45,7 @@ use Rattle.blk_nodes.specs.Adding.{with_below, guest_edge as guest_edge_of}
 use Rattle.blk_nodes.specs.Contents.{disk_of}
 use Rattle.blk_nodes.specs.Joined.{IsJoined}
 use Rattle.blk_nodes.specs.Nodes.{Nodes, row_at}
-use Rattle.world_parts.specs.Coherent.{AreAlike, AreAllowed, AreHeld, AreNodesOf, AreOnDisks, AreOnWritable, AreWithin, AskToWrite, HaveDrives, IsCoherent, IsWhole, node_row}
+use Rattle.world_parts.specs.Coherent.{AreAlike, AreAllowed, AreHeld, AreNodesOf, AreOnDisks, AreOnWritable, AreWithin, AskToWrite, HaveDrives, IsCoherent, IsWholeWorld, node_row}
 use Rattle.world_parts.specs.Face.{Face, contents_of, held_by, node_over}
 use Rattle.world_parts.specs.Handling.{IsAttached}
 use Rattle.world_parts.specs.Progress.{flight_at}
@@ -66,7 +66,7 @@ find-past p (x ∷ xs) y fails = by_test (p x) (find-past p xs y fails)
     by_test true rest = refl
     by_test false rest = rest
 
-module _ (w : Face) (whole : IsWhole w) (joined : IsJoined w.nodes)
+module _ (w : Face) (whole : IsWholeWorld w) (joined : IsJoined w.nodes)
     (c : DeviceAdd (List ℕ)) (none : refusal_of w.table untold (command.DeviceAdd c) ≡ None) where
   abbrev t : Table
   t = w.table
@@ -274,7 +274,7 @@ module _ (w : Face) (whole : IsWhole w) (joined : IsJoined w.nodes)
     are_out = record {
       each = λ d held.
           let out = was.out.each d held in
-          record { opening = out.opening; there = out.there; out = out.out; named = same_filename d.node ∙ out.named; faults = out.faults };
+          record { opening = out.opening; there = out.there; out = out.out; named = same_filename d.node ∙ out.named; capacity = out.capacity; faults = out.faults };
       once = was.out.once;
       order = was.out.order;
       all = was.out.all;
@@ -336,7 +336,7 @@ module _ (w : Face) (whole : IsWhole w) (joined : IsJoined w.nodes)
 
   -- as it was said to be put there
   pub attachment_done : (now : Nodes) (x : Table) → x ≡ all_changed w.table (answer w.table untold (command.DeviceAdd c)).changes → IsAttached x c w.nodes now → IsJoined now
-      → CarriedUntold w (record w { nodes = now; table = x }) (command.DeviceAdd c) None × IsWhole (record w { nodes = now; table = x })
+      → CarriedUntold w (record w { nodes = now; table = x }) (command.DeviceAdd c) None × IsWholeWorld (record w { nodes = now; table = x })
   attachment_done now x table put after =
       let same_table : x ≡ u =
       table ∙ ap (λ (a : Answer). all_changed w.table a.changes) (answer-is w.table untold (command.DeviceAdd c) None none) ∙ table_is w.table h c none in
@@ -352,7 +352,7 @@ module _ (w : Face) (whole : IsWhole w) (joined : IsJoined w.nodes)
       ∙ ap (λ (y : Table). let f : Face = record w { nodes = now; table = y } in f) (sym same_table) in (
         subst (λ (f : Face). CarriedUntold w f (command.DeviceAdd c) None) same
             (attached_carried joined_then (λ n. subst (λ (ns : Nodes). disk_of ns n ≡ disk_of w.nodes n) same_nodes (put.disks n))),
-        subst IsWhole same
+        subst IsWholeWorld same
             (record {
               coherent = attached_coherent joined_then;
               tell = whole.tell;

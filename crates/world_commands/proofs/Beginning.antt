@@ -10,7 +10,7 @@ use Rattle.flat_machine.specs.Licence.{Counts, AreLicensed, IsBetween}
 use Rattle.flat_machine.specs.declared.opening.Opening.{Opening}
 use Rattle.flat_machine.proofs.Openings.{start_rests, start_agrees}
 use Rattle.world_parts.specs.Face.{contents_of}
-use Rattle.world_commands.specs.Comes.{Comes, Shows}
+use Rattle.world_commands.specs.Comes.{Comes, ShowsState}
 use Rattle.world_commands.proofs.Coherence.{coherent-new}
 use Rattle.world_parts.specs.Steps.{StoreSeen, new_world, IsOpeningOf}
 
@@ -23,7 +23,7 @@ guests-start [] = refl
 guests-start (name ∷ names) = ap (λ guests. new_guest ∷ guests) (guests-start names)
 
 module _ (store : StoreSeen) (guests : List (List ℕ)) (room : Room) (o : Opening) (is : IsOpeningOf store guests o) where
-  shows-start : is_some store.files ≡ true → Shows o (start o) (new_world store guests room)
+  shows-start : is_some store.files ≡ true → ShowsState o (start o) (new_world store guests room)
   shows-start told =
       let files = is.files_are told in
       record {

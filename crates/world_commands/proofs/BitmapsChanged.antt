@@ -21,12 +21,12 @@ use Rattle.qmp_rules.specs.declared.rows.BitmapRow.{BitmapRow}
 use Rattle.qmp_rules.specs.declared.rows.NodeRecord.{NodeRecord}
 use Rattle.qmp_rules.specs.Answers.{command_edits, refusal_of, untold}
 use Rattle.qmp_rules.specs.Asks.{holds, id_or}
-use Rattle.qmp_rules.specs.BitmapAsks.{bitmap_add_names, bitmap_add_rest, bitmap_add_values, source_name, source_node}
+use Rattle.qmp_asks.specs.BitmapAsks.{bitmap_add_names, bitmap_add_rest, bitmap_add_values, source_name, source_node}
 use Rattle.qmp_rules.specs.Changes.{changed}
-use Rattle.qmp_rules.specs.CommandAsks.{asks_of}
+use Rattle.qmp_asks.specs.CommandAsks.{asks_of}
 use Rattle.qmp_rules.specs.Edits.{edits_of, merges}
 use Rattle.qmp_rules.specs.Table.{Table, bitmap_at, bitmap_named, id_named}
-use Rattle.qmp_rules.specs.Values.{amount_or, is_granularity}
+use Rattle.qmp_asks.specs.Values.{amount_or, is_granularity}
 use Rattle.qmp_rules.specs.Chains.{filtered, written_under}
 use Rattle.trace_codec.specs.declared.op.Op.{Op}
 use Rattle.trace_codec.specs.declared.op.Op.TheVariants.{Read, Write, Zero, Flush, Discard}

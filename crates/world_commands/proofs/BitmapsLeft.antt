@@ -24,9 +24,9 @@ use Rattle.qmp_rules.specs.declared.told.Told.{Told}
 use Rattle.qmp_rules.specs.Table.{Table, node_named, device_named}
 use Rattle.qmp_rules.specs.Asks.{is_file}
 use Rattle.qmp_rules.specs.Changes.{all_changed}
-use Rattle.qmp_rules.specs.CommandAsks.{is_built}
+use Rattle.qmp_asks.specs.CommandAsks.{is_built}
 use Rattle.qmp_rules.specs.Edits.{edits_of, created_change, spoiled, raw_edits, qcow2_edits, added_edits, uses, of_row, device_uses, new_device}
-use Rattle.qmp_rules.specs.NodeAsks.{is_read_only, backing_name}
+use Rattle.qmp_asks.specs.NodeAsks.{is_read_only, backing_name}
 use Rattle.qmp_rules.specs.Answers.{answer, answer_by, command_edits, left_by, refusal_of}
 use Rattle.flat_machine.specs.Bitmaps.{AreBitmapsOf, FollowChanges, dirty_in}
 use Rattle.flat_machine.specs.Recording.{dirty_after}

@@ -21,7 +21,7 @@ use Rattle.qmp_rules.specs.declared.refusal.Refusal.TheVariants as refusal
 use Rattle.qmp_rules.specs.declared.told.Told.{Told}
 use Rattle.qmp_rules.specs.Table.{Table}
 use Rattle.qmp_rules.specs.Changes.{all_changed}
-use Rattle.qmp_rules.specs.CommandAsks.{is_built}
+use Rattle.qmp_asks.specs.CommandAsks.{is_built}
 use Rattle.qmp_rules.specs.Edits.{spoiled}
 use Rattle.qmp_rules.specs.Answers.{Answer, answer, answer_by, refusal_of, unbuilt, left_by, returned, reply_data, line_text, line_answer, answer_for}
 use Rattle.flat_machine.specs.State.{State, Guest}
@@ -50,7 +50,7 @@ use Rattle.flat_machine.specs.Recording.{dirty_after}
 use Rattle.world_parts.specs.Progress.{Progress, with_entry, ended_in}
 use Rattle.world_parts.specs.Face.{Face, contents_of, dirty_of, held, seen_state}
 use Rattle.world_commands.specs.Counting.{RunsOn, IsReachedBy}
-use Rattle.world_commands.specs.Comes.{Comes, Shows}
+use Rattle.world_commands.specs.Comes.{Comes, ShowsState}
 use Rattle.world_parts.specs.Saying.{IsSaid}
 use Rattle.world_commands.specs.Carrying.{IsCarried, IsCarriedIn, IsCaused, HasAnswerCause, counted, counts_of}
 use Rattle.world_parts.specs.Steps.{onward}
@@ -207,7 +207,7 @@ module _ (w u : Face) (c : Cmd) (refusal' : Option Refusal) (is : IsCarried w u 
 
     -- ---- where the store tells its files
 
-    module _ (o : Opening) (s : State) (told : is_some w.files ≡ true) (shows : Shows o s w) where
+    module _ (o : Opening) (s : State) (told : is_some w.files ≡ true) (shows : ShowsState o s w) where
       in-it : IsCarriedIn s w u c is.told
       in-it = is.shows told o s shows
 
@@ -285,7 +285,7 @@ module _ (w u : Face) (c : Cmd) (refusal' : Option Refusal) (is : IsCarried w u 
           all_images_keep (bytes_named o.files) changes s (contents_of w) (contents_of u) suit-all can-all keep-all shows.stands.stands shows.contents
           in-it.performed shows.images
 
-      shows-now : (number : ℕ) → StandsAtRest now → Shows o now (onward u (with_entry (reply number)))
+      shows-now : (number : ℕ) → StandsAtRest now → ShowsState o now (onward u (with_entry (reply number)))
       shows-now number stands =
           let kept = all_keep changes s plain in
           let tables = all_tables_keep changes s.table plain in
@@ -317,12 +317,12 @@ module _ (w u : Face) (c : Cmd) (refusal' : Option Refusal) (is : IsCarried w u 
             images = λ node. record { noted = (images node).noted; mapped = (images node).mapped };
           }
 
-    fits-now : (number : ℕ) (o : Opening) → IsNotDone (seen_state w) 0 → (s : State) (told : is_some w.files ≡ true) (shows : Shows o s w)
-        → Fits s (reply number) × AreCalm s.table s.guests (marks_of s (reply number)) × Shows o (after s (reply number)) (onward u (with_entry (reply number)))
+    fits-now : (number : ℕ) (o : Opening) → IsNotDone (seen_state w) 0 → (s : State) (told : is_some w.files ≡ true) (shows : ShowsState o s w)
+        → Fits s (reply number) × AreCalm s.table s.guests (marks_of s (reply number)) × ShowsState o (after s (reply number)) (onward u (with_entry (reply number)))
     fits-now number o not_done s told shows =
         let means = stands-for o s told shows in
         let stays = subst (λ (cs : List Change). StandsAtRest (all_stepped s cs)) means (answer_rests s given (Some c) text shows.stands (answers o s told shows)) in
-        let after_it = subst (λ (cs : List Change). Shows o (all_stepped s cs) (onward u (with_entry (reply number)))) (sym means) (shows-now o s told shows number stays) in
+        let after_it = subst (λ (cs : List Change). ShowsState o (all_stepped s cs) (onward u (with_entry (reply number)))) (sym means) (shows-now o s told shows number stays) in
         ((shows.table.rest, (undone o s w 0 shows not_done, answers o s told shows)), calm o s told shows number, after_it)
 
     -- ---- the whole

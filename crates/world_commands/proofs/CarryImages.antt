@@ -17,32 +17,33 @@ use Rattle.qmp_codec.specs.declared.nodes.DeviceAdd.{DeviceAdd}
 use Rattle.qmp_codec.specs.declared.nodes.FileRef.{FileRef}
 use Rattle.qmp_codec.specs.declared.nodes.FileRef.TheVariants as file_ref
 use Rattle.qmp_codec.specs.declared.nodes.Snapshot.{Snapshot}
-use Rattle.qmp_rules.specs.declared.ask.Ask.TheVariants as ask
-use Rattle.qmp_rules.specs.declared.ask.Drivers.TheVariants as drivers
+use Rattle.qmp_asks.specs.declared.ask.Ask.TheVariants as ask
+use Rattle.qmp_asks.specs.declared.ask.Drivers.TheVariants as drivers
 use Rattle.qmp_rules.specs.declared.change.Change.{Change}
 use Rattle.qmp_rules.specs.declared.change.Change.TheVariants as change
 use Rattle.qmp_rules.specs.declared.refusal.Refusal.{Refusal}
 use Rattle.qmp_rules.specs.declared.refusal.Refusal.TheVariants as refusal
 use Rattle.qmp_rules.specs.declared.rows.Device.{Device}
 use Rattle.qmp_rules.specs.declared.rows.NodeRecord.{NodeRecord}
-use Rattle.qmp_rules.specs.declared.told.Look.TheVariants as look
+use Rattle.qmp_asks.specs.declared.look.Look.TheVariants as look
 use Rattle.qmp_rules.specs.declared.told.Told.{Told}
 use Rattle.qmp_rules.specs.Table.{Table, device_named, node_named}
 use Rattle.qmp_rules.specs.Answers.{Answer, answer, answer_by, refusal_of, command_edits, left_by, returned, out_of_turn, refusal_behind}
-use Rattle.qmp_rules.specs.Asks.{Asking, holds, first, place, is_file}
-use Rattle.qmp_rules.specs.CommandAsks.{asks_of, is_built}
+use Rattle.qmp_asks.specs.Asking.{Asking, place}
+use Rattle.qmp_rules.specs.Asks.{holds, first, is_file}
+use Rattle.qmp_asks.specs.CommandAsks.{asks_of, is_built}
 use Rattle.qmp_rules.specs.Edits.{edits_of, created_change, spoiled, file_of_node, raw_edits, qcow2_edits, added_edits, uses, file_under, with_inline, goes_with_node, row_gone, of_row, device_uses, new_device, merges, snapshot_edits}
 use Rattle.qmp_rules.specs.Changes.{changed}
-use Rattle.qmp_rules.specs.NodeAsks.{is_read_only, backing_name, snapshot_values, snapshot_names, snapshot_rest}
-use Rattle.qmp_rules.specs.Order.{IsOfTable}
+use Rattle.qmp_asks.specs.NodeAsks.{is_read_only, backing_name, snapshot_values, snapshot_names, snapshot_rest}
+use Rattle.qmp_rules.specs.Places.{IsOfTable}
 use Rattle.qmp_rules.specs.Refusals.{or_else, place_of}
-use Rattle.qmp_rules.specs.Values.{is_size, is_image_size, absent_or, is_image_format, is_just, is_version}
+use Rattle.qmp_asks.specs.Values.{is_size, is_image_size, absent_or, is_image_format, is_just, is_version}
 use Rattle.qmp_rules.proofs.PlaceLemmas.{has_place}
 use Rattle.flat_machine.specs.State.{State}
 use Rattle.flat_machine.specs.Changed.{stepped}
 use Rattle.flat_machine.specs.Sights.{IsTold}
 use Rattle.flat_machine.specs.Wiring.{TableStands}
-use Rattle.flat_machine.specs.Standing.{IsOpen, Stands, StandsAtRest}
+use Rattle.flat_machine.specs.Standing.{IsOpenlyKnown, Stands, StandsAtRest}
 use Rattle.flat_machine.specs.Suiting.{AllSuit}
 use Rattle.flat_machine.specs.Imaging.{KeepsImages, AllKeepImages}
 use Rattle.flat_machine.proofs.Accepted.{none-over, is_protocol, no_edge}
@@ -106,7 +107,7 @@ failed-asks t told c cause failed is = elim (either-of (out_of_turn false t.nego
 -- ---- a file that is spoiled is open
 
 spoiled_file : (t : Table) (told : Told) (id : List ℕ) (c : CreateFile (List ℕ)) (cause : Refusal) → is_failed cause ≡ true
-    → refusal_of t told (command.BlockdevCreate (record { job_id = id; options = created.File c })) ≡ Some cause → IsOpen t c.filename
+    → refusal_of t told (command.BlockdevCreate (record { job_id = id; options = created.File c })) ≡ Some cause → IsOpenlyKnown t c.filename
 unfolding asks_of
 spoiled_file t told id c cause failed is =
     let asks : NoneHolds t told front = met-before t told front (ask.Files look.File ∷ []) cause (tt, (tt, (tt, (tt, (tt, tt))))) failed
@@ -127,7 +128,7 @@ named-file None h = absurd (let bad : ⊥ = cc h in bad)
 named-file (Some name) h = refl
 
 spoiled_image : (t : Table) (told : Told) (id : List ℕ) (c : CreateQcow2 (List ℕ)) (cause : Refusal) → TableStands t → is_failed cause ≡ true
-    → refusal_of t told (command.BlockdevCreate (record { job_id = id; options = created.Qcow2 c })) ≡ Some cause → IsOpen t (file_of_node t c.file)
+    → refusal_of t told (command.BlockdevCreate (record { job_id = id; options = created.Qcow2 c })) ≡ Some cause → IsOpenlyKnown t (file_of_node t c.file)
 unfolding asks_of
 spoiled_image t told id c cause stands failed is =
     let asks : NoneHolds t told front = met-before t told front (ask.Files look.Format ∷ []) cause

@@ -18,21 +18,22 @@ use Rattle.qmp_codec.specs.declared.nodes.BlockdevAdd.{BlockdevAdd}
 use Rattle.qmp_codec.specs.declared.nodes.BlockdevCreate.{BlockdevCreate}
 use Rattle.qmp_codec.specs.declared.nodes.Created.{Created}
 use Rattle.qmp_codec.specs.declared.nodes.Created.TheVariants as created
-use Rattle.qmp_rules.specs.declared.ask.Ask.TheVariants as ask
+use Rattle.qmp_asks.specs.declared.ask.Ask.TheVariants as ask
 use Rattle.qmp_rules.specs.declared.change.Change.{Change}
 use Rattle.qmp_rules.specs.declared.refusal.Refusal.{Refusal}
 use Rattle.qmp_rules.specs.declared.refusal.Refusal.TheVariants as refusal
-use Rattle.qmp_rules.specs.declared.told.Look.{Look}
+use Rattle.qmp_asks.specs.declared.look.Look.{Look}
 use Rattle.qmp_rules.specs.declared.told.Stopped.{Stopped}
 use Rattle.qmp_rules.specs.declared.told.Told.{Told}
-use Rattle.qmp_rules.specs.Naming.{is_name, is_name_byte}
+use Rattle.qmp_asks.specs.Naming.{is_name, is_name_byte}
 use Rattle.qmp_rules.specs.Table.{Table}
 use Rattle.qmp_rules.specs.Refusals.{refused, or_else}
-use Rattle.qmp_rules.specs.Asks.{Asking, holds, first, place, told_at, same_look}
-use Rattle.qmp_rules.specs.BitmapAsks.{all_source_names, merge_names, merge_rest, source_name, source_node, sources_equal, sources_found, sources_free}
-use Rattle.qmp_rules.specs.NodeAsks.{add_asks, create_asks}
-use Rattle.qmp_rules.specs.Order.{IsOfTable}
-use Rattle.qmp_rules.specs.CommandAsks.{asks_of, is_built, command_name, negotiates}
+use Rattle.qmp_asks.specs.Asking.{Asking, place, same_look}
+use Rattle.qmp_rules.specs.Asks.{holds, first, told_at}
+use Rattle.qmp_asks.specs.BitmapAsks.{all_source_names, merge_names, merge_rest, source_name, source_node, sources_equal, sources_found, sources_free}
+use Rattle.qmp_asks.specs.NodeAsks.{add_asks, create_asks}
+use Rattle.qmp_rules.specs.Places.{IsOfTable}
+use Rattle.qmp_asks.specs.CommandAsks.{asks_of, is_built, command_name, negotiates}
 use Rattle.qmp_rules.specs.Edits.{edits_of, ids}
 use Rattle.blk_graph.specs.declared.edge.Conflict.{Conflict}
 use Rattle.blk_graph.specs.Rule.{first_conflict}

@@ -21,7 +21,7 @@ use Rattle.flat_machine.specs.Wiring.{TableAtRest}
 use Rattle.flat_machine.proofs.TableRests.{command_rests}
 use Rattle.qmp_codec.specs.Commands.{Cmd, SeenSources}
 use Rattle.qmp_codec.specs.declared.command.Command.TheVariants as command
-use Rattle.qmp_rules.specs.declared.ask.Ask.TheVariants as ask
+use Rattle.qmp_asks.specs.declared.ask.Ask.TheVariants as ask
 use Rattle.qmp_rules.specs.declared.change.Change.{Change}
 use Rattle.qmp_rules.specs.declared.change.Change.TheVariants as change
 use Rattle.qmp_rules.specs.declared.refusal.Refusal.{Refusal}
@@ -30,9 +30,10 @@ use Rattle.qmp_rules.specs.declared.told.Told.{Told}
 use Rattle.qmp_rules.specs.Table.{Table, node_at, device_at, id_named, has_name}
 use Rattle.qmp_rules.specs.Chains.{filtered, disk_from, disk_node}
 use Rattle.qmp_rules.specs.Refusals.{refused, or_else, place_of}
-use Rattle.qmp_rules.specs.Asks.{Asking, holds, first, id_or, place, told_at}
-use Rattle.qmp_rules.specs.BitmapAsks.{source_name, source_node}
-use Rattle.qmp_rules.specs.CommandAsks.{asks_of, is_built, command_name, negotiates}
+use Rattle.qmp_asks.specs.Asking.{Asking, place}
+use Rattle.qmp_rules.specs.Asks.{holds, first, id_or, told_at}
+use Rattle.qmp_asks.specs.BitmapAsks.{source_name, source_node}
+use Rattle.qmp_asks.specs.CommandAsks.{asks_of, is_built, command_name, negotiates}
 use Rattle.qmp_rules.specs.Changes.{changed, all_changed}
 use Rattle.qmp_rules.specs.Edits.{edits_of, ids, merges}
 use Rattle.qmp_rules.specs.Answers.{answer, answer_by, untold, unbuilt, out_of_turn, refusal_of, refusal_behind, conflict_after, conflict_in, conflict_refusal, rewires, command_edits, left_by}
@@ -49,7 +50,7 @@ use Rattle.flat_machine.specs.declared.opening.Opening.{Opening}
 use Rattle.flat_machine.proofs.Finds.{same-bytes_eq, bytes_eq-same}
 use Rattle.world_parts.specs.Progress.{Progress}
 use Rattle.world_parts.specs.Coherent.{IsCoherent, AreAlike, node_row}
-use Rattle.world_commands.specs.Comes.{Shows}
+use Rattle.world_commands.specs.Comes.{ShowsState}
 use Rattle.world_parts.specs.Saying.{IsSaid}
 use Rattle.world_commands.specs.Snapshots.{TellsMapped}
 use Rattle.world_commands.specs.Carrying.{IsCarried, IsCarriedIn, IsCarriedAs, IsCaused, HasAnswerCause, FitsAll, OpensFor, opened_names, IsPutBack, as_held, counted, counts_of, is_of_bitmaps, needs_table_alone, prints_counts, is_failed, IsLateIn, fault_named, fault_told}
@@ -252,7 +253,7 @@ same-answer : (t : Table) (s : State) (c : Cmd) (ds : List ℕ) → opens_nothin
 same-answer t s c ds opens = same-by t s c ds opens (is_built c) refl
 
 -- beside the counts that a query prints
-pub told_counts : (o : Opening) (s : State) (w v : Face) (c : Cmd) (ds : List ℕ) → opens_nothing c ≡ true → (prints_counts c ≡ true → ds ≡ counts_of w) → Shows o s w
+pub told_counts : (o : Opening) (s : State) (w v : Face) (c : Cmd) (ds : List ℕ) → opens_nothing c ≡ true → (prints_counts c ≡ true → ds ≡ counts_of w) → ShowsState o s w
     → AllPerformed s (answer w.table (counted untold ds) c).changes (contents_of w) (contents_of v) → IsCarriedIn s w v c (counted untold ds)
 unfolding seen-so
 told_counts o s w v c ds opens counts shows did = record {
@@ -271,7 +272,7 @@ told_counts o s w v c ds opens counts shows did = record {
   performed = did;
 }
 
-pub told_nothing : (o : Opening) (s : State) (w v : Face) (c : Cmd) → opens_nothing c ≡ true → (prints_counts c ≡ true → [] ≡ counts_of w) → Shows o s w
+pub told_nothing : (o : Opening) (s : State) (w v : Face) (c : Cmd) → opens_nothing c ≡ true → (prints_counts c ≡ true → [] ≡ counts_of w) → ShowsState o s w
     → AllPerformed s (answer w.table untold c).changes (contents_of w) (contents_of v) → IsCarriedIn s w v c untold
 told_nothing o s w v c opens counts shows did = told_counts o s w v c [] opens counts shows did
 
@@ -373,7 +374,7 @@ module _ (t u : Table) (shape : HasShape t u) where
     out = record {
       each = λ device held.
           let is = was.out.each device held in
-          record { opening = is.opening; there = is.there; out = is.out; named = same-filename device.node ∙ is.named; faults = is.faults };
+          record { opening = is.opening; there = is.there; out = is.out; named = same-filename device.node ∙ is.named; capacity = is.capacity; faults = is.faults };
       once = was.out.once;
       order = was.out.order;
       all = was.out.all;

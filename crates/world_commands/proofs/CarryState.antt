@@ -23,10 +23,10 @@ use Rattle.qmp_rules.specs.declared.rows.Device.{Device}
 use Rattle.qmp_rules.specs.declared.told.Told.{Told}
 use Rattle.qmp_rules.specs.Table.{Table, device_named, node_named}
 use Rattle.qmp_rules.specs.Changes.{changed, all_changed}
-use Rattle.qmp_rules.specs.CommandAsks.{is_built}
+use Rattle.qmp_asks.specs.CommandAsks.{is_built}
 use Rattle.qmp_rules.specs.Edits.{edits_of, created_change, spoiled, raw_edits, qcow2_edits, added_edits, uses, file_under, with_inline, goes_with_node, row_gone, of_row, device_uses, new_device, merges}
 use Rattle.qmp_rules.specs.Asks.{is_file}
-use Rattle.qmp_rules.specs.NodeAsks.{is_read_only, backing_name}
+use Rattle.qmp_asks.specs.NodeAsks.{is_read_only, backing_name}
 use Rattle.qmp_rules.specs.Answers.{command_edits, left_by}
 use Rattle.flat_machine.specs.State.{State, Content, Left, filename_of}
 use Rattle.flat_machine.specs.Changed.{beside, stepped, all_stepped, put, name_file, know_if, add_file, note_image, add_format, leave, remove_node, filename_or}

@@ -184,6 +184,8 @@ pub given-back : (w : Face) (new : StoreSeen) (fault : Option FaultAt) → AreBa
     → AreHeld w.table w.nodes.devices w.opened → HasGivenBack w new.opened fault
 given-back w new fault back held = record {
   names = same-all (λ (o : Opened). o.name) (λ o count. refl) w.table w.nodes.devices (store_in w) new fault back;
+  sizes = same-all (λ (o : Opened). o.size) (λ o count. refl) w.table w.nodes.devices (store_in w) new fault back;
+  capacities = same-all (λ (o : Opened). o.capacity) (λ o count. refl) w.table w.nodes.devices (store_in w) new fault back;
   first = same-all (λ (o : Opened). o.faults) (λ o count. refl) w.table w.nodes.devices (store_in w) new fault back;
   counts = all-counts w.table w.nodes.devices (store_in w) new fault back held;
   told = by_fault fault refl;

@@ -118,6 +118,7 @@ module _ (t : Table) (device : DeviceState) (rest : List DeviceState) (opened : 
           there = subst (λ all. slice_get all other.number.0 ≡ Some is.opening) (sym now) (set-other opened device.number.0 other.number.0 (record out.opening { returned = Some count }) differ ∙ is.there);
           out = is.out;
           named = is.named;
+          capacity = is.capacity;
           faults = is.faults;
         };
     once = tail_pairs DifferInNumber device rest was.once;

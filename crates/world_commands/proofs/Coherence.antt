@@ -24,7 +24,7 @@ use Rattle.world_parts.specs.Progress.{Progress, flight_at, no_progress, with_ad
 use Rattle.flat_machine.specs.Marks.{none_drained}
 use Rattle.world_parts.specs.Face.{face_of}
 use Rattle.world_parts.specs.Stores.{found_store}
-use Rattle.world_parts.specs.Coherent.{IsCoherent, IsWhole, AreWithin, AreAllowed}
+use Rattle.world_parts.specs.Coherent.{IsCoherent, IsWholeWorld, AreWithin, AreAllowed}
 
 -- ---- guests
 
@@ -146,7 +146,7 @@ coherent-new guests room = record {
 }
 
 pub whole-new : (files : Option (List File)) (earlier : List Opened) (room faults : ℕ) (guests : List (List ℕ)) (spare : Room)
-    → IsWhole (face_of (found_store files earlier room faults) faults no_nodes (opening_table guests) (no_progress (length guests) spare) none_drained [])
+    → IsWholeWorld (face_of (found_store files earlier room faults) faults no_nodes (opening_table guests) (no_progress (length guests) spare) none_drained [])
 whole-new files earlier room faults guests spare =
     record {
       coherent = coherent-new guests spare;

@@ -6,7 +6,7 @@ use Rattle.std.proofs.lemmas.List.{append-nil}
 use Rattle.std.proofs.lemmas.List.Elements.{filter_map-append, All-weaker, All-push}
 use Rattle.std.proofs.lemmas.List.Quantifiers.{all_pairs_push}
 use Rattle.std.proofs.lemmas.Option.{slice_get-map, same_Some}
-use Rattle.blk_base.specs.Counts.{Rose}
+use Rattle.blk_base.specs.Counts.{HasFailedSince}
 use Rattle.blk_base.specs.declared.fault.DevNo.{DevNo}
 use Rattle.blk_base.specs.declared.fault.FaultAt.{FaultAt}
 use Rattle.blk_base.specs.declared.fault.FaultFrom.{FaultFrom}
@@ -24,7 +24,7 @@ use Rattle.flat_machine.specs.Licence.{Counts, AreLicensed, IsBetween, Differ, c
 use Rattle.flat_machine.specs.State.{filename_of}
 use Rattle.world_parts.specs.Coherent.{AreOut}
 use Rattle.world_parts.specs.Face.{Face, first_counts, counts_now, counts_from, count_of_opening, device_numbered}
-use Rattle.world_commands.specs.Counting.{RunsOn, IsLater, HaveNotFallen, IsReached, IsReachedBy, IsSameDevice, AreSameDevices, counts_within}
+use Rattle.world_commands.specs.Counting.{RunsOn, IsLater, HaveNotFallen, IsFaultReached, IsReachedBy, IsSameDevice, AreSameDevices, counts_within}
 
 -- ---- what is there
 
@@ -77,11 +77,11 @@ module _ (w v : Face) (runs : RunsOn w v) where
   -- a fault that was between the counts still is
   pub between-on : (fault : FaultAt) → IsBetween (first_counts w) (counts_now w) fault → IsBetween (first_counts v) (counts_now v) fault
   between-on fault is =
-      let was = there (count_of (first_counts w) fault.from) (λ before. Rose before fault.count) is.risen in
+      let was = there (count_of (first_counts w) fault.from) (λ before. HasFailedSince before fault.count) is.risen in
       let reached = there (count_of (counts_now w) fault.from) (λ now. fault.count ≤ now) is.reached in
       let grown = there (count_of (counts_now v) fault.from) (λ now. reached.at ≤ now) (now-grows fault.from reached.at reached.is) in
       record {
-        risen = with-of (count_of (first_counts v) fault.from) was.at (λ before. Rose before fault.count) (first-stays fault.from was.at was.is) was.holds;
+        risen = with-of (count_of (first_counts v) fault.from) was.at (λ before. HasFailedSince before fault.count) (first-stays fault.from was.at was.is) was.holds;
         reached = with-of (count_of (counts_now v) fault.from) grown.at (λ now. fault.count ≤ now) grown.is (omega (arith, reached.holds, grown.holds));
       }
 
@@ -97,11 +97,11 @@ module _ (w v : Face) (runs : RunsOn w v) where
   began-with Sink count e = e
 
   -- a fault that is reached in the event is none of those before
-  pub differs : (earlier fault : FaultAt) → IsBetween (first_counts w) (counts_now w) earlier → IsReached w v fault → Differ earlier fault
+  pub differs : (earlier fault : FaultAt) → IsBetween (first_counts w) (counts_now w) earlier → IsFaultReached w v fault → Differ earlier fault
   differs earlier fault was is = λ from count.
       let reached = there (count_of (counts_now w) earlier.from) (λ now. earlier.count ≤ now) was.reached in
       let same_source : count_of (counts_now w) fault.from ≡ Some reached.at = subst (λ source. count_of (counts_now w) source ≡ Some reached.at) from reached.is in
-      let risen : Rose reached.at fault.count = with-at (count_of (counts_within w v) fault.from) reached.at (λ before. Rose before fault.count) (began-with fault.from reached.at same_source) is.new.risen in
+      let risen : HasFailedSince reached.at fault.count = with-at (count_of (counts_within w v) fault.from) reached.at (λ before. HasFailedSince before fault.count) (began-with fault.from reached.at same_source) is.new.risen in
       let most = is.fits in
       let least = reached.holds in
       omega (arith, risen, most, least, count)
@@ -133,7 +133,7 @@ module _ (w v : Face) (runs : RunsOn w v) where
 -- ---- devices whose counts have not fallen
 
 same-itself : (device : DeviceState) → IsSameDevice device device
-same-itself device = record { node = refl; number = refl; faults = omega arith }
+same-itself device = record { node = refl; number = refl; capacity = refl; faults = omega arith }
 
 pub same-devices : (devices : List DeviceState) → AreSameDevices devices devices
 same-devices [] = tt
@@ -142,8 +142,15 @@ same-devices (device ∷ devices) = (same-itself device, same-devices devices)
 -- counts alone have risen
 pub same-risen : (old new : List DeviceState) → HaveRisen old new → AreSameDevices old new
 same-risen [] [] risen = tt
-same-risen (a ∷ old) (b ∷ new) risen =
-    (record { node = ap (λ (d : DeviceState). d.node) risen.0.same; number = ap (λ (d : DeviceState). d.number) risen.0.same; faults = risen.0.faults }, same-risen old new risen.1)
+same-risen (a ∷ old) (b ∷ new) risen = (
+  record {
+    node = ap (λ (d : DeviceState). d.node) risen.0.same;
+    number = ap (λ (d : DeviceState). d.number) risen.0.same;
+    capacity = ap (λ (d : DeviceState). d.capacity) risen.0.same;
+    faults = risen.0.faults;
+  },
+  same-risen old new risen.1,
+)
 same-risen [] (b ∷ new) risen = absurd risen
 same-risen (a ∷ old) [] risen = absurd risen
 
@@ -264,8 +271,11 @@ not-fallen old new same (o ∷ opened) first zero count is =
     subst (λ c. c ≤ count_of_opening new first o) was (counts-fall-not old new same first o)
 not-fallen old new same (o ∷ opened) first (suc n) count is = not-fallen old new same opened (first + 1) n count is
 
+pub goes-on : (o : Opened) → IsLater o o
+goes-on o = record { name = refl; size = refl; capacity = refl; first = refl; back = λ back. refl }
+
 later-itself : (opened : List Opened) (n : ℕ) (o : Opened) → slice_get opened n ≡ Some o → With (slice_get opened n) (IsLater o)
-later-itself opened n o is = with-of (slice_get opened n) o (IsLater o) is (record { name = refl; first = refl; back = λ back. refl })
+later-itself opened n o is = with-of (slice_get opened n) o (IsLater o) is (goes-on o)
 
 -- where the store is called for nothing, counts run on with those of the devices
 pub runs-devices : (w v : Face) → is_some v.files ≡ is_some w.files → v.room ≡ w.room → v.first_faults ≡ w.first_faults → v.earlier ≡ w.earlier → v.faults ≡ w.faults → v.opened ≡ w.opened
@@ -285,6 +295,8 @@ runs-devices w v told room first earlier faults opened same = record {
 later-then : (a b c : Opened) → IsLater a b → IsLater b c → IsLater a c
 later-then a b c first next = record {
   name = next.name ∙ first.name;
+  size = next.size ∙ first.size;
+  capacity = next.capacity ∙ first.capacity;
   first = next.first ∙ first.first;
   back = λ back. let same = first.back back in next.back (subst (λ (o : Opened). IsSome o.returned) (sym same) back) ∙ same;
 }
@@ -341,6 +353,7 @@ out-same t nodes now opened same was = record {
         there = subst (λ (n : DevNo). slice_get opened n.0 ≡ Some out.opening) (sym before.2.number) out.there;
         out = out.out;
         named = subst (λ n. filename_of t n ≡ Some out.opening.name) (sym before.2.node) out.named;
+        capacity = before.2.capacity ∙ out.capacity;
         faults = omega (arith, out.faults, before.2.faults);
       };
   once = numbers-pairs (λ (a b : DevNo). a ≢ b) nodes.devices now.devices same was.once;
@@ -369,7 +382,7 @@ count-out t nodes opened x held out =
 
 pub reached-held : (w v : Face) (before after : DeviceState) (count : ℕ) → RunsOn w v → v.opened ≡ w.opened
     → AreOut w.table w.nodes w.opened → AreOut w.table v.nodes w.opened → Contains w.nodes.devices before → Contains v.nodes.devices after → after.number ≡ before.number
-    → StoppedBy before after before.number count → count ≤ 18446744073709551615 → IsReached w v (fault_at (Dev before.number) count)
+    → StoppedBy before after before.number count → count ≤ 18446744073709551615 → IsFaultReached w v (fault_at (Dev before.number) count)
 reached-held w v before after count runs opened out out_now held held_now number stopped fits =
     let is = out.each before held in
     let rose = stopped.rose in
@@ -383,11 +396,11 @@ reached-held w v before after count runs opened out out_now held held_now number
     let reached = with-of (slice_get (counts_now v).devices before.number.0) after.faults (λ c. count ≤ c) now (omega (arith, stopped.now)) in
     record {
       rise = record {
-        risen = with-of (slice_get (map (λ (o : Opened). o.faults) v.opened) before.number.0) is.opening.faults (λ c. Rose c count) first (omega (arith, rose, least));
+        risen = with-of (slice_get (map (λ (o : Opened). o.faults) v.opened) before.number.0) is.opening.faults (λ c. HasFailedSince c count) first (omega (arith, rose, least));
         reached = reached;
       };
       new = record {
-        risen = with-of (slice_get (counts_within w v).devices before.number.0) before.faults (λ c. Rose c count) (began-with w v runs (Dev before.number) before.faults was) rose;
+        risen = with-of (slice_get (counts_within w v).devices before.number.0) before.faults (λ c. HasFailedSince c count) (began-with w v runs (Dev before.number) before.faults was) (omega (arith, rose));
         reached = reached;
       };
       fits = fits;

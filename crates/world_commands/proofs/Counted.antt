@@ -2,13 +2,14 @@
 use Rattle.std.proofs.Common.{◌≡◌, ℕ, true, List, [], ◌∷◌, refl, ap, ◌∙◌, Option, Some, None}
 use Rattle.qmp_codec.specs.Commands.{Act, Cmd}
 use Rattle.qmp_codec.specs.declared.command.Command.TheVariants as command
-use Rattle.qmp_rules.specs.declared.ask.Ask.TheVariants as ask
+use Rattle.qmp_asks.specs.declared.ask.Ask.TheVariants as ask
 use Rattle.qmp_rules.specs.declared.refusal.Refusal.{Refusal}
 use Rattle.qmp_rules.specs.declared.told.Told.{Told}
 use Rattle.qmp_rules.specs.Table.{Table}
-use Rattle.qmp_rules.specs.Asks.{Asking, holds, first}
+use Rattle.qmp_asks.specs.Asking.{Asking}
+use Rattle.qmp_rules.specs.Asks.{holds, first}
 use Rattle.qmp_rules.specs.Changes.{all_changed}
-use Rattle.qmp_rules.specs.CommandAsks.{asks_of, action_rest}
+use Rattle.qmp_asks.specs.CommandAsks.{asks_of, action_rest}
 use Rattle.qmp_rules.specs.Edits.{edits_of, action_edits}
 use Rattle.qmp_rules.specs.Answers.{answer, answer_by, actions_refusal, group_of, refusal_behind, refusal_of, command_edits, returned}
 use Rattle.world_commands.specs.Carrying.{counted, prints_counts}

@@ -18,9 +18,9 @@ use Rattle.qmp_rules.specs.declared.told.Told.{Told}
 use Rattle.qmp_rules.specs.Answers.{Answer, answer, command_edits, conflict_in, conflict_refusal, out_of_turn, refusal_behind, refusal_of, unbuilt, untold}
 use Rattle.qmp_rules.specs.Asks.{first, holds}
 use Rattle.qmp_rules.specs.Changes.{all_changed}
-use Rattle.qmp_rules.specs.CommandAsks.{asks_of, negotiates}
+use Rattle.qmp_asks.specs.CommandAsks.{asks_of, negotiates}
 use Rattle.qmp_rules.specs.Edits.{edits_of}
-use Rattle.qmp_rules.specs.NodeAsks.{snapshot_values, snapshot_names, snapshot_rest}
+use Rattle.qmp_asks.specs.NodeAsks.{snapshot_values, snapshot_names, snapshot_rest}
 use Rattle.qmp_rules.specs.Table.{Table, has_name, id_named}
 use Rattle.flat_machine.specs.Marks.{AreCalm, drained_by}
 use Rattle.flat_machine.specs.Marking.{dirty_bytes}
@@ -36,11 +36,11 @@ use Rattle.blk_nodes.specs.Covering.{covered, IsClear, ReadCovered}
 use Rattle.blk_nodes.specs.Joined.{IsJoined}
 use Rattle.blk_nodes.specs.Nodes.{Nodes}
 use Rattle.world_commands.specs.Carrying.{IsCarried, IsCarriedIn, IsCaused, IsLateIn, StopsByFiles, counted, counts_of, is_failed}
-use Rattle.world_parts.specs.Coherent.{AreNodesOf, IsCoherent, IsWhole, node_row}
-use Rattle.world_commands.specs.Comes.{Shows}
+use Rattle.world_parts.specs.Coherent.{AreNodesOf, IsCoherent, IsWholeWorld, node_row}
+use Rattle.world_commands.specs.Comes.{ShowsState}
 use Rattle.world_commands.specs.Counting.{HidesNoFault}
 use Rattle.world_parts.specs.Face.{Face, contents_of, held_by, node_over}
-use Rattle.world_commands.specs.Snapshots.{CanCover, IsCovered, IsToldOf}
+use Rattle.world_commands.specs.Snapshots.{CanCover, IsCovered, TellsMappedAlone}
 use Rattle.world_commands.proofs.CarryPlain.{quiet-self, quiet_named, told_quiet}
 use Rattle.world_commands.proofs.Counted.{answer-counted}
 use Rattle.world_commands.proofs.CountLemmas.{runs-devices, same-devices}
@@ -126,8 +126,8 @@ module _ (t : Table) (h : TableStands t) (c : Snapshot (List ℕ)) (told : Told)
 
 -- ---- what is told of one
 
-module _ (w : Face) (c : Snapshot (List ℕ)) (told : Told) (tells : IsToldOf w.table w.nodes (command.BlockdevSnapshot c) told)
-    (may : (o : Opening) (s : State) → is_some w.files ≡ true → Shows o s w → MayMap s (c.overlay ∷ []) told.mapped) where
+module _ (w : Face) (c : Snapshot (List ℕ)) (told : Told) (tells : TellsMappedAlone w.table w.nodes (command.BlockdevSnapshot c) told)
+    (may : (o : Opening) (s : State) → is_some w.files ≡ true → ShowsState o s w → MayMap s (c.overlay ∷ []) told.mapped) where
   stopped : told.stopped ≡ None
   stopped = ap (λ (x : Told). x.stopped) tells.rest
 
@@ -138,7 +138,7 @@ module _ (w : Face) (c : Snapshot (List ℕ)) (told : Told) (tells : IsToldOf w.
   abbrev seen : Told
   seen = counted told (counts_of w)
 
-  pub told_so : (o : Opening) (s : State) → is_some w.files ≡ true → Shows o s w → IsTold s (command.BlockdevSnapshot c) seen
+  pub told_so : (o : Opening) (s : State) → is_some w.files ≡ true → ShowsState o s w → IsTold s (command.BlockdevSnapshot c) seen
   told_so o s some shows = record {
     file = ap (λ (x : Told). x.length) tells.rest;
     image = ap (λ (x : Told). x.size) tells.rest;
@@ -150,10 +150,10 @@ module _ (w : Face) (c : Snapshot (List ℕ)) (told : Told) (tells : IsToldOf w.
   same_answer : answer w.table seen (command.BlockdevSnapshot c) ≡ answer w.table told (command.BlockdevSnapshot c)
   same_answer = answer-counted told (counts_of w) w.table (command.BlockdevSnapshot c) (λ prints. absurd (false≢true prints))
 
-  pub late_in : (o : Opening) (s : State) → is_some w.files ≡ true → Shows o s w → IsLateIn s w (command.BlockdevSnapshot c) told
+  pub late_in : (o : Opening) (s : State) → is_some w.files ≡ true → ShowsState o s w → IsLateIn s w (command.BlockdevSnapshot c) told
   late_in o s some shows = record { seen = seen; is_told = told_so o s some shows; exact = inl stopped; same = same_answer }
 
-  told_in : (v : Face) (o : Opening) (s : State) → is_some w.files ≡ true → Shows o s w
+  told_in : (v : Face) (o : Opening) (s : State) → is_some w.files ≡ true → ShowsState o s w
       → AllPerformed s (answer w.table told (command.BlockdevSnapshot c)).changes (contents_of w) (contents_of v)
       → IsCarriedIn s w v (command.BlockdevSnapshot c) told
   told_in v o s some shows did = record {
@@ -198,7 +198,7 @@ module _ (w : Face) (c : Snapshot (List ℕ)) (told : Told) (tells : IsToldOf w.
 
   -- ---- the overlay is over the node
 
-  module _ (whole : IsWhole w) (joined : IsJoined w.nodes) (none : refusal_of w.table told (command.BlockdevSnapshot c) ≡ None) where
+  module _ (whole : IsWholeWorld w) (joined : IsJoined w.nodes) (none : refusal_of w.table told (command.BlockdevSnapshot c) ≡ None) where
     abbrev h : TableStands w.table
     h = whole.coherent.table.stands
 
@@ -280,7 +280,7 @@ module _ (w : Face) (c : Snapshot (List ℕ)) (told : Told) (tells : IsToldOf w.
     pub covering_done : (now : Nodes) (x : Table) → x ≡ all_changed w.table (answer w.table told (command.BlockdevSnapshot c)).changes
         → IsCovered w.table c w.nodes now → AreCalm w.table w.progress.guests (drained_by w.table (command.BlockdevSnapshot c))
         → ((carried : IsCarried w (record w { nodes = now; table = x }) (command.BlockdevSnapshot c) None) × (carried.told ≡ told))
-        × IsWhole (record w { nodes = now; table = x })
+        × IsWholeWorld (record w { nodes = now; table = x })
     covering_done now x table put calm =
         let same_table : x ≡ u = table ∙ sym table_so in
         let one : put.node ≡ node = same_Some put.node node (sym put.node_is ∙ node_is w.table h c told none) in
@@ -297,5 +297,5 @@ module _ (w : Face) (c : Snapshot (List ℕ)) (told : Told) (tells : IsToldOf w.
         = ap (λ (n : Nodes). let f : Face = record w { nodes = n; table = u } in f) (sym same_nodes)
         ∙ ap (λ (y : Table). let f : Face = record w { nodes = now; table = y } in f) (sym same_table) in (
           subst (λ (f : Face). (carried : IsCarried w f (command.BlockdevSnapshot c) None) × (carried.told ≡ told)) same (covered_carried calm reads),
-          subst IsWhole same (record { coherent = coherent; tell = whole.tell; counted = whole.counted; bitmaps = whole.bitmaps }),
+          subst IsWholeWorld same (record { coherent = coherent; tell = whole.tell; counted = whole.counted; bitmaps = whole.bitmaps }),
         )

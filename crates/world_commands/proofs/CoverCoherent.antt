@@ -202,7 +202,7 @@ module _ (t : Table) (node overlay : NodeRecord) (over : LiesOver t node overlay
     out = record {
       each = λ d held.
           let out = was.out.each d held in
-          record { opening = out.opening; there = out.there; out = out.out; named = out.named; faults = out.faults };
+          record { opening = out.opening; there = out.there; out = out.out; named = out.named; capacity = out.capacity; faults = out.faults };
       once = was.out.once;
       order = was.out.order;
       all = was.out.all;

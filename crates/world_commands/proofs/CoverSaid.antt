@@ -25,7 +25,7 @@ use Rattle.world_commands.specs.Detaching.{Scene}
 use Rattle.world_parts.specs.Draining.{is_drain}
 use Rattle.world_parts.specs.Handling.{SaysRefusal}
 use Rattle.world_parts.specs.Saying.{IsSaid}
-use Rattle.world_commands.specs.Snapshots.{CanCoverBy, HasCovered, HasToBeLater, IsCoveredBy, IsToldOf, is_snapshot}
+use Rattle.world_commands.specs.Snapshots.{CanCoverBy, HasCovered, HasToBeLater, IsCoveredBy, TellsMappedAlone, is_snapshot}
 use Rattle.world_commands.proofs.CoverCarried.{can_cover}
 use Rattle.world_commands.proofs.OverlayBytes.{image_told}
 use Rattle.world_commands.proofs.Placed.{answer-is}
@@ -34,7 +34,7 @@ use Rattle.world_commands.proofs.Placed.{answer-is}
 pub told_so : (t : Table) (nodes : Nodes) (c : Snapshot (List ℕ)) (names : List (List ℕ)) (fresh : Bool)
     → names ≡ cond fresh [] (c.overlay ∷ [])
     → ((node : ℕ) → id_named t c.overlay ≡ Some node → (fresh ≡ true) ↔ IsFresh nodes node) → IsJoined nodes
-    → IsToldOf t nodes (command.BlockdevSnapshot c) (record untold { mapped = names })
+    → TellsMappedAlone t nodes (command.BlockdevSnapshot c) (record untold { mapped = names })
 told_so t nodes c names fresh is each joined = record {
   maps = λ node named. image_told nodes joined node (has_name c.overlay names) (by_fresh fresh is (each node named));
   rest = refl;
@@ -64,7 +64,7 @@ leaves_nothing : (t : Table) (c : Cmd) (cause : Refusal) → is_snapshot c ≡ t
 leaves_nothing t (command.BlockdevSnapshot c) cause is = refl
 leaves_nothing t c cause is = absurd (let bad : ⊥ = cc is in bad)
 
-module _ (s : State) (given : List ℕ) (c : Cmd) (is : is_snapshot c ≡ true) (x y : Scene) (told : Told) (tells : IsToldOf x.table x.nodes c told) where
+module _ (s : State) (given : List ℕ) (c : Cmd) (is : is_snapshot c ≡ true) (x y : Scene) (told : Told) (tells : TellsMappedAlone x.table x.nodes c told) where
   pub covered_so : (text : List ℕ) → refusal_of x.table told c ≡ None → y.table ≡ all_changed x.table (command_edits x.table told c)
       → IsCoveredBy x.table c x.nodes y.nodes → IsSaid given (Ok (returned x.table told c)) text → AreCalm s.table s.guests (drained_by x.table c)
       → y.drains ≡ x.drains → HasCovered s given c x y text

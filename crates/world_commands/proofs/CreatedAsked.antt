@@ -11,19 +11,20 @@ use Rattle.qmp_codec.specs.declared.nodes.CreateFile.{CreateFile}
 use Rattle.qmp_codec.specs.declared.nodes.CreateQcow2.{CreateQcow2}
 use Rattle.qmp_codec.specs.declared.nodes.Created.TheVariants as created
 use Rattle.qmp_codec.specs.Commands.{Cmd}
-use Rattle.qmp_rules.specs.declared.ask.Ask.TheVariants as ask
-use Rattle.qmp_rules.specs.declared.ask.Drivers.TheVariants as drivers
+use Rattle.qmp_asks.specs.declared.ask.Ask.TheVariants as ask
+use Rattle.qmp_asks.specs.declared.ask.Drivers.TheVariants as drivers
 use Rattle.qmp_rules.specs.declared.refusal.Refusal.{Refusal}
 use Rattle.qmp_rules.specs.declared.rows.NodeRecord.{NodeRecord}
-use Rattle.qmp_rules.specs.declared.told.Look.TheVariants as look
+use Rattle.qmp_asks.specs.declared.look.Look.TheVariants as look
 use Rattle.qmp_rules.specs.declared.told.Told.{Told}
 use Rattle.qmp_rules.specs.Answers.{unbuilt, out_of_turn, refusal_of, refusal_behind}
-use Rattle.qmp_rules.specs.Asks.{Asking, holds, first, stands_for, told_at}
-use Rattle.qmp_rules.specs.CommandAsks.{asks_of, negotiates}
-use Rattle.qmp_rules.specs.NodeAsks.{del_asks}
+use Rattle.qmp_asks.specs.Asking.{Asking}
+use Rattle.qmp_rules.specs.Asks.{holds, first, stands_for, told_at}
+use Rattle.qmp_asks.specs.CommandAsks.{asks_of, negotiates}
+use Rattle.qmp_asks.specs.NodeAsks.{del_asks}
 use Rattle.qmp_rules.specs.Refusals.{or_else}
 use Rattle.qmp_rules.specs.Table.{Table, node_named, first_into}
-use Rattle.qmp_rules.specs.Values.{amount_or, is_size, is_image_size, most_size, absent_or, is_image_format, is_just, is_version}
+use Rattle.qmp_asks.specs.Values.{amount_or, is_size, is_image_size, most_size, absent_or, is_image_format, is_just, is_version}
 use Rattle.world_parts.specs.Deleting.{Deletes}
 use Rattle.flat_machine.proofs.Accepted.{is_protocol, look-quiet}
 use Rattle.flat_machine.proofs.Asked.{none-both, NoneHolds, none-holds, found-named, takes-driver, lone-node, none-stands, good-value}

@@ -17,12 +17,12 @@ use Rattle.qmp_codec.specs.declared.command.Command.TheVariants as command
 use Rattle.qmp_rules.specs.Answers.{refusal_of}
 use Rattle.qmp_rules.specs.Asks.{holds, stands_for, told_at}
 use Rattle.qmp_rules.specs.Looks.{create_told, too_long, stop_at}
-use Rattle.qmp_rules.specs.Naming.{is_file_name}
+use Rattle.qmp_asks.specs.Naming.{is_file_name}
 use Rattle.qmp_rules.specs.Table.{Table, node_at}
-use Rattle.qmp_rules.specs.Values.{amount_or}
-use Rattle.qmp_rules.specs.declared.ask.Ask.TheVariants as ask
+use Rattle.qmp_asks.specs.Values.{amount_or}
+use Rattle.qmp_asks.specs.declared.ask.Ask.TheVariants as ask
 use Rattle.qmp_rules.specs.declared.rows.NodeRecord.{NodeRecord}
-use Rattle.qmp_rules.specs.declared.told.Look.TheVariants as look
+use Rattle.qmp_asks.specs.declared.look.Look.TheVariants as look
 use Rattle.qmp_rules.specs.declared.told.Told.{Told}
 use Rattle.flat_machine.specs.State.{filename_of}
 use Rattle.flat_machine.proofs.Asked.{not-refused}

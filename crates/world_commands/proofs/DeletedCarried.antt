@@ -27,7 +27,7 @@ use Rattle.blk_nodes.specs.Dropping.{without}
 use Rattle.blk_nodes.specs.Contents.{Unfolds}
 use Rattle.blk_nodes.specs.Joined.{IsJoined}
 use Rattle.blk_nodes.specs.Nodes.{DeviceState, device_in}
-use Rattle.world_parts.specs.Coherent.{IsWhole}
+use Rattle.world_parts.specs.Coherent.{IsWholeWorld}
 use Rattle.world_commands.specs.Counting.{RunsOn}
 use Rattle.world_commands.specs.Carrying.{opened_names}
 use Rattle.world_parts.specs.Deleting.{name_under, with_back, Ground, ground_of, left, all_left, going, CanLeave, HasLeft, HaveLeft, without_node, made_with, with_node_below, Belong, IsDeleted}
@@ -182,7 +182,7 @@ all_left_names t (node ∷ nodes) x = all_left_names t nodes (left t node x) ∙
 
 -- ---- a deletion
 
-module _ (w : Face) (whole : IsWhole w) (joined : IsJoined w.nodes) (unfolds : Unfolds w.nodes)
+module _ (w : Face) (whole : IsWholeWorld w) (joined : IsJoined w.nodes) (unfolds : Unfolds w.nodes)
     (name : List ℕ) (none : refusal_of w.table untold (command.BlockdevDel name) ≡ None) (x : Ground) (deleted : IsDeleted w.table name (ground_of w) x) where
   abbrev c : Cmd
   c = command.BlockdevDel name
@@ -360,7 +360,7 @@ module _ (w : Face) (whole : IsWhole w) (joined : IsJoined w.nodes) (unfolds : U
       (end.performed s told shows.table.table_is))
 
   pub deleted_carried : (u : Table) → u ≡ all_changed w.table (answer w.table untold c).changes → (b : List Bitmap) → b ≡ bitmaps_left None w.table c w.bitmaps
-      → CarriedUntold w (record (placed w x u) { bitmaps = b }) c None × IsWhole (record (placed w x u) { bitmaps = b })
+      → CarriedUntold w (record (placed w x u) { bitmaps = b }) c None × IsWholeWorld (record (placed w x u) { bitmaps = b })
       × FollowChanges w.table w.bitmaps b (answer w.table untold c).changes
   deleted_carried u is b left =
       let placed_is : final ≡ placed w x u =
@@ -373,9 +373,9 @@ module _ (w : Face) (whole : IsWhole w) (joined : IsJoined w.nodes) (unfolds : U
       ap (λ (v : Face). let f : Face = record v { bitmaps = bitmaps } in f) placed_is
       ∙ ap (λ (rows : List Bitmap). let f : Face = record (placed w x u) { bitmaps = rows } in f) (sym same_rows) in
       let listed : AreBitmapsOf final.table.bitmaps bitmaps = subst (λ (t : Table). AreBitmapsOf t.bitmaps bitmaps) (sym final_table) follow.listed in
-      let whole_then : IsWhole final_with =
+      let whole_then : IsWholeWorld final_with =
       record { coherent = coherent_of final end.goes rest; tell = end.goes.tell; counted = end.goes.counted; bitmaps = listed } in (
         subst (λ (v : Face). CarriedUntold w v c None) same final_carried,
-        subst IsWhole same whole_then,
+        subst IsWholeWorld same whole_then,
         subst (λ (rows : List Bitmap). FollowChanges w.table w.bitmaps rows (answer w.table untold c).changes) (sym same_rows) follow,
       )

@@ -198,6 +198,7 @@ module _ (t : Table) (nodes : Nodes) (opened : List Opened) (node : ℕ) (joined
           there = given-other (name_under t node) gone.faults opened number was.opening only_out d.number.0 (number_differs d old.0 old.1) ∙ is_out.there;
           out = is_out.out;
           named = filename_stays t node d.node old.1 ∙ is_out.named;
+          capacity = is_out.capacity;
           faults = is_out.faults;
         }
 
@@ -270,6 +271,7 @@ module _ (t : Table) (nodes : Nodes) (opened : List Opened) (node : ℕ) (joined
             there = is_out.there;
             out = is_out.out;
             named = filename_stays t node d.node (not_of d there') ∙ is_out.named;
+            capacity = is_out.capacity;
             faults = is_out.faults;
           };
       once = AllPairs-filter (λ (a b : DeviceState). a.number ≢ b.number) (λ x. not (is_of node x)) devices out.once;

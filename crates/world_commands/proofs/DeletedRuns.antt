@@ -19,7 +19,7 @@ use Rattle.world_commands.specs.Counting.{RunsOn, IsLater, HaveNotFallen}
 use Rattle.world_parts.specs.Deleting.{TellsFlush, name_under, with_back, ground_of, HasLeft, without_node}
 use Rattle.world_parts.specs.Face.{Face, device_numbered, count_of_opening, counts_from, counts_now}
 use Rattle.world_parts.specs.Steps.{StoreSeen}
-use Rattle.world_commands.proofs.CountLemmas.{counts-at, numbered, same-devices, not-fallen, with-of}
+use Rattle.world_commands.proofs.CountLemmas.{counts-at, goes-on, numbered, same-devices, not-fallen, with-of}
 use Rattle.world_commands.proofs.CountsKept.{KeepsCounts, counts-equal, length-counts}
 use Rattle.world_parts.proofs.DeletedLists.{kept-in, given-there, given-other}
 use Rattle.world_commands.proofs.DeletedParts.{one_of, was, only_out, out_left}
@@ -91,10 +91,12 @@ module _ (w : Face) (node : ℕ) (parts : Parts w.table (ground_of w)) (tell : D
           with-of (slice_get back.opened n) (record was'.opening { returned = Some d.faults }) (IsLater o) (ap (slice_get back.opened) same ∙ here)
           (record {
             name = ap (λ (x : Opened). x.name) (sym its);
+            size = ap (λ (x : Opened). x.size) (sym its);
+            capacity = ap (λ (x : Opened). x.capacity) (sym its);
             first = ap (λ (x : Opened). x.faults) (sym its);
             back = λ some. absurd (not_back (subst (λ (x : Opened). IsSome x.returned) its some));
           })
-      | inr apart ↦ with-of (slice_get back.opened n) o (IsLater o) (other n apart ∙ at) (record { name = refl; first = refl; back = λ some. refl })
+      | inr apart ↦ with-of (slice_get back.opened n) o (IsLater o) (other n apart ∙ at) (goes-on o)
     ]
       where
         not_back : IsSome (was w.table w.nodes w.opened node parts.joined parts.out d is).opening.returned → ⊥
@@ -194,7 +196,7 @@ module _ (w : Face) (node : ℕ) (parts : Parts w.table (ground_of w)) (tell : D
     first = refl;
     earlier = refl;
     store = omega arith;
-    openings = λ n o at. with-of (slice_get w.opened n) o (IsLater o) at (record { name = refl; first = refl; back = λ some. refl });
+    openings = λ n o at. with-of (slice_get w.opened n) o (IsLater o) at (goes-on o);
     devices = subst (λ (ds : List DeviceState). HaveNotFallen (counts_now w).devices (counts_from ds 0 w.opened)) (sym (none_gone node w.nodes.devices is))
         (not-fallen w.nodes.devices w.nodes.devices (same-devices w.nodes.devices) w.opened 0);
   }

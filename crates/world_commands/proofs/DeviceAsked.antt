@@ -5,8 +5,8 @@ use Rattle.qmp_codec.specs.Commands.{Cmd}
 use Rattle.qmp_codec.specs.declared.command.Command.TheVariants as command
 use Rattle.qmp_rules.specs.Answers.{left_by, refusal_of, untold}
 use Rattle.qmp_rules.specs.Asks.{holds}
-use Rattle.qmp_rules.specs.CommandAsks.{asks_of}
-use Rattle.qmp_rules.specs.NodeAsks.{device_del_asks}
+use Rattle.qmp_asks.specs.CommandAsks.{asks_of}
+use Rattle.qmp_asks.specs.NodeAsks.{device_del_asks}
 use Rattle.qmp_rules.specs.Table.{Table, device_named}
 use Rattle.qmp_rules.specs.Prepared.{IsStoppedFor}
 use Rattle.qmp_rules.specs.declared.judge.PrepareStop.{PrepareStop}

@@ -17,7 +17,7 @@ use Rattle.flat_machine.specs.State.{filename_of}
 use Rattle.flat_machine.proofs.Finds.{find-map}
 use Rattle.blk_nodes.specs.Nodes.{Nodes, row_at}
 use Rattle.blk_nodes.specs.declared.row.Row.{Row}
-use Rattle.world_parts.specs.Coherent.{AreAlike, AreNodesOf, IsRowOf, IsSmall, AreOut, node_row}
+use Rattle.world_parts.specs.Coherent.{AreAlike, AreNodesOf, IsRowOf, IsOfFileLength, AreOut, node_row}
 use Rattle.world_commands.proofs.KeptDrives.{IsEntered, KeepsEntered}
 
 -- a row is as it was, or has lost its flat disk
@@ -62,8 +62,8 @@ module _ (t now : Table) (e : IsEased t now) where
     access = same_of (λ r. r.read_only) (λ r. refl) row ∙ is.access;
     place = same_of (λ r. r.offset) (λ r. refl) row ∙ is.place;
     small = elim (e.only row) [
-      | inl same ↦ subst (λ (r : NodeRecord). IsSmall r.kind r.size) (sym same) is.small
-      | inr lost ↦ subst (λ (r : NodeRecord). IsSmall r.kind r.size) (sym lost) is.small
+      | inl same ↦ subst (λ (r : NodeRecord). IsOfFileLength r.kind r.size) (sym same) is.small
+      | inr lost ↦ subst (λ (r : NodeRecord). IsOfFileLength r.kind r.size) (sym lost) is.small
     ];
   }
 
@@ -94,6 +94,7 @@ module _ (t now : Table) (e : IsEased t now) where
           there = is.there;
           out = is.out;
           named = filename_eased device.node ∙ is.named;
+          capacity = is.capacity;
           faults = is.faults;
         };
     once = out.once;

@@ -16,7 +16,7 @@ use Rattle.blk_nodes.specs.Contents.{Unfolds}
 use Rattle.blk_nodes.specs.Joined.{IsJoined}
 use Rattle.flat_machine.specs.Recording.{dirty_after}
 use Rattle.world_commands.specs.Carrying.{IsCarriedAs, IsPutBackBy, prints_counts}
-use Rattle.world_parts.specs.Coherent.{IsWhole}
+use Rattle.world_parts.specs.Coherent.{IsWholeWorld}
 use Rattle.world_parts.specs.Deleting.{Ground, ground_of}
 use Rattle.world_parts.specs.Face.{Face, dirty_of}
 use Rattle.world_parts.specs.Handling.{DoneIf, IsHandled, IsUntouched, SaysRefusal, bitmaps_left, is_deletion, IsDeletedBy}
@@ -57,14 +57,14 @@ module _ (given : List ℕ) (t : Table) (c : Cmd) (u : Table) (done undone : Typ
 
 -- a refusal leaves all as it was
 pub refused_placed : (w : Face) (c : Cmd) (cause : Refusal) → opens_nothing c ≡ true → prints_counts c ≡ false → refusal_of w.table untold c ≡ Some cause → left_by w.table c cause ≡ []
-    → (x : Ground) (u : Table) → x ≡ ground_of w → u ≡ all_changed w.table (answer w.table untold c).changes → IsWhole w
-    → CarriedUntold w (placed w x u) c (Some cause) × IsWhole (placed w x u)
+    → (x : Ground) (u : Table) → x ≡ ground_of w → u ≡ all_changed w.table (answer w.table untold c).changes → IsWholeWorld w
+    → CarriedUntold w (placed w x u) c (Some cause) × IsWholeWorld (placed w x u)
 refused_placed w c cause opens silent some nothing x u ground table whole =
     let kept : u ≡ w.table =
     table ∙ ap (λ (a : Answer). all_changed w.table a.changes) (answer-is w.table untold c (Some cause) some) ∙ ap (all_changed w.table) nothing in
     let same = placed_same w x u ground kept in (
       subst (λ (v : Face). CarriedUntold w v c (Some cause)) same (refused_by w c cause opens silent some nothing),
-      subst IsWhole same whole,
+      subst IsWholeWorld same whole,
     )
 
 -- its text is the answer's
@@ -83,11 +83,11 @@ said_as w given v text c refusal carried said dirty bitmaps = record {
 abbrev pub replaced : Face → Ground → Table → List Bitmap → Face
 replaced w x u b = record (placed w x u) { bitmaps = b }
 
-module _ (w : Face) (whole : IsWhole w) (joined : IsJoined w.nodes) (unfolds : Unfolds w.nodes)
+module _ (w : Face) (whole : IsWholeWorld w) (joined : IsJoined w.nodes) (unfolds : Unfolds w.nodes)
     (given : List ℕ) (x : Ground) (u : Table) (b : List Bitmap) (text : List ℕ) where
   pub deletion_carried : (c : Cmd) → is_deletion c ≡ true → IsHandled given w.table c u (IsDeletedBy w.table c (ground_of w) x) (x ≡ ground_of w) text
       → b ≡ bitmaps_left (refusal_of w.table untold c) w.table c w.bitmaps
-      → IsCarriedAs w (replaced w x u b) given c text × IsWhole (replaced w x u b)
+      → IsCarriedAs w (replaced w x u b) given c text × IsWholeWorld (replaced w x u b)
   deletion_carried (command.BlockdevDel name) is handled left =
       by_refusal handled.refusal handled.judged handled.done_is
       (left ∙ ap (λ (found : Option Refusal). bitmaps_left found w.table (command.BlockdevDel name) w.bitmaps) handled.judged)
@@ -95,7 +95,7 @@ module _ (w : Face) (whole : IsWhole w) (joined : IsJoined w.nodes) (unfolds : U
       by_refusal : (refusal : Option Refusal) → refusal_of w.table untold (command.BlockdevDel name) ≡ refusal
           → DoneIf refusal (IsDeletedBy w.table (command.BlockdevDel name) (ground_of w) x) (x ≡ ground_of w)
           → b ≡ bitmaps_left refusal w.table (command.BlockdevDel name) w.bitmaps
-          → IsCarriedAs w (replaced w x u b) given (command.BlockdevDel name) text × IsWhole (replaced w x u b)
+          → IsCarriedAs w (replaced w x u b) given (command.BlockdevDel name) text × IsWholeWorld (replaced w x u b)
       by_refusal None none done left =
           let all = deleted_carried w whole joined unfolds name none x done u handled.table b left in
           (said_as w given (replaced w x u b) text (command.BlockdevDel name) None all.0 handled.said all.2.dirty (record { new = None; is_new = tt; are = left }), all.1)
@@ -106,17 +106,17 @@ module _ (w : Face) (whole : IsWhole w) (joined : IsJoined w.nodes) (unfolds : U
           let carried : IsCarriedAs w (placed w x u) given (command.BlockdevDel name) text =
           said_as w given (placed w x u) text (command.BlockdevDel name) (Some cause) all.0 handled.said (sym (ap (dirty_after w.table (dirty_of w)) nothing)) refl in (
             subst (λ (rows : List Bitmap). IsCarriedAs w (replaced w x u rows) given (command.BlockdevDel name) text) (sym left) carried,
-            subst (λ (rows : List Bitmap). IsWhole (replaced w x u rows)) (sym left) all.1,
+            subst (λ (rows : List Bitmap). IsWholeWorld (replaced w x u rows)) (sym left) all.1,
           )
   deletion_carried c is handled left = absurd (let bad : ⊥ = cc is in bad)
 
 -- ---- answers of a call
 
 -- for want of memory all is as it was
-pub untouched_whole : (w : Face) (x : Ground) (u : Table) → IsWhole w → IsUntouched w.table u (x ≡ ground_of w)
-    → IsWhole (placed w x u)
+pub untouched_whole : (w : Face) (x : Ground) (u : Table) → IsWholeWorld w → IsUntouched w.table u (x ≡ ground_of w)
+    → IsWholeWorld (placed w x u)
 untouched_whole w x u whole kept =
-    subst IsWhole (placed_same w x u kept.kept kept.table) whole
+    subst IsWholeWorld (placed_same w x u kept.kept kept.table) whole
 
 module _ {A E : Type 0} (r : Result A E) (text : A → List ℕ) where
   -- refused as it was not prepared
@@ -146,7 +146,7 @@ pub deletion_leaves : (t : Table) (c : Cmd) (cause : Refusal) → is_deletion c 
 deletion_leaves t (command.BlockdevCreate c) cause is = absurd (let bad : ⊥ = cc is in bad)
 deletion_leaves t c cause is = refl
 
-module _ (w : Face) (whole : IsWhole w) (joined : IsJoined w.nodes) (unfolds : Unfolds w.nodes)
+module _ (w : Face) (whole : IsWholeWorld w) (joined : IsJoined w.nodes) (unfolds : Unfolds w.nodes)
     (given : List ℕ) (x : Ground) (u : Table) (b : List Bitmap) (c : Cmd) (is : is_deletion c ≡ true) {A E : Type 0} (r : Result A E) (text : A → List ℕ)
     (handled : IfOk r (λ a. IsHandled given w.table c u (IsDeletedBy w.table c (ground_of w) x) (x ≡ ground_of w) (text a)))
     (left : OnOk r (b ≡ bitmaps_left (refusal_of w.table untold c) w.table c w.bitmaps)) where
@@ -159,15 +159,15 @@ module _ (w : Face) (whole : IsWhole w) (joined : IsJoined w.nodes) (unfolds : U
       by_result (Ok a) handled left = (deletion_carried w whole joined unfolds given x u b (text a) c is handled left).0
       by_result (Err e) handled left = handled
 
-  pub deletion_whole : OnErr r (IsUntouched w.table u (x ≡ ground_of w)) → OnErr r (b ≡ w.bitmaps) → IsWhole (replaced w x u b)
+  pub deletion_whole : OnErr r (IsUntouched w.table u (x ≡ ground_of w)) → OnErr r (b ≡ w.bitmaps) → IsWholeWorld (replaced w x u b)
   deletion_whole kept same = by_result r handled left kept same
     where
       by_result : (r : Result A E) → IfOk r (λ a. IsHandled given w.table c u (IsDeletedBy w.table c (ground_of w) x) (x ≡ ground_of w) (text a))
           → OnOk r (b ≡ bitmaps_left (refusal_of w.table untold c) w.table c w.bitmaps)
-          → OnErr r (IsUntouched w.table u (x ≡ ground_of w)) → OnErr r (b ≡ w.bitmaps) → IsWhole (replaced w x u b)
+          → OnErr r (IsUntouched w.table u (x ≡ ground_of w)) → OnErr r (b ≡ w.bitmaps) → IsWholeWorld (replaced w x u b)
       by_result (Ok a) handled left kept same = (deletion_carried w whole joined unfolds given x u b (text a) c is handled left).1
       by_result (Err e) handled left kept same =
-          subst (λ (rows : List Bitmap). IsWhole (replaced w x u rows)) (sym same) (untouched_whole w x u whole kept)
+          subst (λ (rows : List Bitmap). IsWholeWorld (replaced w x u rows)) (sym same) (untouched_whole w x u whole kept)
 
 pub deletion_back : {A E : Type 0} (r : Result A E) (text : A → List ℕ) (w : Face) (c : Cmd) (x : Ground) (u : Table) (b : List Bitmap)
     → OnErr r (IsUntouched w.table u (x ≡ ground_of w)) → OnErr r (b ≡ w.bitmaps) → OnErr r (IsPutBackBy w (replaced w x u b) c)

@@ -10,7 +10,7 @@ use Rattle.qmp_rules.specs.declared.refusal.Refusal.{Refusal}
 use Rattle.blk_nodes.specs.Joined.{IsJoined}
 use Rattle.blk_nodes.specs.Nodes.{Nodes}
 use Rattle.world_commands.specs.Carrying.{IsCarriedAs, IsPutBackBy}
-use Rattle.world_parts.specs.Coherent.{IsWhole}
+use Rattle.world_parts.specs.Coherent.{IsWholeWorld}
 use Rattle.world_parts.specs.Deleting.{Ground, ground_of}
 use Rattle.flat_machine.specs.Recording.{dirty_after}
 use Rattle.world_parts.specs.Face.{Face, dirty_of}
@@ -34,18 +34,18 @@ ground_with w nodes = record { store = (ground_of w).store; nodes = nodes }
 same_ground : (w : Face) (now : Nodes) → now ≡ w.nodes → ground_with w now ≡ ground_of w
 same_ground w now same = ap (ground_with w) same
 
-module _ (w : Face) (whole : IsWhole w) (joined : IsJoined w.nodes) (given : List ℕ) (now : Nodes) (after : IsJoined now)
+module _ (w : Face) (whole : IsWholeWorld w) (joined : IsJoined w.nodes) (given : List ℕ) (now : Nodes) (after : IsJoined now)
     (u : Table) where
   kept_so : (c : DeviceAdd (List ℕ)) → dirty_of (rewired_so w now u) ≡ dirty_after w.table (dirty_of w) (answer w.table untold (command.DeviceAdd c)).changes
   kept_so c = left-dirty w (rewired_so w now u) untold (command.DeviceAdd c) refl refl whole.bitmaps
 
   attachment_carried : (c : Cmd) (text : List ℕ) → is_attachment c ≡ true → IsHandled given w.table c u (IsAttachedBy u c w.nodes now) (now ≡ w.nodes) text
-      → IsCarriedAs w (rewired_so w now u) given c text × IsWhole (rewired_so w now u)
+      → IsCarriedAs w (rewired_so w now u) given c text × IsWholeWorld (rewired_so w now u)
   attachment_carried (command.DeviceAdd c) text is handled = by_refusal handled.refusal handled.judged handled.done_is
     where
       by_refusal : (refusal : Option Refusal) → refusal_of w.table untold (command.DeviceAdd c) ≡ refusal
           → DoneIf refusal (IsAttachedBy u (command.DeviceAdd c) w.nodes now) (now ≡ w.nodes)
-          → IsCarriedAs w (rewired_so w now u) given (command.DeviceAdd c) text × IsWhole (rewired_so w now u)
+          → IsCarriedAs w (rewired_so w now u) given (command.DeviceAdd c) text × IsWholeWorld (rewired_so w now u)
       by_refusal None none done =
           let all = attachment_done w whole joined c none now u handled.table done after in
           (said_as w given (rewired_so w now u) text (command.DeviceAdd c) None all.0 handled.said (kept_so c) (record { new = None; is_new = tt; are = refl }), all.1)
@@ -68,13 +68,13 @@ module _ (w : Face) (whole : IsWhole w) (joined : IsJoined w.nodes) (given : Lis
         by_result (Ok a) handled = (attachment_carried c (text a) is handled).0
         by_result (Err e) handled = handled
 
-    pub attachment_whole : OnErr r (IsUntouched w.table u (now ≡ w.nodes)) → IsWhole (rewired_so w now u)
+    pub attachment_whole : OnErr r (IsUntouched w.table u (now ≡ w.nodes)) → IsWholeWorld (rewired_so w now u)
     attachment_whole kept = by_result r handled kept
       where
         by_result : (r : Result A E) → IfOk r (λ a. IsHandled given w.table c u (IsAttachedBy u c w.nodes now) (now ≡ w.nodes) (text a))
-            → OnErr r (IsUntouched w.table u (now ≡ w.nodes)) → IsWhole (rewired_so w now u)
+            → OnErr r (IsUntouched w.table u (now ≡ w.nodes)) → IsWholeWorld (rewired_so w now u)
         by_result (Ok a) handled kept = (attachment_carried c (text a) is handled).1
-        by_result (Err e) handled kept = subst IsWhole (untouched kept) whole
+        by_result (Err e) handled kept = subst IsWholeWorld (untouched kept) whole
 
     pub attachment_back : OnErr r (IsUntouched w.table u (now ≡ w.nodes)) → OnErr r (IsPutBackBy w (rewired_so w now u) c)
     attachment_back kept = by_result r kept

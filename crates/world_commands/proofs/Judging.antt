@@ -7,7 +7,7 @@ use Rattle.blk_history.specs.Fold.{With}
 use Rattle.qmp_rules.specs.declared.rows.Device.{Device}
 use Rattle.qmp_rules.specs.Table.{Table, device_at}
 use Rattle.flat_machine.specs.State.{disk_of_guest, size_of}
-use Rattle.flat_machine.specs.Legal.{IsJudged, IsInside, IsForbidden, CanAdmit}
+use Rattle.flat_machine.specs.Legal.{IsNextJudged, IsInside, IsForbidden, CanAdmit}
 use Rattle.world_parts.specs.declared.admission.Seat.{Seat}
 use Rattle.world_parts.specs.Face.{Face, seen_state}
 use Rattle.world_parts.specs.Steps.{IsSeat}
@@ -24,7 +24,7 @@ seat-fits t g seat op is inside =
     with-map (disk_of_guest t g) (λ node. seat.size ≡ size_of t node) (λ node. end_of (span_of op) ≤ size_of t node) (λ node same. rw (← same) inside) is.size_is
 
 -- what was judged to be admitted lies within the guest's disk
-pub judged-inside : (w : Face) (g r : ℕ) (op : Op) → IsJudged (seen_state w) g r (CanAdmit op)
+pub judged-inside : (w : Face) (g r : ℕ) (op : Op) → IsNextJudged (seen_state w) g r (CanAdmit op)
     → With (disk_of_guest w.table g) (λ node. end_of (span_of op) ≤ size_of w.table node)
 judged-inside w g r op is = at (device_at w.table g) is.2
   where
@@ -43,7 +43,7 @@ seat-allows t g seat op is allows =
     (λ device same. subst (λ (b : Bool). IsForbidden op b → ⊥) same allows) is.access
 
 -- what was judged to be admitted is allowed by the guest's device
-pub judged-allowed : (w : Face) (g r : ℕ) (op : Op) → IsJudged (seen_state w) g r (CanAdmit op)
+pub judged-allowed : (w : Face) (g r : ℕ) (op : Op) → IsNextJudged (seen_state w) g r (CanAdmit op)
     → With (device_at w.table g) (λ device. IsForbidden op device.read_only → ⊥)
 judged-allowed w g r op is =
     with-map (device_at w.table g) (λ device. With (disk_of_guest w.table g) (λ node. CanAdmit op device.read_only (size_of w.table node)))

@@ -3,19 +3,20 @@ use Rattle.std.proofs.Common.{◌≡◌, ◌⊎◌, ℕ, ◌≤◌, nat_lt, Bool
 use Rattle.std.specs.Prelude.{Result, IfOk}
 use Rattle.qmp_codec.specs.declared.nodes.BlockdevCreate.{BlockdevCreate}
 use Rattle.qmp_codec.specs.declared.nodes.Created.{Created}
-use Rattle.qmp_rules.specs.Asks.{Asking, first, holds, place, same_look, told_at}
-use Rattle.qmp_rules.specs.CommandAsks.{asks_of}
+use Rattle.qmp_asks.specs.Asking.{Asking, place, same_look}
+use Rattle.qmp_rules.specs.Asks.{first, holds, told_at}
+use Rattle.qmp_asks.specs.CommandAsks.{asks_of}
 use Rattle.qmp_rules.specs.Looks.{create_told, stop_at, too_long}
 use Rattle.qmp_rules.specs.Prepared.{IsStoppedFor}
 use Rattle.qmp_rules.specs.Refusals.{refused}
-use Rattle.qmp_rules.specs.Values.{amount_or}
-use Rattle.qmp_rules.specs.declared.ask.Ask.TheVariants as ask
+use Rattle.qmp_asks.specs.Values.{amount_or}
+use Rattle.qmp_asks.specs.declared.ask.Ask.TheVariants as ask
 use Rattle.qmp_rules.specs.declared.judge.PrepareStop.{PrepareStop}
 use Rattle.qmp_rules.specs.declared.judge.PrepareStop.TheVariants.{Refused, NoMemory}
 use Rattle.qmp_rules.specs.declared.refusal.FileFault.TheVariants.{TooLong}
 use Rattle.qmp_rules.specs.declared.refusal.Refusal.TheVariants as refusal
-use Rattle.qmp_rules.specs.declared.told.Look.{Look}
-use Rattle.qmp_rules.specs.declared.told.Look.TheVariants as look
+use Rattle.qmp_asks.specs.declared.look.Look.{Look}
+use Rattle.qmp_asks.specs.declared.look.Look.TheVariants as look
 use Rattle.qmp_rules.specs.declared.told.Stopped.{Stopped}
 use Rattle.qmp_rules.proofs.PlaceLemmas.{has_place}
 use Rattle.world_commands.specs.Carrying.{is_failed}
@@ -31,7 +32,7 @@ use Rattle.qmp_rules.specs.declared.change.Change.{Change}
 use Rattle.qmp_rules.specs.declared.refusal.Refusal.{Refusal}
 use Rattle.qmp_rules.specs.declared.told.Told.{Told}
 use Rattle.world_parts.specs.Deleting.{Belong, Ground}
-use Rattle.world_commands.specs.Making.{CanCreateBy, FitsWords, IsMade, IsMadeNow, IsMadeSaying, IsSpoiledNow, IsSpoiledSaying, is_creation, look_of, spoiled_by, told_failed, told_first}
+use Rattle.world_commands.specs.Making.{CanCreateBy, FitsWords, IsAnswerMade, IsMadeNow, IsMadeSaying, IsSpoiledNow, IsSpoiledSaying, is_creation, look_of, spoiled_by, told_failed, told_first}
 use Rattle.world_parts.specs.Saying.{EndsRefusals, IsSaid}
 use Rattle.world_commands.proofs.CarryNames.{either-of}
 use Rattle.world_commands.proofs.CarryPlain.{placed-quiet, turn-quiet}
@@ -136,7 +137,7 @@ module _ (given : List ℕ) (t : Table) (told : Told) (old now : Ground) (u : Ta
   made-as : (c : BlockdevCreate (List ℕ)) → told ≡ create_told c.options old.store.room → refusal_of t told (command.BlockdevCreate c) ≡ None
       → IsMadeSaying given t told (command.BlockdevCreate c) old now u (command_edits t told (command.BlockdevCreate c)) text
       ⊎ IsSpoiledSaying given t (command.BlockdevCreate c) old now u (spoiled t c.options) text
-      → IsMade given t (command.BlockdevCreate c) old now u text
+      → IsAnswerMade given t (command.BlockdevCreate c) old now u text
   made-as c first none (inl made) =
       let is = answer-is t told (command.BlockdevCreate c) None none in
       record {
@@ -166,7 +167,7 @@ module _ (given : List ℕ) (t : Table) (told : Told) (old now : Ground) (u : Ta
       }
 
   refused-as : (c : BlockdevCreate (List ℕ)) → told ≡ create_told c.options old.store.room → (stop : PrepareStop) → IsStoppedFor (refusal_of t told (command.BlockdevCreate c)) stop
-      → SaysRefusal given stop text → u ≡ t → now ≡ old → IsMade given t (command.BlockdevCreate c) old now u text
+      → SaysRefusal given stop text → u ≡ t → now ≡ old → IsAnswerMade given t (command.BlockdevCreate c) old now u text
   refused-as c first NoMemory for_this said table ground = absurd said
   refused-as c first (Refused cause) some said table ground =
       let is = answer-is t told (command.BlockdevCreate c) (Some cause) some in
@@ -184,12 +185,12 @@ module _ {A E : Type 0} (r : Result A E) (text : A → List ℕ) (given : List �
   pub made_ok : (c : Cmd) (edits left : List Change) → is_creation c ≡ true → told ≡ told_first c old.store.room → refusal_of t told c ≡ None
       → edits ≡ command_edits t told c → left ≡ spoiled_by t c
       → IfOk r (λ a. IsMadeSaying given t told c old now u edits (text a) ⊎ IsSpoiledSaying given t c old now u left (text a))
-      → IfOk r (λ a. IsMade given t c old now u (text a))
+      → IfOk r (λ a. IsAnswerMade given t c old now u (text a))
   made_ok (command.BlockdevCreate c) edits left is first none edits_are left_are ended = by_result r ended
     where
       by_result : (r : Result A E)
           → IfOk r (λ a. IsMadeSaying given t told (command.BlockdevCreate c) old now u edits (text a) ⊎ IsSpoiledSaying given t (command.BlockdevCreate c) old now u left (text a))
-          → IfOk r (λ a. IsMade given t (command.BlockdevCreate c) old now u (text a))
+          → IfOk r (λ a. IsAnswerMade given t (command.BlockdevCreate c) old now u (text a))
       by_result (Ok a) ended =
           made-as given t told old now u (text a) c first none
           (subst (λ (xs : List Change). IsMadeSaying given t told (command.BlockdevCreate c) old now u xs (text a)
@@ -200,10 +201,10 @@ module _ {A E : Type 0} (r : Result A E) (text : A → List ℕ) (given : List �
   made_ok c edits left is first none edits_are left_are ended = absurd (let bad : ⊥ = cc is in bad)
 
   pub made_stop : (c : Cmd) (stop : PrepareStop) → is_creation c ≡ true → told ≡ told_first c old.store.room → IsStoppedFor (refusal_of t told c) stop
-      → IfOk r (λ a. SaysRefusal given stop (text a)) → u ≡ t → now ≡ old → IfOk r (λ a. IsMade given t c old now u (text a))
+      → IfOk r (λ a. SaysRefusal given stop (text a)) → u ≡ t → now ≡ old → IfOk r (λ a. IsAnswerMade given t c old now u (text a))
   made_stop (command.BlockdevCreate c) stop is first for_this said table ground = by_result r said
     where
-      by_result : (r : Result A E) → IfOk r (λ a. SaysRefusal given stop (text a)) → IfOk r (λ a. IsMade given t (command.BlockdevCreate c) old now u (text a))
+      by_result : (r : Result A E) → IfOk r (λ a. SaysRefusal given stop (text a)) → IfOk r (λ a. IsAnswerMade given t (command.BlockdevCreate c) old now u (text a))
       by_result (Ok a) said = refused-as given t told old now u (text a) c first stop for_this said table ground
       by_result (Err e) said = said
   made_stop c stop is first for_this said table ground = absurd (let bad : ⊥ = cc is in bad)

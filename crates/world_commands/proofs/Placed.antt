@@ -32,8 +32,8 @@ use Rattle.blk_nodes.specs.Contents.{Unfolds}
 use Rattle.blk_nodes.specs.Joined.{IsJoined}
 use Rattle.world_parts.specs.Adding.{Opens, opens}
 use Rattle.world_commands.specs.Carrying.{IsCarried, IsPutBack, IsPutBackBy, IsPutBackIn, opened_names, prints_counts}
-use Rattle.world_parts.specs.Coherent.{HaveDrives, AreOnDisks, AskToWrite, AreOnWritable, AreWithin, AreAllowed, DevicesTell, IsCoherent, IsWhole}
-use Rattle.world_commands.specs.Comes.{Shows}
+use Rattle.world_parts.specs.Coherent.{HaveDrives, AreOnDisks, AskToWrite, AreOnWritable, AreWithin, AreAllowed, DevicesTell, IsCoherent, IsWholeWorld}
+use Rattle.world_commands.specs.Comes.{ShowsState}
 use Rattle.world_commands.specs.Counting.{HidesNoFault, RunsOn}
 use Rattle.world_parts.specs.Deleting.{Ground, ground_of}
 use Rattle.world_parts.specs.Face.{Face, contents_of}
@@ -86,7 +86,7 @@ pub carried_by : (w v : Face) (c : Cmd) → opens_nothing c ≡ true → prints_
     → AreCalm w.table w.progress.guests (drained_by w.table c) → opened_names v.opened ≡ opened_names w.opened → RunsOn w v
     → HidesNoFault w v None → Leaves w.table (clean_told untold) c None v.table (site_of w) (site_of v)
     → (IsCoherent w.table w.nodes w.opened w.progress → IsCoherent v.table v.nodes v.opened v.progress)
-    → ((o : Opening) (s : State) → is_some w.files ≡ true → Shows o s w → AllPerformed s (answer w.table untold c).changes (contents_of w) (contents_of v))
+    → ((o : Opening) (s : State) → is_some w.files ≡ true → ShowsState o s w → AllPerformed s (answer w.table untold c).changes (contents_of w) (contents_of v))
     → CarriedUntold w v c None
 carried_by w v c opens silent none table progress drains calm names runs hides site coherent performed =
     let carried : IsCarried w v c None = record {
@@ -190,7 +190,7 @@ pub record Goes (w : Face) : Type 0 where
   pub alone : StandAlone w.table
   pub drivers : AreFileNodes w.table
 
-pub goes_of : (w : Face) → IsWhole w → IsJoined w.nodes → Unfolds w.nodes → Goes w
+pub goes_of : (w : Face) → IsWholeWorld w → IsJoined w.nodes → Unfolds w.nodes → Goes w
 goes_of w whole joined unfolds =
     let is = whole.coherent in
     record {

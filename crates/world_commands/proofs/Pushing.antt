@@ -18,7 +18,7 @@ use Rattle.flat_machine.specs.Imaging.{ImagesAreSound}
 use Rattle.flat_machine.specs.declared.opening.Opening.{Opening}
 use Rattle.world_parts.specs.Coherent.{IsCoherent}
 use Rattle.world_parts.specs.Face.{Face, dirty_of, first_counts, counts_now, held}
-use Rattle.world_commands.specs.Comes.{Comes, Shows}
+use Rattle.world_commands.specs.Comes.{Comes, ShowsState}
 use Rattle.world_commands.specs.Tabling.{IsTableBy, AreTablesBy}
 
 -- the table after one more entry
@@ -41,7 +41,7 @@ pub record Pushes (o : Opening) (w v : Face) (e : Event) : Type 0 where
   pub licensed : AreLicensed (first_counts w) (counts_now w) w.progress.log.events
       → AreLicensed (first_counts v) (counts_now v) (w.progress.log.events ++ e ∷ [])
   pub sound : is_some v.files ≡ true → ImagesAreSound v.table (held v)
-  pub fits : is_some w.files ≡ true → (s : State) → Shows o s w → Fits s e × AreCalm s.table s.guests (marks_of s e) × Shows o (after s e) v
+  pub fits : is_some w.files ≡ true → (s : State) → ShowsState o s w → Fits s e × AreCalm s.table s.guests (marks_of s e) × ShowsState o (after s e) v
 
 pub comes-push : (o : Opening) (w v : Face) (e : Event) → Comes o w → Pushes o w v e → Comes o v
 comes-push o w v e comes pushes = record {
@@ -60,10 +60,10 @@ comes-push o w v e comes pushes = record {
   sound = pushes.sound;
 }
   where
-    shows : is_some w.files ≡ true → Shows o (replay (start o) v.progress.log.events) v
+    shows : is_some w.files ≡ true → ShowsState o (replay (start o) v.progress.log.events) v
     shows told =
-        subst (λ (es : List Event). Shows o (replay (start o) es) v) (sym pushes.events)
-        (subst (λ (s : State). Shows o s v) (sym (run-push after (start o) w.progress.log.events e))
+        subst (λ (es : List Event). ShowsState o (replay (start o) es) v) (sym pushes.events)
+        (subst (λ (s : State). ShowsState o s v) (sym (run-push after (start o) w.progress.log.events e))
         (pushes.fits told (run after (start o) w.progress.log.events) (comes.shows told)).2)
 
     history : is_some w.files ≡ true → IsHistoryOf o v.progress.log.events
@@ -84,7 +84,7 @@ licensed-quiet opening now es e none was =
 
 -- ---- drains: nothing that a world shows depends on which stand
 
-shows-drains : (o : Opening) (s : State) (w : Face) (drains : Drained) → Shows o s w → Shows o s (record w { drains = drains })
+shows-drains : (o : Opening) (s : State) (w : Face) (drains : Drained) → ShowsState o s w → ShowsState o s (record w { drains = drains })
 shows-drains o s w drains is = record {
   stands = is.stands;
   dirty = is.dirty;

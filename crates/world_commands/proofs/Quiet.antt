@@ -13,7 +13,7 @@ use Rattle.blk_history.specs.declared.event.Event.{Event}
 use Rattle.blk_history.specs.declared.event.Event.TheVariants.{Admit, Refuse, Retire, Reached, Done}
 use Rattle.flat_machine.specs.State.{State, Guest}
 use Rattle.flat_machine.specs.Machine.{after, admitted, finished}
-use Rattle.flat_machine.specs.Legal.{Fits, IsNext, IsJudged, IsMet, IsNotDone, CanAdmit, IsRefusedFor}
+use Rattle.flat_machine.specs.Legal.{Fits, IsNext, IsNextJudged, IsMet, IsNotDone, CanAdmit, IsRefusedFor}
 use Rattle.flat_machine.specs.Marks.{IsCalm, marks_of}
 use Rattle.flat_machine.specs.Licence.{named_in}
 use Rattle.flat_machine.specs.Comes.{guest_step}
@@ -24,9 +24,9 @@ use Rattle.world_parts.specs.declared.admission.Admission.{Admission}
 use Rattle.world_parts.specs.declared.admission.Admission.TheVariants.{Admitted, Refused as NotAdmitted, Held, Away}
 use Rattle.world_parts.specs.Progress.{Progress, ended_in, done_by, done_at, flight_at, with_admission, with_refusal, with_retirement, with_entry}
 use Rattle.world_parts.specs.Face.{Face, dirty_of, seen_state}
-use Rattle.world_commands.specs.Comes.{Comes, Shows}
+use Rattle.world_commands.specs.Comes.{Comes, ShowsState}
 use Rattle.world_commands.specs.Tabling.{IsTableBy}
-use Rattle.world_parts.specs.Steps.{onward, after_admission, IsAnswered, after_wait, after_end, IsIdle}
+use Rattle.world_parts.specs.Steps.{onward, after_admission, IsAnswered, after_wait, after_end, IsActorIdle}
 use Rattle.world_parts.proofs.InStep.{ended-push}
 use Rattle.world_commands.proofs.Coherence.{coherent-admission, coherent-end, coherent-same}
 use Rattle.world_commands.proofs.Judging.{judged-inside, judged-allowed}
@@ -38,8 +38,8 @@ use Rattle.world_commands.proofs.Pushing.{comes-push, licensed-quiet}
 pub stands-onward : (s : State) (guests : List Guest) (ended : List ℕ) → StandsAtRest s → StandsAtRest (record s { guests = guests; ended = ended })
 stands-onward s guests ended is = beside_rests s (record s { guests = guests; ended = ended }) refl refl refl refl (λ node has. has) is
 
-pub shows-onward : (o : Opening) (s : State) (w : Face) (p : Progress) (guests : List Guest) (ended : List ℕ) → Shows o s w → guests ≡ p.guests → ended ≡ ended_in p.log.events
-    → Shows o (record s { guests = guests; ended = ended }) (record w { progress = p })
+pub shows-onward : (o : Opening) (s : State) (w : Face) (p : Progress) (guests : List Guest) (ended : List ℕ) → ShowsState o s w → guests ≡ p.guests → ended ≡ ended_in p.log.events
+    → ShowsState o (record s { guests = guests; ended = ended }) (record w { progress = p })
 shows-onward o s w p guests ended shows are ends = record {
   stands = stands-onward s guests ended shows.stands;
   dirty = shows.dirty;
@@ -59,7 +59,7 @@ shows-onward o s w p guests ended shows are ends = record {
 pub quiet : (o : Opening) (w : Face) (p : Progress) (e : Event) → Comes o w → p.log.events ≡ w.progress.log.events ++ e ∷ [] → p.guests ≡ guest_step w.progress.guests e
     → IsTableBy w.progress.guests w.table (dirty_of w) e w.table (dirty_of w)
     → (IsCoherent w.table w.nodes w.opened w.progress → IsCoherent w.table w.nodes w.opened p)
-    → named_in e ≡ None → ((s : State) → marks_of s e ≡ []) → ((s : State) → Shows o s w → Fits s e × Shows o (after s e) (record w { progress = p })) → Comes o (record w { progress = p })
+    → named_in e ≡ None → ((s : State) → marks_of s e ≡ []) → ((s : State) → ShowsState o s w → Fits s e × ShowsState o (after s e) (record w { progress = p })) → Comes o (record w { progress = p })
 quiet o w p e comes events guests table coherent names marks fits = comes-push o w (record w { progress = p }) e comes (record {
   events = events;
   names = refl;
@@ -76,12 +76,12 @@ quiet o w p e comes events guests table coherent names marks fits = comes-push o
 })
 
 -- the guests and the ends that the world shows are the replay's
-judged : (o : Opening) (s : State) (w : Face) (g r : ℕ) (P : Bool → ℕ → Type 0) → Shows o s w → IsJudged (seen_state w) g r P → IsJudged s g r P
+judged : (o : Opening) (s : State) (w : Face) (g r : ℕ) (P : Bool → ℕ → Type 0) → ShowsState o s w → IsNextJudged (seen_state w) g r P → IsNextJudged s g r P
 judged o s w g r P shows is = rw (shows.guests.ended_are, shows.guests.guests_are, shows.table.table_is) is
 
 -- ---- admissions
 
-admission-kept : (o : Opening) (w : Face) (g : ℕ) (op : Op) → IsJudged (seen_state w) g (done_at w.progress.guests g) (CanAdmit op) → Comes o w → Comes o (onward w (with_admission g op))
+admission-kept : (o : Opening) (w : Face) (g : ℕ) (op : Op) → IsNextJudged (seen_state w) g (done_at w.progress.guests g) (CanAdmit op) → Comes o w → Comes o (onward w (with_admission g op))
 admission-kept o w g op is comes =
     quiet o w (with_admission g op w.progress) (Admit g (done_at w.progress.guests g) op) comes refl refl (refl, refl)
     (λ was. coherent-admission _ _ _ _ was g op (judged-inside w g (done_at w.progress.guests g) op is) (judged-allowed w g (done_at w.progress.guests g) op is)) refl (λ s. refl)
@@ -91,7 +91,7 @@ admission-kept o w g op is comes =
           (shows.guests.ended_are ∙ sym (ended-push w.progress.log.events (Admit g (done_at w.progress.guests g) op) refl)),
     ))
 
-refusal-kept : (o : Opening) (w : Face) (g : ℕ) (op : Op) (why : Refused) → IsJudged (seen_state w) g (done_at w.progress.guests g) (λ access size. IsRefusedFor op access size why)
+refusal-kept : (o : Opening) (w : Face) (g : ℕ) (op : Op) (why : Refused) → IsNextJudged (seen_state w) g (done_at w.progress.guests g) (λ access size. IsRefusedFor op access size why)
     → Comes o w → Comes o (onward w (with_refusal g op why))
 refusal-kept o w g op why is comes =
     quiet o w (with_refusal g op why w.progress) (Refuse g (done_at w.progress.guests g) op why) comes refl refl (refl, refl)
@@ -103,7 +103,7 @@ refusal-kept o w g op why is comes =
     ))
 
 -- the number that was judged is the next one
-number-is : (w : Face) (g r : ℕ) (P : Bool → ℕ → Type 0) → IsJudged (seen_state w) g r P → r ≡ done_at w.progress.guests g
+number-is : (w : Face) (g r : ℕ) (P : Bool → ℕ → Type 0) → IsNextJudged (seen_state w) g r P → r ≡ done_at w.progress.guests g
 number-is w g r P is = at (slice_get w.progress.guests g) is.1
   where
     at : (row : Option Guest) → With row (λ x. IsNext x r) → r ≡ unwrap_or (option_map (λ (x : Guest). x.done) row) 0
@@ -113,7 +113,7 @@ number-is w g r P is = at (slice_get w.progress.guests g) is.1
 pub admission-comes : (w : Face) (g : ℕ) (op : Op) (answer : Admission) → IsAnswered w g op answer → (o : Opening) → Comes o w → Comes o (after_admission w g op answer)
 admission-comes w g op (Admitted r) is o comes =
     let number = number-is w g r (CanAdmit op) is.0 in
-    admission-kept o w g op (subst (λ n. IsJudged (seen_state w) g n (CanAdmit op)) number is.0) comes
+    admission-kept o w g op (subst (λ n. IsNextJudged (seen_state w) g n (CanAdmit op)) number is.0) comes
 admission-comes w g op (NotAdmitted why) is o comes = refusal-kept o w g op why is.0 comes
 admission-comes w g op (Held back) is o comes = comes
 admission-comes w g op (Away back) is o comes = comes
@@ -145,12 +145,12 @@ pub none-is : {A : Type 0} (x : Option A) → is_none x ≡ true → is_some x �
 none-is None is = refl
 none-is (Some a) is = absurd (let bad : ⊥ = cc is in bad)
 
-met : (o : Opening) (s : State) (w : Face) (what : Await (List ℕ)) → Shows o s w → IsMet (seen_state w) what → IsMet s what
+met : (o : Opening) (s : State) (w : Face) (what : Await (List ℕ)) → ShowsState o s w → IsMet (seen_state w) what → IsMet s what
 met o s w (await.Guest g requests) shows is = rw shows.guests.guests_are is
 met o s w (await.Ready id) shows is = rw shows.table.table_is is
 met o s w (await.Ended id) shows is = rw shows.table.table_is is
 
-pub undone : (o : Opening) (s : State) (w : Face) (actor : ℕ) → Shows o s w → IsNotDone (seen_state w) actor → IsNotDone s actor
+pub undone : (o : Opening) (s : State) (w : Face) (actor : ℕ) → ShowsState o s w → IsNotDone (seen_state w) actor → IsNotDone s actor
 undone o s w actor shows is = rw shows.guests.ended_are is
 
 pub wait-comes : (w : Face) (line : ℕ) (what : Await (List ℕ)) (is_over : Bool) → IsNotDone (seen_state w) 0 → (is_over ≡ true → IsMet (seen_state w) what)
@@ -167,11 +167,11 @@ wait-comes w line what false not_done is o comes = comes
 
 -- ---- ends of actors
 
-end-fits : (o : Opening) (s : State) (w : Face) (actor : ℕ) → Shows o s w → IsNotDone (seen_state w) actor → IsIdle w.progress.guests actor → Fits s (Done actor)
+end-fits : (o : Opening) (s : State) (w : Face) (actor : ℕ) → ShowsState o s w → IsNotDone (seen_state w) actor → IsActorIdle w.progress.guests actor → Fits s (Done actor)
 end-fits o s w zero shows not_done idle = (shows.table.rest, undone o s w 0 shows not_done)
 end-fits o s w (suc g) shows not_done idle = (shows.table.rest, (rw (add-one g) (undone o s w (suc g) shows not_done), rw shows.guests.guests_are idle))
 
-pub end-comes : (w : Face) (actor : ℕ) → IsNotDone (seen_state w) actor → IsIdle w.progress.guests actor → (o : Opening) → Comes o w → Comes o (after_end w actor)
+pub end-comes : (w : Face) (actor : ℕ) → IsNotDone (seen_state w) actor → IsActorIdle w.progress.guests actor → (o : Opening) → Comes o w → Comes o (after_end w actor)
 end-comes w actor not_done idle o comes =
     quiet o w (with_entry (Done actor) w.progress) (Done actor) comes refl refl (refl, refl)
     (λ was. coherent-same _ _ _ _ was (with_entry (Done actor) w.progress) refl) refl (λ s. refl)

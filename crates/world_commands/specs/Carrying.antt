@@ -19,11 +19,11 @@ use Rattle.qmp_rules.specs.declared.refusal.Refusal.{Refusal}
 use Rattle.qmp_rules.specs.declared.refusal.Refusal.TheVariants.{BadValue, File, Image, BackingNeeded, SizeDiffers, Io, NoSpace}
 use Rattle.qmp_rules.specs.declared.told.Stopped.{Stopped}
 use Rattle.qmp_rules.specs.declared.told.Told.{Told}
-use Rattle.qmp_rules.specs.Values.{amount_or}
+use Rattle.qmp_asks.specs.Values.{amount_or}
 use Rattle.qmp_rules.specs.Changes.{all_changed}
 use Rattle.qmp_rules.specs.Answers.{answer, refusal_of, line_answer, line_text}
 use Rattle.qmp_rules.specs.Looks.{create_told}
-use Rattle.flat_machine.specs.State.{State, Known, Content, Bytes, Blank}
+use Rattle.flat_machine.specs.State.{State, KnownFile, Content, Bytes, Blank}
 use Rattle.flat_machine.specs.Sights.{IsTold, Fails, told_by}
 use Rattle.flat_machine.specs.Changed.{format_name}
 use Rattle.flat_machine.specs.Licence.{fault_at, named_in}
@@ -41,8 +41,8 @@ use Rattle.world_parts.specs.declared.executed.Executed.{Executed}
 use Rattle.world_parts.specs.declared.executed.Executed.TheVariants as executed
 use Rattle.world_parts.specs.Adding.{Opens, opens}
 use Rattle.world_parts.specs.Coherent.{IsCoherent}
-use Rattle.world_commands.specs.Comes.{Shows}
-use Rattle.world_commands.specs.Counting.{IsNumbered, RunsOn, IsReached, sources_of, counts_within, HidesNoFault, LeavesNoneOut}
+use Rattle.world_commands.specs.Comes.{ShowsState}
+use Rattle.world_commands.specs.Counting.{IsNumbered, RunsOn, IsFaultReached, sources_of, counts_within, HidesNoFault, LeavesNoneOut}
 use Rattle.world_parts.specs.Face.{Face, held, contents_of, counts_now, dirty_of, seen_state, device_numbered}
 use Rattle.world_commands.specs.Leaving.{Leaves, LeavesBack, LeavesBitmaps, LeavesBitmapsIn, LeavesIn, clean_told}
 use Rattle.world_parts.specs.Looking.{HasCalled}
@@ -74,7 +74,7 @@ abbrev pub known_as : Content → Option (List ℕ) → Content
 known_as (Blank new len) (Some bytes) = Bytes bytes
 known_as content held = content
 
-abbrev pub held_known : Face → Known → Known
+abbrev pub held_known : Face → KnownFile → KnownFile
 held_known w known = record known { content = known_as known.content (held w known.name) }
 
 abbrev pub as_held : Face → State → State
@@ -118,7 +118,7 @@ would_pass w c dev = ⊥
 pub record HasFailed (w v : Face) (c : Cmd) (from : FaultFrom) (count : ℕ) : Type 0 where
   pub called : IsCalledBy w.table (sources_of w) (counts_now w) from (Some c)
   pub numbered : IsNumbered from
-  pub reached : IsReached w v (fault_at from count)
+  pub reached : IsFaultReached w v (fault_at from count)
 
 -- a write of the command would have passed the capacity of a device that it calls
 pub record HasNoSpace (w : Face) (c : Cmd) (dev : DevNo) : Type 0 where
@@ -222,7 +222,7 @@ pub record IsCarried (w v : Face) (c : Cmd) (refusal : Option Refusal) : Type 0 
   pub calm : refusal ≡ None → AreCalm w.table w.progress.guests (drained_by w.table c)
   pub coherent : IsCoherent w.table w.nodes w.opened w.progress
       → IsCoherent v.table v.nodes v.opened v.progress
-  pub shows : is_some w.files ≡ true → (o : Opening) (s : State) → Shows o s w
+  pub shows : is_some w.files ≡ true → (o : Opening) (s : State) → ShowsState o s w
       → IsCarriedIn s w v c told
 
 -- and this text is its answer
@@ -248,7 +248,7 @@ pub record IsLate (w v : Face) (c : Cmd) (g r : ℕ) : Type 0 where
   pub maps : TellsMapped w.table w.nodes c told.mapped
   pub waits : HasToComeAgain (seen_state w) told c g r
   pub left : v ≡ held_for c w
-  pub shows : is_some w.files ≡ true → (o : Opening) (s : State) → Shows o s w
+  pub shows : is_some w.files ≡ true → (o : Opening) (s : State) → ShowsState o s w
       → IsLateIn s w c told
 
 -- a command says the text of its answer, or has to come again
@@ -359,7 +359,7 @@ pub record IsReplied (w v : Face) (line : Given) : Type 0 where
       (line_answer w.table told line.text).reply
   pub opens : OpensIn (command_at line.text) w.opened v.opened
   pub site : LeavesIn w.table told (command_at line.text) v.table (site_of w) (site_of v)
-  pub shows : is_some w.files ≡ true → (o : Opening) (s : State) → Shows o s w
+  pub shows : is_some w.files ≡ true → (o : Opening) (s : State) → ShowsState o s w
       → IsSeenIn s w v told (command_at line.text)
 
 -- A line has to come again: it is a command that nothing refuses, and this request is the first that is in flight on a disk
@@ -372,7 +372,7 @@ pub record IsPutOff (w v : Face) (line : Given) (g r : ℕ) : Type 0 where
   pub maps : TellsMapped w.table w.nodes command told.mapped
   pub waits : HasToComeAgain (seen_state w) told command g r
   pub left : v ≡ held_for command w
-  pub shows : is_some w.files ≡ true → (o : Opening) (s : State) → Shows o s w
+  pub shows : is_some w.files ≡ true → (o : Opening) (s : State) → ShowsState o s w
       → IsLateIn s w command told
 
 abbrev pub IsExecuted : Face → Face → Given → Executed → Type 0

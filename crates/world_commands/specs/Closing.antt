@@ -72,9 +72,11 @@ pub record IsToldBack (w : Face) (opened : List Opened) (fault : FaultAt) : Type
   pub count : With (slice_get opened number.0) (λ o. o.returned ≡ Some fault.count)
   pub rose : With (slice_get (counts_now w).devices number.0) (λ before. Rose before fault.count)
 
--- the run's openings once each device is back: no count has fallen
+-- the run's openings once each device is back: all else stands as it was opened, and no count has fallen
 pub record HasGivenBack (w : Face) (opened : List Opened) (fault : Option FaultAt) : Type 0 where
   pub names : map (λ o. o.name) opened ≡ map (λ o. o.name) w.opened
+  pub sizes : map (λ o. o.size) opened ≡ map (λ o. o.size) w.opened
+  pub capacities : map (λ o. o.capacity) opened ≡ map (λ o. o.capacity) w.opened
   pub first : map (λ o. o.faults) opened ≡ map (λ o. o.faults) w.opened
   pub counts : HaveNotFallen (counts_now w).devices (map count_back opened)
   pub told : MatchOption fault (Unit {0}) (IsToldBack w opened)

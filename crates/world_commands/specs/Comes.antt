@@ -34,7 +34,7 @@ abbrev pub ShowsContents : Opening → State → Face → Type 0
 ShowsContents o s w = Agrees (bytes_named o.files) s (contents_of w)
 
 -- What is said of images is so of the files that they are in, and what is dirty is what the world keeps as dirty.
-pub record Shows (o : Opening) (s : State) (w : Face) : Type 0 where
+pub record ShowsState (o : Opening) (s : State) (w : Face) : Type 0 where
   pub stands : StandsAtRest s
   pub dirty : s.dirty ≡ dirty_of w
   pub table : ShowsTable s w
@@ -55,5 +55,5 @@ pub record Comes (o : Opening) (w : Face) : Type 0 where
   pub requests : w.progress.guests ≡ guests_after o w.progress.log.events
   pub table : IsTableAfter o.guests w.progress.log.events w.table (dirty_of w)
   pub coherent : IsCoherent w.table w.nodes w.opened w.progress
-  pub shows : is_some w.files ≡ true → Shows o (replay (start o) w.progress.log.events) w
+  pub shows : is_some w.files ≡ true → ShowsState o (replay (start o) w.progress.log.events) w
   pub sound : is_some w.files ≡ true → ImagesAreSound w.table (held w)

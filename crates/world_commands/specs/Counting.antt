@@ -12,9 +12,11 @@ use Rattle.world_parts.specs.Face.{Face, first_counts, counts_now}
 
 -- ---- counts only rise
 
--- an opening goes on: its name and its first count stay, and once it is back it stays as it is
+-- an opening goes on: all stays that was known at the opening, and once it is back it stays as it is
 pub record IsLater (before after : Opened) : Type 0 where
   pub name : after.name ≡ before.name
+  pub size : after.size ≡ before.size
+  pub capacity : after.capacity ≡ before.capacity
   pub first : after.faults ≡ before.faults
   pub back : IsSome before.returned → after ≡ before
 
@@ -49,7 +51,7 @@ counts_within w v = record {
 }
 
 -- A fault was reached in an event: it is a rise since the opening, and one above the count that the event began with.
-pub record IsReached (w v : Face) (fault : FaultAt) : Type 0 where
+pub record IsFaultReached (w v : Face) (fault : FaultAt) : Type 0 where
   pub rise : IsBetween (first_counts v) (counts_now v) fault
   pub new : IsBetween (counts_within w v) (counts_now v) fault
   pub fits : fault.count ≤ 18446744073709551615
@@ -57,7 +59,7 @@ pub record IsReached (w v : Face) (fault : FaultAt) : Type 0 where
 -- the fault that an event names was reached in it, where it names one
 abbrev pub IsReachedBy : Face → Face → Option FaultAt → Type 0
 IsReachedBy w v None = Unit {0}
-IsReachedBy w v (Some fault) = IsReached w v fault
+IsReachedBy w v (Some fault) = IsFaultReached w v fault
 
 -- ---- no fault is hidden
 
@@ -92,6 +94,7 @@ LeavesNoneOut old new = (new ≡ old) ⊎ HasOneBack old new
 pub record IsSameDevice (old new : DeviceState) : Type 0 where
   pub node : new.node ≡ old.node
   pub number : new.number ≡ old.number
+  pub capacity : new.capacity ≡ old.capacity
   pub faults : old.faults ≤ new.faults
 
 abbrev pub AreSameDevices : List DeviceState → List DeviceState → Type 0

@@ -12,8 +12,8 @@ use Rattle.qmp_rules.specs.Table.{Table}
 use Rattle.qmp_rules.specs.declared.change.Change.{Change}
 use Rattle.qmp_rules.specs.declared.refusal.Refusal.{Refusal}
 use Rattle.qmp_rules.specs.declared.refusal.Refusal.TheVariants as refusal
-use Rattle.qmp_rules.specs.declared.told.Look.{Look}
-use Rattle.qmp_rules.specs.declared.told.Look.TheVariants as look
+use Rattle.qmp_asks.specs.declared.look.Look.{Look}
+use Rattle.qmp_asks.specs.declared.look.Look.TheVariants as look
 use Rattle.qmp_rules.specs.declared.told.Told.{Told}
 use Rattle.blk_base.specs.declared.fault.FaultFrom.TheVariants.{Dev}
 use Rattle.world_commands.specs.Counting.{IsNumbered}
@@ -116,7 +116,7 @@ MadeSo t c old now told None = (told ≡ told_first c old.store.room) × Creates
 MadeSo t c old now told (Some cause) =
     ((told ≡ told_first c old.store.room) × (now ≡ old)) ⊎ FailsSo t c old now told cause
 
-pub record IsMade (given : List ℕ) (t : Table) (c : Cmd) (old now : Ground) (u : Table)
+pub record IsAnswerMade (given : List ℕ) (t : Table) (c : Cmd) (old now : Ground) (u : Table)
     (text : List ℕ) : Type 0 where
   pub told : Told
   pub refusal : Option Refusal

@@ -10,7 +10,7 @@ use Rattle.qmp_codec.specs.Commands.{Cmd, SeenSources}
 use Rattle.qmp_codec.specs.declared.bitmaps.BitmapAdd.{BitmapAdd}
 use Rattle.qmp_codec.specs.declared.command.Command.TheVariants as command
 use Rattle.qmp_rules.specs.Asks.{id_or}
-use Rattle.qmp_rules.specs.BitmapAsks.{source_node, source_name}
+use Rattle.qmp_asks.specs.BitmapAsks.{source_node, source_name}
 use Rattle.qmp_rules.specs.Edits.{bitmap_row}
 use Rattle.qmp_rules.specs.Table.{Table}
 use Rattle.trace_codec.specs.declared.op.Op.{Op}

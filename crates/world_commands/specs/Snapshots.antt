@@ -55,7 +55,7 @@ TellsMapped t nodes (command.BlockdevSnapshot c) mapped = TellsOverlay t nodes c
 TellsMapped t nodes c mapped = Unit {0}
 
 -- and nothing else is told
-pub record IsToldOf (t : Table) (nodes : Nodes) (c : Cmd) (told : Told) : Type 0 where
+pub record TellsMappedAlone (t : Table) (nodes : Nodes) (c : Cmd) (told : Told) : Type 0 where
   pub maps : TellsMapped t nodes c told.mapped
   pub rest : told ≡ record untold { mapped = told.mapped }
 
@@ -99,7 +99,7 @@ IsCoveredBy t c nodes now = ⊥
 pub record HasCovered (s : State) (given : List ℕ) (c : Cmd) (x y : Scene) (text : List ℕ) : Type 0
   where
     pub told : Told
-    pub tells : IsToldOf x.table x.nodes c told
+    pub tells : TellsMappedAlone x.table x.nodes c told
     pub refusal : Option Refusal
     pub judged : refusal_of x.table told c ≡ refusal
     pub done_is : DoneIf refusal (IsCoveredBy x.table c x.nodes y.nodes) (y.nodes ≡ x.nodes)
@@ -111,7 +111,7 @@ pub record HasCovered (s : State) (given : List ℕ) (c : Cmd) (x y : Scene) (te
 -- nothing refuses it, and this request is in the way: its disk is held, and nothing else changes
 pub record HasToBeLater (s : State) (c : Cmd) (x y : Scene) (g r : ℕ) : Type 0 where
   pub told : Told
-  pub tells : IsToldOf x.table x.nodes c told
+  pub tells : TellsMappedAlone x.table x.nodes c told
   pub accepted : refusal_of x.table told c ≡ None
   pub waits : MustWait s (drained_by x.table c) g r
   pub left : y ≡ record x { drains = after_later (drained_by x.table c) x.drains }

@@ -4,10 +4,10 @@ ghost use Rattle.qmp_codec.specs.Bitmaps.{seen_bitmap_add, seen_bitmap_merge, se
 ghost use Rattle.qmp_codec.specs.Commands.{SeenSources, seen_command};
 ghost use Rattle.qmp_rules.specs.Answers.{answer, command_edits, refusal_of, returned, untold};
 ghost use Rattle.qmp_rules.specs.Asks.{id_or};
-ghost use Rattle.qmp_rules.specs.BitmapAsks.{source_name, source_node};
+ghost use Rattle.qmp_asks.specs.BitmapAsks.{source_name, source_node};
 ghost use Rattle.qmp_rules.specs.Changes.{all_changed};
-ghost use Rattle.qmp_rules.specs.Fitting.{AllFit};
-ghost use Rattle.qmp_rules.specs.Room.{HasRoom};
+ghost use Rattle.qmp_rules.specs.Fitting.{AllChangesFit};
+ghost use Rattle.qmp_rules.specs.Room.{HasRoomForChanges};
 ghost use Rattle.blk_bitmaps.specs.Calls.{with_first, with_source, without_first};
 ghost use Rattle.blk_bitmaps.specs.Refusals.{add_refusal, find};
 ghost use Rattle.blk_bitmaps.specs.Rows.{emptied, is_named, turned};
@@ -16,7 +16,7 @@ ghost use Rattle.flat_machine.specs.Marking.{dirty_bytes};
 ghost use Rattle.flat_machine.specs.State.{size_of};
 ghost use Rattle.world_commands.specs.Carrying.{is_of_bitmaps, prints_counts};
 ghost use Rattle.world_commands.specs.Leaving.{LeavesBitmaps};
-ghost use Rattle.qmp_rules.specs.Values.{amount_or, flag_or_false};
+ghost use Rattle.qmp_asks.specs.Values.{amount_or, flag_or_false};
 ghost use Rattle.world_commands.specs.Recorded.{AreAfter, AreFree, IsNewBitmap, IsNewFor, bitmaps_after, bitmaps_merged};
 ghost use Rattle.world_parts.specs.Saying.{IsSaid};
 ghost use Rattle.world_commands.specs.Carrying.{counted};
@@ -87,8 +87,8 @@ fn accept_counts(
     edits: Edits,
 ) -> Result<String, NoMemory>
     requires free { AreFree bitmaps.now }
-    requires room { HasRoom (length edits) names.old }
-    requires fit { AllFit names.old.table edits }
+    requires room { HasRoomForChanges (length edits) names.old }
+    requires fit { AllChangesFit names.old.table edits }
     ensures said { IfOk result (λ text. IsSaid given.now (Ok (returned names.old.table
         (counted untold (map dirty_bytes (map dirty_in bitmaps.now))) (seen_command command.now)))
         (string_bytes text)) }
@@ -303,8 +303,8 @@ fn accept(
 ) -> Result<String, NoMemory>
     requires alike { AreBitmapsOf names.old.table.bitmaps bitmaps.old }
     requires accepted { refusal_of names.old.table untold (seen_command command.now) ≡ None }
-    requires room { HasRoom (length edits) names.old }
-    requires fit { AllFit names.old.table edits }
+    requires room { HasRoomForChanges (length edits) names.old }
+    requires fit { AllChangesFit names.old.table edits }
     ensures said { IfOk result (λ text. IsSaid given.now
         (Ok (returned names.old.table untold (seen_command command.now))) (string_bytes text)) }
     ensures changed { OnOk result (names.new.table ≡ all_changed names.old.table edits) }

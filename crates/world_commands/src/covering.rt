@@ -5,8 +5,8 @@ ghost use Rattle.qmp_codec.specs.Nodes.{seen_snapshot};
 ghost use Rattle.qmp_rules.specs.Table.{id_named};
 ghost use Rattle.qmp_rules.specs.Answers.{command_edits, refusal_of, returned};
 ghost use Rattle.qmp_rules.specs.Changes.{all_changed};
-ghost use Rattle.qmp_rules.specs.Fitting.{AllFit};
-ghost use Rattle.qmp_rules.specs.Room.{HasRoom};
+ghost use Rattle.qmp_rules.specs.Fitting.{AllChangesFit};
+ghost use Rattle.qmp_rules.specs.Room.{HasRoomForChanges};
 ghost use Rattle.flat_machine.specs.State.{State, drive_of};
 ghost use Rattle.flat_machine.specs.Wiring.{TableStands};
 ghost use Rattle.blk_graph.specs.Graph.{HasNode, ids};
@@ -18,7 +18,7 @@ ghost use Rattle.blk_nodes.specs.Joined.{IsJoined};
 ghost use Rattle.world_parts.specs.Coherent.{AreNodesOf};
 ghost use Rattle.world_commands.specs.Detaching.{scene};
 ghost use Rattle.world_parts.specs.Saying.{IsSaid};
-ghost use Rattle.world_commands.specs.Snapshots.{CanCover, CanCoverBy, IsCovered, IsCoveredBy, IsSnapshot, IsToldOf, TellsOverlay, is_snapshot};
+ghost use Rattle.world_commands.specs.Snapshots.{CanCover, CanCoverBy, IsCovered, IsCoveredBy, IsSnapshot, TellsMappedAlone, TellsOverlay, is_snapshot};
 
 use crate::draining::drain;
 use blk_base::{Device, Names1, NoMemory, Text};
@@ -60,7 +60,7 @@ fn told_of<D: Device>(
 ) -> Result<Told, NoMemory>
     requires snapshot { is_snapshot (seen_command command.now) ≡ true }
     requires joined { IsJoined nodes.now }
-    ensures { IfOk result (IsToldOf names.now.table nodes.now (seen_command command.now)) }
+    ensures { IfOk result (TellsMappedAlone names.now.table nodes.now (seen_command command.now)) }
 {
     let Command::BlockdevSnapshot(c) = command else {
         unreachable!()
@@ -127,8 +127,8 @@ fn accept<D: Device>(
     told: &Told,
     edits: Edits,
 ) -> Result<String, NoMemory>
-    requires room { HasRoom (length edits) names.old }
-    requires fit { AllFit names.old.table edits }
+    requires room { HasRoomForChanges (length edits) names.old }
+    requires fit { AllChangesFit names.old.table edits }
     requires can { CanCoverBy names.old.table (seen_command command.now) nodes.old }
     ensures said { IfOk result (λ text. IsSaid given.now
         (Ok (returned names.old.table told.now (seen_command command.now))) (string_bytes text)) }
@@ -158,11 +158,11 @@ fn cover_or_wait<D: Device>(
 ) -> Result<Carried, NoMemory>
     requires snapshot { is_snapshot (seen_command command.now) ≡ true }
     requires few { (g : ℕ) → IsSome (drive_of names.old.table g) → g < 80 }
-    requires tells { IsToldOf names.old.table nodes.old (seen_command command.now) told.now }
+    requires tells { TellsMappedAlone names.old.table nodes.old (seen_command command.now) told.now }
     requires accepted { refusal_of names.old.table told.now (seen_command command.now) ≡ None }
     requires edits { edits ≡ command_edits names.old.table told.now (seen_command command.now) }
-    requires room { HasRoom (length edits) names.old }
-    requires fit { AllFit names.old.table edits }
+    requires room { HasRoomForChanges (length edits) names.old }
+    requires fit { AllChangesFit names.old.table edits }
     requires can { CanCoverBy names.old.table (seen_command command.now) nodes.old }
     ensures ok { IfOk result
         (λ carried. (s : State) → s.table ≡ names.old.table → s.guests ≡ progress.now.guests
@@ -202,7 +202,7 @@ fn cover_told<D: Device>(
     requires joined { IsJoined nodes.old }
     requires stands { TableStands names.old.table }
     requires few { (g : ℕ) → IsSome (drive_of names.old.table g) → g < 80 }
-    requires tells { IsToldOf names.old.table nodes.old (seen_command command.now) told.now }
+    requires tells { TellsMappedAlone names.old.table nodes.old (seen_command command.now) told.now }
     ensures ok { IfOk result
         (λ carried. (s : State) → s.table ≡ names.old.table → s.guests ≡ progress.now.guests
         → IsSnapshot s given.now (seen_command command.now)

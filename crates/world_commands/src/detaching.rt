@@ -2,8 +2,8 @@
 ghost use Rattle.std.specs.Prelude.{◌≡◌, ◌<◌, ℕ, true, None, IfOk, IsSome, OnErr, length, string_bytes};
 ghost use Rattle.qmp_codec.specs.Commands.{seen_command};
 ghost use Rattle.qmp_rules.specs.Answers.{command_edits, refusal_of, untold};
-ghost use Rattle.qmp_rules.specs.Fitting.{AllFit};
-ghost use Rattle.qmp_rules.specs.Room.{HasRoom};
+ghost use Rattle.qmp_rules.specs.Fitting.{AllChangesFit};
+ghost use Rattle.qmp_rules.specs.Room.{HasRoomForChanges};
 ghost use Rattle.qmp_rules.specs.Table.{device_named};
 ghost use Rattle.flat_machine.specs.State.{State, drive_of};
 ghost use Rattle.world_commands.specs.Detaching.{IsDetached, IsDetachedBy, IsDetachment, is_detachment, scene};
@@ -52,8 +52,8 @@ fn detach_now<D: Device>(
     requires detachment { is_detachment (seen_command command.now) ≡ true }
     requires accepted { refusal_of names.old.table untold (seen_command command.now) ≡ None }
     requires edits { edits ≡ command_edits names.old.table untold (seen_command command.now) }
-    requires room { HasRoom (length edits) names.old }
-    requires fit { AllFit names.old.table edits }
+    requires room { HasRoomForChanges (length edits) names.old }
+    requires fit { AllChangesFit names.old.table edits }
     ensures handled { IfOk result (λ text. IsHandled given.now names.old.table
         (seen_command command.now) names.new.table
         (IsDetachedBy names.old.table (seen_command command.now) nodes.old nodes.new)
@@ -81,8 +81,8 @@ fn detach_or_wait<D: Device>(
     requires detachment { is_detachment (seen_command command.now) ≡ true }
     requires accepted { refusal_of names.old.table untold (seen_command command.now) ≡ None }
     requires edits { edits ≡ command_edits names.old.table untold (seen_command command.now) }
-    requires room { HasRoom (length edits) names.old }
-    requires fit { AllFit names.old.table edits }
+    requires room { HasRoomForChanges (length edits) names.old }
+    requires fit { AllChangesFit names.old.table edits }
     requires few { (g : ℕ) → IsSome (drive_of names.old.table g) → g < 80 }
     ensures ok { IfOk result
         (λ carried. (s : State) → s.table ≡ names.old.table → s.guests ≡ progress.now.guests

@@ -3,9 +3,9 @@ ghost use Rattle.std.specs.Prelude.{◌≡◌, true, None, Ok, IfOk, IfErr, OnOk
 ghost use Rattle.qmp_codec.specs.Commands.{seen_command};
 ghost use Rattle.qmp_rules.specs.Answers.{answer, command_edits, refusal_of, returned, untold};
 ghost use Rattle.qmp_rules.specs.Changes.{all_changed};
-ghost use Rattle.qmp_rules.specs.Fitting.{AllFit};
+ghost use Rattle.qmp_rules.specs.Fitting.{AllChangesFit};
 ghost use Rattle.qmp_rules.specs.Prepared.{IsStoppedFor};
-ghost use Rattle.qmp_rules.specs.Room.{HasRoom};
+ghost use Rattle.qmp_rules.specs.Room.{HasRoomForChanges};
 ghost use Rattle.world_commands.specs.Carrying.{needs_table_alone};
 ghost use Rattle.world_parts.specs.Saying.{IsSaid};
 
@@ -25,8 +25,8 @@ pub(crate) fn prepare(
         (λ _. refusal_of names.old.table untold (seen_command command.now) ≡ None) }
     ensures edits { IfOk result (λ edits. edits
         ≡ command_edits names.old.table untold (seen_command command.now)) }
-    ensures room { IfOk result (λ edits. HasRoom (length edits) names.new) }
-    ensures fit { IfOk result (λ edits. AllFit names.new.table edits) }
+    ensures room { IfOk result (λ edits. HasRoomForChanges (length edits) names.new) }
+    ensures fit { IfOk result (λ edits. AllChangesFit names.new.table edits) }
     ensures refused { IfErr result
         (IsStoppedFor (refusal_of names.old.table untold (seen_command command.now))) }
     ensures table { names.new.table ≡ names.old.table }
@@ -55,8 +55,8 @@ fn accept_alone(
     command: &Command,
     edits: Edits,
 ) -> Result<String, NoMemory>
-    requires room { HasRoom (length edits) names.old }
-    requires fit { AllFit names.old.table edits }
+    requires room { HasRoomForChanges (length edits) names.old }
+    requires fit { AllChangesFit names.old.table edits }
     ensures said { IfOk result (λ text. IsSaid given.now
         (Ok (returned names.old.table untold (seen_command command.now))) (string_bytes text)) }
     ensures changed { OnOk result (names.new.table ≡ all_changed names.old.table edits) }

@@ -2,12 +2,12 @@
 ghost use Rattle.std.specs.Prelude.{◌≡◌, ◌≤◌, ◌⊎◌, List, ℕ, true, None, Ok, Err, IfOk, OnOk, IfErr, OnErr, length, string_bytes};
 ghost use Rattle.qmp_codec.specs.Commands.{seen_command};
 ghost use Rattle.qmp_rules.specs.Answers.{returned};
-ghost use Rattle.qmp_rules.specs.Fitting.{AllFit};
-ghost use Rattle.qmp_rules.specs.Room.{HasRoom};
+ghost use Rattle.qmp_rules.specs.Fitting.{AllChangesFit};
+ghost use Rattle.qmp_rules.specs.Room.{HasRoomForChanges};
 ghost use Rattle.world_commands.specs.Carrying.{is_failed};
 ghost use Rattle.world_parts.specs.Deleting.{Belong, ground_in};
 ghost use Rattle.world_parts.specs.Handling.{IsUntouched};
-ghost use Rattle.world_commands.specs.Making.{CanCreateBy, CreatesBy, FailsBy, FitsWords, HasEndedSo, IsMade, IsMadeNow, IsMadeSaying, IsSpoiledNow, IsSpoiledSaying, is_creation, spoiled_by, told_first};
+ghost use Rattle.world_commands.specs.Making.{CanCreateBy, CreatesBy, FailsBy, FitsWords, HasEndedSo, IsAnswerMade, IsMadeNow, IsMadeSaying, IsSpoiledNow, IsSpoiledSaying, is_creation, spoiled_by, told_first};
 ghost use Rattle.world_parts.specs.Saying.{EndsRefusals, IsSaid};
 
 use crate::failed_text::{FailedText, failed_text};
@@ -47,8 +47,8 @@ fn prepare_failure(alloc: Global, names: &mut Names, command: &Command) -> Resul
     requires { is_creation (seen_command command.now) ≡ true }
     ensures edits { IfOk result
         (λ edits. edits ≡ spoiled_by names.old.table (seen_command command.now)) }
-    ensures room { IfOk result (λ edits. HasRoom (length edits) names.new) }
-    ensures fit { IfOk result (λ edits. AllFit names.new.table edits) }
+    ensures room { IfOk result (λ edits. HasRoomForChanges (length edits) names.new) }
+    ensures fit { IfOk result (λ edits. AllChangesFit names.new.table edits) }
     ensures table { names.new.table ≡ names.old.table }
 {
     match command {
@@ -95,10 +95,10 @@ fn make_prepared<S: Store>(
 ) -> Result<String, NoMemory>
     requires can { CanCreateBy names.old.table (seen_command command.now)
         (ground_in store.old nodes.old) }
-    requires room { HasRoom (length edits) names.old }
-    requires fit { AllFit names.old.table edits }
-    requires spoiled_room { HasRoom (length spoiled) names.old }
-    requires spoiled_fit { AllFit names.old.table spoiled }
+    requires room { HasRoomForChanges (length edits) names.old }
+    requires fit { AllChangesFit names.old.table edits }
+    requires spoiled_room { HasRoomForChanges (length spoiled) names.old }
+    requires spoiled_fit { AllChangesFit names.old.table spoiled }
     ensures ended { IfOk result (λ text.
         IsMadeNow names.old.table (seen_command command.now) (ground_in store.old nodes.old)
         (ground_in store.new nodes.new) names.new.table edits (string_bytes accepted)
@@ -153,10 +153,10 @@ fn make_edited<S: Store>(
 ) -> Result<String, NoMemory>
     requires can { CanCreateBy names.old.table (seen_command command.now)
         (ground_in store.old nodes.old) }
-    requires room { HasRoom (length edits) names.old }
-    requires fit { AllFit names.old.table edits }
-    requires spoiled_room { HasRoom (length spoiled) names.old }
-    requires spoiled_fit { AllFit names.old.table spoiled }
+    requires room { HasRoomForChanges (length edits) names.old }
+    requires fit { AllChangesFit names.old.table edits }
+    requires spoiled_room { HasRoomForChanges (length spoiled) names.old }
+    requires spoiled_fit { AllChangesFit names.old.table spoiled }
     ensures ended { IfOk result (λ text.
         IsMadeSaying given.now names.old.table told.now (seen_command command.now)
         (ground_in store.old nodes.old) (ground_in store.new nodes.new) names.new.table edits
@@ -186,7 +186,7 @@ pub fn make<S: Store>(
 ) -> Result<String, NoMemory>
     requires belong { Belong names.old.table (ground_in store.old nodes.old) }
     requires creation { is_creation (seen_command command.now) ≡ true }
-    ensures made { IfOk result (λ text. IsMade given.now names.old.table (seen_command command.now)
+    ensures made { IfOk result (λ text. IsAnswerMade given.now names.old.table (seen_command command.now)
         (ground_in store.old nodes.old) (ground_in store.new nodes.new) names.new.table
         (string_bytes text)) }
     ensures back { OnErr result (IsUntouched names.old.table names.new.table

@@ -7,21 +7,22 @@ use Rattle.blk_graph.specs.Rule.{first_conflict}
 use Rattle.qmp_codec.specs.declared.command.Command.TheVariants as command
 use Rattle.qmp_codec.specs.declared.fields.Amount.{Amount}
 use Rattle.qmp_rules.specs.Answers.{conflict_after, conflict_in, conflict_refusal, is_joined, out_of_turn, refusal_of, untold}
-use Rattle.qmp_rules.specs.Asks.{Asking, first, holds}
+use Rattle.qmp_asks.specs.Asking.{Asking}
+use Rattle.qmp_rules.specs.Asks.{first, holds}
 use Rattle.qmp_rules.specs.Changes.{all_changed}
 use Rattle.qmp_rules.specs.Edits.{edits_of, ids}
 use Rattle.qmp_rules.specs.Looks.{file_stop, is_unopened, stop_at, too_long}
-use Rattle.qmp_rules.specs.Naming.{inline_name, is_name}
-use Rattle.qmp_rules.specs.NodeAsks.{add_asks, added_names, added_rest, added_values, is_added, is_read_only, option_values}
+use Rattle.qmp_asks.specs.Naming.{inline_name, is_name}
+use Rattle.qmp_asks.specs.NodeAsks.{add_asks, added_names, added_rest, added_values, is_added, is_read_only, option_values}
 use Rattle.qmp_rules.specs.Table.{Table, file_state, node_named}
-use Rattle.qmp_rules.specs.Values.{begins_within, ends_within, most_length, part_offset, part_size}
-use Rattle.qmp_rules.specs.declared.ask.Ask.TheVariants as ask
+use Rattle.qmp_asks.specs.Values.{begins_within, ends_within, most_length, part_offset, part_size}
+use Rattle.qmp_asks.specs.declared.ask.Ask.TheVariants as ask
 use Rattle.qmp_rules.specs.declared.refusal.FileFault.TheVariants.{TooLong}
 use Rattle.qmp_rules.specs.declared.refusal.Refusal.{Refusal}
 use Rattle.qmp_rules.specs.declared.refusal.Refusal.TheVariants as refusal
 use Rattle.qmp_rules.specs.declared.rows.NodeRecord.{NodeRecord}
-use Rattle.qmp_rules.specs.declared.told.Look.{Look}
-use Rattle.qmp_rules.specs.declared.told.Look.TheVariants as look
+use Rattle.qmp_asks.specs.declared.look.Look.{Look}
+use Rattle.qmp_asks.specs.declared.look.Look.TheVariants as look
 use Rattle.qmp_rules.specs.declared.told.Told.{Told}
 use Rattle.flat_machine.proofs.Accepted.{less_lost, opened}
 use Rattle.flat_machine.specs.Wiring.{TableAtRest}

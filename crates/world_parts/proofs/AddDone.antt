@@ -2,7 +2,7 @@
 use Rattle.std.proofs.Common.{◌≡◌, ℕ, ◌+◌, ◌≤◌, true, List, length, refl, sym, ◌∙◌, ap, subst, arith, Option, Some, None}
 use Rattle.q2_image.specs.Image.{Known}
 use Rattle.blk_nodes.specs.Joined.{IsJoined}
-use Rattle.blk_nodes.specs.Overlays.{HasPlace, IsOpened, IsOpenedOn}
+use Rattle.blk_nodes.specs.Overlays.{HasRoomForNode, IsOpened, IsOpenedOn}
 use Rattle.qmp_codec.specs.declared.command.Command.TheVariants as command
 use Rattle.qmp_codec.specs.declared.nodes.AddQcow2.{AddQcow2}
 use Rattle.qmp_codec.specs.declared.nodes.AddRaw.{AddRaw}
@@ -13,17 +13,17 @@ use Rattle.qmp_codec.specs.declared.nodes.FileRef.TheVariants as file_ref
 use Rattle.qmp_rules.specs.Answers.{refusal_of}
 use Rattle.qmp_rules.specs.Asks.{file_node, holds, is_file}
 use Rattle.qmp_rules.specs.Looks.{raw_stop}
-use Rattle.qmp_rules.specs.Naming.{inline_name}
+use Rattle.qmp_asks.specs.Naming.{inline_name}
 use Rattle.qmp_rules.specs.Table.{Table}
-use Rattle.qmp_rules.specs.Values.{most_length}
-use Rattle.qmp_rules.specs.declared.ask.Ask.TheVariants as ask
-use Rattle.qmp_rules.specs.declared.ask.Drivers.TheVariants as drivers
+use Rattle.qmp_asks.specs.Values.{most_length}
+use Rattle.qmp_asks.specs.declared.ask.Ask.TheVariants as ask
+use Rattle.qmp_asks.specs.declared.ask.Drivers.TheVariants as drivers
 use Rattle.qmp_rules.specs.declared.rows.NodeRecord.{NodeRecord}
-use Rattle.qmp_rules.specs.declared.told.Look.TheVariants as look
+use Rattle.qmp_asks.specs.declared.look.Look.TheVariants as look
 use Rattle.qmp_rules.specs.declared.told.Told.{Told}
 use Rattle.flat_machine.specs.Wiring.{AreApart, TableAtRest}
 use Rattle.flat_machine.proofs.Asked.{found-named, room-left, takes-driver}
-use Rattle.world_parts.specs.Adding.{Adding, Taken, Tells, TellsInside, TellsLength, of_node}
+use Rattle.world_parts.specs.Adding.{Adding, Taken, TellsAddition, TellsInside, TellsLength, of_node}
 use Rattle.world_parts.specs.Coherent.{AreNodesOf}
 use Rattle.world_parts.specs.Joining.{CanAdd, CanAddBy, CanAddImage, CanAddPart}
 use Rattle.world_parts.specs.Looking.{HasLooked, LooksAtImage, LooksAtPart, LooksBy, Site}
@@ -41,7 +41,7 @@ module _ (t : Table) (told : Told) (c : Adding) (none : refusal_of t told (comma
 
   -- there is a place for a `file` node that is made with the node over it
   inline-place : (own : Option (List ℕ)) → holds t told (ask.FreshNode (Some c.node_name)) ≡ None → holds t told (ask.FreshNode own) ≡ None
-      → length t.nodes + 2 ≤ 64 → HasPlace now.nodes (inline_name c.node_name own)
+      → length t.nodes + 2 ≤ 64 → HasRoomForNode now.nodes (inline_name c.node_name own)
   inline-place own fresh free room =
       place-of t now.nodes (inline_name c.node_name own) 2 alike
       (inline-fresh t told c.node_name own rests (name-said t told c none) fresh free) (omega arith) room
@@ -57,7 +57,7 @@ module _ (t : Table) (told : Told) (c : Adding) (none : refusal_of t told (comma
       let taken = taken-out t told c none (record { filename = file.filename; what = look.Begin }) (AsPart raw file e f refl refl) old.store now.store out image looks.looks in
       let inside = taken.inside in
       let tells : TellsLength (raw_stop file.filename raw inside.first.size) inside.first taken.device image told =
-      subst (λ (d : Added (List ℕ)). Tells t c.node_name file.filename d inside.first taken.device image told) e inside.tells in
+      subst (λ (d : Added (List ℕ)). TellsAddition t c.node_name file.filename d inside.first taken.device image told) e inside.tells in
       let same : inside.first.size ≡ taken.device.size = ap (λ (d : Taken). d.size) (sym tells.kept) in
       let length-is : told.length ≡ Some taken.device.size = ap (λ (a : Told). a.length) tells.is ∙ ap Some same in
       let stops : told.stopped ≡ raw_stop file.filename raw taken.device.size =
@@ -96,7 +96,7 @@ module _ (t : Table) (told : Told) (c : Adding) (none : refusal_of t told (comma
       let taken = taken-out t told c none (record { filename = file.filename; what = look.File }) (AsImage qcow2 file e f refl refl) old.store now.store out image looks.looks in
       let inside = taken.inside in
       let tells : TellsInside t c.node_name file.filename qcow2 inside.first taken.device image told =
-      subst (λ (d : Added (List ℕ)). Tells t c.node_name file.filename d inside.first taken.device image told) e inside.tells in
+      subst (λ (d : Added (List ℕ)). TellsAddition t c.node_name file.filename d inside.first taken.device image told) e inside.tells in
       let there = image-inside t told c none qcow2 file e f file.filename inside.first taken.device image tells in
       let is = there.2 in
       let length-is : told.length ≡ Some taken.device.size =

@@ -20,21 +20,21 @@ use Rattle.qmp_codec.specs.declared.nodes.InlineFile.{InlineFile}
 use Rattle.qmp_rules.specs.Answers.{refusal_of}
 use Rattle.qmp_rules.specs.Asks.{file_node, holds, if_there}
 use Rattle.qmp_rules.specs.Looks.{image_stop, is_free_file, stop_at, too_long}
-use Rattle.qmp_rules.specs.NodeAsks.{add_asks, backing_name}
+use Rattle.qmp_asks.specs.NodeAsks.{add_asks, backing_name}
 use Rattle.qmp_rules.specs.Refusals.{refused}
 use Rattle.qmp_rules.specs.Table.{Table, first_into, node_at, node_named}
-use Rattle.qmp_rules.specs.declared.ask.Ask.TheVariants as ask
-use Rattle.qmp_rules.specs.declared.ask.Drivers.TheVariants as drivers
+use Rattle.qmp_asks.specs.declared.ask.Ask.TheVariants as ask
+use Rattle.qmp_asks.specs.declared.ask.Drivers.TheVariants as drivers
 use Rattle.qmp_rules.specs.declared.refusal.FileFault.TheVariants.{TooLong}
 use Rattle.qmp_rules.specs.declared.refusal.Refusal.{Refusal}
 use Rattle.qmp_rules.specs.declared.refusal.Refusal.TheVariants as refusal
 use Rattle.qmp_rules.specs.declared.rows.NodeRecord.{NodeRecord}
-use Rattle.qmp_rules.specs.declared.told.Look.TheVariants as look
+use Rattle.qmp_asks.specs.declared.look.Look.TheVariants as look
 use Rattle.qmp_rules.specs.declared.told.Stopped.{Stopped}
 use Rattle.qmp_rules.specs.declared.told.Told.{Told}
 use Rattle.flat_machine.specs.Wiring.{AreApart}
 use Rattle.flat_machine.proofs.Asked.{found-named, lone-node, not-refused, takes-driver}
-use Rattle.world_parts.specs.Adding.{Adding, LooksUnder, LooksWell, Taken, TellsImage, TellsInside, opened_sight, probe}
+use Rattle.world_parts.specs.Adding.{Adding, LooksUnder, LooksWell, Taken, TellsAddedImage, TellsInside, opened_sight, probe}
 use Rattle.world_parts.specs.Coherent.{AreNodesOf}
 use Rattle.world_parts.specs.Joining.{backing_for}
 use Rattle.world_parts.proofs.AddAsked.{not-stopped, rest-asked}
@@ -164,7 +164,7 @@ long-stopped name true stopped is = cc (sym is)
 module _ (t : Table) (told : Told) (c : Adding) (none : refusal_of t told (command.BlockdevAdd c) ≡ None) (qcow2 : AddQcow2 (List ℕ))
     (file : InlineFile (List ℕ)) (e : c.driver ≡ added.Qcow2 qcow2) (f : qcow2.file ≡ file_ref.Inline file) where
   pub image-inside : (filename : List ℕ) (first now : Taken) (image : Option Known) → TellsInside t c.node_name filename qcow2 first now image told
-      → (open_image : Known) × (image ≡ Some open_image) × TellsImage t c.node_name filename qcow2 first now open_image told
+      → (open_image : Known) × (image ≡ Some open_image) × TellsAddedImage t c.node_name filename qcow2 first now open_image told
   image-inside filename first now (Some open_image) tells = (open_image, refl, tells)
   image-inside filename first now None (inl long) =
       let is = long-stopped filename _ long.stopped long.long in

@@ -9,19 +9,19 @@ use Rattle.blk_graph.specs.Ids.{lowest_free}
 use Rattle.blk_graph.specs.Refreshed.{refreshed}
 use Rattle.blk_nodes.specs.Joined.{IsFile, IsJoined}
 use Rattle.blk_nodes.specs.Nodes.{Nodes, size_of}
-use Rattle.blk_nodes.specs.Overlays.{HasPlace}
+use Rattle.blk_nodes.specs.Overlays.{HasRoomForNode}
 use Rattle.blk_nodes.specs.declared.row.Driver.TheVariants as driver
 use Rattle.blk_nodes.specs.declared.row.Row.{Row}
 use Rattle.qmp_codec.specs.declared.nodes.InlineFile.{InlineFile}
 use Rattle.qmp_rules.specs.Asks.{holds}
 use Rattle.qmp_rules.specs.Changes.{changed}
 use Rattle.qmp_rules.specs.Edits.{free_id, inline_row, length_told, next_free_id}
-use Rattle.qmp_rules.specs.Naming.{inline_name}
-use Rattle.qmp_rules.specs.NodeAsks.{is_read_only}
+use Rattle.qmp_asks.specs.Naming.{inline_name}
+use Rattle.qmp_asks.specs.NodeAsks.{is_read_only}
 use Rattle.qmp_rules.specs.Answers.{untold}
 use Rattle.qmp_rules.specs.Table.{Table, kind_in, kinds_from, kinds_of, node_at, node_named}
-use Rattle.qmp_rules.specs.Values.{most_length}
-use Rattle.qmp_rules.specs.declared.ask.Ask.TheVariants as ask
+use Rattle.qmp_asks.specs.Values.{most_length}
+use Rattle.qmp_asks.specs.declared.ask.Ask.TheVariants as ask
 use Rattle.qmp_rules.specs.declared.change.Change.TheVariants.{AddFile}
 use Rattle.qmp_rules.specs.declared.refusal.Refusal.TheVariants.{NameTaken}
 use Rattle.qmp_rules.specs.declared.rows.NodeRecord.{NodeRecord}
@@ -160,7 +160,7 @@ module _ (t : Table) (nodes : Nodes) (alike : AreNodesOf t nodes) (joined : IsJo
   pub apart-then : AreApart t1
   apart-then = apart-of t1 between alike-then.listed has.joined
 
-  pub place-then : node_named t c.node_name ≡ None → holds t told (ask.Apart c.node_name file.node_name) ≡ None → HasPlace between c.node_name
+  pub place-then : node_named t c.node_name ≡ None → holds t told (ask.Apart c.node_name file.node_name) ≡ None → HasRoomForNode between c.node_name
   place-then fresh apart =
       place-of t1 between c.node_name 1 alike-then
       (ap (find (λ (r : NodeRecord). bytes_eq r.name c.node_name)) rows-then

@@ -27,16 +27,16 @@ use Rattle.qmp_rules.specs.Answers.{refusal_of, untold}
 use Rattle.qmp_rules.specs.Changes.{changed, format_edges, with_unsettled}
 use Rattle.qmp_rules.specs.Edits.{edits_of, free_id, image_row, next_free_id, raw_row}
 use Rattle.qmp_rules.specs.Looks.{image_stop, raw_stop, stop_at, too_long}
-use Rattle.qmp_rules.specs.Naming.{inline_name}
-use Rattle.qmp_rules.specs.NodeAsks.{add_asks, backing_name, is_read_only}
+use Rattle.qmp_asks.specs.Naming.{inline_name}
+use Rattle.qmp_asks.specs.NodeAsks.{add_asks, backing_name, is_read_only}
 use Rattle.qmp_rules.specs.Refusals.{refused}
 use Rattle.qmp_rules.specs.Table.{Table, id_named, kinds_of, node_named}
-use Rattle.qmp_rules.specs.Values.{begins_within, ends_within, most_length, part_fits}
-use Rattle.qmp_rules.specs.declared.ask.Drivers.TheVariants as drivers
+use Rattle.qmp_asks.specs.Values.{begins_within, ends_within, most_length, part_fits}
+use Rattle.qmp_asks.specs.declared.ask.Drivers.TheVariants as drivers
 use Rattle.qmp_rules.specs.declared.refusal.FileFault.TheVariants.{TooLong}
 use Rattle.qmp_rules.specs.declared.refusal.Refusal.TheVariants as refusal
 use Rattle.qmp_rules.specs.declared.rows.NodeRecord.{NodeRecord}
-use Rattle.qmp_rules.specs.declared.told.Look.TheVariants as look
+use Rattle.qmp_asks.specs.declared.look.Look.TheVariants as look
 use Rattle.qmp_rules.specs.declared.told.Told.{Told}
 use Rattle.flat_machine.specs.Wiring.{AreApart}
 use Rattle.flat_machine.proofs.Accepted.{is_protocol}

@@ -17,14 +17,14 @@ use Rattle.qmp_codec.specs.declared.nodes.FileRef.TheVariants as file_ref
 use Rattle.qmp_rules.specs.Asks.{is_file}
 use Rattle.qmp_rules.specs.Table.{Table, node_at, node_named}
 use Rattle.qmp_rules.specs.declared.rows.NodeRecord.{NodeRecord}
-use Rattle.qmp_rules.specs.declared.told.Look.TheVariants as look
+use Rattle.qmp_asks.specs.declared.look.Look.TheVariants as look
 use Rattle.qmp_rules.specs.declared.told.Told.{Told}
 use Rattle.flat_machine.specs.Wiring.{AreApart}
 use Rattle.flat_machine.proofs.Accepted.{is_protocol}
 use Rattle.world_parts.specs.Adding.{Adding, IsTakenOut, Looks, Opens, Taken}
 use Rattle.world_parts.specs.Coherent.{AreAlike, AreNodesOf}
-use Rattle.world_parts.specs.Looking.{HasCalled, HasLooked, HaveFiles, LooksAtImage, LooksAtPart, LooksBy, Site}
-use Rattle.world_parts.specs.Staging.{IsOutFor, opened_name}
+use Rattle.world_parts.specs.Looking.{HasCalled, HasLooked, HaveFileNodes, LooksAtImage, LooksAtPart, LooksBy, Site}
+use Rattle.world_parts.specs.Staging.{IsOutForAddition, opened_name}
 use Rattle.world_parts.specs.Stores.{StoreInRun}
 use Rattle.world_parts.proofs.AddPlaces.{file-of}
 
@@ -51,7 +51,7 @@ called_itself nodes = record { kept = refl; risen = risen-itself nodes.devices; 
 
 pub taken-is-out : (old new : StoreInRun) (name : List ℕ) (device : Taken) → IsTakenOut old new name device → is_out name new.opened ≡ true
 taken-is-out old new name device out =
-    ap (λ (s : StoreInRun). is_out name s.opened) out.kept ∙ out-opened name old.opened device.faults
+    ap (λ (s : StoreInRun). is_out name s.opened) out.kept ∙ out-opened name old.opened device.size device.capacity device.faults
 
 module _ (t : Table) (c : Adding) (told : Told) (old new : StoreInRun) (image : Option Known) where
   out-at : (at : Opens) (out : Option Taken) → Looks t c at old new out image told → (device : Taken) → out ≡ Some device → is_out at.filename new.opened ≡ true
@@ -60,28 +60,28 @@ module _ (t : Table) (c : Adding) (told : Told) (old new : StoreInRun) (image : 
   out-at at (Some now) (inr looks) device is = taken-is-out old new at.filename looks.0.first looks.0.out
 
 out-by : (driver : Added (List ℕ)) (store : StoreInRun) (out : Option Taken) → ((device : Taken) → out ≡ Some device → is_out (opened_name driver) store.opened ≡ true)
-    → IsOutFor driver out store
+    → IsOutForAddition driver out store
 out-by driver store None is = tt
 out-by driver store (Some device) is = is device refl
 
 module _ (t : Table) (c : Adding) (told : Told) (old new : Site) (out : Option Taken) (image : Option Known) where
-  none-out : (driver : Added (List ℕ)) → out ≡ None → IsOutFor driver out new.store
-  none-out driver none = subst (λ (o : Option Taken). IsOutFor driver o new.store) (sym none) tt
+  none-out : (driver : Added (List ℕ)) → out ≡ None → IsOutForAddition driver out new.store
+  none-out driver none = subst (λ (o : Option Taken). IsOutForAddition driver o new.store) (sym none) tt
 
-  out-part : (raw : AddRaw (List ℕ)) (file : FileRef (List ℕ)) → raw.file ≡ file → LooksAtPart t c file old new out image told → IsOutFor (added.Raw raw) out new.store
+  out-part : (raw : AddRaw (List ℕ)) (file : FileRef (List ℕ)) → raw.file ≡ file → LooksAtPart t c file old new out image told → IsOutForAddition (added.Raw raw) out new.store
   out-part raw (file_ref.Name name) f looks = none-out (added.Raw raw) looks.none
   out-part raw (file_ref.Inline file) f looks =
       out-by (added.Raw raw) new.store out
       (λ device is. rw f (out-at t c told old.store new.store image (record { filename = file.filename; what = look.Begin }) out looks.looks device is))
 
   out-image : (qcow2 : AddQcow2 (List ℕ)) (file : FileRef (List ℕ)) → qcow2.file ≡ file → LooksAtImage t c qcow2 file old new out image told
-      → IsOutFor (added.Qcow2 qcow2) out new.store
+      → IsOutForAddition (added.Qcow2 qcow2) out new.store
   out-image qcow2 (file_ref.Name name) f looks = none-out (added.Qcow2 qcow2) looks.none
   out-image qcow2 (file_ref.Inline file) f looks =
       out-by (added.Qcow2 qcow2) new.store out
       (λ device is. rw f (out-at t c told old.store new.store image (record { filename = file.filename; what = look.File }) out looks.looks device is))
 
-  out-for-by : (driver : Added (List ℕ)) → LooksBy t c driver old new out image told → IsOutFor driver out new.store
+  out-for-by : (driver : Added (List ℕ)) → LooksBy t c driver old new out image told → IsOutForAddition driver out new.store
   out-for-by (added.File filename) looks =
       out-by (added.File filename) new.store out
       (λ device is. out-at t c told old.store new.store image (record { filename = filename; what = look.File }) out looks.looks device is)
@@ -90,7 +90,7 @@ module _ (t : Table) (c : Adding) (told : Told) (old new : Site) (out : Option T
   out-for-by (added.CopyOnRead child) looks = none-out (added.CopyOnRead child) looks.none
   out-for-by added.Unknown looks = none-out added.Unknown looks.none
 
-  pub out-for : HasLooked t c old new out image told → IsOutFor c.driver out new.store
+  pub out-for : HasLooked t c old new out image told → IsOutForAddition c.driver out new.store
   out-for looks = out-for-by c.driver looks
 
   -- ---- the nodes are those of the table
@@ -126,7 +126,7 @@ module _ (t : Table) (c : Adding) (told : Told) (old new : Site) (out : Option T
 
 -- ---- `file` nodes of the table are over devices
 
-pub have-files : (t : Table) (nodes : Nodes) → AreNodesOf t nodes → AreApart t → HaveFiles t nodes
+pub have-files : (t : Table) (nodes : Nodes) → AreNodesOf t nodes → AreApart t → HaveFileNodes t nodes
 have-files t nodes alike apart name row is = by_row (node_named t name) refl is
   where
     by_kind : (found : NodeRecord) (b : Bool) → is_file found ≡ b → node_named t name ≡ Some found → (if b then Some found else None) ≡ Some row → IsFile nodes row.id

@@ -16,7 +16,7 @@ use Rattle.blk_graph.proofs.Members.{Contains-cases, Contains-here, Contains-nil
 use Rattle.blk_nodes.specs.Adding.{IsAllowed}
 use Rattle.blk_nodes.specs.Joined.{IsFile, IsJoined}
 use Rattle.blk_nodes.specs.Nodes.{Nodes, kind_of, row_at}
-use Rattle.blk_nodes.specs.Overlays.{HasPlace}
+use Rattle.blk_nodes.specs.Overlays.{HasRoomForNode}
 use Rattle.blk_nodes.specs.declared.row.Driver.{Driver}
 use Rattle.blk_nodes.specs.declared.row.Driver.TheVariants as drivers
 use Rattle.blk_nodes.specs.declared.row.Row.{Row}
@@ -54,7 +54,7 @@ not-named (row ∷ rows) name none has =
     (λ later there. not-named rows name later there)
 
 pub place-of : (t : Table) (nodes : Nodes) (name : List ℕ) (more : ℕ) → AreNodesOf t nodes → node_named t name ≡ None → 0 < more
-    → length t.nodes + more ≤ 64 → HasPlace nodes name
+    → length t.nodes + more ≤ 64 → HasRoomForNode nodes name
 place-of t nodes name more alike none some room = record {
   free = λ has.
       let there : Contains (map (λ (r : NodeRecord). r.name) t.nodes) name =

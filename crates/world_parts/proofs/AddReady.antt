@@ -22,18 +22,18 @@ use Rattle.qmp_rules.specs.Answers.{refusal_of}
 use Rattle.qmp_rules.specs.Asks.{holds}
 use Rattle.qmp_rules.specs.Changes.{changed, format_edges, with_unsettled}
 use Rattle.qmp_rules.specs.Edits.{edits_of, format_row, free_id, raw_row}
-use Rattle.qmp_rules.specs.NodeAsks.{backing_name, is_read_only}
+use Rattle.qmp_asks.specs.NodeAsks.{backing_name, is_read_only}
 use Rattle.qmp_rules.specs.Table.{Table, id_named, node_at, node_named}
-use Rattle.qmp_rules.specs.Values.{most_length}
-use Rattle.qmp_rules.specs.declared.ask.Ask.TheVariants as ask
-use Rattle.qmp_rules.specs.declared.ask.Drivers.TheVariants as drivers
+use Rattle.qmp_asks.specs.Values.{most_length}
+use Rattle.qmp_asks.specs.declared.ask.Ask.TheVariants as ask
+use Rattle.qmp_asks.specs.declared.ask.Drivers.TheVariants as drivers
 use Rattle.qmp_rules.specs.declared.rows.NodeRecord.{NodeRecord}
 use Rattle.qmp_rules.specs.declared.told.Told.{Told}
 use Rattle.flat_machine.specs.Wiring.{AreApart}
 use Rattle.flat_machine.proofs.Accepted.{is_protocol}
 use Rattle.flat_machine.proofs.Asked.{found-named, not-refused, room-left, takes-driver}
 use Rattle.world_parts.specs.Adding.{Adding}
-use Rattle.world_parts.specs.Coherent.{AreNodesOf, IsSmall}
+use Rattle.world_parts.specs.Coherent.{AreNodesOf, IsOfFileLength}
 use Rattle.world_parts.specs.Joining.{CanPutFilter, CanPutPart, backing_at, backing_for, part_in}
 use Rattle.world_parts.proofs.AddAsked.{all-asked, fresh-node, keeps-rule, part-within, rest-asked}
 use Rattle.world_parts.proofs.AddPlaces.{allowed-of, file-of, node-of, place-of, row-of, unsettled-ids, unsettled-kinds}
@@ -96,7 +96,7 @@ module _ (t : Table) (nodes : Nodes) (alike : AreNodesOf t nodes) (joined : IsJo
       let ends = not-false _ (not-refused _ _ (rw (found, takes_file) at asks.1.1.1.1.1.0)) in
       let within = part-within raw.offset raw.size row.size begins ends in
       let small : row.size ≤ most_length =
-      subst (λ (k : Kind). IsSmall k row.size) (is_protocol row.kind takes_file) (row-of t nodes row.id row alike there).2.small in
+      subst (λ (k : Kind). IsOfFileLength k row.size) (is_protocol row.kind takes_file) (row-of t nodes row.id row alike there).2.small in
       let few : length t.nodes < 64 = omega (arith, room) in
       let joins = rw (e, f, found) at (keeps-rule t told c none (rw e refl)) in
       record {

@@ -13,15 +13,15 @@ use Rattle.qmp_codec.specs.declared.nodes.InlineFile.{InlineFile}
 use Rattle.qmp_rules.specs.declared.refusal.Refusal.{Refusal}
 use Rattle.qmp_rules.specs.declared.refusal.Refusal.TheVariants.{Aborted}
 use Rattle.qmp_rules.specs.declared.refusal.Refusal.TheVariants as refusal
-use Rattle.qmp_rules.specs.declared.told.Look.{Look}
-use Rattle.qmp_rules.specs.declared.told.Look.TheVariants as look
+use Rattle.qmp_asks.specs.declared.look.Look.{Look}
+use Rattle.qmp_asks.specs.declared.look.Look.TheVariants as look
 use Rattle.qmp_rules.specs.declared.told.Told.{Told}
 use Rattle.qmp_rules.specs.Table.{Table, file_state}
 use Rattle.qmp_rules.specs.Refusals.{or_else}
 use Rattle.qmp_rules.specs.Asks.{first, holds, is_lost, stands_for, told_at}
 use Rattle.qmp_rules.specs.Looks.{is_unopened}
-use Rattle.qmp_rules.specs.CommandAsks.{asks_of}
-use Rattle.qmp_rules.specs.NodeAsks.{add_asks, backing_name, is_read_only}
+use Rattle.qmp_asks.specs.CommandAsks.{asks_of}
+use Rattle.qmp_asks.specs.NodeAsks.{add_asks, backing_name, is_read_only}
 use Rattle.qmp_rules.specs.Edits.{added_edits, edits_of, qcow2_edits, raw_edits}
 use Rattle.qmp_rules.specs.Answers.{answer, answer_by, conflict_after, is_joined, out_of_turn, refusal_of, untold}
 use Rattle.world_parts.specs.Adding.{Adding, IsLookReached, probe}

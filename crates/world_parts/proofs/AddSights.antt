@@ -8,13 +8,13 @@ use Rattle.qmp_rules.specs.declared.refusal.Refusal.{Refusal}
 use Rattle.qmp_rules.specs.declared.refusal.Refusal.TheVariants as refusal
 use Rattle.qmp_rules.specs.declared.rows.FileState.{FileState}
 use Rattle.qmp_rules.specs.declared.rows.FileState.TheVariants.{Made, Formatted, Used}
-use Rattle.qmp_rules.specs.declared.told.Look.{Look}
+use Rattle.qmp_asks.specs.declared.look.Look.{Look}
 use Rattle.qmp_rules.specs.declared.told.Stopped.{Stopped}
 use Rattle.qmp_rules.specs.declared.told.Told.{Told}
 use Rattle.qmp_rules.specs.Table.{file_state}
 use Rattle.qmp_rules.specs.Looks.{is_unopened}
 use Rattle.qmp_rules.specs.Asks.{is_lost, stands_for}
-use Rattle.qmp_rules.specs.NodeAsks.{add_asks}
+use Rattle.qmp_asks.specs.NodeAsks.{add_asks}
 use Rattle.qmp_rules.specs.Answers.{answer, refusal_of}
 use Rattle.blk_history.specs.Fold.{With}
 use Rattle.flat_machine.specs.State.{State, Content, Bytes, Blank, Unknown, content_in}

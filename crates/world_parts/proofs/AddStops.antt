@@ -11,7 +11,7 @@ use Rattle.blk_graph.specs.Refreshed.{refreshed}
 use Rattle.blk_graph.specs.Rule.{first_conflict}
 use Rattle.blk_nodes.specs.Adding.{IsAllowed, IsDenied, IsOverStop}
 use Rattle.blk_nodes.specs.Nodes.{Nodes}
-use Rattle.blk_nodes.specs.Overlays.{HasPlace}
+use Rattle.blk_nodes.specs.Overlays.{HasRoomForNode}
 use Rattle.blk_nodes.specs.declared.stop.AddStop.{AddStop}
 use Rattle.blk_nodes.specs.declared.stop.AddStop.TheVariants.{NameTaken, TooManyNodes, Conflict, Image, BackingNeeded, SizeDiffers, NoMemory}
 
@@ -35,7 +35,7 @@ allowed-denied nodes kind edges pair allowed denied =
 
 -- A node whose name is free, for which there is room and whose edges are allowed is added.
 pub over-added : (nodes : Nodes) (name : List ℕ) (kind : NodeKind) (edges : ℕ → List Edge → List Edge) (result : Result ℕ AddStop) (stop : AddStop)
-    → HasPlace nodes name → IsAllowed nodes kind edges
+    → HasRoomForNode nodes name → IsAllowed nodes kind edges
     → ((result ≡ Err NameTaken) ↔ HasName nodes.graph name)
     → ((result ≡ Err TooManyNodes) ↔ ((length nodes.graph.nodes ≡ 64) × ¬ HasName nodes.graph name))
     → ((pair : Pair) → result ≡ Err (Conflict pair) → IsDenied nodes kind edges pair) → IfErr result IsOverStop → result ≡ Err stop → ⊥

@@ -11,7 +11,7 @@ use Rattle.qmp_rules.specs.Refusals.{refusal_text, refusal_class}
 use Rattle.qmp_rules.specs.Table.{Table}
 use Rattle.qmp_rules.specs.Answers.{Answer, accepted, refused_so, line_refusal, line_answer, answer_for, untold}
 use Rattle.serde_json.specs.Data.{object, no_members}
-use Rattle.world_parts.specs.Saying.{IsPlain, IsSaid}
+use Rattle.world_parts.specs.Saying.{IsPrintable, IsSaid}
 use Rattle.world_parts.proofs.CarryTexts.{id_plain, given_plain, refusal_plain}
 
 -- what two clauses say of a value that is there
@@ -19,7 +19,7 @@ pub both_ok : {A E : Type 0} (r : Result A E) (P Q R : A → Type 0) → ((a : A
 both_ok (Ok a) P Q R f p q = f a p q
 both_ok (Err e) P Q R f p q = p
 
-pub said_given : (given text : List ℕ) (id : Option Data) (d : Data) → id ≡ id_at given → IsPlain 126 d
+pub said_given : (given text : List ℕ) (id : Option Data) (d : Data) → id ≡ id_at given → IsPrintable 126 d
     → (has_float (returned_data id d) ≡ false → text ≡ compact_text (returned_data id d))
     → (depth (returned_data id d) ≤ max_depth → read text ≡ Some (returned_data id d)) → IsSaid given (Ok d) text
 said_given given text id d same plain prints reads =

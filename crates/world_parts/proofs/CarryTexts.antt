@@ -21,7 +21,7 @@ use Rattle.qmp_rules.specs.declared.told.Told.{Told}
 use Rattle.qmp_rules.specs.Table.{Table}
 use Rattle.qmp_rules.specs.Queries.{jobs_data, jobs_items, nodes_data, nodes_items, bitmap_items, bitmap_data}
 use Rattle.qmp_rules.specs.Answers.{returned}
-use Rattle.world_parts.specs.Saying.{IsPlain}
+use Rattle.world_parts.specs.Saying.{IsPrintable}
 
 -- ---- ids
 
@@ -62,7 +62,7 @@ executed d e is = at _ is
     at true found = cc found
     at false found = absurd (let bad : ⊥ = cc found in bad)
 
-pub id_plain : (given : List ℕ) (d : Data) → id_at given ≡ Some d → IsPlain 126 d
+pub id_plain : (given : List ℕ) (d : Data) → id_at given ≡ Some d → IsPrintable 126 d
 unfolding id_at line_in
 id_plain given d is =
     let outer = unless-plain (option_and_then (get (codes "id")) (option_and_then with_execute (read given))) d is in
@@ -98,7 +98,7 @@ nodes-plain t counts (row ∷ rows) =
     let inner = bitmaps-plain row.id t.bitmaps counts in
     (rw (inner.0) rest.0, (let low = rest.1 in let least = inner.1 in omega arith))
 
-pub returned_plain : (t : Table) (told : Told) (c : Cmd) → IsPlain 126 (returned t told c)
+pub returned_plain : (t : Table) (told : Told) (c : Cmd) → IsPrintable 126 (returned t told c)
 unfolding jobs_data nodes_data
 returned_plain t told command.QueryBlockJobs = let is = jobs-plain t t.jobs in record { whole = is.0; low = (let low = is.1 in omega arith) }
 returned_plain t told (command.QueryNamedBlockNodes flat) = let is = nodes-plain t told.dirty t.nodes in record { whole = is.0; low = (let low = is.1 in omega arith) }
@@ -106,10 +106,10 @@ returned_plain t told _ = record { whole = refl; low = omega arith }
 
 -- ---- answers
 
-pub given_plain : (id : Option Data) (d : Data) → ((i : Data) → id ≡ Some i → IsPlain 126 i) → IsPlain 126 d → IsPlain 127 (returned_data id d)
+pub given_plain : (id : Option Data) (d : Data) → ((i : Data) → id ≡ Some i → IsPrintable 126 i) → IsPrintable 126 d → IsPrintable 127 (returned_data id d)
 given_plain None d ids is = record { whole = rw is.whole refl; low = (let low = is.low in omega arith) }
 given_plain (Some i) d ids is = let own = ids i refl in record { whole = rw (own.whole, is.whole) refl; low = (let low = is.low in let least = own.low in omega arith) }
 
-pub refusal_plain : (id : Option Data) (class : Class) (desc : List ℕ) → ((i : Data) → id ≡ Some i → IsPlain 126 i) → IsPlain 127 (refused_data id class desc)
+pub refusal_plain : (id : Option Data) (class : Class) (desc : List ℕ) → ((i : Data) → id ≡ Some i → IsPrintable 126 i) → IsPrintable 127 (refused_data id class desc)
 refusal_plain None class desc ids = record { whole = refl; low = omega arith }
 refusal_plain (Some i) class desc ids = let own = ids i refl in record { whole = rw own.whole refl; low = (let least = own.low in omega arith) }

@@ -10,7 +10,7 @@ use Rattle.qmp_rules.specs.Asks.{id_or}
 use Rattle.qmp_codec.specs.declared.nodes.BlockdevCreate.{BlockdevCreate}
 use Rattle.qmp_codec.specs.declared.nodes.Created.{Created}
 use Rattle.qmp_rules.specs.Edits.{spoiled, create_edits, created_change}
-use Rattle.qmp_rules.specs.Room.{Roomy, HasRoom}
+use Rattle.qmp_rules.specs.Room.{Roomy, HasRoomForChanges}
 use Rattle.qmp_rules.specs.declared.change.Change.TheVariants.{KeepId}
 use Rattle.qmp_rules.specs.Table.{Table}
 use Rattle.blk_nodes.specs.Formatting.{IsFormatAt}
@@ -92,7 +92,7 @@ uncreated t c old now stop.NoMemory formatted back =
     ∙ ap (λ (n : Nodes). let g : Ground = record { store = old.store; nodes = n } in g) (back refl)
 
 -- room for more changes is room for fewer
-pub has_room_less : (more fewer : ℕ) (names : Roomy) → HasRoom more names → fewer ≤ more → HasRoom fewer names
+pub has_room_less : (more fewer : ℕ) (names : Roomy) → HasRoomForChanges more names → fewer ≤ more → HasRoomForChanges fewer names
 has_room_less more fewer names has less = record {
   nodes = omega (arith, has.nodes);
   devices = omega (arith, has.devices);

@@ -22,7 +22,7 @@ use Rattle.flat_machine.specs.Opening.{new_guest}
 use Rattle.flat_machine.specs.Machine.{admitted, finished, past_piece}
 use Rattle.world_parts.specs.declared.row.InFlight.{InFlight}
 use Rattle.world_parts.specs.declared.row.GuestProgress.{GuestProgress}
-use Rattle.world_parts.specs.Progress.{no_log, new_row, guest_in, guests_in, flight_as, flight_in, flight_at, IsPlaced, IsPlacedIn, CanShow, log_with, ArePlaced, AreMarked, IsInStep, owed, owed_by, owed_bytes, owed_bytes_by, done_by, ended_in, answered_by, answered_in, log_of, less, done_at, IsFree, HasRoomFor}
+use Rattle.world_parts.specs.Progress.{no_log, new_row, guest_in, guests_in, flight_as, flight_in, flight_at, IsPlaced, IsPlacedIn, CanShow, log_with, HaveTheirPlaces, AreMarked, KeepsStep, owed, owed_by, owed_bytes, owed_bytes_by, done_by, ended_in, answered_by, answered_in, log_of, less, done_at, IsFree, HasRoomFor}
 use Rattle.world_parts.proofs.Rows.{request-push, request-append, guests-append, guest-append, placed-append, placed-put, placed-at, guests-put, guests-at, marked-put, owed-change, owed-bytes-change, owed-at, owed-bytes-at}
 
 -- what holds of what is there
@@ -52,13 +52,13 @@ pub record PutsRow (log log' : Recorded) (spare spare' : Room) (rows : List Gues
 
 module _ (log log' : Recorded) (spare spare' : Room) (rows : List GuestProgress) (e : Event) (g : ℕ) (old row : GuestProgress) (h : Guest → Guest) (puts : PutsRow log log' spare spare' rows e g old row h) where
   -- the guests after it
-  pub guests-then : ArePlaced log.events rows → guests_in log'.events (set rows g row) ≡ change g h (guests_in log.events rows)
+  pub guests-then : HaveTheirPlaces log.events rows → guests_in log'.events (set rows g row) ≡ change g h (guests_in log.events rows)
   guests-then placed =
       let at : guest_in (log.events ++ e ∷ []) old ≡ guest_in log.events old = guest-append log.events (e ∷ []) old (placed-at log.events rows g old placed puts.there) in
       let stays = guests-append log.events (e ∷ []) rows placed in
       rw (puts.events, guests-put (log.events ++ e ∷ []) rows g old row h puts.there (puts.is ∙ ap h (sym at)), stays) refl
 
-  pub in-step-put : (is_done : Bool) (lines : List ℕ) (capacity : ℕ) → IsInStep log spare rows is_done lines capacity → IsInStep log' spare' (set rows g row) is_done lines capacity
+  pub in-step-put : (is_done : Bool) (lines : List ℕ) (capacity : ℕ) → KeepsStep log spare rows is_done lines capacity → KeepsStep log' spare' (set rows g row) is_done lines capacity
   in-step-put is_done lines capacity was =
       let now = guests-then was.placed in
       let at = guests-at log.events rows g old puts.there in
@@ -184,7 +184,7 @@ puts-piece log log' spare rows g row f outcome got e is ends answers some room t
 -- a line is answered
 pub in-step-answer : (log log' : Recorded) (spare spare' : Room) (rows : List GuestProgress) (is_done : Bool) (lines : List ℕ) (capacity line : ℕ) (e : Event)
     → log' ≡ log_of log e → spare' ≡ less 1 0 spare → 0 < spare.entries → done_by e ≡ None → answered_by e ≡ Some line
-    → IsInStep log spare rows is_done lines capacity → IsInStep log' spare' rows is_done (lines ++ line ∷ []) capacity
+    → KeepsStep log spare rows is_done lines capacity → KeepsStep log' spare' rows is_done (lines ++ line ∷ []) capacity
 in-step-answer log log' spare spare' rows is_done lines capacity line e is spared some ends answers was =
     let room = was.room in
     let bytes = was.bytes in
@@ -206,9 +206,9 @@ pub in-step-done : (log log' : Recorded) (spare spare' : Room) (rows rows' : Lis
     → log' ≡ log_of log (Done actor) → spare' ≡ less 1 0 spare → 0 < spare.entries
     → ((ended : List ℕ) → is_done ≡ has_id 0 ended → is_done' ≡ has_id 0 (ended ++ actor ∷ []))
     → ((ended : List ℕ) → AreMarked ended 1 rows → AreMarked (ended ++ actor ∷ []) 1 rows')
-    → ((es : List Event) → ArePlaced es rows → ArePlaced es rows')
+    → ((es : List Event) → HaveTheirPlaces es rows → HaveTheirPlaces es rows')
     → ((es : List Event) → guests_in es rows' ≡ guests_in es rows)
-    → IsInStep log spare rows is_done lines capacity → IsInStep log' spare' rows' is_done' lines capacity
+    → KeepsStep log spare rows is_done lines capacity → KeepsStep log' spare' rows' is_done' lines capacity
 in-step-done log log' spare spare' rows rows' is_done is_done' lines capacity actor is spared some script marks places same was =
     let room = was.room in
     let bytes = was.bytes in
@@ -248,13 +248,13 @@ is-flying es row (Some f) P is placed holds =
       holds = with-at (flight_in es f) (flight_as f placed.op) P sees holds;
     }
 
-pub flying-row : (es : List Event) (rows : List GuestProgress) (g : ℕ) (row : GuestProgress) (P : Flight → Type 0) → ArePlaced es rows → slice_get rows g ≡ Some row
+pub flying-row : (es : List Event) (rows : List GuestProgress) (g : ℕ) (row : GuestProgress) (P : Flight → Type 0) → HaveTheirPlaces es rows → slice_get rows g ≡ Some row
     → With (flight_at (guests_in es rows) g) P → IsFlying es row P
 flying-row es rows g row P placed there holds =
     let at = guests-at es rows g row there in
     is-flying es row row.flight P refl (placed-at es rows g row placed there) (subst (λ x. With (option_and_then (λ (y : Guest). y.flight) x) P) at holds)
 
-module _ (log : Recorded) (spare : Room) (rows : List GuestProgress) (is_done : Bool) (lines : List ℕ) (capacity : ℕ) (was : IsInStep log spare rows is_done lines capacity) (g : ℕ) (row : GuestProgress) (there : slice_get rows g ≡ Some row) where
+module _ (log : Recorded) (spare : Room) (rows : List GuestProgress) (is_done : Bool) (lines : List ℕ) (capacity : ℕ) (was : KeepsStep log spare rows is_done lines capacity) (g : ℕ) (row : GuestProgress) (there : slice_get rows g ≡ Some row) where
   -- there is room for what it owes
   pub room-owed : (f : Flight) → (guest_in log.events row).flight ≡ Some f → 0 < log.room
   room-owed f sees =
@@ -285,7 +285,7 @@ pub record Flies (es : List Event) (row : GuestProgress) (P : Flight → Type 0)
 flies-at : (es : List Event) (row : GuestProgress) (P : Flight → Type 0) (f g : InFlight) → f ≡ g → Flies es row P f → Flies es row P g
 flies-at es row P f g same flies = subst (Flies es row P) same flies
 
-pub flying-is : (es : List Event) (rows : List GuestProgress) (g : ℕ) (row : GuestProgress) (P : Flight → Type 0) → ArePlaced es rows → slice_get rows g ≡ Some row
+pub flying-is : (es : List Event) (rows : List GuestProgress) (g : ℕ) (row : GuestProgress) (P : Flight → Type 0) → HaveTheirPlaces es rows → slice_get rows g ≡ Some row
     → With (flight_at (guests_in es rows) g) P → (f : InFlight) → row.flight ≡ Some f → Flies es row P f
 flying-is es rows g row P placed there holds f is =
     let found = flying-row es rows g row P placed there holds in
@@ -304,7 +304,7 @@ next-is es rows g row there a sees b is =
 
 -- ---- the beginning
 
-placed-new : (n : ℕ) → ArePlaced [] (replicate n new_row)
+placed-new : (n : ℕ) → HaveTheirPlaces [] (replicate n new_row)
 placed-new zero = tt
 placed-new (suc n) = (tt, placed-new n)
 
@@ -324,7 +324,7 @@ owed-bytes-new : (n : ℕ) → owed_bytes_by (replicate n new_guest) ≡ 0
 owed-bytes-new zero = refl
 owed-bytes-new (suc n) = let rest = owed-bytes-new n in omega arith
 
-pub in-step-new : (n : ℕ) (room : Room) (capacity : ℕ) → room.entries ≤ capacity → IsInStep (no_log room) room (replicate n new_row) false [] capacity
+pub in-step-new : (n : ℕ) (room : Room) (capacity : ℕ) → room.entries ≤ capacity → KeepsStep (no_log room) room (replicate n new_row) false [] capacity
 in-step-new n room capacity fits =
     let none = owed-new n in
     let no_bytes = owed-bytes-new n in

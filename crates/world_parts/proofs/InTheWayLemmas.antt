@@ -15,12 +15,12 @@ use Rattle.blk_history.specs.declared.event.Event.{Event}
 use Rattle.world_parts.specs.declared.row.GuestProgress.{GuestProgress}
 use Rattle.world_parts.specs.declared.row.InFlight.{InFlight}
 use Rattle.world_parts.specs.Draining.{IsOneOf, request_in}
-use Rattle.world_parts.specs.Progress.{ArePlaced, IsPlacedIn, flight_in, guests_in}
+use Rattle.world_parts.specs.Progress.{HaveTheirPlaces, IsPlacedIn, flight_in, guests_in}
 use Rattle.world_parts.proofs.Rows.{guests-at, placed-at}
 
 -- ---- rows
 
-pub request-is : (es : List Event) (rows : List GuestProgress) (g : ℕ) (row : GuestProgress) → slice_get rows g ≡ Some row → ArePlaced es rows
+pub request-is : (es : List Event) (rows : List GuestProgress) (g : ℕ) (row : GuestProgress) → slice_get rows g ≡ Some row → HaveTheirPlaces es rows
     → request_in (slice_get (guests_in es rows) g) ≡ option_map (λ (f : InFlight). row.done) row.flight
 request-is es rows g row there placed =
     ap request_in (guests-at es rows g row there) ∙ by_flight row.flight (placed-at es rows g row placed there)

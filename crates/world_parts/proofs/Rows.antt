@@ -9,7 +9,7 @@ use Rattle.blk_history.specs.declared.event.Event.TheVariants.{Admit}
 use Rattle.flat_machine.specs.State.{Guest}
 use Rattle.world_parts.specs.declared.row.InFlight.{InFlight}
 use Rattle.world_parts.specs.declared.row.GuestProgress.{GuestProgress}
-use Rattle.world_parts.specs.Progress.{request_at, flight_in, guest_in, guests_in, IsPlacedIn, ArePlaced, AreMarked, owed, owed_by, owed_bytes, owed_bytes_by}
+use Rattle.world_parts.specs.Progress.{request_at, flight_in, guest_in, guests_in, IsPlacedIn, HaveTheirPlaces, AreMarked, owed, owed_by, owed_bytes, owed_bytes_by}
 
 -- ---- an entry that is there stays where it is
 
@@ -39,7 +39,7 @@ guest-append es more row is =
     let e = flight-append es more row.done row.flight is in
     rw e refl
 
-pub guests-append : (es more : List Event) (rows : List GuestProgress) → ArePlaced es rows → guests_in (es ++ more) rows ≡ guests_in es rows
+pub guests-append : (es more : List Event) (rows : List GuestProgress) → HaveTheirPlaces es rows → guests_in (es ++ more) rows ≡ guests_in es rows
 guests-append es more [] all = refl
 guests-append es more (row ∷ rows) all =
     let head = guest-append es more row all.0 in
@@ -56,18 +56,18 @@ placed-in-append es more done (Some f) is = record {
   numbered = is.numbered;
 }
 
-pub placed-append : (es more : List Event) (rows : List GuestProgress) → ArePlaced es rows → ArePlaced (es ++ more) rows
+pub placed-append : (es more : List Event) (rows : List GuestProgress) → HaveTheirPlaces es rows → HaveTheirPlaces (es ++ more) rows
 placed-append es more [] all = tt
 placed-append es more (row ∷ rows) all = (placed-in-append es more row.done row.flight all.0, placed-append es more rows all.1)
 
 -- ---- one guest's row changed
 
-pub placed-put : (es : List Event) (rows : List GuestProgress) (g : ℕ) (row : GuestProgress) → ArePlaced es rows → IsPlacedIn es row.done row.flight → ArePlaced es (set rows g row)
+pub placed-put : (es : List Event) (rows : List GuestProgress) (g : ℕ) (row : GuestProgress) → HaveTheirPlaces es rows → IsPlacedIn es row.done row.flight → HaveTheirPlaces es (set rows g row)
 placed-put es [] g row all one = tt
 placed-put es (r ∷ rows) zero row all one = (one, all.1)
 placed-put es (r ∷ rows) (suc g) row all one = (all.0, placed-put es rows g row all.1 one)
 
-pub placed-at : (es : List Event) (rows : List GuestProgress) (g : ℕ) (row : GuestProgress) → ArePlaced es rows → slice_get rows g ≡ Some row → IsPlacedIn es row.done row.flight
+pub placed-at : (es : List Event) (rows : List GuestProgress) (g : ℕ) (row : GuestProgress) → HaveTheirPlaces es rows → slice_get rows g ≡ Some row → IsPlacedIn es row.done row.flight
 placed-at es [] g row all is = absurd (let bad : ⊥ = cc is in bad)
 placed-at es (r ∷ rows) zero row all is = let same : r ≡ row = cc is in rw (← same) all.0
 placed-at es (r ∷ rows) (suc g) row all is = placed-at es rows g row all.1 is

@@ -14,7 +14,7 @@ use Rattle.q2_image.specs.declared.stop.ImageStop.{ImageStop}
 use Rattle.q2_image.specs.declared.stop.ImageStop.TheVariants as stop
 use Rattle.blk_nodes.specs.Adding.{with_device, with_node}
 use Rattle.blk_nodes.specs.Nodes.{DeviceState, Nodes, device_in}
-use Rattle.blk_nodes.specs.Overlays.{IsOpened, IsOpenedOn, IsUnopened as IsUnopenedAt, IsUnopenedOn}
+use Rattle.blk_nodes.specs.Overlays.{IsOpened, IsOpenedOn, IsUnopened, IsUnopenedOn}
 use Rattle.blk_nodes.specs.declared.row.Driver.TheVariants as drivers
 use Rattle.qmp_codec.specs.Commands.{Cmd}
 use Rattle.qmp_codec.specs.declared.command.Command.TheVariants as command
@@ -29,8 +29,8 @@ use Rattle.qmp_rules.specs.Looks.{ImageSight, file_stop, image_stop, is_free_fil
 use Rattle.qmp_rules.specs.Asks.{file_node}
 use Rattle.qmp_rules.specs.Table.{Table}
 use Rattle.qmp_rules.specs.declared.rows.NodeRecord.{NodeRecord}
-use Rattle.qmp_rules.specs.declared.told.Look.{Look}
-use Rattle.qmp_rules.specs.declared.told.Look.TheVariants as look
+use Rattle.qmp_asks.specs.declared.look.Look.{Look}
+use Rattle.qmp_asks.specs.declared.look.Look.TheVariants as look
 use Rattle.qmp_rules.specs.declared.told.Stopped.{Stopped}
 use Rattle.qmp_rules.specs.declared.told.Told.{Told}
 use Rattle.qmp_rules.specs.declared.refusal.FileFault.TheVariants.{Absent}
@@ -70,8 +70,15 @@ with_file nodes id name read_only device = with_device
     (record { driver = drivers.File; size = device.size; is_read_only = read_only }))
     (of_node id device)
 
+-- the record of a device that is opened now
 abbrev pub opening_of : List ℕ → Taken → Opened
-opening_of name device = record { name = name; faults = device.faults; returned = None }
+opening_of name device = record {
+  name = name;
+  size = device.size;
+  capacity = device.capacity;
+  faults = device.faults;
+  returned = None;
+}
 
 -- the device of that file is out, under the next number
 pub record IsTakenOut (old new : StoreInRun) (name : List ℕ) (device : Taken) : Type 0 where
@@ -94,8 +101,8 @@ pub record HasOpeningFailed (old new : StoreInRun) (name : List ℕ) (why : Refu
   pub fits : new.faults ≤ 18446744073709551615
   pub kept : new ≡ record old { faults = new.faults }
 
-abbrev pub IsUnopened : StoreInRun → StoreInRun → List ℕ → Refusal → Type 0
-IsUnopened old new name why = IsAbsent old new name why ⊎ HasOpeningFailed old new name why
+abbrev pub IsFileUnopened : StoreInRun → StoreInRun → List ℕ → Refusal → Type 0
+IsFileUnopened old new name why = IsAbsent old new name why ⊎ HasOpeningFailed old new name why
 
 -- ---- images
 
@@ -147,7 +154,7 @@ pub record TellsLong (filename : List ℕ) (first now : Taken) (told : Told) : T
   pub kept : now ≡ first
 
 -- of the image in it, or why it isn't open
-pub record TellsImage (t : Table) (node filename : List ℕ) (c : AddQcow2 (List ℕ))
+pub record TellsAddedImage (t : Table) (node filename : List ℕ) (c : AddQcow2 (List ℕ))
     (first now : Taken) (image : Known) (told : Told) : Type 0 where
   pub on : IsOpenOn first now image
   pub fits : file_stop filename first.size ≡ None
@@ -164,20 +171,20 @@ pub record TellsRefusal (filename : List ℕ) (first now : Taken) (told : Told) 
 abbrev pub TellsInside : Table → List ℕ → List ℕ → AddQcow2 (List ℕ) → Taken → Taken
     → Option Known → Told → Type 0
 TellsInside t node filename c first now (Some image) told =
-    TellsImage t node filename c first now image told
+    TellsAddedImage t node filename c first now image told
 TellsInside t node filename c first now None told =
     TellsLong filename first now told ⊎ TellsRefusal filename first now told
 
 -- by the driver of the node that is added; others open no file
-abbrev pub Tells : Table → List ℕ → List ℕ → Added (List ℕ) → Taken → Taken → Option Known → Told
+abbrev pub TellsAddition : Table → List ℕ → List ℕ → Added (List ℕ) → Taken → Taken → Option Known → Told
     → Type 0
-Tells t node filename (added.File own) first now image told =
+TellsAddition t node filename (added.File own) first now image told =
     TellsLength (file_stop filename first.size) first now image told
-Tells t node filename (added.Raw raw) first now image told =
+TellsAddition t node filename (added.Raw raw) first now image told =
     TellsLength (raw_stop filename raw first.size) first now image told
-Tells t node filename (added.Qcow2 c) first now image told =
+TellsAddition t node filename (added.Qcow2 c) first now image told =
     TellsInside t node filename c first now image told
-Tells t node filename other first now image told = TellsLength None first now image told
+TellsAddition t node filename other first now image told = TellsLength None first now image told
 
 -- ---- looks that are reached
 
@@ -223,7 +230,7 @@ look_in_vain what cause = look.File
 
 pub record LooksInVain (at : Opens) (old new : StoreInRun) (told : Told) : Type 0 where
   pub why : Refusal
-  pub cause : IsUnopened old new at.filename why
+  pub cause : IsFileUnopened old new at.filename why
   pub is : told
       ≡ told_as None None (Some (record { look = look_in_vain at.what why; refusal = why }))
 
@@ -232,7 +239,7 @@ pub record LooksInside (t : Table) (c : Adding) (filename : List ℕ) (old new :
     (now : Taken) (image : Option Known) (told : Told) : Type 0 where
   pub first : Taken
   pub out : IsTakenOut old new filename first
-  pub tells : Tells t c.node_name filename c.driver first now image told
+  pub tells : TellsAddition t c.node_name filename c.driver first now image told
 
 abbrev pub LooksAtFile : Table → Adding → Opens → StoreInRun → StoreInRun → Option Taken
     → Option Known → Told → Type 0
@@ -264,8 +271,8 @@ pub record IsBackAgain (old new : StoreInRun) (filename : List ℕ) : Type 0 whe
   pub out : IsTakenOut old between filename first
   pub is : new ≡ put_back filename first between
 
-abbrev pub IsBack : StoreInRun → StoreInRun → List ℕ → Type 0
-IsBack old new filename = (new ≡ old) ⊎ IsBackAgain old new filename
+abbrev pub IsBackIfOut : StoreInRun → StoreInRun → List ℕ → Type 0
+IsBackIfOut old new filename = (new ≡ old) ⊎ IsBackAgain old new filename
 
 -- ---- a look at a node
 
@@ -296,7 +303,7 @@ pub record LooksBadly (t : Table) (c : Adding) (file : List ℕ) (old new : Node
   pub memory : cause ≢ stop.NoMemory
   pub fits : CountFits cause
   pub numbered : device.number.0 < 2 ^ 32
-  pub stopped : IsUnopenedAt old.devices new.devices node cause
+  pub stopped : IsUnopened old.devices new.devices node cause
   pub is : told ≡ told_as None None
       (Some (record { look = look.Image; refusal = unopened device.number cause }))
 

@@ -19,7 +19,7 @@ use Rattle.qmp_rules.specs.declared.rows.Device.{Device}
 use Rattle.qmp_rules.specs.declared.rows.NodeRecord.{NodeRecord}
 use Rattle.qmp_rules.specs.Table.{Table, node_at, device_at}
 use Rattle.qmp_rules.specs.Chains.{disk_node}
-use Rattle.qmp_rules.specs.Values.{most_length}
+use Rattle.qmp_asks.specs.Values.{most_length}
 use Rattle.flat_machine.specs.Agreement.{HasDisk}
 use Rattle.flat_machine.specs.Bitmaps.{AreBitmapsOf}
 use Rattle.flat_machine.specs.Legal.{IsForbidden}
@@ -46,9 +46,9 @@ offset_of (Raw part) = part.offset
 offset_of other = 0
 
 -- a `file` node has no more bytes than one may have
-abbrev pub IsSmall : Kind → ℕ → Type 0
-IsSmall Protocol size = size ≤ most_length
-IsSmall kind size = Unit {0}
+abbrev pub IsOfFileLength : Kind → ℕ → Type 0
+IsOfFileLength Protocol size = size ≤ most_length
+IsOfFileLength kind size = Unit {0}
 
 -- a node's row says what the node is
 pub record IsRowOf (record' : NodeRecord) (row : Row) : Type 0 where
@@ -56,7 +56,7 @@ pub record IsRowOf (record' : NodeRecord) (row : Row) : Type 0 where
   pub size : record'.size ≡ row.size
   pub access : record'.read_only ≡ row.is_read_only
   pub place : record'.offset ≡ offset_of row.driver
-  pub small : IsSmall record'.kind record'.size
+  pub small : IsOfFileLength record'.kind record'.size
 
 abbrev pub AreAlike : Option NodeRecord → Option Row → Type 0
 AreAlike None None = Unit {0}
@@ -104,6 +104,7 @@ pub record IsOut (t : Table) (opened : List Opened) (device : DeviceState) : Typ
   pub there : slice_get opened device.number.0 ≡ Some opening
   pub out : opening.returned ≡ None
   pub named : filename_of t device.node ≡ Some opening.name
+  pub capacity : device.capacity ≡ opening.capacity
   pub faults : opening.faults ≤ device.faults
 
 -- no file is out twice
@@ -146,7 +147,7 @@ pub record IsCoherent (t : Table) (nodes : Nodes) (opened : List Opened)
 
 -- ---- all of it
 
-pub record IsWhole (w : Face) : Type 0 where
+pub record IsWholeWorld (w : Face) : Type 0 where
   pub coherent : IsCoherent w.table w.nodes w.opened w.progress
   pub tell : DevicesTell w.files w.nodes.devices
   pub counted : w.first_faults ≤ w.faults

@@ -14,7 +14,7 @@ use Rattle.qmp_codec.specs.declared.nodes.Created.{Created}
 use Rattle.qmp_codec.specs.declared.nodes.Created.TheVariants as created
 use Rattle.qmp_rules.specs.Asks.{id_or}
 use Rattle.qmp_rules.specs.Table.{Table, id_named}
-use Rattle.qmp_rules.specs.Values.{amount_or}
+use Rattle.qmp_asks.specs.Values.{amount_or}
 use Rattle.qmp_rules.specs.declared.judge.PrepareStop.{PrepareStop}
 use Rattle.qmp_rules.specs.declared.judge.PrepareStop.TheVariants.{Refused, NoMemory}
 use Rattle.qmp_rules.specs.declared.refusal.Refusal.{Refusal}
@@ -106,7 +106,7 @@ HasCreated t (created.Qcow2 c) old now =
 HasCreated t created.Unknown old now = ⊥
 
 -- a call of it failed, for this
-pub record HasStopped (node : ℕ) (old now : Ground) (image : Creation) (cause : Refusal) : Type 0
+pub record HasFormatFailed (node : ℕ) (old now : Ground) (image : Creation) (cause : Refusal) : Type 0
   where
     pub why : FormatStop
     pub formatted : HasFormatted node old now image (Err why)
@@ -116,7 +116,7 @@ abbrev pub IsFailed : Table → Created (List ℕ) → Ground → Ground → Ref
 IsFailed t (created.File c) old now cause =
     (now.nodes ≡ old.nodes) × HasMakingFailed c.filename old.store now.store cause
 IsFailed t (created.Qcow2 c) old now cause =
-    HasStopped (id_or 0 t (Some c.file)) old now (creation_for c) cause
+    HasFormatFailed (id_or 0 t (Some c.file)) old now (creation_for c) cause
 IsFailed t created.Unknown old now cause = ⊥
 
 -- why it was not carried out

@@ -11,7 +11,7 @@ use Rattle.blk_nodes.specs.Adding.{IsAllowed, file_edge, kind_with, raw_row}
 use Rattle.blk_nodes.specs.Contents.{below, bytes_of, disk_of, told}
 use Rattle.blk_nodes.specs.Joined.{IsFile, IsJoined}
 use Rattle.blk_nodes.specs.Nodes.{Nodes, size_of}
-use Rattle.blk_nodes.specs.Overlays.{Asked, HasPlace, IsOpened, backing_node, backing_size, backing_stop, copying_row, edges_for, qcow2_row, with_children}
+use Rattle.blk_nodes.specs.Overlays.{Asked, HasRoomForNode, IsOpened, backing_node, backing_size, backing_stop, copying_row, edges_for, qcow2_row, with_children}
 use Rattle.blk_nodes.specs.declared.backing.Backing.{Backing}
 use Rattle.blk_nodes.specs.declared.backing.Backing.TheVariants.{Unsaid, Null, Node}
 use Rattle.blk_nodes.specs.declared.row.Row.{Row}
@@ -24,10 +24,10 @@ use Rattle.qmp_codec.specs.declared.nodes.Backing.TheVariants as said
 use Rattle.qmp_codec.specs.declared.nodes.FileRef.{FileRef}
 use Rattle.qmp_codec.specs.declared.nodes.FileRef.TheVariants as file_ref
 use Rattle.qmp_codec.specs.declared.nodes.InlineFile.{InlineFile}
-use Rattle.qmp_rules.specs.Naming.{inline_name}
-use Rattle.qmp_rules.specs.NodeAsks.{is_read_only}
+use Rattle.qmp_asks.specs.Naming.{inline_name}
+use Rattle.qmp_asks.specs.NodeAsks.{is_read_only}
 use Rattle.qmp_rules.specs.Table.{Table, id_named, node_named}
-use Rattle.qmp_rules.specs.Values.{part_offset, part_size}
+use Rattle.qmp_asks.specs.Values.{part_offset, part_size}
 use Rattle.qmp_rules.specs.declared.rows.NodeRecord.{NodeRecord}
 use Rattle.world_parts.specs.Adding.{Adding, Taken, with_file}
 
@@ -60,8 +60,8 @@ HasPart name read_only file part old new id =
     HasOver name (raw_row part read_only) file None
     (raw_disk part.start part.len (disk_of old file)) old new id
 
-abbrev pub HasImage : Asked → Known → Nodes → Nodes → ℕ → Type 0
-HasImage asked image old new id =
+abbrev pub HasImageNode : Asked → Known → Nodes → Nodes → ℕ → Type 0
+HasImageNode asked image old new id =
     HasOver asked.name (qcow2_row image asked.is_read_only) asked.file (backing_node asked.backing)
     (image_disk (bytes_of old asked.file) (below (disk_of old) (backing_node asked.backing)))
     old new id
@@ -78,7 +78,7 @@ pub record CanPutPart (nodes : Nodes) (name : List ℕ) (read_only : Bool) (file
   pub is_file : IsFile nodes file
   pub within : end_of part ≤ size_of nodes file
   pub fits : end_of part ≤ 9223372036854775808
-  pub place : HasPlace nodes name
+  pub place : HasRoomForNode nodes name
   pub allowed : IsAllowed nodes (kind_with kinds.Raw read_only)
       (λ id. with_edge (file_edge id file))
 
@@ -87,13 +87,13 @@ pub record CanPutImage (nodes : Nodes) (asked : Asked) (image : Known) : Type 0 
   pub backed : IfSome (backing_node asked.backing) (HasNode nodes.graph)
   pub opened : IsOpened nodes.devices asked.file image
   pub fits : backing_stop image asked.backing (backing_size nodes asked.backing) ≡ None
-  pub place : HasPlace nodes asked.name
+  pub place : HasRoomForNode nodes asked.name
   pub allowed : IsAllowed nodes (kind_with kinds.Qcow2 asked.is_read_only) (edges_for asked)
 
 pub record CanPutFilter (nodes : Nodes) (name : List ℕ) (read_only : Bool) (child : ℕ) : Type 0
   where
     pub is_node : HasNode nodes.graph child
-    pub place : HasPlace nodes name
+    pub place : HasRoomForNode nodes name
     pub allowed : IsAllowed nodes (kind_with kinds.CopyOnRead read_only)
         (λ id. with_edge (file_edge id child))
 
@@ -133,7 +133,7 @@ HasInline c file device old new id =
 -- over a device, and then the node over that
 pub record CanJoin (c : Adding) (file : InlineFile (List ℕ)) (device : Taken) (nodes : Nodes)
     (Next : Nodes → ℕ → Type 0) : Type 0 where
-  pub place : HasPlace nodes (inline_name c.node_name file.node_name)
+  pub place : HasRoomForNode nodes (inline_name c.node_name file.node_name)
   pub next : (between : Nodes) (node : ℕ) → HasInline c file device nodes between node
       → Next between node
 
@@ -163,7 +163,7 @@ CanAddImage t c qcow2 (file_ref.Inline file) (Some device) (Some image) nodes =
 CanAddImage t c qcow2 file out image nodes = ⊥
 
 abbrev pub CanAddBy : Table → Adding → Added (List ℕ) → Option Taken → Option Known → Nodes → Type 0
-CanAddBy t c (added.File filename) (Some device) image nodes = HasPlace nodes c.node_name
+CanAddBy t c (added.File filename) (Some device) image nodes = HasRoomForNode nodes c.node_name
 CanAddBy t c (added.Raw raw) out image nodes = CanAddPart t c raw raw.file out nodes
 CanAddBy t c (added.Qcow2 qcow2) out image nodes =
     CanAddImage t c qcow2 qcow2.file out image nodes
@@ -205,10 +205,10 @@ HasAddedPart t c raw file out old new = ⊥
 abbrev pub HasAddedImage : Table → Adding → AddQcow2 (List ℕ) → FileRef (List ℕ) → Option Taken
     → Option Known → Nodes → Nodes → Type 0
 HasAddedImage t c qcow2 (file_ref.Name name) None (Some image) old new =
-    HasJoinedAt t name (λ row node. HasImage (asked_for t c qcow2 row.id) image old new node)
+    HasJoinedAt t name (λ row node. HasImageNode (asked_for t c qcow2 row.id) image old new node)
 HasAddedImage t c qcow2 (file_ref.Inline file) (Some device) (Some image) old new =
     HasJoined c file device old new
-    (λ now under node. HasImage (asked_for t c qcow2 under) image now new node)
+    (λ now under node. HasImageNode (asked_for t c qcow2 under) image now new node)
 HasAddedImage t c qcow2 file out image old new = ⊥
 
 abbrev pub HasAddedFile : Adding → Option Taken → Nodes → Nodes → Type 0

@@ -23,9 +23,9 @@ use Rattle.qmp_rules.specs.Table.{Table}
 use Rattle.qmp_rules.specs.declared.refusal.Refusal.{Refusal}
 use Rattle.qmp_rules.specs.declared.refusal.Refusal.TheVariants.{Aborted}
 use Rattle.qmp_rules.specs.declared.rows.NodeRecord.{NodeRecord}
-use Rattle.qmp_rules.specs.declared.told.Look.TheVariants as look
+use Rattle.qmp_asks.specs.declared.look.Look.TheVariants as look
 use Rattle.qmp_rules.specs.declared.told.Told.{Told}
-use Rattle.world_parts.specs.Adding.{Adding, CountFits, IsBack, IsLookReached, Looks, LooksUnder, Opens, Taken, opens, probe, unopened}
+use Rattle.world_parts.specs.Adding.{Adding, CountFits, IsBackIfOut, IsLookReached, Looks, LooksUnder, Opens, Taken, opens, probe, unopened}
 use Rattle.world_parts.specs.Stores.{StoreInRun}
 
 -- a store, and the nodes over its files
@@ -62,8 +62,8 @@ pub record HasCalled (old new : Nodes) : Type 0 where
   pub disks : (other : ℕ) → disk_of new other ≡ disk_of old other
 
 -- a `file` node of the table is one over a device
-abbrev pub HaveFiles : Table → Nodes → Type 0
-HaveFiles t nodes =
+abbrev pub HaveFileNodes : Table → Nodes → Type 0
+HaveFileNodes t nodes =
     (name : List ℕ) (row : NodeRecord) → file_node t name ≡ Some row → IsFile nodes row.id
 
 -- why the image in a `file` node isn't opened
@@ -133,7 +133,7 @@ HasLooked t c old new out image told = LooksBy t c c.driver old new out image to
 -- a file that was opened is back, and no read failed
 abbrev pub StoreIsBack : Option Opens → StoreInRun → StoreInRun → Type 0
 StoreIsBack None old new = new ≡ old
-StoreIsBack (Some at) old new = IsBack old new at.filename
+StoreIsBack (Some at) old new = IsBackIfOut old new at.filename
 
 pub record IsLookedBack (driver : Added (List ℕ)) (old new : Site) : Type 0 where
   pub store : StoreIsBack (opens driver) old.store new.store

@@ -101,9 +101,9 @@ abbrev pub IsPlacedIn : List Event → ℕ → Option InFlight → Type 0
 IsPlacedIn events done None = Unit {0}
 IsPlacedIn events done (Some f) = IsPlaced events done f
 
-abbrev pub ArePlaced : List Event → List GuestProgress → Type 0
-ArePlaced events [] = Unit {0}
-ArePlaced events (row ∷ rows) = IsPlacedIn events row.done row.flight × ArePlaced events rows
+abbrev pub HaveTheirPlaces : List Event → List GuestProgress → Type 0
+HaveTheirPlaces events [] = Unit {0}
+HaveTheirPlaces events (row ∷ rows) = IsPlacedIn events row.done row.flight × HaveTheirPlaces events rows
 
 -- rows say whether their guests are done; the first of them has this number as an actor
 abbrev pub AreMarked : List ℕ → ℕ → List GuestProgress → Type 0
@@ -111,9 +111,9 @@ AreMarked ended actor [] = Unit {0}
 AreMarked ended actor (row ∷ rows) =
     (row.is_done ≡ has_id actor ended) × AreMarked ended (actor + 1) rows
 
-pub record IsInStep (log : Recorded) (spare : Room) (rows : List GuestProgress)
+pub record KeepsStep (log : Recorded) (spare : Room) (rows : List GuestProgress)
     (is_done : Bool) (lines : List ℕ) (capacity : ℕ) : Type 0 where
-  pub placed : ArePlaced log.events rows
+  pub placed : HaveTheirPlaces log.events rows
   pub script : is_done ≡ has_id 0 (ended_in log.events)
   pub guests : AreMarked (ended_in log.events) 1 rows
   pub answered : lines ≡ answered_in log.events

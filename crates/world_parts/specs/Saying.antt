@@ -19,7 +19,7 @@ abbrev pub given_line : ℕ → List ℕ → Given
 given_line number text = record { number = number; text = text }
 
 -- a value of integers alone, so deep at most
-pub record IsPlain (most : ℕ) (d : Data) : Type 0 where
+pub record IsPrintable (most : ℕ) (d : Data) : Type 0 where
   pub whole : has_float d ≡ false
   pub low : depth d ≤ most
 

@@ -8,8 +8,8 @@ use Rattle.qmp_codec.specs.declared.command.Command.TheVariants as command
 use Rattle.qmp_codec.specs.declared.nodes.Added.{Added}
 use Rattle.qmp_rules.specs.Answers.{command_edits, refusal_of, returned}
 use Rattle.qmp_rules.specs.Changes.{all_changed}
-use Rattle.qmp_rules.specs.Fitting.{AllFit}
-use Rattle.qmp_rules.specs.Room.{HasRoom, Roomy}
+use Rattle.qmp_rules.specs.Fitting.{AllChangesFit}
+use Rattle.qmp_rules.specs.Room.{HasRoomForChanges, Roomy}
 use Rattle.qmp_rules.specs.Table.{Table}
 use Rattle.qmp_rules.specs.declared.refusal.Refusal.{Refusal}
 use Rattle.qmp_rules.specs.declared.told.Told.{Told}
@@ -44,9 +44,9 @@ abbrev pub opened_name : Added (List ℕ) → List ℕ
 opened_name driver = unwrap_or (option_map (λ at. at.filename) (opens driver)) []
 
 -- a device that is out for the command
-abbrev pub IsOutFor : Added (List ℕ) → Option Taken → StoreInRun → Type 0
-IsOutFor driver None store = Unit {0}
-IsOutFor driver (Some device) store = IsTrue (is_out (opened_name driver) store.opened)
+abbrev pub IsOutForAddition : Added (List ℕ) → Option Taken → StoreInRun → Type 0
+IsOutForAddition driver None store = Unit {0}
+IsOutForAddition driver (Some device) store = IsTrue (is_out (opened_name driver) store.opened)
 
 -- the store once it is back, where there is one
 abbrev pub back_if : Added (List ℕ) → Option Taken → StoreInRun → StoreInRun
@@ -62,7 +62,7 @@ pub record IsStagedNo (t : Table) (given : List ℕ) (told : Told) (c : Cmd) (te
     pub is : refusal_of t told c ≡ Some cause
     pub said : IsSaid given (Err cause) text
 
-pub record IsAccepted (t : Table) (given : List ℕ) (told : Told) (c : Cmd) (text : List ℕ) : Type 0
+pub record IsCommandAccepted (t : Table) (given : List ℕ) (told : Told) (c : Cmd) (text : List ℕ) : Type 0
   where
     pub none : refusal_of t told c ≡ None
     pub said : IsSaid given (Ok (returned t told c)) text
@@ -72,9 +72,9 @@ abbrev pub IsStaged : Roomy → List ℕ → Told → Cmd → Staged → Type 0
 IsStaged names given told c (staged.Refused text) =
     IsStagedNo names.table given told c (string_bytes text)
 IsStaged names given told c (staged.Accepted edits text) =
-    IsAccepted names.table given told c (string_bytes text)
-    × (edits ≡ command_edits names.table told c) × HasRoom (length edits) names
-    × AllFit names.table edits
+    IsCommandAccepted names.table given told c (string_bytes text)
+    × (edits ≡ command_edits names.table told c) × HasRoomForChanges (length edits) names
+    × AllChangesFit names.table edits
 
 -- ---- the whole
 
@@ -94,14 +94,14 @@ pub record IsRefusedSo (t : Table) (given : List ℕ) (c : Adding) (told : Told)
 -- or its nodes were added
 pub record IsAddedSo (t : Table) (given : List ℕ) (c : Adding) (told : Told) (out : Option Taken)
     (image : Option Known) (between new : Site) (now : Table) (text : List ℕ) : Type 0 where
-  pub accepted : IsAccepted t given told (command.BlockdevAdd c) text
+  pub accepted : IsCommandAccepted t given told (command.BlockdevAdd c) text
   pub added : HasAdded t c out image between.nodes new.nodes
   pub store : new.store ≡ between.store
   pub table : now ≡ all_changed t (command_edits t told (command.BlockdevAdd c))
 
-abbrev pub HasEnded : Table → List ℕ → Adding → Told → Option Taken → Option Known → Site → Site
+abbrev pub HasAdditionEnded : Table → List ℕ → Adding → Told → Option Taken → Option Known → Site → Site
     → Table → List ℕ → Type 0
-HasEnded t given c told out image between new now text =
+HasAdditionEnded t given c told out image between new now text =
     IsRefusedSo t given c told out between new now text
     ⊎ IsAddedSo t given c told out image between new now text
 
@@ -113,7 +113,7 @@ pub record IsAdditionOf (t : Table) (given : List ℕ) (c : Adding) (old new : S
   pub told : Told
   pub looked : HasLooked t c old between out image told
   pub joined : IsJoined between.nodes
-  pub ends : HasEnded t given c told out image between new now text
+  pub ends : HasAdditionEnded t given c told out image between new now text
 
 -- for want of memory all is back
 pub record IsUnadded (t : Table) (c : Adding) (old new : Site) : Type 0 where

@@ -11,7 +11,7 @@ use Rattle.blk_nodes.specs.Nodes.{no_nodes}
 use Rattle.qmp_rules.specs.Table.{Table, device_at, opening_table}
 use Rattle.flat_machine.specs.declared.opening.Opening.{Opening}
 use Rattle.flat_machine.specs.State.{Guest, disk_of_guest, size_of}
-use Rattle.flat_machine.specs.Legal.{IsJudged, CanAdmit, IsRefusedFor}
+use Rattle.flat_machine.specs.Legal.{IsNextJudged, CanAdmit, IsRefusedFor}
 use Rattle.flat_machine.specs.Marks.{after_reply, is_held, none_drained}
 use Rattle.world_parts.specs.declared.admission.Admission.{Admission}
 use Rattle.world_parts.specs.declared.admission.Admission.TheVariants.{Admitted, Refused as NotAdmitted, Held, Away}
@@ -86,9 +86,9 @@ after_admission w g op (Away back) = w
 -- its span is judged, and then whether the guest may write.
 abbrev pub IsAnswered : Face → ℕ → Op → Admission → Type 0
 IsAnswered w g op (Admitted r) =
-    IsJudged (seen_state w) g r (CanAdmit op) × (is_held (seen_state w) w.drains g ≡ false)
+    IsNextJudged (seen_state w) g r (CanAdmit op) × (is_held (seen_state w) w.drains g ≡ false)
 IsAnswered w g op (NotAdmitted why) =
-    IsJudged (seen_state w) g (done_at w.progress.guests g)
+    IsNextJudged (seen_state w) g (done_at w.progress.guests g)
     (λ access size. IsRefusedFor op access size why)
     × (is_held (seen_state w) w.drains g ≡ false)
 IsAnswered w g op (Held back) =
@@ -105,6 +105,6 @@ abbrev pub after_end : Face → ℕ → Face
 after_end w actor = onward w (with_entry (Done actor))
 
 -- the actor has no request in flight: the script never has
-abbrev pub IsIdle : List Guest → ℕ → Type 0
-IsIdle guests zero = Unit {0}
-IsIdle guests (suc g) = With (slice_get guests g) (λ row. row.flight ≡ None)
+abbrev pub IsActorIdle : List Guest → ℕ → Type 0
+IsActorIdle guests zero = Unit {0}
+IsActorIdle guests (suc g) = With (slice_get guests g) (λ row. row.flight ≡ None)

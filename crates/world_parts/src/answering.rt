@@ -3,7 +3,7 @@ ghost use Rattle.std.specs.Prelude.{◌≡◌, Ok, Err, IfOk, option_map, string
 ghost use Rattle.serde_json.specs.View.{view};
 ghost use Rattle.qmp_codec.specs.Commands.{seen_command};
 ghost use Rattle.qmp_rules.specs.Answers.{returned};
-ghost use Rattle.world_parts.specs.Saying.{IsPlain, IsSaid};
+ghost use Rattle.world_parts.specs.Saying.{IsPrintable, IsSaid};
 
 use blk_base::{NoMemory, Text};
 use qmp_codec::{Command, Reply, print_reply, read_id};
@@ -13,7 +13,7 @@ use std::alloc::Global;
 
 /// The text of an answer that gives a value.
 pub(crate) fn given_text(alloc: Global, given: &str, value: Value) -> Result<String, NoMemory>
-    requires { IsPlain 126 (view value) }
+    requires { IsPrintable 126 (view value) }
     ensures { IfOk result (λ text. IsSaid given.now (Ok (view value)) (string_bytes text)) }
 {
     let id = read_id(alloc, given)?;

@@ -8,7 +8,7 @@ ghost use Rattle.q2_format.specs.declared.header.TheConstants.{MAX_DISK_SIZE};
 ghost use Rattle.qmp_codec.specs.Nodes.{seen_created, seen_create_qcow2};
 ghost use Rattle.qmp_rules.specs.Asks.{id_or};
 ghost use Rattle.qmp_rules.specs.Looks.{create_told, told_as};
-ghost use Rattle.qmp_rules.specs.Values.{amount_or};
+ghost use Rattle.qmp_asks.specs.Values.{amount_or};
 ghost use Rattle.flat_machine.specs.Changed.{format_name};
 ghost use Rattle.blk_nodes.specs.Contents.{disk_of};
 ghost use Rattle.blk_nodes.specs.Joined.{IsFile};
@@ -21,8 +21,9 @@ use crate::run_store::RunStore;
 use blk_base::{Device, FaultFrom, NoMemory, Store, StoreStop};
 use blk_graph::NodeId;
 use blk_nodes::{FormatStop, Nodes};
+use qmp_asks::{Look, Name};
 use qmp_codec::{Amount, CreateQcow2, Created, ImageFormat};
-use qmp_rules::{FileFault, Look, Name, Names, PrepareStop, Refusal, Stopped, Told};
+use qmp_rules::{FileFault, Names, PrepareStop, Refusal, Stopped, Told};
 use std::alloc::Global;
 
 /// The bytes that are asked for; 0 for a number that no member accepts.

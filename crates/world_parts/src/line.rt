@@ -10,8 +10,9 @@ ghost use Rattle.world_parts.specs.Lines.{read_as};
 
 use crate::answering::{given_text, refused_text};
 use blk_base::NoMemory;
+use qmp_asks::Name;
 use qmp_codec::{CodecStop, Command, asks_for_capabilities, read_command};
-use qmp_rules::{Name, Names, Refusal};
+use qmp_rules::{Names, Refusal};
 use serde_json::{Value, json};
 use std::alloc::Global;
 

@@ -4,7 +4,7 @@ ghost use Rattle.std.specs.List.{list_all};
 ghost use Rattle.world_parts.specs.declared.row.GuestProgress.{GuestProgress as Row};
 ghost use Rattle.qmp_rules.specs.Chains.{has_id};
 ghost use Rattle.blk_history.specs.declared.event.Event.{Event};
-ghost use Rattle.world_parts.specs.Progress.{less, new_row, AreMarked, ArePlaced, guests_in};
+ghost use Rattle.world_parts.specs.Progress.{less, new_row, AreMarked, HaveTheirPlaces, guests_in};
 
 use crate::entries;
 use crate::row::{GuestProgress, InFlight};
@@ -30,7 +30,7 @@ pub struct Progress {
 
 impl Model for Progress {
     ghost use Rattle.std.specs.Prelude.{vec_capacity};
-    ghost use Rattle.world_parts.specs.Progress.{Progress as Seen, guests_in, IsInStep};
+    ghost use Rattle.world_parts.specs.Progress.{Progress as Seen, guests_in, KeepsStep};
 
     ghost Value = { Seen };
 
@@ -40,7 +40,7 @@ impl Model for Progress {
       log = p.history;
     } };
 
-    ghost invariant = { λ p. IsInStep p.history p.spare p.rows.items
+    ghost invariant = { λ p. KeepsStep p.history p.spare p.rows.items
         p.script_is_done p.lines.items (vec_capacity p.lines) };
 }
 
@@ -79,8 +79,8 @@ fn mark_done(script: &mut bool, rows: &mut Vec<GuestProgress>, actor: u32)
         → script.new ≡ has_id 0 (ended ++ actor ∷ []) }
     ensures guests { (ended : List ℕ) → AreMarked ended 1 rows.old.items
         → AreMarked (ended ++ actor ∷ []) 1 rows.new.items }
-    ensures placed { (events : List Event) → ArePlaced events rows.old.items
-        → ArePlaced events rows.new.items }
+    ensures placed { (events : List Event) → HaveTheirPlaces events rows.old.items
+        → HaveTheirPlaces events rows.new.items }
     ensures kept { (events : List Event) → guests_in events rows.new.items
         ≡ guests_in events rows.old.items }
 {

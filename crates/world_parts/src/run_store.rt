@@ -1,6 +1,7 @@
 //! A store, of whose openings a run counts its own.
 ghost use Rattle.std.specs.Prelude.{◌≡◌, ◌≢◌, ◌≤◌, ℕ, List, [], ◌∷◌, ◌++◌, length, replicate, None, option_map, true, false, IsTrue, IfOk, IfErr, OnOk, OnErr, MatchResult};
 ghost use Rattle.blk_base.specs.Answers.{CreateAnswers, StandsUnlessFailed};
+ghost use Rattle.blk_base.specs.Device.{opened_now};
 ghost use Rattle.blk_base.specs.Files.{given_back, is_out, put_file};
 ghost use Rattle.blk_base.specs.Stored.{IsDeviceOf, LeavesOthers, files_with_returned};
 ghost use Rattle.world_parts.specs.Stores.{CanBeOpened, StopsOpening, found_store};
@@ -48,7 +49,7 @@ impl<S: Store> RunStore<S> {
         ensures kept { MatchResult result
             (λ out. self.new ≡ record self.old {
               opened = self.old.opened
-                  ++ record { name = name.now; faults = S.Dev.faults out.0; returned = None } ∷ [];
+                  ++ opened_now S.Dev.Device name.now out.0 ∷ [];
             })
             (λ _. self.new ≡ record self.old { faults = self.new.faults }) }
         ensures there { OnOk result (CanBeOpened name.now self.old) }

@@ -5,7 +5,7 @@ ghost use Rattle.blk_history.specs.Machine.{Flight};
 ghost use Rattle.blk_nodes.specs.Contents.{Unfolds};
 ghost use Rattle.blk_nodes.specs.Joined.{IsJoined};
 ghost use Rattle.flat_machine.specs.declared.opening.Opening.{Opening};
-ghost use Rattle.world_parts.specs.Coherent.{IsWhole};
+ghost use Rattle.world_parts.specs.Coherent.{IsWholeWorld};
 ghost use Rattle.world_commands.specs.Comes.{Comes};
 ghost use Rattle.world_commands.specs.Piecing.{IsPieceMade, HasPieceLicence, table_after};
 ghost use Rattle.world_parts.specs.Progress.{HasNext, flight_at};
@@ -36,7 +36,7 @@ impl<S: Store> World<S> {
         ensures joined { IsJoined self.old.nodes }
         ensures unfolds { Unfolds self.old.nodes }
         ensures joined_then { IsJoined self.new.nodes }
-        ensures whole { IsWhole self.old }
+        ensures whole { IsWholeWorld self.old }
     {
         let Some(drive) = self.names.drive(guest) else {
             unreachable!()

@@ -2,11 +2,11 @@
 ghost use Rattle.std.specs.Prelude.{◌≡◌, ◌≤◌, ℕ, None, Some, IfOk, IfErr, OnOk, OnErr, option_map, string_bytes};
 ghost use Rattle.blk_base.specs.Pieces.{end_of};
 ghost use Rattle.blk_nodes.specs.Nodes.{Nodes as SeenNodes};
-ghost use Rattle.blk_nodes.specs.Overlays.{HasPlace};
+ghost use Rattle.blk_nodes.specs.Overlays.{HasRoomForNode};
 ghost use Rattle.qmp_codec.specs.Nodes.{seen_add_qcow2, seen_add_raw, seen_backing, seen_blockdev_add, seen_file_ref, seen_inline_file};
-ghost use Rattle.qmp_rules.specs.Naming.{inline_name};
-ghost use Rattle.qmp_rules.specs.NodeAsks.{is_read_only};
-ghost use Rattle.world_parts.specs.Joining.{CanAdd, CanAddImage, CanAddPart, CanJoin, CanJoinAt, CanPutFilter, CanPutImage, CanPutPart, HasAdded, HasAddedFile, HasAddedImage, HasAddedPart, IsFileAdded, HasFilter, HasImage, HasInline, HasJoined, HasJoinedAt, HasPart, asked_for, backing_for, part_in};
+ghost use Rattle.qmp_asks.specs.Naming.{inline_name};
+ghost use Rattle.qmp_asks.specs.NodeAsks.{is_read_only};
+ghost use Rattle.world_parts.specs.Joining.{CanAdd, CanAddImage, CanAddPart, CanJoin, CanJoinAt, CanPutFilter, CanPutImage, CanPutPart, HasAdded, HasAddedFile, HasAddedImage, HasAddedPart, IsFileAdded, HasFilter, HasImageNode, HasInline, HasJoined, HasJoinedAt, HasPart, asked_for, backing_for, part_in};
 
 use crate::adding::opening::Out;
 use crate::adding::telling::{part_offset, part_size};
@@ -29,7 +29,7 @@ fn put_file<D: Device>(
     out: Out<D>,
     read_only: bool,
 ) -> Result<NodeId, Out<D>>
-    requires { HasPlace nodes.old name.bytes }
+    requires { HasRoomForNode nodes.old name.bytes }
     ensures ok { IfOk result (IsFileAdded name.bytes read_only out nodes.old nodes.new) }
     ensures back { IfErr result (λ back. back ≡ out) }
     ensures err { OnErr result (nodes.new ≡ nodes.old) }
@@ -77,7 +77,7 @@ fn put_image<D: Device>(
     requires { CanPutImage nodes.old
         (record { name = name.bytes; file = file; backing = backing; is_read_only = read_only })
         image }
-    ensures { HasImage
+    ensures { HasImageNode
         (record { name = name.bytes; file = file; backing = backing; is_read_only = read_only })
         image
         nodes.old nodes.new result }
@@ -183,7 +183,7 @@ fn add_file<D: Device>(
     c: &BlockdevAdd,
     out: Out<D>,
 ) -> Result<(), Out<D>>
-    requires { HasPlace nodes.old (seen_blockdev_add c.now).node_name }
+    requires { HasRoomForNode nodes.old (seen_blockdev_add c.now).node_name }
     ensures ok { OnOk result
         (HasAddedFile (seen_blockdev_add c.now) (Some out) nodes.old nodes.new) }
     ensures back { IfErr result (λ back. back ≡ out) }
@@ -250,7 +250,7 @@ fn add_file_image<D: Device>(
         (seen_add_qcow2 added.now) node) image) }
     ensures ok { OnOk result (HasJoined (seen_blockdev_add c.now) (seen_inline_file file.now) out
         nodes.old nodes.new
-        (λ now under node. HasImage (asked_for names.now.table (seen_blockdev_add c.now)
+        (λ now under node. HasImageNode (asked_for names.now.table (seen_blockdev_add c.now)
         (seen_add_qcow2 added.now) under)
         image now nodes.new node)) }
     ensures back { IfErr result (λ back. back ≡ out) }
@@ -309,7 +309,7 @@ fn add_image<D: Device>(
     requires { CanJoinAt names.now.table file.now (λ row. CanPutImage nodes.old
         (asked_for names.now.table (seen_blockdev_add c.now) (seen_add_qcow2 added.now) row.id)
         image) }
-    ensures ok { OnOk result (HasJoinedAt names.now.table file.now (λ row node. HasImage
+    ensures ok { OnOk result (HasJoinedAt names.now.table file.now (λ row node. HasImageNode
         (asked_for names.now.table (seen_blockdev_add c.now) (seen_add_qcow2 added.now) row.id)
         image nodes.old nodes.new node)) }
     ensures err { OnErr result (nodes.new ≡ nodes.old) }

@@ -9,8 +9,8 @@ ghost use Rattle.qmp_codec.specs.Nodes.{seen_add_qcow2, seen_blockdev_add, seen_
 ghost use Rattle.qmp_codec.specs.declared.command.Command.TheVariants.{BlockdevAdd as AddCommand};
 ghost use Rattle.qmp_rules.specs.Answers.{untold};
 ghost use Rattle.qmp_rules.specs.Looks.{image_stop, is_free_file, is_unopened, told_as};
-ghost use Rattle.world_parts.specs.Adding.{IsBack, IsFreeFile, IsLookReached, IsNotOpenOn, IsOpenOn, Looks, LooksAtFile, LooksUnder, Tells, TellsInside, look_in_vain, opened_sight, opens_by};
-ghost use Rattle.world_parts.specs.Looking.{AreIn, HasCalled, HasLooked, HaveFiles, IsLookedBack, IsUnopenedFor, LooksAtImage, LooksAtPart, MayOpen, StoreIsBack, site};
+ghost use Rattle.world_parts.specs.Adding.{IsBackIfOut, IsFreeFile, IsLookReached, IsNotOpenOn, IsOpenOn, Looks, LooksAtFile, LooksUnder, TellsAddition, TellsInside, look_in_vain, opened_sight, opens_by};
+ghost use Rattle.world_parts.specs.Looking.{AreIn, HasCalled, HasLooked, HaveFileNodes, IsLookedBack, IsUnopenedFor, LooksAtImage, LooksAtPart, MayOpen, StoreIsBack, site};
 
 use crate::adding::opening::{Out, open_file, unopened};
 use crate::adding::telling::{file_stop, image_stop, raw_stop, told_as};
@@ -19,8 +19,9 @@ use blk_base::{DevNo, Device, NoMemory, Store};
 use blk_graph::{Kind, NodeId};
 use blk_nodes::Nodes;
 use q2_image::{Image, ImageStop, open_image};
+use qmp_asks::Look;
 use qmp_codec::{AddQcow2, Added, BlockdevAdd, Command, FileRef};
-use qmp_rules::{FileState, Look, Names, Refusal, Stopped, Told};
+use qmp_rules::{FileState, Names, Refusal, Stopped, Told};
 use std::alloc::Global;
 
 /// What is seen of a file: the image in it, where one was opened, and what is told.
@@ -139,7 +140,7 @@ fn look_at<D: Device>(
     filename: &str,
     out: &mut Out<D>,
 ) -> Result<Seen, NoMemory>
-    ensures ok { IfOk result (λ seen. Tells names.now.table (seen_blockdev_add c.now).node_name
+    ensures ok { IfOk result (λ seen. TellsAddition names.now.table (seen_blockdev_add c.now).node_name
         filename.now
         (seen_blockdev_add c.now).driver out.old out.new seen.image seen.told) }
     ensures err { OnErr result (out.new ≡ out.old) }
@@ -179,7 +180,7 @@ fn open_and_look<S: Store>(
     ensures ok { IfOk result (λ looked. LooksAtFile names.now.table (seen_blockdev_add c.now)
         (record { filename = filename.now; what = what })
         store.old store.new looked.out looked.seen.image looked.seen.told) }
-    ensures err { OnErr result (IsBack store.old store.new filename.now) }
+    ensures err { OnErr result (IsBackIfOut store.old store.new filename.now) }
 {
     match open_file(alloc, store, filename)? {
         Err(refusal) => Ok(vain(alloc, what, refusal)),
@@ -301,7 +302,7 @@ fn look_out<S: Store>(
     ensures ok { IfOk result (λ looked. Looks names.now.table (seen_blockdev_add c.now)
         (record { filename = filename.now; what = what })
         store.old store.new looked.out looked.seen.image looked.seen.told) }
-    ensures err { OnErr result (IsBack store.old store.new filename.now) }
+    ensures err { OnErr result (IsBackIfOut store.old store.new filename.now) }
 {
     if may_open(alloc, names, command, filename, what)? {
         return open_and_look(alloc, store, names, c, filename, what);
@@ -359,7 +360,7 @@ fn look_under<D: Device>(
     file: &str,
 ) -> Result<Seen, NoMemory>
     requires command { seen_command command.now ≡ AddCommand (seen_blockdev_add c.now) }
-    requires files { HaveFiles names.now.table nodes.old }
+    requires files { HaveFileNodes names.now.table nodes.old }
     ensures ok { IfOk result (λ seen. LooksUnder names.now.table (seen_blockdev_add c.now)
         (seen_add_qcow2 added.now)
         file.now nodes.old nodes.new seen.image seen.told) }
@@ -430,7 +431,7 @@ fn look_at_image<S: Store>(
 ) -> Result<Looked<S::Dev>, NoMemory>
     requires command { seen_command command.now ≡ AddCommand (seen_blockdev_add c.now) }
     requires closed { AreIn names.now.table store.old.opened }
-    requires files { HaveFiles names.now.table nodes.old }
+    requires files { HaveFileNodes names.now.table nodes.old }
     ensures looked { IfOk result (λ looked. LooksAtImage names.now.table (seen_blockdev_add c.now)
         (seen_add_qcow2 added.now) (seen_add_qcow2 added.now).file
         (site store.old nodes.old) (site store.new nodes.new)
@@ -470,7 +471,7 @@ pub(crate) fn look<S: Store>(
 ) -> Result<Looked<S::Dev>, NoMemory>
     requires command { seen_command command.now ≡ AddCommand (seen_blockdev_add c.now) }
     requires closed { AreIn names.now.table store.old.opened }
-    requires files { HaveFiles names.now.table nodes.old }
+    requires files { HaveFileNodes names.now.table nodes.old }
     ensures looked { IfOk result (λ looked. HasLooked names.now.table (seen_blockdev_add c.now)
         (site store.old nodes.old) (site store.new nodes.new)
         looked.out looked.seen.image looked.seen.told) }

@@ -1,12 +1,13 @@
 //! A file that is taken out for a new node, and the image in it.
 ghost use Rattle.std.specs.Prelude.{◌≡◌, false, IfOk, MatchResult, OnErr};
 ghost use Rattle.blk_base.specs.Files.{is_out};
-ghost use Rattle.world_parts.specs.Adding.{IsTakenOut, IsUnopened, unopened};
+ghost use Rattle.world_parts.specs.Adding.{IsTakenOut, IsFileUnopened, unopened};
 
 use crate::run_store::RunStore;
 use blk_base::{DevNo, Device, FaultFrom, NoMemory, Store, StoreStop};
 use q2_image::ImageStop;
-use qmp_rules::{FileFault, Name, Refusal};
+use qmp_asks::Name;
+use qmp_rules::{FileFault, Refusal};
 use std::alloc::Global;
 use std::marker::Model;
 
@@ -51,7 +52,7 @@ pub(crate) fn open_file<S: Store>(
     requires { is_out filename.now store.old.opened ≡ false }
     ensures answer { IfOk result (λ opened. MatchResult opened
         (IsTakenOut store.old store.new filename.now)
-        (IsUnopened store.old store.new filename.now)) }
+        (IsFileUnopened store.old store.new filename.now)) }
     ensures err { OnErr result (store.new ≡ store.old) }
 {
     match store.open_file(filename) {

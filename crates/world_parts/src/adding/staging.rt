@@ -5,11 +5,11 @@ ghost use Rattle.qmp_codec.specs.Nodes.{seen_added, seen_blockdev_add};
 ghost use Rattle.qmp_codec.specs.declared.command.Command.TheVariants.{BlockdevAdd as AddCommand};
 ghost use Rattle.qmp_rules.specs.Answers.{refusal_of};
 ghost use Rattle.qmp_rules.specs.Changes.{all_changed};
-ghost use Rattle.qmp_rules.specs.Fitting.{AllFit};
-ghost use Rattle.qmp_rules.specs.Room.{HasRoom};
+ghost use Rattle.qmp_rules.specs.Fitting.{AllChangesFit};
+ghost use Rattle.qmp_rules.specs.Room.{HasRoomForChanges};
 ghost use Rattle.world_parts.specs.Joining.{CanAdd, HasAdded};
 ghost use Rattle.world_parts.specs.Looking.{site};
-ghost use Rattle.world_parts.specs.Staging.{CanLook, HasEnded, IsAdditionBy, IsAdditionOf, IsNotAdded, IsNotAddedBy, IsOutFor, IsStaged, back_if, is_addition, opened_name};
+ghost use Rattle.world_parts.specs.Staging.{CanLook, HasAdditionEnded, IsAdditionBy, IsAdditionOf, IsNotAdded, IsNotAddedBy, IsOutForAddition, IsStaged, back_if, is_addition, opened_name};
 
 use crate::adding::joining::add_nodes;
 use crate::adding::looking::{Looked, look};
@@ -73,7 +73,7 @@ fn opened_name(driver: &Added) -> &str
 
 /// Gives a device back that was taken out for a command, where there is one.
 fn give_back_if<S: Store>(store: &mut RunStore<S>, driver: &Added, out: Option<Out<S::Dev>>)
-    requires { IsOutFor (seen_added driver.now) out store.old }
+    requires { IsOutForAddition (seen_added driver.now) out store.old }
     ensures { store.new ≡ back_if (seen_added driver.now) out store.old }
 {
     match out {
@@ -96,10 +96,10 @@ fn add_accepted<S: Store>(
     image: Option<Image>,
     edits: Edits,
 ) -> Result<(), NoMemory>
-    requires out { IsOutFor (seen_blockdev_add c.now).driver out store.old }
+    requires out { IsOutForAddition (seen_blockdev_add c.now).driver out store.old }
     requires can { CanAdd names.old.table (seen_blockdev_add c.now) out image nodes.old }
-    requires room { HasRoom (length edits) names.old }
-    requires fit { AllFit names.old.table edits }
+    requires room { HasRoomForChanges (length edits) names.old }
+    requires fit { AllChangesFit names.old.table edits }
     ensures added { OnOk result (HasAdded names.old.table (seen_blockdev_add c.now) out image
         nodes.old nodes.new) }
     ensures table { OnOk result (names.new.table ≡ all_changed names.old.table edits) }
@@ -134,13 +134,13 @@ fn end<S: Store>(
     image: Option<Image>,
     staged: Staged,
 ) -> Result<String, NoMemory>
-    requires out { IsOutFor (seen_blockdev_add c.now).driver out store.old }
+    requires out { IsOutForAddition (seen_blockdev_add c.now).driver out store.old }
     requires ready { refusal_of names.old.table told.now (AddCommand (seen_blockdev_add c.now))
         ≡ None
         → CanAdd names.old.table (seen_blockdev_add c.now) out image nodes.old }
     requires staged { IsStaged names.old given.now told.now (AddCommand (seen_blockdev_add c.now))
         staged }
-    ensures ok { IfOk result (λ text. HasEnded names.old.table given.now (seen_blockdev_add c.now)
+    ensures ok { IfOk result (λ text. HasAdditionEnded names.old.table given.now (seen_blockdev_add c.now)
         told.now out image
         (site store.old nodes.old) (site store.new nodes.new) names.new.table (string_bytes text)) }
     ensures back { OnErr result (site store.new nodes.new

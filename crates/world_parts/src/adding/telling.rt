@@ -5,14 +5,15 @@ ghost use Rattle.qmp_rules.specs.Asks.{if_there};
 ghost use Rattle.qmp_rules.specs.Looks.{file_stop, image_stop, raw_stop, stop_at, told_as, too_long};
 ghost use Rattle.qmp_rules.specs.Refusals.{refused};
 ghost use Rattle.qmp_rules.specs.Table.{node_named};
-ghost use Rattle.qmp_rules.specs.NodeAsks.{backing_name};
-ghost use Rattle.qmp_rules.specs.Values.{amount_or, begins_within, ends_within, part_fits, part_offset, part_size};
+ghost use Rattle.qmp_asks.specs.NodeAsks.{backing_name};
+ghost use Rattle.qmp_asks.specs.Values.{amount_or, begins_within, ends_within, part_fits, part_offset, part_size};
 ghost use Rattle.world_parts.specs.Adding.{opened_sight};
 
 use blk_base::NoMemory;
 use q2_image::Image;
+use qmp_asks::{Look, Name};
 use qmp_codec::{AddQcow2, AddRaw, Amount, Backing};
-use qmp_rules::{FileFault, Look, Name, Names, Refusal, Stopped, Told};
+use qmp_rules::{FileFault, Names, Refusal, Stopped, Told};
 use std::alloc::Global;
 
 /// The most bytes of a disk.

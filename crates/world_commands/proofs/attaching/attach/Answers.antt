@@ -3,7 +3,7 @@ use Rattle.std.specs.Prelude.{string_bytes}
 use Rattle.qmp_codec.specs.Commands.{Cmd, seen_command}
 use Rattle.qmp_rules.specs.Answers.{command_edits, refusal_of, untold}
 use Rattle.qmp_rules.specs.Changes.{all_changed}
-use Rattle.qmp_rules.specs.Fitting.{AllFit}
+use Rattle.qmp_rules.specs.Fitting.{AllChangesFit}
 use Rattle.qmp_rules.specs.Table.{Table}
 use Rattle.qmp_rules.specs.declared.told.Told.{Told}
 use Rattle.world_commands.proofs.Attached.{attachment_can}
@@ -21,7 +21,7 @@ attach_by-requires g c =
     let table : c.apply.new.self.table ≡ all_changed t (command_edits t untold seen) =
     c.apply.ensures ∙ ap (λ (names : Table). all_changed names c.in-Ok.edits) c.in-Ok.ensures.table ∙ ap (all_changed t) edits in
     attachment_can t c.apply.new.self.table seen c.args.nodes.now c.requires.attachment c.requires.stands c.requires.alike c.edges.ensures.joined none
-    (subst (AllFit t) edits (subst (λ (names : Table). AllFit names c.in-Ok.edits) c.in-Ok.ensures.table c.in-Ok.ensures.fit)) table
+    (subst (AllChangesFit t) edits (subst (λ (names : Table). AllChangesFit names c.in-Ok.edits) c.in-Ok.ensures.table c.in-Ok.ensures.fit)) table
 
 pub returns-in-Ok-clause-handled : goal.returns-in-Ok-clause-handled
 returns-in-Ok-clause-handled g c =

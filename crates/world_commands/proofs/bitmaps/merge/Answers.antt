@@ -2,7 +2,7 @@ use Rattle.std.proofs.Common.{arith, ◌<◌, ◌+◌, ◌≡◌, ◌∷◌, ◌
 use Rattle.std.proofs.lemmas.List.{at_drop_more}
 use Rattle.qmp_codec.specs.Bitmaps.{seen_bitmap_merge, seen_source}
 use Rattle.qmp_rules.specs.Asks.{id_or}
-use Rattle.qmp_rules.specs.BitmapAsks.{source_node}
+use Rattle.qmp_asks.specs.BitmapAsks.{source_node}
 use Rattle.qmp_rules.specs.Table.{Table}
 use Rattle.world_commands.specs.Recorded.{bitmaps_merged}
 use Rattle.world_commands.proofs.BitmapsChanged.{merged-more}

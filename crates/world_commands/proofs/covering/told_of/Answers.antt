@@ -3,13 +3,13 @@ use Rattle.qmp_codec.specs.Commands.{seen_command}
 use Rattle.qmp_codec.specs.Nodes.{seen_snapshot}
 use Rattle.qmp_rules.specs.Table.{id_named}
 use Rattle.qmp_rules.specs.declared.told.Told.{Told}
-use Rattle.world_commands.specs.Snapshots.{IsToldOf}
+use Rattle.world_commands.specs.Snapshots.{TellsMappedAlone}
 use Rattle.world_commands.proofs.CoverSaid.{told_so}
 use Rattle.world_commands.proofs.covering.told_of.Goals as goal
 
 pub returns : goal.returns
 returns g c =
-    subst (λ (n : Told). IsToldOf c.args.names.now.table c.args.nodes.now (seen_command c.args.command.now) (record {
+    subst (λ (n : Told). TellsMappedAlone c.args.names.now.table c.args.nodes.now (seen_command c.args.command.now) (record {
       length = n.length;
       size = n.size;
       stopped = n.stopped;

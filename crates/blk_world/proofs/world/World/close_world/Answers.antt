@@ -3,7 +3,7 @@ use Rattle.blk_nodes.specs.Contents.{Unfolds}
 use Rattle.blk_nodes.specs.Joined.{IsJoined}
 use Rattle.blk_nodes.specs.Nodes.{DeviceState}
 use Rattle.world_commands.specs.Closing.{AreBack, IsClosed}
-use Rattle.world_parts.specs.Coherent.{AreHeld, IsWhole}
+use Rattle.world_parts.specs.Coherent.{AreHeld, IsWholeWorld}
 use Rattle.world_parts.specs.Face.{Face}
 use Rattle.world_parts.specs.Steps.{StoreSeen, seen_store, seen_in_run}
 use Rattle.world_parts.specs.Stores.{StoreInRun}
@@ -49,26 +49,26 @@ returns-clause-held g c = λ told name.
     let after : StoreSeen = seen_store (g.S.Store.files c.into_store.result) (g.S.Store.opened c.into_store.result) (g.S.Store.room c.into_store.result) (g.S.Store.faults c.into_store.result) in
     let closed : IsClosed c.args.self after c.give_all_back-fault.result = returns-clause-closed g c in
     let joined : IsJoined c.args.self.nodes = subst (λ (w : Face). IsJoined w.nodes) c.self.view_is c.edges.ensures.joined in
-    let whole : IsWhole c.args.self = subst IsWhole c.self.view_is c.self.invariant in
+    let whole : IsWholeWorld c.args.self = subst IsWholeWorld c.self.view_is c.self.invariant in
     held-then c.args.self after c.give_all_back-fault.result closed joined whole.coherent told (whole.tell told) name
 
 pub returns-clause-flushed : goal.returns-clause-flushed
 returns-clause-flushed g c = λ told none.
     let after : StoreSeen = seen_store (g.S.Store.files c.into_store.result) (g.S.Store.opened c.into_store.result) (g.S.Store.room c.into_store.result) (g.S.Store.faults c.into_store.result) in
     let closed : IsClosed c.args.self after c.give_all_back-fault.result = returns-clause-closed g c in
-    let whole : IsWhole c.args.self = subst IsWhole c.self.view_is c.self.invariant in
+    let whole : IsWholeWorld c.args.self = subst IsWholeWorld c.self.view_is c.self.invariant in
     flushed-then c.args.self after c.give_all_back-fault.result closed whole.coherent.out told (whole.tell told) none
 
 pub returns-clause-named : goal.returns-clause-named
 returns-clause-named g c = λ told none.
     let joined : IsJoined c.args.self.nodes = subst (λ (w : Face). IsJoined w.nodes) c.self.view_is c.edges.ensures.joined in
-    let whole : IsWhole c.args.self = subst IsWhole c.self.view_is c.self.invariant in
+    let whole : IsWholeWorld c.args.self = subst IsWholeWorld c.self.view_is c.self.invariant in
     nodes-flushed c.args.self (g.S.Store.files c.into_store.result) joined whole.coherent (returns-clause-flushed g c told none)
 
 pub returns-clause-disks : goal.returns-clause-disks
 returns-clause-disks g c = λ told s same agrees.
     let joined : IsJoined c.args.self.nodes = subst (λ (w : Face). IsJoined w.nodes) c.self.view_is c.edges.ensures.joined in
-    let whole : IsWhole c.args.self = subst IsWhole c.self.view_is c.self.invariant in
+    let whole : IsWholeWorld c.args.self = subst IsWholeWorld c.self.view_is c.self.invariant in
     let after : StoreSeen = seen_store (g.S.Store.files c.into_store.result) (g.S.Store.opened c.into_store.result) (g.S.Store.room c.into_store.result) (g.S.Store.faults c.into_store.result) in
     let closed : IsClosed c.args.self after c.give_all_back-fault.result = returns-clause-closed g c in
     all-disks c.args.self (g.S.Store.files c.into_store.result) joined (subst (λ (w : Face). Unfolds w.nodes) c.self.view_is c.edges.ensures.disks) whole.coherent
@@ -78,7 +78,7 @@ returns-clause-disks g c = λ told s same agrees.
 pub returns-clause-sound : goal.returns-clause-sound
 returns-clause-sound g c = λ told.
     let joined : IsJoined c.args.self.nodes = subst (λ (w : Face). IsJoined w.nodes) c.self.view_is c.edges.ensures.joined in
-    let whole : IsWhole c.args.self = subst IsWhole c.self.view_is c.self.invariant in
+    let whole : IsWholeWorld c.args.self = subst IsWholeWorld c.self.view_is c.self.invariant in
     let after : StoreSeen = seen_store (g.S.Store.files c.into_store.result) (g.S.Store.opened c.into_store.result) (g.S.Store.room c.into_store.result) (g.S.Store.faults c.into_store.result) in
     let closed : IsClosed c.args.self after c.give_all_back-fault.result = returns-clause-closed g c in
     all-sound c.args.self (g.S.Store.files c.into_store.result)

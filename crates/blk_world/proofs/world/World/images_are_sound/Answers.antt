@@ -1,6 +1,6 @@
 use Rattle.std.proofs.Common.{subst}
 use Rattle.blk_nodes.specs.Joined.{IsJoined}
-use Rattle.world_parts.specs.Coherent.{IsWhole}
+use Rattle.world_parts.specs.Coherent.{IsWholeWorld}
 use Rattle.world_parts.specs.Face.{Face}
 use Rattle.blk_world.proofs.SoundImages.{images-sound}
 use Rattle.blk_world.proofs.world.World.images_are_sound.Goals as goal
@@ -8,5 +8,5 @@ use Rattle.blk_world.proofs.world.World.images_are_sound.Goals as goal
 pub returns : goal.returns
 returns g c = λ told.
     let joined : IsJoined c.args.self.now.nodes = subst (λ (w : Face). IsJoined w.nodes) c.self.view_is c.edges.ensures.joined in
-    let whole : IsWhole c.args.self.now = subst IsWhole c.self.view_is c.self.invariant in
+    let whole : IsWholeWorld c.args.self.now = subst IsWholeWorld c.self.view_is c.self.invariant in
     images-sound c.args.self.now joined whole.coherent (whole.tell told)
