@@ -10,7 +10,7 @@ use Rattle.q2_format.specs.declared.entries.L2Entry.TheVariants as entries
 use Rattle.q2_image.specs.Image.{Known, cluster_size_in, entry_in}
 use Rattle.q2_image.specs.Made.{WriteStep, WroteOwn, zero_steps}
 use Rattle.q2_image.specs.Room.{cluster_of, entry_for, is_whole}
-use Rattle.blk_nodes.specs.Changing.{seen, ChangesAround, ChangesBySteps, ChangesInPlace, ChangesPart, IsUnchanged, IsWritten, IsZeroed, MakesChange, PutsAround, ZeroesBy, ZeroesPart}
+use Rattle.blk_nodes.specs.Changing.{seen, ChangesAround, ChangesBySteps, ChangesInPlace, ChangesPart, IsUnchanged, IsImageWritten, IsZeroed, MakesChange, PutsAround, ZeroesBy, ZeroesPart}
 use Rattle.blk_nodes.specs.Nodes.{DeviceState}
 
 module _ (IsDisk : List ℕ → Type 0) (image now : Known) (before after : DeviceState) where
@@ -66,7 +66,7 @@ module _ (IsDisk : List ℕ → Type 0) (image now : Known) (before after : Devi
       (λ k. entry_in k (cluster_of image part) ≡ entries.Zero (host_of (entry_in image (cluster_of image part)))) o is
   zeroes-by false part o is = zeroes-part (entry_for image part) part o is
 
-  pub written-capacity : (part : Extent) (bytes : List ℕ) (o : Outcome) → IsWritten IsDisk part bytes image now before after o → HasCapacity
+  pub written-capacity : (part : Extent) (bytes : List ℕ) (o : Outcome) → IsImageWritten IsDisk part bytes image now before after o → HasCapacity
   written-capacity part bytes o is = of-part (entry_for image part) part bytes o is
 
   pub zeroed-capacity : (part : Extent) (o : Outcome) → IsZeroed IsDisk part image now before after o → HasCapacity

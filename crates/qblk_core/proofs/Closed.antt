@@ -16,7 +16,7 @@ use Rattle.blk_nodes.specs.Nodes.{Nodes, DeviceState}
 use Rattle.blk_nodes.specs.Reading.{StoppedBy}
 use Rattle.qblk_core.specs.Along.{CountsOutcome}
 use Rattle.qblk_core.specs.ImageNodes.{only_device, HaveOneImage, HaveShapeOf, content_of, faults_of, capacity_of, told_disk}
-use Rattle.qblk_core.specs.Session.{fault_of, IsClosed}
+use Rattle.qblk_core.specs.Session.{fault_of, AreNodesClosed}
 use Rattle.qblk_core.proofs.OneDevice.{head-same, content-is, faults-is, capacity-is}
 use Rattle.blk_pieces.proofs.Rows.{rows_kept}
 use Rattle.qblk_core.proofs.OneImage.{Goes, flush-goes, flush-size, shape-after, one-after, the-one}
@@ -49,7 +49,7 @@ flushed-by before n (Torn done dev count) number cause is tells = absurd cause
 flushed-by before n (Io dev count) number cause is tells = ((ap Dev (cause.named ∙ number), cause.rose, cause.now), refl)
 flushed-by before n (NoSpace dev) number cause is tells = absurd cause
 
-pub closed-facts : (left last : Nodes) (flush : Outcome) (n : DeviceState) (fault : Option FaultAt) → HaveOneImage left → IsClosed left last flush n fault
+pub closed-facts : (left last : Nodes) (flush : Outcome) (n : DeviceState) (fault : Option FaultAt) → HaveOneImage left → AreNodesClosed left last flush n fault
     → ((bytes : List ℕ) → n.content ≡ Some bytes → is_some n.is_flushed ≡ true) → HasClosed left last flush n fault
 closed-facts left last flush n fault one closed tells =
     let f = closed.flushed.flushed in
@@ -89,7 +89,7 @@ one-flushed left last file flush one flushed kept =
 
 pub closed-by : (left last : Nodes) (node : ℕ) (flush : Outcome) (back : DeviceState) (fault : Option FaultAt) → HaveOneImage left → node ≡ 1
     → IsFlushAt (base_of left node) left.devices last.devices flush → last ≡ record left { devices = last.devices } → ((other : ℕ) → disk_of last other ≡ disk_of left other)
-    → IsJoined last → Unfolds last → fault ≡ fault_of flush → last.devices ≡ back ∷ [] → IsClosed left last flush back fault
+    → IsJoined last → Unfolds last → fault ≡ fault_of flush → last.devices ≡ back ∷ [] → AreNodesClosed left last flush back fault
 closed-by left last node flush back fault one image flushed kept disks joined whole told given =
     let at : IsFlushAt (base_of left 1) left.devices last.devices flush = subst (λ (n : ℕ). IsFlushAt (base_of left n) left.devices last.devices flush) image flushed in
     record {

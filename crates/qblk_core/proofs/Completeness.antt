@@ -3,7 +3,7 @@ use Rattle.std.proofs.Common.{◌≡◌, ◌⊎◌, ℕ, ◌<◌, ◌≤◌, Lis
 use Rattle.std.specs.Prelude.{IsUtf8, IsSome, min}
 use Rattle.std.proofs.lemmas.Bool.{false≢true}
 use Rattle.blk_base.specs.Answers.{HasFile, LacksFile}
-use Rattle.blk_base.specs.Counts.{Rose}
+use Rattle.blk_base.specs.Counts.{HasFailedSince, Rose}
 use Rattle.blk_base.specs.Files.{file_at, IfTold}
 use Rattle.blk_base.specs.declared.fault.FaultFrom.TheVariants.{Store, Dev, Sink}
 use Rattle.blk_base.specs.declared.file.File.{File}
@@ -128,15 +128,16 @@ not-rose before now count stood rose is = let below = stood.0 in let same = stoo
 
 opening-fails : (format : Format) (image : List ℕ) (old new : Outside) (count : ℕ) → NoneRises image old new → FailsToOpen format image old new count → ⊥
 opening-fails format image old new count none fails =
-    not-rose fails.device.faults fails.behind.faults count (none.device fails.device.faults fails.behind.faults fails.opened) fails.stopped.rose fails.stopped.now
+    not-rose fails.device.faults fails.behind.faults count (none.device fails.device fails.behind.faults fails.opened) fails.stopped.rose fails.stopped.now
 
 flush-fails : (format : Format) (image trace : List ℕ) (old new : Outside) (count : ℕ) → NoneRises image old new → FailsToFlush format image trace old new count → ⊥
 flush-fails format image trace old new count none fails =
     let run = fails.4.run in
     let before = fails.2 in
-    let stood = none.device before count run.opened in
-    let below : before < 18446744073709551615 = stood.0 in
-    let same : count ≡ before = stood.1 in
+    let stood = none.device run.device count run.opened in
+    let below : run.device.faults < 18446744073709551615 = stood.0 in
+    let same : count ≡ run.device.faults = stood.1 in
+    let start : run.device.faults ≡ before = run.ends.0 in
     let counts = run.counts in
     let opened : faults_of run.first ≡ before = counts.opening in
     let least = grows (faults_of run.first) (faults_of run.left) fails.1 counts.risen counts.last in
@@ -144,7 +145,7 @@ flush-fails format image trace old new count none fails =
     subst (λ (k : ℕ). counted (k ∷ []) fails.1 ≡ faults_of run.left ∷ []) opened counts.last in
     let rose : RoseSince (faults_of run.left ∷ []) (Some (record { dev = 0; count = count })) =
     subst (λ (cs : List ℕ). RoseSince cs (Some (record { dev = 0; count = count }))) last fails.5 in
-    let above : Rose (faults_of run.left) count = rose.1 in
+    let above : HasFailedSince (faults_of run.left) count = rose.1 in
     omega arith
 
 pub is-done : (format : Format) (image trace : List ℕ) (ops : List Op) (old new : Outside) (status : Status) → HasInputs format image trace ops old

@@ -2,7 +2,7 @@
 use Rattle.std.proofs.Common.{◌≡◌, ℕ, ◌≤◌, Bool, List, [], ◌∷◌, ◌++◌, length, refl, sym, ◌∙◌, ap, subst, arith, Option, Some, None, IsSome}
 use Rattle.std.specs.Prelude.{option_map}
 use Rattle.std.proofs.lemmas.Bool.{false≢true}
-use Rattle.blk_base.specs.Counts.{Rose}
+use Rattle.blk_base.specs.Counts.{HasFailedSince, Rose}
 use Rattle.blk_history.specs.Recorded.{Recorded}
 use Rattle.blk_base.specs.declared.fault.Outcome.{Outcome}
 use Rattle.blk_base.specs.declared.fault.Outcome.TheVariants.{Good, Torn, Io, NoSpace}
@@ -24,7 +24,7 @@ use Rattle.blk_nodes.specs.Nodes.{Nodes, kind_in, size_of}
 use Rattle.qblk_core.specs.Along.{CountsOutcome, IsStepOf, HaveNodes, ShowsOf, FitsUnread}
 use Rattle.qblk_core.specs.Face.{Face, new_guest, state_with, state_of, machine_on}
 use Rattle.qblk_core.specs.ImageNodes.{told_disk, faults_of, HaveShapeOf}
-use Rattle.qblk_core.specs.Steps.{after_admission, IsJudged, after_retirement, CanPiece, PutsPiece}
+use Rattle.qblk_core.specs.Steps.{after_admission, IsRequestJudged, after_retirement, CanPiece, PutsPiece}
 use Rattle.qblk_core.specs.Comes.{AreLicensed, HasLine, HaveLines, Comes}
 
 -- a fault that an entry names is one of the only device, and rose; where none is named the count stands
@@ -44,7 +44,9 @@ last-next counts before now (Some n) last licensed =
 
 rose-next : (counts : List ℕ) (before now : ℕ) (named : Option Named) → Last counts before → IsLicensed before now named → RoseSince counts named
 rose-next counts before now None last licensed = tt
-rose-next counts before now (Some n) last licensed = rw (last, licensed.0) (omega arith, licensed.1)
+rose-next counts before now (Some n) last licensed =
+    let since : HasFailedSince before n.count = (let rose = licensed.1 in omega (arith, rose)) in
+    rw (last, licensed.0) (omega arith, since)
 
 -- one entry more
 along-push : (s : State) (old mid new : Nodes) (es : List Event) (e : Event) → HaveNodes s old es mid → IsStepOf (replay s es) e mid new
@@ -112,7 +114,7 @@ comes-push first w v e comes adds = record {
       rw adds.events (each-push after Fits (machine_on first) w.log.events e (comes.legal disk is) (rw comes.replay (adds.fits now.0 now.1)));
 }
 
-adds-admission : (first : Nodes) (w : Face) (op : Op) → Comes first w → w.guest.flight ≡ None → IsJudged w op None → Adds w (after_admission w op None) (Admit 0 w.guest.done op)
+adds-admission : (first : Nodes) (w : Face) (op : Op) → Comes first w → w.guest.flight ≡ None → IsRequestJudged w op None → Adds w (after_admission w op None) (Admit 0 w.guest.done op)
 adds-admission first w op comes idle judged = record {
   events = refl;
   line = record { whose = refl; shown = omega arith; small = tt };
@@ -134,7 +136,7 @@ adds-admission first w op comes idle judged = record {
   );
 }
 
-adds-refusal : (first : Nodes) (w : Face) (op : Op) (why : Refused) → Comes first w → w.guest.flight ≡ None → IsJudged w op (Some why) → Adds w (after_admission w op (Some why)) (Refuse 0 w.guest.done op why)
+adds-refusal : (first : Nodes) (w : Face) (op : Op) (why : Refused) → Comes first w → w.guest.flight ≡ None → IsRequestJudged w op (Some why) → Adds w (after_admission w op (Some why)) (Refuse 0 w.guest.done op why)
 adds-refusal first w op why comes idle judged = record {
   events = refl;
   line = record { whose = refl; shown = omega arith; small = tt };
@@ -150,7 +152,7 @@ adds-refusal first w op why comes idle judged = record {
   fits = λ disk is. rw comes.on_image (record { idle = idle; number = refl }, judged);
 }
 
-pub admission-kept : (w : Face) (op : Op) (why : Option Refused) → w.guest.flight ≡ None → IsJudged w op why → (first : Nodes) → Comes first w → Comes first (after_admission w op why)
+pub admission-kept : (w : Face) (op : Op) (why : Option Refused) → w.guest.flight ≡ None → IsRequestJudged w op why → (first : Nodes) → Comes first w → Comes first (after_admission w op why)
 admission-kept w op None idle judged first comes = comes-push first w _ _ comes (adds-admission first w op comes idle judged)
 admission-kept w op (Some why) idle judged first comes = comes-push first w _ _ comes (adds-refusal first w op why comes idle judged)
 

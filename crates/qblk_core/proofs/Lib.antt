@@ -17,3 +17,4 @@ pub mod Quiet
 pub mod Numbered
 pub mod OneTranscript
 pub mod Completeness
+pub mod Rooms

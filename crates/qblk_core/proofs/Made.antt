@@ -44,7 +44,7 @@ use Rattle.blk_nodes.specs.declared.stop.AddStop.{AddStop}
 use Rattle.blk_nodes.specs.declared.stop.AddStop.TheVariants as adding
 use Rattle.qblk_core.specs.Face.{state_with, new_guest, machine_on}
 use Rattle.qblk_core.specs.Format.{disk_of as disk_in, IsGoodImage, IsSoundAs}
-use Rattle.qblk_core.specs.ImageNodes.{file_name, image_name, only_device, with_file, with_raw, asked_image, IsOver, AreMadeOf, IsOnFile, HaveOneImage, HaveShapeOf, content_of, told_disk}
+use Rattle.qblk_core.specs.ImageNodes.{file_name, image_name, only_device, with_file, with_raw, asked_image, IsImageNodeOver, AreMadeOf, IsOnFile, HaveOneImage, HaveShapeOf, content_of, told_disk}
 use Rattle.qblk_core.specs.Run.{machine_of}
 use Rattle.qblk_core.specs.declared.words.Format.{Format}
 use Rattle.qblk_core.specs.declared.words.Format.TheVariants.{Raw, Qcow2}
@@ -213,7 +213,7 @@ pub record IsOverAs (format : Format) (over : Nodes) (d : DeviceState) : Type 0 
   pub one : IsOneOver over d row
   pub kind : kind_in row ≡ format_kind format
 
-pub over-as : (format : Format) (d : DeviceState) (over : Nodes) → IsOver format (with_file d) over → IsOverAs format over d
+pub over-as : (format : Format) (d : DeviceState) (over : Nodes) → IsImageNodeOver format (with_file d) over → IsOverAs format over d
 over-as Raw d over is = subst (λ (o : Nodes). IsOverAs Raw o d) (sym is.1) (record { row = _; one = raw-over d; kind = refl })
 over-as Qcow2 d over is = subst (λ (o : Nodes). IsOverAs Qcow2 o d) (sym is.3) (record { row = _; one = qcow2-over d is.0 is.2; kind = refl })
 
@@ -330,7 +330,7 @@ module _ (nodes : Nodes) (joined : IsJoined nodes) (disks : Unfolds nodes) (one 
 
 -- ---- the machine over a device that tells its bytes
 
-small-image : (format : Format) (d : DeviceState) (over : Nodes) (bytes : List ℕ) → d.size ≡ length bytes → IsOver format (with_file d) over → IsSoundAs format bytes → IsGoodImage format bytes
+small-image : (format : Format) (d : DeviceState) (over : Nodes) (bytes : List ℕ) → d.size ≡ length bytes → IsImageNodeOver format (with_file d) over → IsSoundAs format bytes → IsGoodImage format bytes
 small-image Raw d over bytes sized is sound = let small : d.size ≤ 274877906944 = is.0 in omega (arith, small, sized)
 small-image Qcow2 d over bytes sized is sound = sound
 
@@ -352,6 +352,6 @@ made-good format d nodes bytes made disks told-as sized =
           ∙ ap (state_with (length bytes) (length (disk_in format bytes)) new_guest) disk,
     )
   where
-    file-size-of : (f : Format) (over : Nodes) → IsOver f (with_file d) over → size_of over 0 ≡ d.size
+    file-size-of : (f : Format) (over : Nodes) → IsImageNodeOver f (with_file d) over → size_of over 0 ≡ d.size
     file-size-of Raw over is = ap (λ (n : Nodes). size_of n 0) is.1
     file-size-of Qcow2 over is = ap (λ (n : Nodes). size_of n 0) is.3

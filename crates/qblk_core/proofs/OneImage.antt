@@ -23,18 +23,19 @@ use Rattle.q2_format.specs.declared.entries.L2Entry.TheVariants as entries
 use Rattle.q2_format.specs.declared.header.Header.{Header}
 use Rattle.q2_image.specs.Image.{Known, cluster_size_in, entry_in}
 use Rattle.blk_nodes.specs.declared.row.RawImage.{RawImage}
-use Rattle.blk_nodes.specs.Changing.{IsWritten, IsZeroed, LeavesRow}
+use Rattle.blk_nodes.specs.Changing.{IsImageWritten, IsZeroed, LeavesRow}
 use Rattle.blk_nodes.specs.Contents.{IsToldDisk, disk_of}
 use Rattle.blk_nodes.specs.Copying.{AtEach, images_met, images_met_in}
 use Rattle.blk_nodes.specs.Flushing.{base_in, base_of, HasFlushCause, IsFlushAt}
 use Rattle.blk_nodes.specs.Joined.{IsJoined, IsSized}
-use Rattle.blk_nodes.specs.Nodes.{Nodes, DeviceState, AreTold, row_at, size_by, size_of, kind_in, kind_of, device_in}
+use Rattle.blk_nodes.specs.Nodes.{Nodes, DeviceState, AreTold, row_at, size_by, size_of, kind_in, kind_of, device_in, file_of, backing_of}
 use Rattle.blk_nodes.specs.Reading.{HasRisen, HaveRisen, OnlyAt, StoppedBy, StoppedAt, IsReadBelow}
 use Rattle.blk_nodes.specs.Sources.{step_of}
 use Rattle.blk_nodes.specs.Writing.{IsDriverAfter, IsRowAfter, AreRowsAfter, HasCauseOf, HasPieceCause, IsWriteOf, WritesFile, WritesImage, WritesBy, ZerosBy, MayWrite, CanBeWritten, own_start, taken_by}
 use Rattle.blk_nodes.specs.declared.row.Driver.{Driver}
 use Rattle.blk_nodes.specs.declared.row.Driver.TheVariants as drivers
 use Rattle.blk_nodes.specs.declared.row.Row.{Row}
+use Rattle.blk_nodes.proofs.Leading.{stopped_piece}
 use Rattle.blk_pieces.specs.Pieces.{CanReadFor, CanTransfer, ReadsPart, Transfers, shown_of}
 use Rattle.blk_pieces.proofs.Payloads.{payload_length, taken_is}
 use Rattle.blk_pieces.proofs.Kept.{ReadsOnly, none_met}
@@ -72,25 +73,39 @@ may-write nodes one = record {
   ];
 }
 
--- No copy-on-read is over it, and so a read is kept nowhere: the way down ends at its own file, since it has no backing node.
-module _ (nodes : Nodes) (one : HaveOneImage nodes) (place turns : ℕ) where
-  none-by-entry : (image : Known) → one.row.driver ≡ drivers.Qcow2 image → (e : L2Entry) → entry_in image (place / cluster_size_in image) ≡ e
-      → images_met_in (suc turns) nodes 1 place ≡ []
-  none-by-entry image is entries.Unallocated at = rw (one.there, is, at, one.bare, images_met_in, step_of) refl
-  none-by-entry image is (entries.Zero host) at = rw (one.there, is, at, images_met_in, step_of) refl
-  none-by-entry image is (entries.Host host) at = rw (one.there, is, at, one.file, images_met_in, step_of) refl
-  none-by-entry image is entries.Compressed at = rw (one.there, is, at, images_met_in, step_of) refl
-  none-by-entry image is entries.Reserved at = rw (one.there, is, at, images_met_in, step_of) refl
+-- The image's node stands on its file, and over nothing else.
+pub record StandsAlone (was now : ℕ) (nodes : Nodes) : Type 0 where
+  pub row : Row
+  pub there : row_at nodes 1 ≡ Some row
+  pub on_file : IsOnFile row.driver was now
+  pub file : file_of nodes 1 ≡ Some 0
+  pub bare : backing_of nodes 1 ≡ None
 
-  none-by : (d : Driver) (was now : ℕ) → one.row.driver ≡ d → IsOnFile d was now → images_met_in (suc turns) nodes 1 place ≡ []
-  none-by drivers.File was now is on = absurd on
-  none-by (drivers.Raw part) was now is on = rw (one.there, is, one.file, images_met_in, step_of) refl
-  none-by (drivers.Qcow2 image) was now is on = none-by-entry image is (entry_in image (place / cluster_size_in image)) refl
-  none-by drivers.CopyOnRead was now is on = absurd on
+pub stands-alone : (nodes : Nodes) (one : HaveOneImage nodes) → StandsAlone (size_of nodes 0) one.device.size nodes
+stands-alone nodes one = record { row = one.row; there = one.there; on_file = one.on_file; file = one.file; bare = one.bare }
+
+-- No copy-on-read is over it, and so a read is kept nowhere: the way down ends at its own file, since it has no backing node.
+module _ (nodes : Nodes) (was now : ℕ) (alone : StandsAlone was now nodes) (place turns : ℕ) where
+  none-by-entry : (image : Known) → alone.row.driver ≡ drivers.Qcow2 image → (e : L2Entry) → entry_in image (place / cluster_size_in image) ≡ e
+      → images_met_in (suc turns) nodes 1 place ≡ []
+  none-by-entry image is entries.Unallocated at = rw (alone.there, is, at, alone.bare, images_met_in, step_of) refl
+  none-by-entry image is (entries.Zero host) at = rw (alone.there, is, at, images_met_in, step_of) refl
+  none-by-entry image is (entries.Host host) at = rw (alone.there, is, at, alone.file, images_met_in, step_of) refl
+  none-by-entry image is entries.Compressed at = rw (alone.there, is, at, images_met_in, step_of) refl
+  none-by-entry image is entries.Reserved at = rw (alone.there, is, at, images_met_in, step_of) refl
+
+  none-by : (d : Driver) → alone.row.driver ≡ d → IsOnFile d was now → images_met_in (suc turns) nodes 1 place ≡ []
+  none-by drivers.File is on = absurd on
+  none-by (drivers.Raw part) is on = rw (alone.there, is, alone.file, images_met_in, step_of) refl
+  none-by (drivers.Qcow2 image) is on = none-by-entry image is (entry_in image (place / cluster_size_in image)) refl
+  none-by drivers.CopyOnRead is on = absurd on
+
+pub none-met-alone : (nodes : Nodes) (was now : ℕ) → StandsAlone was now nodes → (place : ℕ) → images_met nodes 1 place ≡ []
+unfolding images_met
+none-met-alone nodes was now alone place = none-by nodes was now alone place 63 alone.row.driver refl alone.on_file
 
 pub none-kept : (nodes : Nodes) → HaveOneImage nodes → (place : ℕ) → images_met nodes 1 place ≡ []
-unfolding images_met
-none-kept nodes one place = none-by nodes one place 63 one.row.driver (size_of nodes 0) one.device.size refl one.on_file
+none-kept nodes one = none-met-alone nodes (size_of nodes 0) one.device.size (stands-alone nodes one)
 
 can-read : (nodes : Nodes) → HaveOneImage nodes → (op : Op) (part : Extent) → end_of part ≤ size_of nodes 1 → CanReadFor op nodes 1 part
 can-read nodes one (Read span) part inside = record { inside = inside; may = subst (AtEach (MayWrite nodes)) (sym (none-kept nodes one part.start)) tt }
@@ -185,9 +200,9 @@ module _ (old new : Nodes) (one : HaveOneImage old) where
         };
       }
 
-  image-goes : (fits : ℕ → Type 0) (own : Option ℕ) (n : ℕ) (outcome : Outcome) (wrote : WritesImage fits own old new 1 n outcome)
+  image-goes : (fits : ℕ → Type 0) (own rest : Option ℕ) (n : ℕ) (outcome : Outcome) (wrote : WritesImage fits own rest old new 1 n outcome)
       → wrote.after.capacity ≡ wrote.before.capacity → Goes one.device new.devices outcome
-  image-goes fits own n outcome wrote capacity =
+  image-goes fits own rest n outcome wrote capacity =
       record {
         device = wrote.after;
         is = r.0;
@@ -212,22 +227,24 @@ module _ (old new : Nodes) (one : HaveOneImage old) where
             )
       ]
 
-      by_cause : (o : Outcome) → HasPieceCause (fits wrote.before.capacity) own n wrote.file old new 1 wrote.before wrote.after o → CountsOutcome one.device.faults wrote.after.faults o
+      by_cause : (o : Outcome) → HasPieceCause (fits wrote.before.capacity) own rest n wrote.file old new 1 wrote.before wrote.after o → CountsOutcome one.device.faults wrote.after.faults o
       by_cause Good cause = cause.1 ∙ ap (λ (x : DeviceState). x.faults) r.1
       by_cause (Torn done dev count) cause =
           stopped-by one.device wrote.after dev count one.number (subst (λ (x : DeviceState). StoppedBy x wrote.after dev count) r.1 cause.2)
-      by_cause (Io dev count) cause = the-stop cause.1.file wrote.after dev count r.0 cause.1.stopped
+      by_cause (Io dev count) cause =
+          let stopped = stopped_piece old new 1 dev count fits own rest n outcome wrote cause in
+          the-stop stopped.file wrote.after dev count r.0 stopped.stopped
       by_cause (NoSpace dev) cause = (
         ap (λ (k : DevNo). k.0) (cause.1 ∙ ap (λ (x : DeviceState). x.number) r.1 ∙ one.number),
         ap (λ (x : DeviceState). x.faults) (the-same wrote.after r.0 cause.2),
       )
 
   write-goes : (part : Extent) (bytes : List ℕ) (outcome : Outcome) (row : Row) (driver : Driver) → WritesBy driver old new 1 part bytes outcome
-      → LeavesRow (IsWritten (IsToldDisk old 1) part bytes) driver row old new 1 outcome → Goes one.device new.devices outcome
+      → LeavesRow (IsImageWritten (IsToldDisk old 1) part bytes) driver row old new 1 outcome → Goes one.device new.devices outcome
   write-goes part bytes outcome row drivers.File wrote left = file-goes part.start bytes outcome wrote
   write-goes part bytes outcome row (drivers.Raw p) wrote left = file-goes part.start bytes outcome wrote
   write-goes part bytes outcome row (drivers.Qcow2 image) wrote left =
-      image-goes _ _ _ outcome wrote
+      image-goes _ _ _ _ outcome wrote
       (written-capacity (IsToldDisk old 1) image left.now wrote.before wrote.after part bytes outcome (left.changed wrote.file wrote.before wrote.after wrote.edge wrote.held wrote.left))
   write-goes part bytes outcome row drivers.CopyOnRead wrote left = file-goes part.start bytes outcome wrote
 
@@ -236,7 +253,7 @@ module _ (old new : Nodes) (one : HaveOneImage old) where
   zero-goes part outcome row drivers.File wrote left = file-goes part.start (replicate part.len 0) outcome wrote
   zero-goes part outcome row (drivers.Raw p) wrote left = file-goes part.start (replicate part.len 0) outcome wrote
   zero-goes part outcome row (drivers.Qcow2 image) wrote left =
-      image-goes _ _ _ outcome wrote
+      image-goes _ _ _ _ outcome wrote
       (zeroed-capacity (IsToldDisk old 1) image left.now wrote.before wrote.after part outcome (left.changed wrote.file wrote.before wrote.after wrote.edge wrote.held wrote.left))
   zero-goes part outcome row drivers.CopyOnRead wrote left = file-goes part.start (replicate part.len 0) outcome wrote
 
@@ -333,6 +350,17 @@ on-file-after drivers.CopyOnRead b was now was' now' is size same on = absurd on
 
 row-after : (row : Row) (b : Option Row) → AreRowsAfter (Some row) b → (now : Row) × (b ≡ Some now) × IsRowAfter row now
 row-after row b is = is
+
+pub alone-after : (old new : Nodes) (was now : ℕ) → StandsAlone was now old → RowsAfter old new → StandsAlone was now new
+alone-after old new was now alone after =
+    let r = row-after alone.row (row_at new 1) (subst (λ (b : Option Row). AreRowsAfter b (row_at new 1)) alone.there (after.rows 1)) in
+    record {
+      row = r.0;
+      there = r.1;
+      on_file = on-file-after alone.row.driver r.0.driver was now was now r.2.driver refl (λ p raw. refl) alone.on_file;
+      file = ap (λ (g : Graph). child_of (Node 1) File g.edges) after.graph ∙ alone.file;
+      bare = ap (λ (g : Graph). child_of (Node 1) Backing g.edges) after.graph ∙ alone.bare;
+    }
 
 pub one-after : (old new : Nodes) (one : HaveOneImage old) (e : DeviceState) → new.devices ≡ e ∷ [] → e.node ≡ one.device.node → e.number ≡ one.device.number
     → ((p : RawImage) → one.row.driver ≡ drivers.Raw p → e.size ≡ one.device.size) → RowsAfter old new → HaveOneImage new

@@ -15,7 +15,7 @@ use Rattle.q2_image.specs.Image.{Known, IsImageOf}
 use Rattle.q2_image.specs.Opening.{Names, HasCause, refusal_of}
 use Rattle.q2_image.specs.declared.stop.ImageStop.{ImageStop}
 use Rattle.q2_image.specs.declared.stop.ImageStop.TheVariants as stops
-use Rattle.blk_nodes.specs.Adding.{with_node, with_device, with_below, file_edge, guest_edge, raw_row, IsDenied, IsOverStop as IsOverStopOf}
+use Rattle.blk_nodes.specs.Adding.{with_node, with_device, with_below, file_edge, guest_edge, raw_row, IsDenied, IsOverStop}
 use Rattle.blk_nodes.specs.declared.stop.AddStop.{AddStop}
 use Rattle.blk_nodes.specs.declared.stop.AddStop.TheVariants as adding
 use Rattle.blk_nodes.specs.Contents.{Unfolds}
@@ -27,8 +27,9 @@ use Rattle.blk_nodes.specs.declared.backing.Backing.TheVariants.{Unsaid}
 use Rattle.blk_nodes.specs.declared.row.Driver.TheVariants as drivers
 use Rattle.qblk_core.specs.Closing.{IsOnlyDevice}
 use Rattle.qblk_core.specs.Face.{machine_on}
-use Rattle.qblk_core.specs.ImageNodes.{file_name, image_name, only_device, with_file, with_raw, asked_image, IsOver, AreMadeOf}
-use Rattle.qblk_core.specs.Opened.{IsFileOver, IsOpenedAs, StopsAs, IsOverStop, IsStopped, stop_by}
+use Rattle.qblk_core.specs.ImageNodes.{file_name, image_name, only_device, with_file, with_raw, asked_image, IsImageNodeOver, AreMadeOf}
+use Rattle.qblk_core.specs.Opened.{IsFileOver, IsOpenedAs, StopsAs, StopsImageNode, IsStopped, stop_by}
+use Rattle.qblk_core.specs.Run.{IsBadBytes}
 use Rattle.qblk_core.specs.Session.{IsRefusedImage}
 use Rattle.qblk_core.specs.declared.opening.OpenStop.{OpenStop}
 use Rattle.qblk_core.specs.declared.opening.OpenStop.TheVariants.{Refused, Io, NoMemory}
@@ -76,20 +77,30 @@ qcow2-made d old new file id name image over zeroth named lowest is =
 found-device : (d : DeviceState) (old : Nodes) (file : ℕ) (x : DeviceState) → IsFileOver d old → device_in old.devices file ≡ Some x → x ≡ d
 found-device d old file x over held = first-found d x file (subst (λ (n : Nodes). device_in n.devices file ≡ Some x) over.is held)
 
+-- the refusal of a qcow2 image, which is none of a raw one's
+refused-as : (d : DeviceState) (stop : ImageStop) → ((bytes : List ℕ) → d.content ≡ Some bytes → IsBadBytes Qcow2 (Image stop) bytes) → IsSome (refusal_of stop)
+    → IsRefusedImage Qcow2 (Image stop) d
+refused-as d stop named cause = record {
+  bytes = named;
+  there = λ bad. absurd (let no : ⊥ = cc bad in no);
+  large = λ bad. absurd (let no : ⊥ = cc bad in no);
+  cause = cause;
+}
+
 named-stop : (d e : DeviceState) (stop : ImageStop) → ((bytes : List ℕ) → d.content ≡ Some bytes → Names (image_refusal bytes) stop) → HasCause d.faults e.faults stop
     → StopsAs Qcow2 d e (stop_by stop)
-named-stop d e (stops.Header stop) named cause = (record { bytes = named; there = λ bad. absurd (let no : ⊥ = cc bad in no); cause = refl }, cause)
-named-stop d e (stops.Offset offset) named cause = (record { bytes = named; there = λ bad. absurd (let no : ⊥ = cc bad in no); cause = refl }, cause)
-named-stop d e (stops.Reserved table index) named cause = (record { bytes = named; there = λ bad. absurd (let no : ⊥ = cc bad in no); cause = refl }, cause)
-named-stop d e (stops.Compressed cluster) named cause = (record { bytes = named; there = λ bad. absurd (let no : ⊥ = cc bad in no); cause = refl }, cause)
-named-stop d e (stops.Overlap cluster) named cause = (record { bytes = named; there = λ bad. absurd (let no : ⊥ = cc bad in no); cause = refl }, cause)
-named-stop d e (stops.Refcount cluster) named cause = (record { bytes = named; there = λ bad. absurd (let no : ⊥ = cc bad in no); cause = refl }, cause)
-named-stop d e stops.HeaderFull named cause = (record { bytes = named; there = λ bad. absurd (let no : ⊥ = cc bad in no); cause = refl }, cause)
+named-stop d e (stops.Header stop) named cause = (refused-as d (stops.Header stop) named refl, cause)
+named-stop d e (stops.Offset offset) named cause = (refused-as d (stops.Offset offset) named refl, cause)
+named-stop d e (stops.Reserved table index) named cause = (refused-as d (stops.Reserved table index) named refl, cause)
+named-stop d e (stops.Compressed cluster) named cause = (refused-as d (stops.Compressed cluster) named refl, cause)
+named-stop d e (stops.Overlap cluster) named cause = (refused-as d (stops.Overlap cluster) named refl, cause)
+named-stop d e (stops.Refcount cluster) named cause = (refused-as d (stops.Refcount cluster) named refl, cause)
+named-stop d e stops.HeaderFull named cause = (refused-as d stops.HeaderFull named refl, cause)
 named-stop d e (stops.Io count) named cause = (refl, cause.0, cause.1)
 named-stop d e stops.NoMemory named cause = cause
 
 pub unopened : (d : DeviceState) (old new : Nodes) (file : ℕ) (stop : ImageStop) → IsFileOver d old → IsUnopened old.devices new.devices file stop → HaveRisen old.devices new.devices
-    → IsOverStop Qcow2 old new (stop_by stop)
+    → StopsImageNode Qcow2 old new (stop_by stop)
 unopened d old new file stop over is risen =
     let was : old.devices ≡ d ∷ [] = ap (λ (n : Nodes). n.devices) over.is in
     let r = risen-one d new.devices (subst (λ (ds : List DeviceState). HaveRisen ds new.devices) was risen) in
@@ -112,7 +123,7 @@ unopened d old new file stop over is risen =
 
 -- ---- the guest's drive
 
-pub keeps-drive : (format : Format) (d : DeviceState) (over : Nodes) (image : ℕ) → IsOver format (with_file d) over → image ≡ 1
+pub keeps-drive : (format : Format) (d : DeviceState) (over : Nodes) (image : ℕ) → IsImageNodeOver format (with_file d) over → image ≡ 1
     → KeepsPermissions (with_below over (guest_edge over 0 image false)).graph.edges
 keeps-drive format d over image is first =
     let as_is = over-as format d over is in
@@ -121,14 +132,14 @@ keeps-drive format d over image is first =
 
 -- ---- the whole
 
-pub all-made : (format : Format) (d : DeviceState) (file over nodes : Nodes) (image : ℕ) → IsFileOver d file → image ≡ 1 → IsOver format file over
+pub all-made : (format : Format) (d : DeviceState) (file over nodes : Nodes) (image : ℕ) → IsFileOver d file → image ≡ 1 → IsImageNodeOver format file over
     → nodes ≡ with_below over (guest_edge over 0 1 false) → IsJoined nodes → Unfolds nodes → IsOpenedAs format d nodes image
 all-made format d file over nodes image of_file first is drive joined disks =
     let made : AreMadeOf format d nodes = record {
       node = of_file.node;
       number = of_file.number;
       over = over;
-      image = subst (λ (f : Nodes). IsOver format f over) of_file.is is;
+      image = subst (λ (f : Nodes). IsImageNodeOver format f over) of_file.is is;
       drive = drive;
       joined = joined;
     } in
@@ -136,7 +147,7 @@ all-made format d file over nodes image of_file first is drive joined disks =
 
 -- no addition of the image's node is refused
 pub not-refused : {T : Type 0} (d : DeviceState) (old : Nodes) (name : List ℕ) (kind : NodeKind) (edges : ℕ → List Edge → List Edge) (result : Result T AddStop) → IsFileOver d old
-    → name ≡ image_name → ((id : ℕ) → edges id [] ≡ file_edge id 0 ∷ []) → IfErr result IsOverStopOf
+    → name ≡ image_name → ((id : ℕ) → edges id [] ≡ file_edge id 0 ∷ []) → IfErr result IsOverStop
     → ((result ≡ Err adding.NameTaken) ↔ HasName old.graph name) → ((result ≡ Err adding.TooManyNodes) ↔ ((length old.graph.nodes ≡ 64) × ¬ HasName old.graph name))
     → ((pair : Pair) → result ≡ Err (adding.Conflict pair) → IsDenied old kind edges pair) → IsOk result
 not-refused d old name kind edges (Ok id) over named one only taken full denied = refl

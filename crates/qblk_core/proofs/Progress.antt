@@ -25,7 +25,7 @@ use Rattle.blk_pieces.specs.Pieces.{shown_before}
 use Rattle.blk_pieces.proofs.Shown.{shown_next, shown_within}
 use Rattle.qblk_core.specs.Steps.{CanPiece, PutsPiece, after_admission, after_retirement}
 use Rattle.qblk_core.specs.Comes.{Comes}
-use Rattle.qblk_core.specs.Requests.{CanRun, AtPiece, PiecesDone, HasRoom, RequestDone}
+use Rattle.qblk_core.specs.Requests.{CanRun, AtPiece, PiecesDone, CanRecord, RequestDone}
 
 shown-start : (op : Op) → shown_before op 0 ≡ 0
 shown-start (Read span) = omega arith
@@ -155,7 +155,7 @@ asked-refuse es r op why = asked-push 0 es (events.Refuse 0 r op why)
 asked-retire : (es : List Event) (r : ℕ) → asked_by 0 (es ++ events.Retire 0 r ∷ []) ≡ asked_by 0 es
 asked-retire es r = asked-push 0 es (events.Retire 0 r) ∙ append-nil (asked_by 0 es)
 
-refused-done : (w : Face) (op : Op) (why : Refused) → HasRoom w op → ((o : Nodes) → Comes o w → Comes o (after_admission w op (Some why))) → RequestDone w (after_admission w op (Some why)) op
+refused-done : (w : Face) (op : Op) (why : Refused) → CanRecord w op → ((o : Nodes) → Comes o w → Comes o (after_admission w op (Some why))) → RequestDone w (after_admission w op (Some why)) op
 refused-done w op why has comes = record {
   idle = refl;
   done = refl;
@@ -165,14 +165,14 @@ refused-done w op why has comes = record {
   comes = comes;
 }
 
-pub request-refused : (w v : Face) (op : Op) (why : Option Refused) → HasRoom w op → is_some why ≡ true → v ≡ after_admission w op why → ((o : Nodes) → Comes o w → Comes o v) → RequestDone w v op
+pub request-refused : (w v : Face) (op : Op) (why : Option Refused) → CanRecord w op → is_some why ≡ true → v ≡ after_admission w op why → ((o : Nodes) → Comes o w → Comes o v) → RequestDone w v op
 request-refused w v op None has is kept comes = absurd (false≢true is)
 request-refused w v op (Some why) has is kept comes =
     let P : Face → Type 0 = λ x. RequestDone w x op in
     subst P (sym kept) (refused-done w op why has (λ o h. let Q : Face → Type 0 = Comes o in subst Q kept (comes o h)))
 
 -- a request that was admitted, once its pieces are made and it is retired
-retired-done : (w u : Face) (op : Op) → HasRoom w op → ((o : Nodes) → Comes o w → Comes o (after_admission w op None)) → PiecesDone (after_admission w op None) u (record { op = op; next = 0; is_stopped = false })
+retired-done : (w u : Face) (op : Op) → CanRecord w op → ((o : Nodes) → Comes o w → Comes o (after_admission w op None)) → PiecesDone (after_admission w op None) u (record { op = op; next = 0; is_stopped = false })
     → ((o : Nodes) → Comes o u → Comes o (after_retirement u)) → RequestDone w (after_retirement u) op
 retired-done w u op has first pieces last = record {
   idle = refl;
@@ -183,7 +183,7 @@ retired-done w u op has first pieces last = record {
   comes = λ o h. last o (pieces.comes o (first o h));
 }
 
-pub request-retired : (w v u x : Face) (op : Op) (why : Option Refused) → HasRoom w op → is_some why ≡ false → v ≡ after_admission w op why → ((o : Nodes) → Comes o w → Comes o v)
+pub request-retired : (w v u x : Face) (op : Op) (why : Option Refused) → CanRecord w op → is_some why ≡ false → v ≡ after_admission w op why → ((o : Nodes) → Comes o w → Comes o v)
     → With v.guest.flight (PiecesDone v u) → x ≡ after_retirement u → ((o : Nodes) → Comes o u → Comes o x) → RequestDone w x op
 request-retired w v u x op (Some why) has is kept first pieces ends last = absurd (false≢true (sym is))
 request-retired w v u x op None has is kept first pieces ends last =

@@ -5,7 +5,7 @@ use Rattle.std.proofs.lemmas.List.{append-nil, take-append-drop, take_all}
 use Rattle.blk_base.specs.Counts.{Rose}
 use Rattle.blk_base.specs.Written.{Written, memory_of}
 use Rattle.blk_history.specs.Names.{RowNames}
-use Rattle.blk_history.specs.Line.{HasName, line_room, Appends}
+use Rattle.blk_history.specs.Line.{IsActorNamed, line_room, Appends}
 use Rattle.blk_history.specs.Transcript.{line_of, transcript}
 use Rattle.blk_history.specs.declared.event.Event.{Event}
 use Rattle.blk_history.specs.declared.event.Event.TheVariants.{Admit, Refuse, Piece, Retire}
@@ -13,7 +13,7 @@ use Rattle.qblk_core.specs.Comes.{HasLine, HaveLines}
 use Rattle.qblk_core.specs.Run.{guest_names}
 use Rattle.blk_base.specs.declared.fault.FaultAt.{FaultAt}
 use Rattle.qblk_core.specs.Session.{EndsAs, ended_as, failed_as}
-use Rattle.qblk_core.specs.Output.{Fits, AllFit, SendsPart, SendsFront}
+use Rattle.qblk_core.specs.Output.{LineFits, AllLinesFit, SendsPart, SendsFront}
 
 -- a put that failed sent a front
 pub front-sent : (old new : Option (List ℕ)) (bytes : List ℕ) (n before now : ℕ) → new ≡ option_map (λ s. s ++ take n bytes) old → Rose before now → SendsFront old new bytes before now
@@ -38,13 +38,13 @@ on-err (Ok x) P Q p f = tt
 on-err (Err e) P Q p f = f p
 
 -- the entry at a place, and its line
-pub fits-at : (names : RowNames) (memory : ℕ) (es : List Event) (at : ℕ) (e : Event) → AllFit names memory es → slice_get es at ≡ Some e → Fits names memory e
+pub fits-at : (names : RowNames) (memory : ℕ) (es : List Event) (at : ℕ) (e : Event) → AllLinesFit names memory es → slice_get es at ≡ Some e → LineFits names memory e
 fits-at names memory [] at e all is = let bad : ⊥ = cc is in absurd bad
-fits-at names memory (x ∷ es) zero e all is = let same : x ≡ e = cc is in subst (Fits names memory) same all.0
+fits-at names memory (x ∷ es) zero e all is = let same : x ≡ e = cc is in subst (LineFits names memory) same all.0
 fits-at names memory (x ∷ es) (suc at) e all is = fits-at names memory es at e all.1 is
 
 -- with more memory they fit too
-pub fits-more : (names : RowNames) (a b : ℕ) (es : List Event) → a ≤ b → AllFit names a es → AllFit names b es
+pub fits-more : (names : RowNames) (a b : ℕ) (es : List Event) → a ≤ b → AllLinesFit names a es → AllLinesFit names b es
 fits-more names a b [] le all = tt
 fits-more names a b (e ∷ es) le all =
     (record { named = all.0.named; room = let had = all.0.room in omega arith }, fits-more names a b es le all.1)
@@ -62,14 +62,14 @@ room-of (Piece g r k outcome got) line = rw line.whose (let shown = line.shown i
 room-of (Retire g r) line = rw line.whose (omega arith)
 room-of e line = absurd line.whose
 
-named-by : (e : Event) → HasLine e → HasName guest_names e
+named-by : (e : Event) → HasLine e → IsActorNamed guest_names e
 named-by (Admit g r op) line = rw line.whose (lit< tt)
 named-by (Refuse g r op why) line = rw line.whose (lit< tt)
 named-by (Piece g r k outcome got) line = rw line.whose (lit< tt)
 named-by (Retire g r) line = rw line.whose (lit< tt)
 named-by e line = absurd line.whose
 
-pub lines-fit : (es : List Event) → HaveLines es → AllFit guest_names 393476 es
+pub lines-fit : (es : List Event) → HaveLines es → AllLinesFit guest_names 393476 es
 lines-fit [] all = tt
 lines-fit (e ∷ es) all = (record { named = named-by e all.0; room = room-of e all.0 }, lines-fit es all.1)
 
@@ -127,15 +127,15 @@ part-next memory old mid new whole more before now first then = record {
 }
 
 -- a part, and then a front of what follows
-pub part-front : (memory : ℕ) (old mid new : Option (List ℕ)) (whole more : List ℕ) (before : Written) (a b c : ℕ) → SendsPart memory old mid whole before → SendsFront mid new (before.bytes ++ more) b c → a ≤ b → SendsFront old new (whole ++ more) a c
-part-front memory old mid new whole more before a b c first then le = record {
+pub part-front : (memory : ℕ) (old mid new : Option (List ℕ)) (whole more : List ℕ) (before : Written) (a b c : ℕ) → SendsPart memory old mid whole before → SendsFront mid new (before.bytes ++ more) b c → b ≡ a → SendsFront old new (whole ++ more) a c
+part-front memory old mid new whole more before a b c first then same = record {
   part = (
     first.part.0 ++ then.part.0,
     then.part.1,
     append_assoc first.part.0 then.part.0 then.part.1 ∙ ap (λ bs. first.part.0 ++ bs) then.part.2 ∙ sym (append_assoc first.part.0 before.bytes more) ∙ ap (λ bs. bs ++ more) first.part.1,
     sent-after old mid new first.part.0 then.part.0 first.part.2 then.part.3,
   );
-  rose = let r = then.rose in omega arith;
+  rose = subst (λ (n : ℕ). Rose n c) same then.rose;
 }
 
 front-more : (old new : Option (List ℕ)) (whole more : List ℕ) (a b : ℕ) → SendsFront old new whole a b → SendsFront old new (whole ++ more) a b
@@ -146,10 +146,10 @@ front-more old new whole more a b front = record {
 
 -- at a line that failed, a front of the whole transcript is out
 pub line-failed : (names : RowNames) (memory : ℕ) (es : List Event) (at : ℕ) (e : Event) (old mid new : Option (List ℕ)) (before : Written) (a b c : ℕ) → slice_get es at ≡ Some e → SendsPart memory old mid (lines names (take at es)) before
-    → SendsFront mid new (before.bytes ++ line_of names e) b c → a ≤ b → SendsFront old new (transcript names es) a c
+    → SendsFront mid new (before.bytes ++ line_of names e) b c → b ≡ a → SendsFront old new (transcript names es) a c
 unfolding transcript
-line-failed names memory es at e old mid new before a b c is part front le =
-    let here = part-front memory old mid new (lines names (take at es)) (line_of names e) before a b c part front le in
+line-failed names memory es at e old mid new before a b c is part front same =
+    let here = part-front memory old mid new (lines names (take at es)) (line_of names e) before a b c part front same in
     let whole : (lines names (take at es) ++ line_of names e) ++ lines names (drop (at + 1) es) ≡ lines names es = ap (λ bs. bs ++ lines names (drop (at + 1) es)) (sym (lines-next names es at e is)) ∙ lines-all names es (at + 1) in
     let P : List ℕ → Type 0 = λ w. SendsFront old new w a c in
     subst P whole (front-more old new _ (lines names (drop (at + 1) es)) a c here)
@@ -170,11 +170,11 @@ unfolding transcript
 rest-sent names memory es n old mid new line is part sent =
     sent-after old mid new part.part.0 line.bytes part.part.2 sent ∙ ap (λ (bs : List ℕ). option_map (λ s. s ++ bs) old) (part.part.1 ∙ take-every names es n is)
 
-pub rest-failed : (names : RowNames) (memory : ℕ) (es : List Event) (n : ℕ) (old mid new : Option (List ℕ)) (line : Written) (a b c : ℕ) → n ≡ length es → SendsPart memory old mid (lines names (take n es)) line → SendsFront mid new line.bytes b c → a ≤ b → SendsFront old new (transcript names es) a c
+pub rest-failed : (names : RowNames) (memory : ℕ) (es : List Event) (n : ℕ) (old mid new : Option (List ℕ)) (line : Written) (a b c : ℕ) → n ≡ length es → SendsPart memory old mid (lines names (take n es)) line → SendsFront mid new line.bytes b c → b ≡ a → SendsFront old new (transcript names es) a c
 unfolding transcript
-rest-failed names memory es n old mid new line a b c is part front le =
+rest-failed names memory es n old mid new line a b c is part front same =
     let here : SendsFront mid new (line.bytes ++ []) b c = rw (append-nil line.bytes) front in
-    let all = part-front memory old mid new (lines names (take n es)) [] line a b c part here le in
+    let all = part-front memory old mid new (lines names (take n es)) [] line a b c part here same in
     let P : List ℕ → Type 0 = λ w. SendsFront old new w a c in
     subst P (append-nil (lines names (take n es)) ∙ take-every names es n is) all
 

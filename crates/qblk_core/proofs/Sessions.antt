@@ -17,7 +17,7 @@ use Rattle.qblk_core.specs.Requests.{RequestsDone}
 use Rattle.blk_base.specs.Counts.{Rose}
 use Rattle.qblk_core.specs.Closing.{IsOnlyDevice}
 use Rattle.qblk_core.specs.Opened.{IsStopped, IsImageStatus}
-use Rattle.qblk_core.specs.Session.{IsClosed, IsMade, IsTraceStop, IsRunStop, IsRefusedImage}
+use Rattle.qblk_core.specs.Session.{AreNodesClosed, AreRequestsMade, IsTraceStop, IsRunStop, IsRefusedImage}
 use Rattle.qblk_core.specs.declared.input.TraceRead.{TraceRead}
 use Rattle.qblk_core.specs.declared.opening.OpenStop.{OpenStop}
 use Rattle.qblk_core.specs.declared.opening.OpenStop.TheVariants.{Refused, Io, NoMemory as NoRoom}
@@ -37,9 +37,9 @@ asked-all e w ops empty made = made.asked ∙ ap (λ es. asked_by 0 es ++ ops) e
 
 pub made-run : (format : Format) (first last : Nodes) (flush : Outcome) (d n : DeviceState) (w : Face) (log : Recorded) (ops : List Op) (bytes : List ℕ) (fault : Option FaultAt)
     → AreMadeOf format d first → Unfolds first → ((b : List ℕ) → d.content ≡ Some b → d.size ≡ length b) → IsUtf8 bytes → ops_of bytes ≡ Ok ops → log.events ≡ [] → RequestsDone (begun first log) w ops
-    → HaveOneImage w.nodes → IsClosed w.nodes last flush n fault
+    → HaveOneImage w.nodes → AreNodesClosed w.nodes last flush n fault
     → ((b : List ℕ) → n.content ≡ Some b → is_some n.is_flushed ≡ true) → ((b : List ℕ) → n.content ≡ Some b → n.size ≡ length b)
-    → IsMade format bytes d n w fault
+    → AreRequestsMade format bytes d n w fault
 made-run format first last flush d n w log ops bytes fault made disks d-sized text is empty done one closed tells n-sized = record {
   first = first;
   last = last;
@@ -81,7 +81,7 @@ pub image-stops : (format : Format) (image trace : List ℕ) (read : TraceRead) 
     → IsRunStop format image trace read d n status
 image-stops format image trace read d n (Refused why) (Input name line cause) stopped is =
     let stop = stopped.cause in
-    (stop.1, inl (is.0, is.1, subst (λ (c : InputWhy). IsRefusedImage format c d.content) (sym is.2) stop.0))
+    (stop.1, inl (is.0, is.1, subst (λ (c : InputWhy). IsRefusedImage format c d) (sym is.2) stop.0))
 image-stops format image trace read d n (Refused why) NoMemory stopped is = let stop = stopped.cause in stop.1
 image-stops format image trace read d n (Io count) (Fault from named) stopped is =
     let cause = stopped.cause in

@@ -12,7 +12,7 @@ use Rattle.blk_base.specs.declared.file.File.{File}
 use Rattle.blk_base.specs.declared.fault.FaultAt.{FaultAt}
 use Rattle.blk_base.specs.declared.fault.FaultFrom.{FaultFrom}
 use Rattle.blk_base.specs.declared.fault.FaultFrom.TheVariants.{Store, Dev, Sink}
-use Rattle.blk_base.proofs.Openings.{back-opened, put-same}
+use Rattle.blk_base.proofs.Openings.{put-same}
 use Rattle.trace_codec.specs.Trace.{ops_of}
 use Rattle.blk_history.specs.Machine.{State, Guest, disk_in, replay}
 use Rattle.blk_history.specs.Legal.{Legal}
@@ -25,6 +25,7 @@ use Rattle.trace_codec.specs.declared.stop.TraceStop.TheVariants as line_stops
 use Rattle.qblk_inputs.specs.declared.stop.InputFlaw.TheVariants as flaws
 use Rattle.qblk_core.proofs.Numbered.{names-line}
 use Rattle.qblk_core.proofs.Quiet.{quiet}
+use Rattle.qblk_core.proofs.Returned.{open_opening, closed-is}
 use Rattle.blk_nodes.specs.Contents.{disk_of as node_disk}
 use Rattle.blk_nodes.specs.Nodes.{DeviceState}
 use Rattle.blk_nodes.specs.Reading.{HasRisen}
@@ -38,8 +39,8 @@ use Rattle.qblk_core.proofs.Closed.{IsFlushed, HasClosed, closed-facts}
 use Rattle.qblk_core.proofs.Made.{made-one, made-kind, made-devices, image-as, told-as-disk}
 use Rattle.qblk_core.proofs.OneDevice.{head-same, faults-is, capacity-is}
 use Rattle.qblk_core.proofs.OneImage.{told-is}
-use Rattle.qblk_core.specs.Run.{Outside, machine_of, guest_names, IsRunOn, IsOverFile, TellsDisk, IsImageCause, IsTraceCause, IsOpenedQuietly, IsOpenedQuietlyFor, SpeaksOfInput, HasImage, HasTrace, IsBadTrace, IsBadBytes, IsBadImage, IsRefusedTrace, IsRefusedInput, WasRun, StoreStands, SinkStands, FailsToOpen, FailsToFlush, IsFaulty, Answers}
-use Rattle.qblk_core.specs.Session.{IsReadOf, IsStoreStop, IsOpenStop, IsMade, IsRefusedRead, IsRefusedImage, IsRunStop, EndsAs}
+use Rattle.qblk_core.specs.Run.{Outside, machine_of, guest_names, closed_opening, IsRunOn, IsOverFile, TellsDisk, IsImageCause, IsTraceCause, IsBackQuietly, IsOpenedQuietlyFor, SpeaksOfInput, HasImage, HasTrace, IsBadTrace, IsBadBytes, IsBadImage, IsRefusedTrace, IsRefusedInput, WasRun, StoreStands, SinkStands, FailsToOpen, FailsToFlush, IsFaulty, Answers}
+use Rattle.qblk_core.specs.Session.{IsTraceRead, IsStoreStop, IsOpenStop, AreRequestsMade, IsRefusedRead, IsRefusedImage, IsRunStop, EndsAs}
 use Rattle.qblk_core.specs.declared.input.TraceRead.{TraceRead}
 use Rattle.qblk_core.specs.declared.input.TraceRead.TheVariants as reads
 use Rattle.qblk_core.specs.declared.status.InputWhy.{InputWhy}
@@ -96,12 +97,12 @@ flag-good : (n : DeviceState) (faults : ℕ) (fault : Option FaultAt) (disk : Li
 flag-good n faults None disk b flushed content is none = let good = flushed.0 disk content in cc
 flag-good n faults (Some fault) disk b flushed content is none = absurd (false≢true none)
 
-pub closed-of : (format : Format) (bytes : List ℕ) (d n : DeviceState) (w : Face) (fault : Option FaultAt) (made : IsMade format bytes d n w fault)
+pub closed-of : (format : Format) (bytes : List ℕ) (d n : DeviceState) (w : Face) (fault : Option FaultAt) (made : AreRequestsMade format bytes d n w fault)
     → HasClosed w.nodes made.last made.flush n fault
 closed-of format bytes d n w fault made = closed-facts w.nodes made.last made.flush n fault made.one made.closed made.tells
 
 -- the run on its nodes
-runs-on : (format : Format) (bytes : List ℕ) (d n : DeviceState) (w : Face) (fault : Option FaultAt) (made : IsMade format bytes d n w fault)
+runs-on : (format : Format) (bytes : List ℕ) (d n : DeviceState) (w : Face) (fault : Option FaultAt) (made : AreRequestsMade format bytes d n w fault)
     → IsRunOn format w.log.events d made.first w.nodes made.last made.flush
 runs-on format bytes d n w fault made = record {
   made = made.made;
@@ -112,7 +113,7 @@ runs-on format bytes d n w fault made = record {
 }
 
 tells-disk : (format : Format) (image : List ℕ) (bytes : List ℕ) (d n : DeviceState) (w : Face) (fault : Option FaultAt) (files : List File) (new : Option (List File)) (f : File)
-    → IsToldAs image d files f → (made : IsMade format bytes d n w fault) → new ≡ files_with_returned image n.content n.capacity n.is_flushed (Some files)
+    → IsToldAs image d files f → (made : AreRequestsMade format bytes d n w fault) → new ≡ files_with_returned image n.content n.capacity n.is_flushed (Some files)
     → TellsDisk format image w.log.events (is_none fault) d made.first n files new f
 tells-disk format image bytes d n w fault files new f told made returned =
     let machine : machine_on made.first ≡ machine_of format f.bytes = (made.good f.bytes told.content).1 in
@@ -154,9 +155,9 @@ tells-disk format image bytes d n w fault files new f told made returned =
 
 -- the inputs were as they have to be
 inputs : (format : Format) (image trace bytes : List ℕ) (read : TraceRead) (d n : DeviceState) (w : Face) (fault : Option FaultAt) (files : List File) (f : File)
-    → IsToldAs image d files f → read ≡ reads.Whole bytes → IsReadOf trace read files → IsMade format bytes d n w fault → HasImage format image files × HasTrace trace (asked_by 0 w.log.events) files
+    → IsToldAs image d files f → read ≡ reads.Whole bytes → IsTraceRead trace read files → AreRequestsMade format bytes d n w fault → HasImage format image files × HasTrace trace (asked_by 0 w.log.events) files
 inputs format image trace bytes read d n w fault files f told is read-is made =
-    let P : TraceRead → Type 0 = λ r. IsReadOf trace r files in
+    let P : TraceRead → Type 0 = λ r. IsTraceRead trace r files in
     let whole = subst P is read-is in
     let same : bytes ≡ whole.0.bytes = whole.2.1 in
     let U : List ℕ → Type 0 = λ b. IsUtf8 b × (ops_of b ≡ Ok (asked_by 0 w.log.events)) in
@@ -174,9 +175,9 @@ pub was-run : (format : Format) (image trace bytes : List ℕ) (read : TraceRead
     → ((b : List ℕ) → d.content ≡ Some b → d.size ≡ length b)
     → (is_out image old.opened ≡ true → ⊥)
     → IsDeviceOf old.files image d.content d.capacity d.is_flushed
-    → IfTold old.files (IsReadOf trace read) → read ≡ reads.Whole bytes → IsMade format bytes d n w fault
+    → IfTold old.files (IsTraceRead trace read) → read ≡ reads.Whole bytes → AreRequestsMade format bytes d n w fault
     → new.files ≡ files_with_returned image n.content n.capacity n.is_flushed old.files
-    → new.opened ≡ given_back image n.faults (old.opened ++ record { name = image; faults = d.faults; returned = None } ∷ [])
+    → new.opened ≡ given_back image n.faults (old.opened ++ open_opening image d ∷ [])
     → new.sent ≡ option_map (λ s. s ++ take k (transcript guest_names w.log.events)) old.sent
     → WasRun format image trace flushed old new (asked_by 0 w.log.events) w.log.events d.faults n.faults k
 was-run format image trace bytes read d n w fault flushed old new k flag sized none device read-is is made files opened sent =
@@ -188,7 +189,7 @@ was-run format image trace bytes read d n w fault flushed old new k flag sized n
       run = record {
         asked = refl;
         small = all-small w.log.events made.comes.lines;
-        opened = opened ∙ back-opened image old.opened d.faults n.faults none;
+        opened = closed-is image d n.faults old.opened new.opened none opened;
         quiet = λ same below. quiet d.faults (faults_of w.nodes) w.log.events (rw start at made.comes.licensed.risen) (rw start at last) (let more = facts.more in omega arith) below;
         device = d;
         back = n;
@@ -211,8 +212,8 @@ was-run format image trace bytes read d n w fault flushed old new k flag sized n
       sent = sent;
     }
   where
-    on-told : (fs : Option (List File)) → ((told : List File) → IsDeviceOf (Some told) image d.content d.capacity d.is_flushed → IsReadOf trace read told → HasImage format image told × HasTrace trace (asked_by 0 w.log.events) told)
-        → IsDeviceOf fs image d.content d.capacity d.is_flushed → IfTold fs (IsReadOf trace read) → IfTold fs (λ told. HasImage format image told × HasTrace trace (asked_by 0 w.log.events) told)
+    on-told : (fs : Option (List File)) → ((told : List File) → IsDeviceOf (Some told) image d.content d.capacity d.is_flushed → IsTraceRead trace read told → HasImage format image told × HasTrace trace (asked_by 0 w.log.events) told)
+        → IsDeviceOf fs image d.content d.capacity d.is_flushed → IfTold fs (IsTraceRead trace read) → IfTold fs (λ told. HasImage format image told × HasTrace trace (asked_by 0 w.log.events) told)
     on-told None f device read-is = tt
     on-told (Some told) f device read-is = f told device read-is
 
@@ -248,9 +249,9 @@ pub ends : (format : Format) (image trace bytes : List ℕ) (read : TraceRead) (
     → ((b : List ℕ) → d.content ≡ Some b → d.size ≡ length b)
     → (is_out image old.opened ≡ true → ⊥)
     → IsDeviceOf old.files image d.content d.capacity d.is_flushed
-    → IfTold old.files (IsReadOf trace read) → read ≡ reads.Whole bytes → IsMade format bytes d n w fault
+    → IfTold old.files (IsTraceRead trace read) → read ≡ reads.Whole bytes → AreRequestsMade format bytes d n w fault
     → new.files ≡ files_with_returned image n.content n.capacity n.is_flushed old.files
-    → new.opened ≡ given_back image n.faults (old.opened ++ record { name = image; faults = d.faults; returned = None } ∷ [])
+    → new.opened ≡ given_back image n.faults (old.opened ++ open_opening image d ∷ [])
     → EndsAs fault old.sent new.sent (transcript guest_names w.log.events) old.sink_faults new.sink_faults status
     → Answers format image trace old new status
 ends format image trace bytes read d n w None old new Done sized none device read-is is made files opened end = (
@@ -329,7 +330,7 @@ ends-stands n faults (Some fault) old new whole before now (Fault from count) fl
 ends-stands n faults fault old new whole before now status flushed end = absurd end
 
 -- an input that is refused
-refused-read : (trace : List ℕ) (read : TraceRead) (files : List File) (line : ℕ) (cause : InputWhy) → IsReadOf trace read files → IsRefusedRead read cause line → IsRefusedTrace cause line trace files
+refused-read : (trace : List ℕ) (read : TraceRead) (files : List File) (line : ℕ) (cause : InputWhy) → IsTraceRead trace read files → IsRefusedRead read cause line → IsRefusedTrace cause line trace files
 refused-read trace (reads.Whole bytes) files line why.Absent is refused = absurd refused
 refused-read trace (reads.Whole bytes) files line why.TooLarge is refused = absurd refused
 refused-read trace (reads.Whole bytes) files line why.NeedsBacking is refused = absurd refused
@@ -370,34 +371,35 @@ read-cause reads.Absent line cause is = (flaws.Absent, is.1, is.0)
 read-cause reads.TooLong line cause is = (flaws.TooLong, is.1, is.0)
 
 -- the image was opened, where it is there
-quietly-for : (image : List ℕ) (cause : InputWhy) → cause ≢ why.Absent → (old new : Outside) → IsOpenedQuietly image old new → IsOpenedQuietlyFor cause image old new
-quietly-for image why.Absent there old new opened = absurd (there refl)
-quietly-for image why.NotUtf8 there old new opened = opened
-quietly-for image why.TooLong there old new opened = opened
-quietly-for image why.BadLine there old new opened = opened
-quietly-for image why.TooMany there old new opened = opened
-quietly-for image why.TooLarge there old new opened = opened
-quietly-for image why.NeedsBacking there old new opened = opened
-quietly-for image (why.Image stop) there old new opened = opened
+quietly-for : (format : Format) (image : List ℕ) (d : DeviceState) (old new : Outside) (cause : InputWhy) → IsRefusedImage format cause d → IsBackQuietly image d old new
+    → IsOpenedQuietlyFor cause image old new
+quietly-for format image d old new why.Absent refused opened = absurd (refused.there refl)
+quietly-for format image d old new why.NotUtf8 refused opened = (d, opened)
+quietly-for format image d old new why.TooLong refused opened = (d, opened)
+quietly-for format image d old new why.BadLine refused opened = (d, opened)
+quietly-for format image d old new why.TooMany refused opened = (d, opened)
+quietly-for format image d old new why.TooLarge refused opened = (d, opened, refused.large refl)
+quietly-for format image d old new why.NeedsBacking refused opened = (d, opened)
+quietly-for format image d old new (why.Image stop) refused opened = (d, opened)
 
 -- its device is back, and its count stands
 opened-quietly : (image : List ℕ) (d n : DeviceState) (old new : Outside) → (is_out image old.opened ≡ true → ⊥) → n.faults ≡ d.faults
-    → new.opened ≡ given_back image n.faults (old.opened ++ record { name = image; faults = d.faults; returned = None } ∷ []) → IsOpenedQuietly image old new
+    → new.opened ≡ given_back image n.faults (old.opened ++ open_opening image d ∷ []) → IsBackQuietly image d old new
 opened-quietly image d n old new none stands opened =
-    let R : ℕ → Type 0 = λ c. new.opened ≡ old.opened ++ record { name = image; faults = d.faults; returned = Some c } ∷ [] in
-    (d.faults, subst R stands (opened ∙ back-opened image old.opened d.faults n.faults none))
+    let R : ℕ → Type 0 = λ c. new.opened ≡ old.opened ++ closed_opening image d c ∷ [] in
+    subst R stands (closed-is image d n.faults old.opened new.opened none opened)
 
 speaks-of : (format : Format) (image trace : List ℕ) (read : TraceRead) (d : DeviceState) (name : List ℕ) (line : ℕ) (cause : InputWhy)
-    → ((name ≡ image) × (line ≡ 0) × IsRefusedImage format cause d.content)
+    → ((name ≡ image) × (line ≡ 0) × IsRefusedImage format cause d)
     ⊎ (((bytes : List ℕ) → d.content ≡ Some bytes → IsGoodImage format bytes) × (name ≡ trace) × IsRefusedRead read cause line)
-    → (old new : Outside) → IsOpenedQuietly image old new → SpeaksOfInput format image trace old new name line cause
+    → (old new : Outside) → IsBackQuietly image d old new → SpeaksOfInput format image trace old new name line cause
 speaks-of format image trace read d name line cause (inl bad) old new opened =
-    inl (bad.0, bad.1, bad.2.cause, quietly-for image cause bad.2.there old new opened)
-speaks-of format image trace read d name line cause (inr good) old new opened = inr (good.1, read-cause read line cause good.2, opened)
+    inl (bad.0, bad.1, bad.2.cause, quietly-for format image d old new cause bad.2 opened)
+speaks-of format image trace read d name line cause (inr good) old new opened = inr (good.1, read-cause read line cause good.2, (d, opened))
 
 refused-by : (format : Format) (image trace : List ℕ) (read : TraceRead) (d : DeviceState) (files : List File) (name : List ℕ) (line : ℕ) (cause : InputWhy)
-    → ((f : File) × IsToldAs image d files f) → IsReadOf trace read files
-    → ((name ≡ image) × (line ≡ 0) × IsRefusedImage format cause d.content)
+    → ((f : File) × IsToldAs image d files f) → IsTraceRead trace read files
+    → ((name ≡ image) × (line ≡ 0) × IsRefusedImage format cause d)
     ⊎ (((bytes : List ℕ) → d.content ≡ Some bytes → IsGoodImage format bytes) × (name ≡ trace) × IsRefusedRead read cause line)
     → IsRefusedInput format image trace name line cause files
 refused-by format image trace read d files name line cause told is (inl bad) =
@@ -421,20 +423,20 @@ pub stops : (format : Format) (image trace : List ℕ) (read : TraceRead) (d n :
     → ((b : List ℕ) → d.content ≡ Some b → d.size ≡ length b)
     → (is_out image old.opened ≡ true → ⊥)
     → IsDeviceOf old.files image d.content d.capacity d.is_flushed
-    → IfTold old.files (IsReadOf trace read) → IsRunStop format image trace read d n status → HasRisen d n
+    → IfTold old.files (IsTraceRead trace read) → IsRunStop format image trace read d n status → HasRisen d n
     → new.files ≡ files_with_returned image n.content n.capacity n.is_flushed old.files
-    → new.opened ≡ given_back image n.faults (old.opened ++ record { name = image; faults = d.faults; returned = None } ∷ [])
+    → new.opened ≡ given_back image n.faults (old.opened ++ open_opening image d ∷ [])
     → new.sent ≡ old.sent → new.sink_faults ≡ old.sink_faults
     → Answers format image trace old new status
 stops format image trace read d n old new NoMemory number sized none device read-is stop same files opened sent sink =
-    (record { files = files ∙ left image d n old.files sized device same; sent = sent }, inr (opened-quietly image d n old new none stop opened))
+    (record { files = files ∙ left image d n old.files sized device same; sent = sent }, inr (d, opened-quietly image d n old new none stop opened))
 stops format image trace read d n old new (Input name line cause) number sized none device read-is stop same files opened sent sink = (
   record { files = files ∙ left image d n old.files sized device same; sent = sent },
   speaks-of format image trace read d name.bytes line cause stop.1 old new (opened-quietly image d n old new none stop.0 opened),
   why-of old.files device read-is,
 )
   where
-    why-of : (fs : Option (List File)) → IsDeviceOf fs image d.content d.capacity d.is_flushed → IfTold fs (IsReadOf trace read) → IfTold fs (IsRefusedInput format image trace name.bytes line cause)
+    why-of : (fs : Option (List File)) → IsDeviceOf fs image d.content d.capacity d.is_flushed → IfTold fs (IsTraceRead trace read) → IfTold fs (IsRefusedInput format image trace name.bytes line cause)
     why-of None device read-is = tt
     why-of (Some told) device read-is = refused-by format image trace read d told name.bytes line cause (told-as image d told sized device) read-is stop.1
 stops format image trace read d n old new (Fault from count) number sized none device read-is stop same files opened sent sink =
@@ -444,7 +446,7 @@ stops format image trace read d n old new (Fault from count) number sized none d
       nothing = record { files = files ∙ left image d n old.files sized device same; sent = sent };
       device = d;
       behind = n;
-      opened = opened ∙ back-opened image old.opened d.faults n.faults none;
+      opened = closed-is image d n.faults old.opened new.opened none opened;
       stopped = record { named = sym number; rose = stop.2; now = stop.3 };
       kept = same;
       told = over-file old.files device;
@@ -469,11 +471,11 @@ store-stops format image trace old new status stop files opened sent = absurd st
 
 -- an image that isn't opened
 pub open-stops : (format : Format) (image trace : List ℕ) (old new : Outside) (before : ℕ) (status : Status) → IsOpenStop image old.files before new.store_faults status
-    → old.store_faults ≤ before → new.files ≡ old.files → new.opened ≡ old.opened → new.sent ≡ old.sent → Answers format image trace old new status
-open-stops format image trace old new before NoMemory stop le files opened sent = (record { files = files; sent = sent }, inl opened)
-open-stops format image trace old new before (Fault Store count) stop le files opened sent =
-    (record { files = files; sent = sent }, opened, (let rose = stop.0 in omega arith), stop.1)
-open-stops format image trace old new before (Input name line cause) stop le files opened sent =
+    → before ≡ old.store_faults → new.files ≡ old.files → new.opened ≡ old.opened → new.sent ≡ old.sent → Answers format image trace old new status
+open-stops format image trace old new before NoMemory stop same files opened sent = (record { files = files; sent = sent }, inl opened)
+open-stops format image trace old new before (Fault Store count) stop same files opened sent =
+    (record { files = files; sent = sent }, opened, subst (λ (n : ℕ). Rose n count) same stop.0, stop.1)
+open-stops format image trace old new before (Input name line cause) stop same files opened sent =
     (record { files = files; sent = sent }, inl (stop.0, stop.1, absent-cause format cause stop.2, not-opened), absent old.files stop.3)
   where
     absent-cause : (f : Format) (c : InputWhy) → c ≡ why.Absent → IsImageCause f c
@@ -486,4 +488,4 @@ open-stops format image trace old new before (Input name line cause) stop le fil
     absent : (fs : Option (List File)) → IfTold fs (LacksFile image) → IfTold fs (IsRefusedInput format image trace name.bytes line cause)
     absent None lacks = tt
     absent (Some told) lacks = let P : InputWhy → Type 0 = λ c. IsBadImage format c image told in inl (stop.0, stop.1, subst P (sym stop.2) lacks)
-open-stops format image trace old new before status stop le files opened sent = absurd stop
+open-stops format image trace old new before status stop same files opened sent = absurd stop

@@ -3,7 +3,7 @@ use Rattle.std.specs.Prelude.{◌≡◌, ℕ, ◌≤◌, false, length, List, []
 use Rattle.blk_history.specs.Line.{IsOfGuest, shown_by}
 use Rattle.blk_history.specs.Machine.{replay}
 use Rattle.blk_history.specs.Legal.{Legal}
-use Rattle.blk_history.specs.Licence.{counted, HaveRisen}
+use Rattle.blk_history.specs.Licence.{counted, NameRises}
 use Rattle.blk_history.specs.Small.{IsSmall}
 use Rattle.blk_history.specs.declared.event.Event.{Event}
 use Rattle.blk_nodes.specs.Nodes.{Nodes}
@@ -13,7 +13,7 @@ use Rattle.qblk_core.specs.ImageNodes.{told_disk, faults_of, HaveShapeOf}
 
 -- the faults that the history names are rises of the device's count, each named once, and each rise is named
 pub record AreLicensed (first : Nodes) (w : Face) : Type 0 where
-  pub risen : HaveRisen (faults_of first ∷ []) w.log.events
+  pub risen : NameRises (faults_of first ∷ []) w.log.events
   pub last : counted (faults_of first ∷ []) w.log.events ≡ faults_of w.nodes ∷ []
 
 -- an entry is the guest's, and shows at most one block; its numbers are of 64 bits

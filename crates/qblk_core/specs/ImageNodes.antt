@@ -48,16 +48,16 @@ with_raw nodes = with_below
 
 -- The image's node over the `file` node. A raw image has at most 256 GiB; of a qcow2 image, which names no backing file, just
 -- that is known which its file says.
-abbrev pub IsOver : Format → Nodes → Nodes → Type 0
-IsOver Raw old new = (size_of old 0 ≤ 274877906944) × (new ≡ with_raw old)
-IsOver Qcow2 old new = (image : Known) × IsOpened old.devices 0 image × (image.header.name ≡ None)
+abbrev pub IsImageNodeOver : Format → Nodes → Nodes → Type 0
+IsImageNodeOver Raw old new = (size_of old 0 ≤ 274877906944) × (new ≡ with_raw old)
+IsImageNodeOver Qcow2 old new = (image : Known) × IsOpened old.devices 0 image × (image.header.name ≡ None)
     × (new ≡ with_qcow2 old asked_image 1 image)
 
 pub record AreMadeOf (format : Format) (device : DeviceState) (nodes : Nodes) : Type 0 where
   pub node : device.node ≡ 0
   pub number : device.number ≡ only_device
   pub over : Nodes
-  pub image : IsOver format (with_file device) over
+  pub image : IsImageNodeOver format (with_file device) over
   pub drive : nodes ≡ with_below over (guest_edge over 0 1 false)
   pub joined : IsJoined nodes
 

@@ -36,13 +36,13 @@ pub record IsOpenedAs (format : Format) (device : DeviceState) (nodes : Nodes) (
 -- or why they aren't: where no read of the device failed, its count stands
 abbrev pub StopsAs : Format → DeviceState → DeviceState → OpenStop → Type 0
 StopsAs format before now (Refused why) =
-    IsRefusedImage format why before.content × (now.faults ≡ before.faults)
+    IsRefusedImage format why before × (now.faults ≡ before.faults)
 StopsAs format before now (Io count) =
     (format ≡ Qcow2) × Rose before.faults count × (count ≡ now.faults)
 StopsAs format before now NoMemory = now.faults ≡ before.faults
 
 -- the image's node isn't added: of the nodes at most the count of their device has changed
-pub record IsOverStop (format : Format) (old new : Nodes) (stop : OpenStop) : Type 0 where
+pub record StopsImageNode (format : Format) (old new : Nodes) (stop : OpenStop) : Type 0 where
   pub before : DeviceState
   pub now : DeviceState
   pub was : old.devices ≡ before ∷ []

@@ -2,18 +2,18 @@
 use Rattle.std.specs.Prelude.{◌≡◌, ℕ, ◌+◌, ◌<◌, ◌≤◌, List, [], ◌∷◌, ◌++◌, length, Option, option_map}
 use Rattle.blk_base.specs.Counts.{Rose}
 use Rattle.blk_base.specs.Written.{Written, memory_of}
-use Rattle.blk_history.specs.Line.{HasName, line_room}
+use Rattle.blk_history.specs.Line.{IsActorNamed, line_room}
 use Rattle.blk_history.specs.Names.{RowNames}
 use Rattle.blk_history.specs.declared.event.Event.{Event}
 
 -- an entry's line has its names, and fits in so much memory behind 64 KiB
-pub record Fits (names : RowNames) (memory : ℕ) (e : Event) : Type 0 where
-  pub named : HasName names e
+pub record LineFits (names : RowNames) (memory : ℕ) (e : Event) : Type 0 where
+  pub named : IsActorNamed names e
   pub room : 65536 + line_room names e ≤ memory
 
-abbrev pub AllFit : RowNames → ℕ → List Event → Type 0
-AllFit names memory [] = Unit {0}
-AllFit names memory (e ∷ es) = Fits names memory e × AllFit names memory es
+abbrev pub AllLinesFit : RowNames → ℕ → List Event → Type 0
+AllLinesFit names memory [] = Unit {0}
+AllLinesFit names memory (e ∷ es) = LineFits names memory e × AllLinesFit names memory es
 
 -- the text has less than 64 KiB, and so much memory at least
 pub record IsBuffer (memory : ℕ) (line : Written) : Type 0 where

@@ -9,7 +9,7 @@ use Rattle.qblk_core.specs.Run.{guest_names}
 
 -- an empty history with room for these requests, a buffer of one block, the guest's name, and a text with room for 64 KiB
 -- and the longest line
-pub record IsReady (ops : List Op) (log : Recorded) (buffer : List ℕ) (names : RowNames)
+pub record IsSetUpFor (ops : List Op) (log : Recorded) (buffer : List ℕ) (names : RowNames)
     (line : Written) : Type 0 where
   pub empty : log.events ≡ []
   pub numbered : length ops < 2 ^ 32

@@ -40,7 +40,7 @@ pub record PiecesDone (old new : Face) (f : Flight) : Type 0 where
   pub comes : (first : Nodes) → Comes first old → Comes first new
 
 -- room for a request
-pub record HasRoom (w : Face) (op : Op) : Type 0 where
+pub record CanRecord (w : Face) (op : Op) : Type 0 where
   pub idle : w.guest.flight ≡ None
   pub numbered : w.guest.done + 1 < 2 ^ 32
   pub pieces : pieces_of op < 2 ^ 32
@@ -71,7 +71,7 @@ HaveNumbers [] = Unit {0}
 HaveNumbers (op ∷ ops) = (pieces_of op < 2 ^ 32) × HaveNumbers ops
 
 -- room for requests
-pub record HasRoomFor (w : Face) (ops : List Op) : Type 0 where
+pub record CanRecordAll (w : Face) (ops : List Op) : Type 0 where
   pub idle : w.guest.flight ≡ None
   pub numbered : w.guest.done + length ops < 2 ^ 32
   pub pieces : HaveNumbers ops
@@ -86,7 +86,7 @@ pub record RequestsDone (old new : Face) (ops : List Op) : Type 0 where
 
 -- all but some of them were made
 pub record AtRequests (old now : Face) (ops rest : List Op) : Type 0 where
-  pub has : HasRoomFor now rest
+  pub has : CanRecordAll now rest
   pub asked : asked_by 0 now.log.events ++ rest ≡ asked_by 0 old.log.events ++ ops
   pub comes : (first : Nodes) → Comes first old → Comes first now
 

@@ -14,7 +14,7 @@ use Rattle.blk_history.specs.Fold.{With}
 use Rattle.blk_history.specs.Machine.{State, disk_in, replay}
 use Rattle.blk_history.specs.Legal.{Legal}
 use Rattle.blk_history.specs.Owned.{asked_by, IsIdle}
-use Rattle.blk_history.specs.Licence.{counted, RoseSince, HaveRisen, NameNone}
+use Rattle.blk_history.specs.Licence.{counted, RoseSince, NameRises, NameNone}
 use Rattle.blk_history.specs.Small.{IsSmall}
 use Rattle.blk_history.specs.Names.{RowNames}
 use Rattle.blk_history.specs.Transcript.{transcript}
@@ -103,9 +103,19 @@ pub record TellsDisk (format : Format) (image : List ℕ) (h : List Event) (good
 pub record HaveCounts (h : List Event) (flush : Outcome) (before opened left now : ℕ) : Type 0
   where
     pub opening : opened ≡ before
-    pub risen : HaveRisen (opened ∷ []) h
+    pub risen : NameRises (opened ∷ []) h
     pub last : counted (opened ∷ []) h ≡ left ∷ []
     pub flushed : CountsOutcome left now flush
+
+-- the record of the image's device as it was opened, once it is back with this count
+abbrev pub closed_opening : List ℕ → DeviceState → ℕ → Opened
+closed_opening image device count = record {
+  name = image;
+  size = device.size;
+  capacity = device.capacity;
+  faults = device.faults;
+  returned = Some count;
+}
 
 -- a history of these requests on that image: each stands once, in order
 pub record IsRun (format : Format) (image : List ℕ) (ops : List Op) (flushed : Bool)
@@ -113,12 +123,12 @@ pub record IsRun (format : Format) (image : List ℕ) (ops : List Op) (flushed :
   pub asked : asked_by 0 h ≡ ops
   -- so that its transcript is that of no other
   pub small : All IsSmall h
-  pub opened : new.opened
-      ≡ old.opened ++ record { name = image; faults = before; returned = Some now } ∷ []
+  -- the device as it was opened
+  pub device : DeviceState
+  pub opened : new.opened ≡ old.opened ++ closed_opening image device now ∷ []
   -- where the count has not risen, no piece was stopped by a fault
   pub quiet : now ≡ before → before < 18446744073709551615 → NameNone h
-  -- the device as it was opened and as it is given back, and the nodes over it
-  pub device : DeviceState
+  -- the device as it is given back, and the nodes over it
   pub back : DeviceState
   pub first : Nodes
   pub left : Nodes
@@ -196,13 +206,19 @@ IsImageCause format why = ⊥
 abbrev pub IsTraceCause : InputWhy → ℕ → Type 0
 IsTraceCause why line = (flaw : InputFlaw) × (why ≡ why_of flaw) × IsTraceFlaw flaw line
 
--- the image was opened and is back, and no call of its device failed
-abbrev pub IsOpenedQuietly : List ℕ → Outside → Outside → Type 0
-IsOpenedQuietly image old new = (count : ℕ)
-    × (new.opened ≡ old.opened ++ record { name = image; faults = count; returned = Some count } ∷ [])
+-- the image's device was opened so and is back, and no call of it failed
+abbrev pub IsBackQuietly : List ℕ → DeviceState → Outside → Outside → Type 0
+IsBackQuietly image device old new =
+    new.opened ≡ old.opened ++ closed_opening image device device.faults ∷ []
 
+abbrev pub IsOpenedQuietly : List ℕ → Outside → Outside → Type 0
+IsOpenedQuietly image old new = (device : DeviceState) × IsBackQuietly image device old new
+
+-- So it was where the image is refused, unless it is absent. One that is too large was so long when it was opened.
 abbrev pub IsOpenedQuietlyFor : InputWhy → List ℕ → Outside → Outside → Type 0
 IsOpenedQuietlyFor Absent image old new = new.opened ≡ old.opened
+IsOpenedQuietlyFor TooLarge image old new = (device : DeviceState)
+    × IsBackQuietly image device old new × (274877906944 < device.size)
 IsOpenedQuietlyFor why image old new = IsOpenedQuietly image old new
 
 abbrev pub SpeaksOfInput : Format → List ℕ → List ℕ → Outside → Outside → List ℕ → ℕ → InputWhy
@@ -242,8 +258,7 @@ pub record FailsToOpen (format : Format) (image : List ℕ) (old new : Outside) 
     pub nothing : NothingWritten old new
     pub device : DeviceState
     pub behind : DeviceState
-    pub opened : new.opened ≡ old.opened
-        ++ record { name = image; faults = device.faults; returned = Some behind.faults } ∷ []
+    pub opened : new.opened ≡ old.opened ++ closed_opening image device behind.faults ∷ []
     pub stopped : StoppedBy device behind only_device count
     pub kept : HasRisen device behind
     pub told : IfTold old.files (λ files. HasFile image (IsOverFile device) files)

@@ -25,16 +25,16 @@ use Rattle.qblk_core.specs.Output.{SendsFront}
 use Rattle.qblk_core.specs.declared.input.TraceRead.{TraceRead}
 use Rattle.qblk_core.specs.declared.input.TraceRead.TheVariants as reads
 use Rattle.qblk_core.specs.declared.status.InputWhy.{InputWhy}
-use Rattle.qblk_core.specs.declared.status.InputWhy.TheVariants.{Absent, TooLong}
+use Rattle.qblk_core.specs.declared.status.InputWhy.TheVariants.{Absent, TooLong, TooLarge}
 use Rattle.qblk_core.specs.declared.status.Status.{Status}
 use Rattle.qblk_core.specs.declared.status.Status.TheVariants.{Done, Usage, Input, Fault, Stuck, NoMemory}
 
 -- what reading the trace's file gave
-abbrev pub IsReadOf : List ℕ → TraceRead → List File → Type 0
-IsReadOf trace (reads.Whole bytes) files =
+abbrev pub IsTraceRead : List ℕ → TraceRead → List File → Type 0
+IsTraceRead trace (reads.Whole bytes) files =
     HasFile trace (λ f. (length f.bytes ≤ 67108864) × (bytes ≡ f.bytes)) files
-IsReadOf trace reads.Absent files = LacksFile trace files
-IsReadOf trace reads.TooLong files = HasFile trace (λ f. 67108864 < length f.bytes) files
+IsTraceRead trace reads.Absent files = LacksFile trace files
+IsTraceRead trace reads.TooLong files = HasFile trace (λ f. 67108864 < length f.bytes) files
 
 -- a call of the store failed, or memory wasn't had
 abbrev pub IsStoreStop : ℕ → ℕ → Status → Type 0
@@ -60,8 +60,8 @@ IsOpenStop image files before now (Stuck actor waits) = ⊥
 IsOpenStop image files before now NoMemory = Unit {0}
 
 -- where a device tells its bytes, they are a good image, and the machine over it is theirs
-abbrev pub IsGood : Format → Nodes → Option (List ℕ) → Type 0
-IsGood format first content = (bytes : List ℕ) → content ≡ Some bytes
+abbrev pub TellsGoodImage : Format → Nodes → Option (List ℕ) → Type 0
+TellsGoodImage format first content = (bytes : List ℕ) → content ≡ Some bytes
     → IsGoodImage format bytes × (machine_on first ≡ machine_of format bytes)
 
 -- the fault of a flush
@@ -70,7 +70,7 @@ fault_of (Io dev count) = Some (record { from = Dev dev; count = count })
 fault_of outcome = None
 
 -- the nodes were flushed, and their device is given back, with the fault where the flush failed
-pub record IsClosed (left last : Nodes) (flush : Outcome) (back : DeviceState)
+pub record AreNodesClosed (left last : Nodes) (flush : Outcome) (back : DeviceState)
     (fault : Option FaultAt) : Type 0 where
   pub flushed : FlushesPart left last 1 flush
   pub told : fault ≡ fault_of flush
@@ -80,19 +80,19 @@ pub record IsClosed (left last : Nodes) (flush : Outcome) (back : DeviceState)
   pub given : last.devices ≡ back ∷ []
 
 -- the requests of a trace were made on a device
-pub record IsMade (format : Format) (trace : List ℕ) (before now : DeviceState) (w : Face)
+pub record AreRequestsMade (format : Format) (trace : List ℕ) (before now : DeviceState) (w : Face)
     (fault : Option FaultAt) : Type 0 where
   pub first : Nodes
   pub last : Nodes
   pub flush : Outcome
   pub made : AreMadeOf format before first
-  pub good : IsGood format first before.content
+  pub good : TellsGoodImage format first before.content
   pub text : IsUtf8 trace
   pub ops : ops_of trace ≡ Ok (asked_by 0 w.log.events)
   pub comes : Comes first w
   pub idle : w.guest.flight ≡ None
   pub one : HaveOneImage w.nodes
-  pub closed : IsClosed w.nodes last flush now fault
+  pub closed : AreNodesClosed w.nodes last flush now fault
   pub tells : (bytes : List ℕ) → now.content ≡ Some bytes → is_some now.is_flushed ≡ true
   pub sized : (bytes : List ℕ) → now.content ≡ Some bytes → now.size ≡ length bytes
 
@@ -111,12 +111,12 @@ IsTraceStop trace read (Fault from count) = ⊥
 IsTraceStop trace read (Stuck actor waits) = ⊥
 IsTraceStop trace read NoMemory = Unit {0}
 
--- why an image isn't opened, by what its device tells
-pub record IsRefusedImage (format : Format) (why : InputWhy) (content : Option (List ℕ)) : Type 0
-  where
-    pub bytes : (bytes : List ℕ) → content ≡ Some bytes → IsBadBytes format why bytes
-    pub there : why ≢ Absent
-    pub cause : IsImageCause format why
+-- why an image isn't opened, by its device's length and by the bytes that this tells
+pub record IsRefusedImage (format : Format) (why : InputWhy) (device : DeviceState) : Type 0 where
+  pub bytes : (bytes : List ℕ) → device.content ≡ Some bytes → IsBadBytes format why bytes
+  pub there : why ≢ Absent
+  pub large : why ≡ TooLarge → 274877906944 < device.size
+  pub cause : IsImageCause format why
 
 -- the image, which is judged before the trace, or the trace is refused; or the image's device failed
 abbrev pub IsRunStop : Format → List ℕ → List ℕ → TraceRead → DeviceState → DeviceState → Status
@@ -125,7 +125,7 @@ IsRunStop format image trace read before now Done = ⊥
 IsRunStop format image trace read before now Usage = ⊥
 IsRunStop format image trace read before now (Input name line why) =
     (now.faults ≡ before.faults)
-    × (((name.bytes ≡ image) × (line ≡ 0) × IsRefusedImage format why before.content)
+    × (((name.bytes ≡ image) × (line ≡ 0) × IsRefusedImage format why before)
     ⊎ (((bytes : List ℕ) → before.content ≡ Some bytes → IsGoodImage format bytes)
     × (name.bytes ≡ trace) × IsRefusedRead read why line))
 IsRunStop format image trace read before now (Fault from count) =

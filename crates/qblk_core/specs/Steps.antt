@@ -42,9 +42,9 @@ after_admission w op (Some why) = record w {
   log = log_of w.log (events.Refuse 0 w.guest.done op why);
 }
 
-abbrev pub IsJudged : Face → Op → Option Refused → Type 0
-IsJudged w op None = IsInside op (node_of (size_of w.nodes 1)) × (IsForbidden op w.guest → ⊥)
-IsJudged w op (Some why) = IsRefusedFor op w.guest (node_of (size_of w.nodes 1)) why
+abbrev pub IsRequestJudged : Face → Op → Option Refused → Type 0
+IsRequestJudged w op None = IsInside op (node_of (size_of w.nodes 1)) × (IsForbidden op w.guest → ⊥)
+IsRequestJudged w op (Some why) = IsRefusedFor op w.guest (node_of (size_of w.nodes 1)) why
 
 -- a request is over
 abbrev pub after_retirement : Face → Face

@@ -4,7 +4,7 @@ ghost use Rattle.blk_base.specs.declared.fault.Outcome.{Outcome};
 ghost use Rattle.blk_nodes.specs.Nodes.{Nodes as SeenNodes, DeviceState};
 ghost use Rattle.qblk_core.specs.ImageNodes.{HaveOneImage, seen};
 ghost use Rattle.qblk_core.specs.Closing.{IsOnlyDevice};
-ghost use Rattle.qblk_core.specs.Session.{fault_of, IsClosed};
+ghost use Rattle.qblk_core.specs.Session.{fault_of, AreNodesClosed};
 
 use blk_base::{Device, FaultAt, FaultFrom, Outcome};
 use blk_graph::NodeId;
@@ -41,7 +41,7 @@ pub(crate) fn close<D: Device>(nodes: Nodes<D>, image: NodeId) -> (D, Option<Fau
     requires image { image ≡ 1 }
     requires one { HaveOneImage nodes }
     ensures { (last : SeenNodes) × (flush : Outcome)
-        × IsClosed nodes last flush (seen D.Device result.0) result.1 }
+        × AreNodesClosed nodes last flush (seen D.Device result.0) result.1 }
 {
     let mut nodes = nodes;
     let _ = nodes.edges();

@@ -141,10 +141,10 @@ impl<D: Device> Engine<D> {
     ghost use Rattle.blk_nodes.specs.Nodes.{Nodes as SeenNodes};
     ghost use Rattle.qblk_core.specs.Face.{new_guest};
     ghost use Rattle.qblk_core.specs.ImageNodes.{HaveOneImage, seen};
-    ghost use Rattle.qblk_core.specs.Session.{IsClosed};
+    ghost use Rattle.qblk_core.specs.Session.{AreNodesClosed};
     ghost use Rattle.std.specs.Prelude.{◌≡◌, ◌+◌, ◌<◌, ◌≤◌, ◌^◌, ℕ, List, None};
     ghost use Rattle.qblk_core.specs.Face.{Face};
-    ghost use Rattle.qblk_core.specs.Steps.{after_admission, IsJudged, after_retirement, PutsPiece, CanPiece};
+    ghost use Rattle.qblk_core.specs.Steps.{after_admission, IsRequestJudged, after_retirement, PutsPiece, CanPiece};
     ghost use Rattle.blk_history.specs.Fold.{With};
     ghost use Rattle.blk_history.specs.Legal.{IsOver};
     ghost use Rattle.qblk_core.specs.Comes.{Comes};
@@ -170,7 +170,7 @@ impl<D: Device> Engine<D> {
     pub(crate) fn finish(self) -> (D, History, Option<FaultAt>)
         ensures one { HaveOneImage self.nodes }
         ensures closed { (last : SeenNodes) × (flush : Outcome)
-            × IsClosed self.nodes last flush (seen D.Device result.0) result.2 }
+            × AreNodesClosed self.nodes last flush (seen D.Device result.0) result.2 }
         ensures history { result.1 ≡ self.log }
     {
         let Engine {
@@ -190,7 +190,7 @@ impl<D: Device> Engine<D> {
         requires idle { self.old.guest.flight ≡ None }
         requires room { 0 < self.old.log.room }
         requires numbered { self.old.guest.done + 1 < 2 ^ 32 }
-        ensures judged { IsJudged self.old op result }
+        ensures judged { IsRequestJudged self.old op result }
         ensures kept { self.new ≡ after_admission self.old op result }
     {
         let span = request_span(&op);
@@ -250,7 +250,7 @@ impl<D: Device> Engine<D> {
         requires idle { self.old.guest.flight ≡ None }
         requires room { 0 < self.old.log.room }
         requires numbered { self.old.guest.done + 1 < 2 ^ 32 }
-        ensures judged { IsJudged self.old op result }
+        ensures judged { IsRequestJudged self.old op result }
         ensures kept { self.new ≡ after_admission self.old op result }
         ensures comes { (first : SeenNodes) → Comes first self.old → Comes first self.new }
     {

@@ -3,7 +3,7 @@ ghost use Rattle.std.specs.Prelude.{◌≡◌, ◌≤◌, List, ℕ, length, IfO
 ghost use Rattle.trace_codec.specs.Trace.{ops_of};
 ghost use Rattle.qblk_core.specs.Run.{IsBadTrace, guest_names};
 ghost use Rattle.qblk_core.specs.Inputs.{IsRefusal};
-ghost use Rattle.qblk_core.specs.Ready.{IsReady};
+ghost use Rattle.qblk_core.specs.Ready.{IsSetUpFor};
 ghost use Rattle.qblk_core.specs.Session.{IsTraceStop};
 
 use crate::engine::BLOCK;
@@ -85,7 +85,7 @@ fn guest_row(alloc: Global) -> Result<Rows, NoMemory>
 fn take_memory(alloc: Global, ops: Vec<Op>) -> Result<Prepared, NoMemory>
     ensures { IfOk result
         (λ p. (p.ops.items ≡ ops.items)
-        × IsReady ops.items p.history p.buffer.items p.names p.line) }
+        × IsSetUpFor ops.items p.history p.buffer.items p.names p.line) }
 {
     let room = room_for(&ops).ok_or(NoMemory)?;
     Ok(Prepared {
@@ -102,7 +102,7 @@ pub(crate) fn judge(alloc: Global, trace: &str, read: TraceRead) -> Result<Prepa
     ensures ok { IfOk result
         (λ p. (bytes : List ℕ) × (read ≡ TraceRead.Whole bytes) × IsUtf8 bytes
         × (ops_of bytes ≡ Ok p.ops.items)
-        × IsReady p.ops.items p.history p.buffer.items p.names p.line) }
+        × IsSetUpFor p.ops.items p.history p.buffer.items p.names p.line) }
     ensures err { IfErr result (IsTraceStop trace.now read) }
 {
     let bytes = match read {

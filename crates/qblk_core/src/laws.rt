@@ -1,14 +1,14 @@
 //! What follows from the definitions, each law the contract of a function that does nothing.
 
-ghost use Rattle.std.specs.Prelude.{◌≡◌, ◌⊎◌, List, ℕ};
+ghost use Rattle.std.specs.Prelude.{◌≡◌, ◌⊎◌, Bool, List, ℕ};
 ghost use Rattle.trace_codec.specs.declared.op.Op.{Op};
 ghost use Rattle.blk_history.specs.Alone.{PrintsOneHistory};
 ghost use Rattle.blk_history.specs.declared.event.Event.{Event};
 ghost use Rattle.blk_nodes.specs.Nodes.{Nodes};
-ghost use Rattle.qblk_core.specs.Completeness.{HasInputs, NoneRises};
+ghost use Rattle.qblk_core.specs.Completeness.{ArePiecesGood, HasInputs, HasStood, HaveRoomAlong, NoneRises};
 ghost use Rattle.qblk_core.specs.Face.{machine_on};
 ghost use Rattle.qblk_core.specs.Printed.{PrintsInTurn};
-ghost use Rattle.qblk_core.specs.Run.{Answers, Outside, machine_of, guest_names};
+ghost use Rattle.qblk_core.specs.Run.{Answers, IsRun, Outside, machine_of, guest_names};
 ghost use Rattle.qblk_core.specs.declared.status.Status.{Status};
 ghost use Rattle.qblk_core.specs.declared.words.Format.{Format};
 
@@ -31,4 +31,14 @@ pub fn runs_on_good_images_are_done()
         (status : Status) → HasInputs format image trace ops old → NoneRises image old new
         → Answers format image trace old new status
         → (status ≡ Status.Done) ⊎ (status ≡ Status.NoMemory) }
+{}
+
+/// In a run on an image in which the device's count does not rise, and each write has room on the nodes that it is made on, each
+/// piece is good: none is torn, stopped by a fault or stopped for want of space.
+pub fn runs_with_space_are_good()
+    ensures { (format : Format) (image : List ℕ) (ops : List Op) (flushed : Bool)
+        (old new : Outside) (h : List Event) (before now : ℕ)
+        → (run : IsRun format image ops flushed old new h before now) → HasStood before now
+        → HaveRoomAlong (machine_on run.first) run.first h run.left run.on.along
+        → ArePiecesGood h }
 {}

@@ -17,6 +17,7 @@ mod words;
 
 pub use laws::{
     runs_in_turn_have_one_history, runs_on_good_images_are_done, runs_on_images_have_one_history,
+    runs_with_space_are_good,
 };
 pub use output::{CHUNK, send_transcript};
 pub use run::{qblk, run_io};

@@ -3,8 +3,8 @@ ghost use Rattle.std.specs.Prelude.{◌≡◌, false, None, IfOk, IfErr, OnErr};
 ghost use Rattle.blk_nodes.specs.Adding.{with_below, guest_edge};
 ghost use Rattle.blk_nodes.specs.Nodes.{DeviceState};
 ghost use Rattle.blk_nodes.specs.Overlays.{IsOpened, with_qcow2};
-ghost use Rattle.qblk_core.specs.ImageNodes.{IsOver, with_file, asked_image, image_name, seen};
-ghost use Rattle.qblk_core.specs.Opened.{IsFileOver, IsOverStop, IsOpenedAs, IsStopped, stop_by};
+ghost use Rattle.qblk_core.specs.ImageNodes.{IsImageNodeOver, with_file, asked_image, image_name, seen};
+ghost use Rattle.qblk_core.specs.Opened.{IsFileOver, StopsImageNode, IsOpenedAs, IsStopped, stop_by};
 
 use crate::closing::device_of;
 use crate::status::InputWhy;
@@ -62,8 +62,8 @@ fn name_of_image(alloc: Global) -> Result<Text, NoMemory>
 fn add_raw<D: Device>(alloc: Global, nodes: &mut Nodes<D>, file: NodeId) -> Result<NodeId, OpenStop>
     requires file { file ≡ 0 }
     requires over { (device : DeviceState) × IsFileOver device nodes.old }
-    ensures ok { IfOk result (λ id. (id ≡ 1) × IsOver Format.Raw nodes.old nodes.new) }
-    ensures err { IfErr result (IsOverStop Format.Raw nodes.old nodes.new) }
+    ensures ok { IfOk result (λ id. (id ≡ 1) × IsImageNodeOver Format.Raw nodes.old nodes.new) }
+    ensures err { IfErr result (StopsImageNode Format.Raw nodes.old nodes.new) }
 {
     let len = nodes.size(file);
     if len > MAX_DISK {
@@ -121,8 +121,8 @@ fn add_qcow2<D: Device>(
 ) -> Result<NodeId, OpenStop>
     requires file { file ≡ 0 }
     requires over { (device : DeviceState) × IsFileOver device nodes.old }
-    ensures ok { IfOk result (λ id. (id ≡ 1) × IsOver Format.Qcow2 nodes.old nodes.new) }
-    ensures err { IfErr result (IsOverStop Format.Qcow2 nodes.old nodes.new) }
+    ensures ok { IfOk result (λ id. (id ≡ 1) × IsImageNodeOver Format.Qcow2 nodes.old nodes.new) }
+    ensures err { IfErr result (StopsImageNode Format.Qcow2 nodes.old nodes.new) }
 {
     let image = match nodes.open_image(alloc, file) {
         Ok(image) => image,
@@ -146,8 +146,8 @@ fn add_over<D: Device>(
 ) -> Result<NodeId, OpenStop>
     requires file { file ≡ 0 }
     requires over { (device : DeviceState) × IsFileOver device nodes.old }
-    ensures ok { IfOk result (λ id. (id ≡ 1) × IsOver format nodes.old nodes.new) }
-    ensures err { IfErr result (IsOverStop format nodes.old nodes.new) }
+    ensures ok { IfOk result (λ id. (id ≡ 1) × IsImageNodeOver format nodes.old nodes.new) }
+    ensures err { IfErr result (StopsImageNode format nodes.old nodes.new) }
 {
     match format {
         Format::Raw => add_raw(alloc, nodes, file),
@@ -159,7 +159,7 @@ fn add_over<D: Device>(
 fn attach<D: Device>(nodes: &mut Nodes<D>, image: NodeId)
     requires image { image ≡ 1 }
     requires over { (format : Format) × (device : DeviceState)
-        × IsOver format (with_file device) nodes.old }
+        × IsImageNodeOver format (with_file device) nodes.old }
     ensures { nodes.new ≡ with_below nodes.old (guest_edge nodes.old 0 1 false) }
 {
     match nodes.attach(0, image, false) {

@@ -3,7 +3,7 @@ ghost use Rattle.std.specs.Prelude.{◌≡◌, ◌<◌, ◌≤◌, ◌++◌, [],
 ghost use Rattle.blk_history.specs.Line.{At};
 ghost use Rattle.blk_history.specs.Transcript.{line_of, transcript};
 ghost use Rattle.blk_base.specs.Written.{memory_of};
-ghost use Rattle.qblk_core.specs.Output.{AllFit, SendsPart, SendsFront};
+ghost use Rattle.qblk_core.specs.Output.{AllLinesFit, SendsPart, SendsFront};
 
 use blk_base::{Sink, SinkFault, Text};
 use blk_history::{History, Rows};
@@ -41,7 +41,7 @@ fn send_line<K: Sink>(
     out: &mut K,
 ) -> Result<(), SinkFault>
     requires within { at < length history.now.events }
-    requires lines { AllFit names.now (memory_of line.old) history.now.events }
+    requires lines { AllLinesFit names.now (memory_of line.old) history.now.events }
     requires short { length line.old.bytes < 65536 }
     ensures quiet { OnOk result (K.faults out.new ≡ K.faults out.old) }
     ensures ok { At history.now.events at (λ e. OnOk result
@@ -67,7 +67,7 @@ pub fn send_transcript<K: Sink>(
     line: &mut Text,
     out: &mut K,
 ) -> Result<(), SinkFault>
-    requires lines { AllFit names.now (memory_of line.old) history.now.events }
+    requires lines { AllLinesFit names.now (memory_of line.old) history.now.events }
     requires empty { line.old.bytes ≡ [] }
     ensures quiet { OnOk result (K.faults out.new ≡ K.faults out.old) }
     ensures ok { OnOk result (K.sent out.new

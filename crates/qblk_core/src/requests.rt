@@ -1,7 +1,7 @@
 //! Requests, one after another.
 ghost use Rattle.blk_history.specs.Fold.{With};
 ghost use Rattle.std.specs.Prelude.{IfSome};
-ghost use Rattle.qblk_core.specs.Requests.{CanRun, PiecesDone, HasRoom, RequestDone, HasRoomFor, RequestsDone, IsRoomFor};
+ghost use Rattle.qblk_core.specs.Requests.{CanRun, PiecesDone, CanRecord, RequestDone, CanRecordAll, RequestsDone, IsRoomFor};
 
 use crate::engine::Engine;
 use blk_base::{Device, Room};
@@ -22,7 +22,7 @@ fn run_pieces<D: Device>(engine: &mut Engine<D>, pieces: u64)
 
 /// Makes one request: admits it, makes its pieces and retires it, or refuses it.
 fn run_request<D: Device>(engine: &mut Engine<D>, op: Op)
-    requires { HasRoom engine.old op }
+    requires { CanRecord engine.old op }
     ensures { RequestDone engine.old engine.new op }
 {
     let pieces = op.pieces();
@@ -35,7 +35,7 @@ fn run_request<D: Device>(engine: &mut Engine<D>, op: Op)
 
 /// Makes all requests of a trace, in order.
 pub(crate) fn run_requests<D: Device>(engine: &mut Engine<D>, ops: Vec<Op>)
-    requires { HasRoomFor engine.old ops.items }
+    requires { CanRecordAll engine.old ops.items }
     ensures { RequestsDone engine.old engine.new ops.items }
 {
     let mut rest = VecDeque::from_vec(ops);

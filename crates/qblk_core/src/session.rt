@@ -1,10 +1,10 @@
 //! A run of a trace on one image, from its inputs to the transcript.
-ghost use Rattle.std.specs.Prelude.{◌≡◌, ◌≤◌, List, ℕ, MatchResult, IfOk, IfErr, OnOk, OnErr, None, [], ◌∷◌, ◌++◌};
+ghost use Rattle.std.specs.Prelude.{◌≡◌, ◌≤◌, List, ℕ, MatchResult, IfOk, IfErr, OnOk, OnErr, [], ◌∷◌, ◌++◌};
+ghost use Rattle.blk_base.specs.Device.{opened_now};
 ghost use Rattle.blk_base.specs.Files.{IfTold};
 ghost use Rattle.blk_base.specs.Stored.{IsDeviceOf};
-ghost use Rattle.blk_base.specs.declared.file.Opened.{Opened};
 ghost use Rattle.qblk_inputs.specs.Reading.{NoneOut};
-ghost use Rattle.qblk_core.specs.Session.{IsReadOf, IsStoreStop, IsOpenStop, IsMade, IsRunStop, EndsAs, ended_as, failed_as};
+ghost use Rattle.qblk_core.specs.Session.{IsTraceRead, IsStoreStop, IsOpenStop, AreRequestsMade, IsRunStop, EndsAs, ended_as, failed_as};
 ghost use Rattle.blk_nodes.specs.Reading.{HasRisen};
 ghost use Rattle.qblk_core.specs.Opened.{IsImageStatus};
 ghost use Rattle.blk_history.specs.Transcript.{transcript};
@@ -46,7 +46,7 @@ fn store_fault<S: Store>(store: &S) -> Status
 /// Reads the file of a trace, where it isn't too long.
 fn read_trace_file<S: Store>(store: &mut S, name: &str) -> Result<TraceRead, Status>
     requires { NoneOut (S.opened store.old) }
-    ensures read { IfOk result (λ read. IfTold (S.files store.old) (IsReadOf name.now read)) }
+    ensures read { IfOk result (λ read. IfTold (S.files store.old) (IsTraceRead name.now read)) }
     ensures stop { IfErr result (IsStoreStop (S.faults store.old) (S.faults store.new)) }
     ensures files { S.files store.new ≡ S.files store.old }
     ensures opened { S.opened store.new ≡ S.opened store.old }
@@ -72,7 +72,7 @@ fn open_image<S: Store>(alloc: Global, store: &mut S, name: &str) -> Result<S::D
         (S.Dev.is_flushed dev)) }
     ensures opened { MatchResult result
         (λ dev. S.opened store.new ≡ S.opened store.old
-        ++ record { name = name.now; faults = S.Dev.faults dev; returned = None } ∷ [])
+        ++ opened_now S.Dev.Device name.now dev ∷ [])
         (λ _. S.opened store.new ≡ S.opened store.old) }
     ensures stop { IfErr result
         (IsOpenStop name.now (S.files store.old) (S.faults store.old) (S.faults store.new)) }
@@ -115,7 +115,7 @@ fn make_run<D: Device>(
 ) -> (Result<Made, Status>, D)
     ensures made { IfOk result.0
         (λ made. (bytes : List ℕ) × (w : Face) × (read ≡ TraceRead.Whole bytes)
-        × IsMade format bytes (seen D.Device device) (seen D.Device result.1) w made.fault
+        × AreRequestsMade format bytes (seen D.Device device) (seen D.Device result.1) w made.fault
         × (made.history ≡ w.log) × (made.names ≡ guest_names) × (made.line.bytes ≡ [])
         × (393476 ≤ made.line.spare)) }
     ensures stop { IfErr result.0 (IsRunStop format image.now trace.now read

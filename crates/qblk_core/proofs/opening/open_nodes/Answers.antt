@@ -1,6 +1,6 @@
 use Rattle.std.proofs.Common.{subst}
 use Rattle.blk_nodes.specs.Nodes.{Nodes}
-use Rattle.qblk_core.specs.ImageNodes.{IsOver, seen}
+use Rattle.qblk_core.specs.ImageNodes.{IsImageNodeOver, seen}
 use Rattle.qblk_core.proofs.Openings.{all-made}
 use Rattle.qblk_core.proofs.opening.open_nodes.Goals as goal
 
@@ -8,7 +8,7 @@ pub attach-requires-clause-over : goal.attach-requires-clause-over
 attach-requires-clause-over g c = (
   c.args.format,
   seen g.D.Device c.args.device,
-  subst (λ (f : Nodes). IsOver c.args.format f c.add_over.new.nodes) c.in-Ok.ensures.made.is c.in-Ok-add_over.ensures.ok.1,
+  subst (λ (f : Nodes). IsImageNodeOver c.args.format f c.add_over.new.nodes) c.in-Ok.ensures.made.is c.in-Ok-add_over.ensures.ok.1,
 )
 
 pub returns-in-Ok-add_over-clause-opened : goal.returns-in-Ok-add_over-clause-opened

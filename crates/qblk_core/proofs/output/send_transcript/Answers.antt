@@ -18,7 +18,7 @@ returns-in-Err-clause-failed g c =
     let es = c.args.history.now.events in
     let found = get-below es c.loop-at.at (omega arith) in
     line-failed c.args.names.now (memory_of c.args.line.now) es c.loop-at.at found.0 (g.K.Sink.sent c.args.out.now) (g.K.Sink.sent c.loop-at.out) (g.K.Sink.sent c.send_line.new.out) c.loop-at.line
-    (g.K.Sink.faults c.args.out.now) (g.K.Sink.faults c.loop-at.out) (g.K.Sink.faults c.send_line.new.out) found.1 c.loop-at.invariant.part (c.in-Err.ensures.failed found.0 found.1) (omega (arith, c.loop-at.invariant.faults))
+    (g.K.Sink.faults c.args.out.now) (g.K.Sink.faults c.loop-at.out) (g.K.Sink.faults c.send_line.new.out) found.1 c.loop-at.invariant.part (c.in-Err.ensures.failed found.0 found.1) c.loop-at.invariant.faults
 
 pub loop-at-preserved : goal.loop-at-preserved
 loop-at-preserved g c =
@@ -48,7 +48,7 @@ pub returns-clause-failed : goal.returns-clause-failed
 returns-clause-failed g c =
     on-err c.send.result _ _ c.send.ensures.failed
     (λ front. rest-failed c.args.names.now (memory_of c.args.line.now) c.args.history.now.events c.loop-at.at (g.K.Sink.sent c.args.out.now) (g.K.Sink.sent c.loop-at.out) (g.K.Sink.sent c.send.new.out) c.loop-at.line
-    (g.K.Sink.faults c.args.out.now) (g.K.Sink.faults c.loop-at.out) (g.K.Sink.faults c.send.new.out) (omega arith) c.loop-at.invariant.part front (omega (arith, c.loop-at.invariant.faults)))
+    (g.K.Sink.faults c.args.out.now) (g.K.Sink.faults c.loop-at.out) (g.K.Sink.faults c.send.new.out) (omega arith) c.loop-at.invariant.part front c.loop-at.invariant.faults)
 
 pub returns-clause-faults : goal.returns-clause-faults
 returns-clause-faults g c = omega (arith, c.loop-at.invariant.faults, c.send.ensures.faults)

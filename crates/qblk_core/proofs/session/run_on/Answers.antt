@@ -11,12 +11,12 @@ use Rattle.qblk_core.specs.Run.{Outside, guest_names}
 use Rattle.blk_nodes.specs.Nodes.{DeviceState}
 use Rattle.qblk_core.specs.ImageNodes.{faults_of, seen}
 use Rattle.qblk_core.specs.Session.{EndsAs}
-use Rattle.qblk_core.proofs.Returned.{none-out-back}
+use Rattle.qblk_core.proofs.Returned.{open_opening, none-out-back}
 use Rattle.qblk_core.proofs.Whole.{ends, stops, store-stands, sink-stands, ends-stands, closed-of}
 use Rattle.qblk_core.proofs.session.run_on.Goals as goal
 
 pub give_back-requires : goal.give_back-requires
-give_back-requires g c = rw c.in-Ok-open_image.ensures.opened (out-opened c.args.image.now _ _)
+give_back-requires g c = rw c.in-Ok-open_image.ensures.opened (out-opened c.args.image.now _ _ _ _)
 
 pub returns-in-Ok-made-clause-ended : goal.returns-in-Ok-made-clause-ended
 returns-in-Ok-made-clause-ended g c =
@@ -33,8 +33,8 @@ returns-in-Ok-made-clause-ended g c =
     let none : is_out c.args.image.now old.opened ≡ true → ⊥ = c.requires c.args.image.now in
     let files1 : S.files c.read_trace_file.new.store ≡ old.files = c.in-Ok.ensures.files in
     let files2 : S.files c.open_image.new.store ≡ old.files = c.in-Ok-open_image.ensures.files ∙ files1 in
-    let opened1 : S.opened c.open_image.new.store ≡ old.opened ++ record { name = c.args.image.now; faults = D.faults dev; returned = None } ∷ [] =
-    c.in-Ok-open_image.ensures.opened ∙ ap (λ (os : List Opened). os ++ record { name = c.args.image.now; faults = D.faults dev; returned = None } ∷ []) c.in-Ok.ensures.opened in
+    let opened1 : S.opened c.open_image.new.store ≡ old.opened ++ open_opening c.args.image.now d ∷ [] =
+    c.in-Ok-open_image.ensures.opened ∙ ap (λ (os : List Opened). os ++ open_opening c.args.image.now d ∷ []) c.in-Ok.ensures.opened in
     let P : Option (List File) → Type 0 = λ fs. IsDeviceOf fs c.args.image.now d.content d.capacity d.is_flushed in
     let device = subst P files1 c.in-Ok-open_image.ensures.device in
     let made = rw c.in-Ok-made.is at c.make_run-made.ensures.made in
@@ -60,8 +60,8 @@ returns-in-Err-made-clause-ended g c =
     let none : is_out c.args.image.now old.opened ≡ true → ⊥ = c.requires c.args.image.now in
     let files1 : S.files c.read_trace_file.new.store ≡ old.files = c.in-Ok.ensures.files in
     let files2 : S.files c.open_image.new.store ≡ old.files = c.in-Ok-open_image.ensures.files ∙ files1 in
-    let opened1 : S.opened c.open_image.new.store ≡ old.opened ++ record { name = c.args.image.now; faults = D.faults dev; returned = None } ∷ [] =
-    c.in-Ok-open_image.ensures.opened ∙ ap (λ (os : List Opened). os ++ record { name = c.args.image.now; faults = D.faults dev; returned = None } ∷ []) c.in-Ok.ensures.opened in
+    let opened1 : S.opened c.open_image.new.store ≡ old.opened ++ open_opening c.args.image.now d ∷ [] =
+    c.in-Ok-open_image.ensures.opened ∙ ap (λ (os : List Opened). os ++ open_opening c.args.image.now d ∷ []) c.in-Ok.ensures.opened in
     let P : Option (List File) → Type 0 = λ fs. IsDeviceOf fs c.args.image.now d.content d.capacity d.is_flushed in
     let device = subst P files1 c.in-Ok-open_image.ensures.device in
     let stop = rw c.in-Err-made.is at c.make_run-made.ensures.stop in
@@ -74,19 +74,19 @@ pub returns-in-Ok-made-clause-back : goal.returns-in-Ok-made-clause-back
 returns-in-Ok-made-clause-back g c =
     let S = g.S.Store in
     let D = g.S.Dev.Device in
-    let faults = D.faults c.in-Ok-open_image.device in
+    let d : DeviceState = seen D c.in-Ok-open_image.device in
     let count = D.faults c.make_run-made.result.1 in
-    let opened1 = c.in-Ok-open_image.ensures.opened ∙ ap (λ (os : List Opened). os ++ record { name = c.args.image.now; faults = faults; returned = None } ∷ []) c.in-Ok.ensures.opened in
-    none-out-back c.args.image.now faults count (S.opened c.args.store.now) (S.opened c.give_back.new.self) c.requires (c.give_back.ensures.opened ∙ ap (given_back c.args.image.now count) opened1)
+    let opened1 = c.in-Ok-open_image.ensures.opened ∙ ap (λ (os : List Opened). os ++ open_opening c.args.image.now d ∷ []) c.in-Ok.ensures.opened in
+    none-out-back c.args.image.now d count (S.opened c.args.store.now) (S.opened c.give_back.new.self) c.requires (c.give_back.ensures.opened ∙ ap (given_back c.args.image.now count) opened1)
 
 pub returns-in-Err-made-clause-back : goal.returns-in-Err-made-clause-back
 returns-in-Err-made-clause-back g c =
     let S = g.S.Store in
     let D = g.S.Dev.Device in
-    let faults = D.faults c.in-Ok-open_image.device in
+    let d : DeviceState = seen D c.in-Ok-open_image.device in
     let count = D.faults c.make_run-made.result.1 in
-    let opened1 = c.in-Ok-open_image.ensures.opened ∙ ap (λ (os : List Opened). os ++ record { name = c.args.image.now; faults = faults; returned = None } ∷ []) c.in-Ok.ensures.opened in
-    none-out-back c.args.image.now faults count (S.opened c.args.store.now) (S.opened c.give_back.new.self) c.requires (c.give_back.ensures.opened ∙ ap (given_back c.args.image.now count) opened1)
+    let opened1 = c.in-Ok-open_image.ensures.opened ∙ ap (λ (os : List Opened). os ++ open_opening c.args.image.now d ∷ []) c.in-Ok.ensures.opened in
+    none-out-back c.args.image.now d count (S.opened c.args.store.now) (S.opened c.give_back.new.self) c.requires (c.give_back.ensures.opened ∙ ap (given_back c.args.image.now count) opened1)
 
 pub returns-in-Ok-made-clause-faults : goal.returns-in-Ok-made-clause-faults
 returns-in-Ok-made-clause-faults g c =

@@ -1,7 +1,7 @@
 use Rattle.std.proofs.Common.{subst, sym, arith}
 use Rattle.blk_base.specs.Written.{memory_of}
 use Rattle.blk_history.specs.Names.{RowNames}
-use Rattle.qblk_core.specs.Output.{AllFit}
+use Rattle.qblk_core.specs.Output.{AllLinesFit}
 use Rattle.qblk_core.specs.Run.{guest_names}
 use Rattle.qblk_core.proofs.Sending.{ends-well, ends-badly, lines-fit, fits-more}
 use Rattle.qblk_core.proofs.session.write_out.Goals as goal
@@ -9,7 +9,7 @@ use Rattle.qblk_core.proofs.session.write_out.Goals as goal
 pub send_transcript-requires-clause-lines : goal.send_transcript-requires-clause-lines
 send_transcript-requires-clause-lines g c =
     let made = c.args.made in
-    let F : RowNames → Type 0 = λ names. AllFit names (memory_of made.line) made.history.events in
+    let F : RowNames → Type 0 = λ names. AllLinesFit names (memory_of made.line) made.history.events in
     let room = c.requires.room in
     subst F (sym c.requires.named) (fits-more guest_names 393476 (memory_of made.line) made.history.events (omega arith) (lines-fit made.history.events c.requires.lines))
 
