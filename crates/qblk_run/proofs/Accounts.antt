@@ -3,7 +3,7 @@ use Rattle.std.proofs.Common.{◌≡◌, ℕ, ◌≤◌, Bool, true, false, List
 use Rattle.std.specs.Prelude.{slice_get, get_or, All, is_some, MatchOption, unwrap_or}
 use Rattle.std.proofs.lemmas.Bool.{false≢true}
 use Rattle.std.proofs.lemmas.List.Elements.{All-nil, All-cons}
-use Rattle.blk_base.specs.Counts.{Rose}
+use Rattle.blk_base.specs.Counts.{HasFailedSince}
 use Rattle.blk_base.specs.Files.{IfTold}
 use Rattle.blk_base.specs.Written.{Written}
 use Rattle.blk_base.specs.declared.fault.DevNo.{DevNo}
@@ -33,11 +33,11 @@ use Rattle.world_parts.specs.Steps.{StoreSeen, IsOpeningOf, new_world}
 use Rattle.world_commands.specs.Tabling.{IsTableAfter}
 use Rattle.qblk_inputs.specs.Inputs.{Work}
 use Rattle.qblk_inputs.specs.Words.{Cast, guests_of}
-use Rattle.qblk_run.specs.Run.{Account, HasOpened, IsRun, HaveNotSunk, IsFlushedAs, LeavesFiles, EndsDone, EndsStuck, HasStopped, FailsToFlush, counts_at_first, counts_at_last, course_in, history_room, seen_waits}
+use Rattle.qblk_run.specs.Run.{Account, HasOpened, IsRun, HaveNotSunk, IsFlushedAs, LeavesFiles, EndsDone, EndsStuck, HasRunStopped, FailsToFlush, counts_at_first, counts_at_last, course_in, history_room, seen_waits}
 use Rattle.qblk_run.specs.Session.{IsEnd}
 use Rattle.qblk_run.specs.Tasks.{Tasks, KeepsTo, CanGoOn}
 use Rattle.qblk_run.specs.Turns.{StaysIn}
-use Rattle.qblk_run.specs.Rounds.{AllRest, AreDone, IsFirst}
+use Rattle.qblk_run.specs.Rounds.{AllRest, AreDone, IsFirstUndone}
 use Rattle.qblk_run.proofs.Closing.{all-back, behind-back, licensed-later, quiet-run, leaves-files}
 use Rattle.qblk_run.proofs.Flushes.{same-places, all-stand, first-stand, first-above, both-at}
 use Rattle.qblk_run.specs.Devices.{HaveDevices}
@@ -115,8 +115,8 @@ module _ (old : StoreSeen) (guests : List (List ℕ)) (w v : Face) (store : Stor
             told.number,
             told.from,
             record {
-              last = both-at end.closed.opened told.number.0 (λ o. o.returned ≡ Some f.count) (λ before. Rose before f.count) told.count
-                  (subst (λ (counts : List ℕ). With (slice_get counts told.number.0) (λ before. Rose before f.count)) (sym end.closed.given.first) above);
+              last = both-at end.closed.opened told.number.0 (λ o. o.returned ≡ Some f.count) (λ before. HasFailedSince before f.count) told.count
+                  (subst (λ (counts : List ℕ). With (slice_get counts told.number.0) (λ before. HasFailedSince before f.count)) (sym end.closed.given.first) above);
               rose = told.rose;
               first = first-stand v.table v.nodes.devices (store_in v) (record store { opened = end.closed.opened }) fault end.closed.back comes.coherent.out f told.number is told.from;
             },
@@ -211,7 +211,7 @@ module _ (old : StoreSeen) (guests : List (List ℕ)) (w v : Face) (store : Stor
       slots = λ slot below. rw (← table, ← guests', ← ended) (stuck.slots slot below);
     }
 
-    pub ends-stuck : HaveDevices guests v.progress.log.events v.table → AllRest v after → (actor : ℕ) (what : Waits (List ℕ)) → IsFirst v after actor what → EndsStuck (is_some old.files) work account actor what
+    pub ends-stuck : HaveDevices guests v.progress.log.events v.table → AllRest v after → (actor : ℕ) (what : Waits (List ℕ)) → IsFirstUndone v after actor what → EndsStuck (is_some old.files) work account actor what
     ends-stuck devices rest actor what first' = by_told (is_some old.files) refl
       where
         stuck : IsStuck (seen_state v) (course_in work account) actor what
@@ -247,7 +247,7 @@ module _ (old : StoreSeen) (guests : List (List ℕ)) (w v : Face) (store : Stor
               stuck = stuck-alike (seen_state v) s (course_in work account) actor what (sym shows.table.table_is) (sym shows.guests.guests_are) (sym shows.guests.ended_are) stuck;
             }
 
-    pub has-stopped : HaveDevices guests v.progress.log.events v.table → AllRest v after → (waiting : Option (ℕ × Waits Written)) → MatchOption waiting (AreDone after) (λ r. IsFirst v after r.0 (seen_waits r.1))
-        → HasStopped (is_some old.files) work account
+    pub has-stopped : HaveDevices guests v.progress.log.events v.table → AllRest v after → (waiting : Option (ℕ × Waits Written)) → MatchOption waiting (AreDone after) (λ r. IsFirstUndone v after r.0 (seen_waits r.1))
+        → HasRunStopped (is_some old.files) work account
     has-stopped devices rest None done = inl (ends-done done)
     has-stopped devices rest (Some r) first' = inr (r.0, seen_waits r.1, ends-stuck devices rest r.0 (seen_waits r.1) first')

@@ -31,7 +31,7 @@ use Rattle.qblk_inputs.specs.Inputs.{Work, HasWork}
 use Rattle.qblk_inputs.specs.Words.{Cast, guests_of}
 use Rattle.qblk_run.specs.Beginning.{new_tasks}
 use Rattle.qblk_run.specs.Ending.{EndsAs, ended_as, failed_as, WentOut}
-use Rattle.qblk_run.specs.Run.{Setting, Account, IsRun, WasRun, HasStopped, IsFaulty, Answers, history_room, whole_transcript, seen_waits}
+use Rattle.qblk_run.specs.Run.{Setting, Account, IsRun, WasRun, HasRunStopped, IsFaulty, Answers, history_room, whole_transcript, seen_waits}
 use Rattle.qblk_run.specs.Session.{IsPlayed}
 use Rattle.qblk_run.specs.Tasks.{HaveLines, KeepsTo, guests_only}
 use Rattle.qblk_run.proofs.Accounts.{opening_by, opening-of, account, run-is, ends-done, ends-stuck, has-stopped, flush-failed}
@@ -110,7 +110,7 @@ module _ (cast : Cast) (work : Work) (old new : Setting) (room : Room) (sized : 
   devices : HaveDevices (guests_of cast) played.now.progress.log.events played.now.table
   devices = run-devices (opening_by old.store (guests_of cast)) course old.store (guests_of cast) room played.now.progress.log.events played.now has.through
 
-  stopped : HasStopped (is_some old.store.files) work its
+  stopped : HasRunStopped (is_some old.store.files) work its
   stopped = has-stopped old.store (guests_of cast) w played.now new.store fault refl refl refl refl comes.counted played.stays comes played.end
       work played.after played.so.can keeps count devices played.rest waiting played.named
 

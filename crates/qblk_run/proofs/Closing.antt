@@ -3,7 +3,7 @@ use Rattle.std.proofs.Common.{◌≡◌, ℕ, zero, suc, ◌<◌, ◌≤◌, Boo
 use Rattle.std.specs.Prelude.{slice_get, get_or, All, IsSome, is_some, option_map, ◌||◌}
 use Rattle.std.proofs.lemmas.Bool.{false≢true}
 use Rattle.flat_machine.proofs.Finds.{bytes_eq-same}
-use Rattle.blk_base.specs.Counts.{Rose}
+use Rattle.blk_base.specs.Counts.{HasFailedSince}
 use Rattle.blk_base.specs.Files.{is_out, is_out_as, file_at}
 use Rattle.blk_base.specs.declared.fault.FaultAt.{FaultAt}
 use Rattle.blk_base.specs.declared.fault.FaultFrom.{FaultFrom}
@@ -86,7 +86,7 @@ licensed-later a b c h store devices is = record {
 -- where no count has risen none is named
 none-between : (a b : Counts) (fault : FaultAt) → HaveStood a b → IsBetween a b fault → ⊥
 none-between a b fault stood is =
-    let first = with-some (count_of a fault.from) (λ before. Rose before fault.count) is.risen in
+    let first = with-some (count_of a fault.from) (λ before. HasFailedSince before fault.count) is.risen in
     let same = stood fault.from first.0 first.1 in
     let last = with-some (count_of b fault.from) (λ now. fault.count ≤ now) is.reached in
     let equal : last.0 ≡ first.0 = some-same (sym last.1 ∙ same.1) in

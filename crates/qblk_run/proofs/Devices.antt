@@ -25,7 +25,7 @@ use Rattle.qmp_rules.specs.Answers.{Answer, accepted, refused_so, out_of_turn, r
 use Rattle.qmp_rules.specs.Changes.{all_changed, changed, without_device}
 use Rattle.qmp_rules.specs.Edits.{device_number, device_uses, edits_of, new_device, place_from, unused_from}
 use Rattle.qmp_rules.specs.Table.{Table, device_at, device_named, node_named}
-use Rattle.qmp_rules.specs.CommandAsks.{asks_of, negotiates}
+use Rattle.qmp_asks.specs.CommandAsks.{asks_of, negotiates}
 use Rattle.flat_machine.proofs.Asked.{NoneHolds, none-both, none-holds, found-named, not-refused}
 use Rattle.blk_graph.proofs.Members.{find-Some}
 use Rattle.qmp_rules.specs.Refusals.{or_else}
@@ -46,7 +46,7 @@ use Rattle.world_commands.specs.Comes.{Comes}
 use Rattle.world_parts.specs.Face.{Face}
 use Rattle.world_commands.specs.Piecing.{table_after}
 use Rattle.world_parts.specs.Steps.{StoreSeen, new_world}
-use Rattle.qblk_run.specs.Worlds.{GoesThrough, IsEventOf, IsPieceOf}
+use Rattle.qblk_run.specs.Worlds.{GoesThrough, IsEventOf, IsPieceEvent}
 use Rattle.qblk_run.proofs.Worlds.{uneventful-table}
 use Rattle.qblk_run.proofs.LeftDevices.{IsOfDevice, SameDevices, all-leave, leave-command, leave-device-uses, leave-left}
 
@@ -449,7 +449,7 @@ event-devices guests h o w v (Refuse g r op why) comes event was =
 event-devices guests h o w v (Piece g r k outcome got) comes event was =
     same-devices guests h (Piece g r k outcome got) w.table v.table (same-kept event.left) (λ name has. refl) was
   where
-    same-kept : IsPieceOf w v g outcome → SameDevices w.table v.table
+    same-kept : IsPieceEvent w v g outcome → SameDevices w.table v.table
     same-kept p = subst (SameDevices w.table) (sym (ap (λ (u : Face). u.table) p.made.kept)) (same-after p.flight.op (disk_node w.table p.made.drive) w.table)
 event-devices guests h o w v (Retire g r) comes event was =
     same-devices guests h (Retire g r) w.table v.table (rw event.left (record { devices = refl; guests = refl })) (λ name has. refl) was

@@ -11,7 +11,7 @@ use Rattle.flat_machine.specs.Courses.{Course, course_of, course_after, past_wai
 use Rattle.world_parts.specs.Face.{Face, seen_state}
 use Rattle.world_parts.specs.Progress.{ended_in, answered_in}
 use Rattle.qblk_run.specs.Tasks.{Task, Tasks, CanGoOn, KeepsTo, IsTaskOf, IsFlying, Rests, TaskWaits, ScriptRests}
-use Rattle.qblk_run.specs.Rounds.{AllRest, AreDone, IsFirst, IsFirstGuest}
+use Rattle.qblk_run.specs.Rounds.{AllRest, AreDone, IsFirstUndone, IsFirstGuest}
 use Rattle.qblk_run.proofs.Lists.{get-below, below-get, at-with, with-map, with-some, none-has, some-has}
 use Rattle.qblk_run.proofs.History.{course-answered, course-ended}
 
@@ -142,7 +142,7 @@ module _ (w : Face) (tasks : Tasks) (orders : List Order) (traces : List (List W
       earlier zero less unfinished = unfinished.1 (script-has-ended done)
       earlier (suc k) less unfinished = unfinished.1 (subst (λ (n : ℕ). Contains c.ended n) (add-one k) (before k (omega arith)))
 
-  pub is-stuck : w.table.jobs ≡ [] → AllRest w tasks → (actor : ℕ) (what : Waits (List ℕ)) → IsFirst w tasks actor what → IsStuck (seen_state w) c actor what
+  pub is-stuck : w.table.jobs ≡ [] → AllRest w tasks → (actor : ℕ) (what : Waits (List ℕ)) → IsFirstUndone w tasks actor what → IsStuck (seen_state w) c actor what
   is-stuck none rest actor what (inl first) = rw first.0 (stuck-script none rest what first.1 first.2)
   is-stuck none rest actor what (inr first) = rw first.1.1 (stuck-guest none rest first.1.0 what first.0 first.1.2)
 

@@ -5,7 +5,7 @@ use Rattle.blk_base.specs.Written.{Written}
 use Rattle.trace_codec.specs.declared.waits.Waits.{Waits}
 use Rattle.world_parts.specs.Face.{Face}
 use Rattle.qblk_run.specs.Run.{seen_waits}
-use Rattle.qblk_run.specs.Rounds.{AllAreDone, AreDone, IsFirst, IsFirstGuest}
+use Rattle.qblk_run.specs.Rounds.{AllAreDone, AreDone, IsFirstUndone, IsFirstGuest}
 use Rattle.qblk_run.specs.Tasks.{Task, Tasks}
 use Rattle.qblk_run.proofs.Lists.{same_or_not}
 
@@ -25,6 +25,6 @@ next-done tasks n item there done before other task less is = by_place (same_or_
 -- behind the script, which is done
 pub first-behind : (w : Face) (a : Tasks) (r : Option (ℕ × Waits Written)) → a.script.is_done ≡ true
     → MatchOption r (AllAreDone a.guests) (λ x. (g : ℕ) × (x.0 ≡ g + 1) × IsFirstGuest w a.guests g (seen_waits x.1))
-    → MatchOption r (AreDone a) (λ x. IsFirst w a x.0 (seen_waits x.1))
+    → MatchOption r (AreDone a) (λ x. IsFirstUndone w a x.0 (seen_waits x.1))
 first-behind w a None done all = record { script = done; guests = all }
 first-behind w a (Some x) done first = inr (done, first)

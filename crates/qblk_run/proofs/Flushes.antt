@@ -3,7 +3,7 @@ use Rattle.std.proofs.Common.{◌≡◌, ◌≢◌, ◌⊎◌, ℕ, zero, suc, �
 use Rattle.std.specs.Prelude.{Contains, slice_get, option_map}
 use Rattle.std.proofs.lemmas.Bool.{cases_eq, eq-eqb, false≢true, ne_eqb}
 use Rattle.std.proofs.lemmas.Option.{same_Some}
-use Rattle.blk_base.specs.Counts.{Rose}
+use Rattle.blk_base.specs.Counts.{HasFailedSince, Rose}
 use Rattle.blk_base.specs.declared.fault.DevNo.{DevNo}
 use Rattle.blk_base.specs.declared.fault.FaultAt.{FaultAt}
 use Rattle.blk_base.specs.declared.fault.FaultFrom.TheVariants.{Dev}
@@ -175,18 +175,18 @@ first-stand t (device ∷ devices) old new fault back held f dev some from n bef
 
 -- its count rose above the one at its opening
 pub first-above : (t : Table) (devices : List DeviceState) (old new : StoreSeen) (fault : Option FaultAt) → AreBack t devices old new fault → AreHeld t devices old.opened
-    → (f : FaultAt) (dev : DevNo) → fault ≡ Some f → f.from ≡ Dev dev → With (slice_get (map (λ o. o.faults) old.opened) dev.0) (λ before. Rose before f.count)
+    → (f : FaultAt) (dev : DevNo) → fault ≡ Some f → f.from ≡ Dev dev → With (slice_get (map (λ o. o.faults) old.opened) dev.0) (λ before. HasFailedSince before f.count)
 first-above t [] old new fault back held f dev some from = let bad : ⊥ = cc (sym back.1 ∙ some) in absurd bad
 first-above t (device ∷ devices) old new fault back held f dev some from =
     by_first back.1 refl (λ later. first-above t devices back.0 new back.2 back.4 (held-back t device devices old back.0 back.1 back.3 held) f dev later from)
   where
-    by_first : (first : Option FaultAt) → back.1 ≡ first → (back.2 ≡ Some f → With (slice_get (map (λ o. o.faults) back.0.opened) dev.0) (λ before. Rose before f.count))
-        → With (slice_get (map (λ o. o.faults) old.opened) dev.0) (λ before. Rose before f.count)
+    by_first : (first : Option FaultAt) → back.1 ≡ first → (back.2 ≡ Some f → With (slice_get (map (λ o. o.faults) back.0.opened) dev.0) (λ before. HasFailedSince before f.count))
+        → With (slice_get (map (λ o. o.faults) old.opened) dev.0) (λ before. HasFailedSince before f.count)
     by_first None none rest =
         let later : back.2 ≡ Some f = sym (back.5 ∙ ap (λ (x : Option FaultAt). first_of x back.2) none) ∙ some in
         let same : map (λ o. o.faults) back.0.opened ≡ map (λ o. o.faults) old.opened =
         ap (λ (s : StoreSeen). map (λ o. o.faults) s.opened) back.3.kept ∙ same-back (λ (o : Opened). o.faults) (λ o count. refl) back.3.name back.3.count old.opened in
-        subst (λ (counts : List ℕ). With (slice_get counts dev.0) (λ before. Rose before f.count)) same
+        subst (λ (counts : List ℕ). With (slice_get counts dev.0) (λ before. HasFailedSince before f.count)) same
         (rest later)
     by_first (Some named) is rest =
         let same : named ≡ f = same_Some named f (sym (back.5 ∙ ap (λ (x : Option FaultAt). first_of x back.2) is) ∙ some) in
@@ -199,7 +199,7 @@ first-above t (device ∷ devices) old new fault back held f dev some from =
         let least = out.faults in
         let at : slice_get (map (λ o. o.faults) old.opened) dev.0 ≡ Some out.opening.faults =
         faults-map old.opened dev.0 ∙ ap (option_map (λ (o : Opened). o.faults)) (ap (λ (d : DevNo). slice_get old.opened d.0) (sym number) ∙ out.there) in
-        with-of (slice_get (map (λ o. o.faults) old.opened) dev.0) out.opening.faults (λ before. Rose before f.count) at (omega (arith, rose, least))
+        with-of (slice_get (map (λ o. o.faults) old.opened) dev.0) out.opening.faults (λ before. HasFailedSince before f.count) at (omega (arith, rose, least))
       where
         faults-map : (opened : List Opened) (n : ℕ) → slice_get (map (λ o. o.faults) opened) n ≡ option_map (λ o. o.faults) (slice_get opened n)
         faults-map [] n = refl

@@ -30,9 +30,9 @@ use Rattle.world_parts.specs.declared.admission.Admission.TheVariants.{Admitted,
 use Rattle.world_parts.specs.Face.{Face, seen_state}
 use Rattle.world_commands.specs.Piecing.{IsPieceMade, HasPieceLicence, shown_by}
 use Rattle.world_parts.specs.Progress.{Progress, ended_in, answered_in, done_at, flight_at, with_piece, with_retirement, IsFree, HasNext, CanShow, HasRoomFor}
-use Rattle.world_parts.specs.Steps.{onward, after_admission, after_end, IsAnswered, IsIdle}
+use Rattle.world_parts.specs.Steps.{onward, after_admission, after_end, IsAnswered, IsActorIdle}
 use Rattle.qblk_inputs.specs.Room.{entries_for, bytes_for, HaveNumbers}
-use Rattle.qblk_run.specs.Tasks.{Task, IsTaskOf, IsTaskIn, HasLeft, IsFlying, in_flight, entries_of, steps_of, end_of}
+use Rattle.qblk_run.specs.Tasks.{Task, IsTaskOf, IsTaskIn, HasPiecesLeft, IsFlying, in_flight, entries_of, steps_of, end_of}
 use Rattle.qblk_run.specs.Turns.{IsOwnMove, MakesMove, IsTurn}
 use Rattle.qblk_run.proofs.Lists.{with-at, at-with, with-some, get-change, none-has, below-get}
 use Rattle.qblk_run.proofs.Waits.{through, grows-same, entries-past, bytes-past}
@@ -44,11 +44,11 @@ use Rattle.qblk_run.proofs.Continuing.{Passes, entries-same, bytes-same, passed-
 row-of : (p : Progress) (g : ℕ) (task : Task) → IsTaskIn p g task → (row : Guest) × (slice_get p.guests g ≡ Some row) × IsTaskOf row task
 row-of p g task is = with-some (slice_get p.guests g) (λ row. IsTaskOf row task) is.row
 
-flies : (left : ℕ) (flight : Option Flight) → IsFlying (Some left) flight → (f : Flight) × (flight ≡ Some f) × HasLeft left f
+flies : (left : ℕ) (flight : Option Flight) → IsFlying (Some left) flight → (f : Flight) × (flight ≡ Some f) × HasPiecesLeft left f
 flies left None is = absurd is
 flies left (Some f) is = (f, refl, is)
 
-flies-by : (x : Option ℕ) (left : ℕ) (flight : Option Flight) → x ≡ Some left → IsFlying x flight → (f : Flight) × (flight ≡ Some f) × HasLeft left f
+flies-by : (x : Option ℕ) (left : ℕ) (flight : Option Flight) → x ≡ Some left → IsFlying x flight → (f : Flight) × (flight ≡ Some f) × HasPiecesLeft left f
 flies-by None left flight is flying = let bad : ⊥ = cc is in absurd bad
 flies-by (Some n) left flight is flying = let same : n ≡ left = cc is in flies left flight (subst (λ (m : ℕ). IsFlying (Some m) flight) same flying)
 
@@ -58,7 +58,7 @@ rests None (Some f) none is = absurd is
 rests (Some n) flight none is = absurd (let bad : ⊥ = cc none in bad)
 
 -- the flight of a guest with so many pieces left
-pub flight-of : (p : Progress) (g left : ℕ) (task : Task) → IsTaskIn p g task → task.left ≡ Some left → (f : Flight) × (flight_at p.guests g ≡ Some f) × HasLeft left f
+pub flight-of : (p : Progress) (g left : ℕ) (task : Task) → IsTaskIn p g task → task.left ≡ Some left → (f : Flight) × (flight_at p.guests g ≡ Some f) × HasPiecesLeft left f
 flight-of p g left task is flying =
     let row = row-of p g task is in
     let f = flies-by task.left left row.0.flight flying row.2.flying in
@@ -67,7 +67,7 @@ flight-of p g left task is flying =
 pub is-over : (p : Progress) (g : ℕ) (task : Task) → IsTaskIn p g task → task.left ≡ Some 0 → With (flight_at p.guests g) IsOver
 is-over p g task is flying = let f = flight-of p g 0 task is flying in at-with (flight_at p.guests g) f.0 IsOver f.1 f.2
 
-has-next : (left : ℕ) (f : Flight) → 0 < left → HasLeft left f → HasNext f
+has-next : (left : ℕ) (f : Flight) → 0 < left → HasPiecesLeft left f → HasNext f
 has-next zero f more is = absurd (omega arith)
 has-next (suc n) f more is = record { running = is.0; next = let sum = is.1 in omega arith }
 
@@ -83,10 +83,10 @@ is-free p g task is none some =
     let count = row.2.count in
     at-with (slice_get p.guests g) row.0 IsFree row.1 (record { idle = rests task.left row.0.flight none row.2.flying; numbered = omega arith })
 
-pub is-idle : (p : Progress) (g : ℕ) (task : Task) → IsTaskIn p g task → task.left ≡ None → IsIdle p.guests (g + 1)
+pub is-idle : (p : Progress) (g : ℕ) (task : Task) → IsTaskIn p g task → task.left ≡ None → IsActorIdle p.guests (g + 1)
 is-idle p g task is none =
     let row = row-of p g task is in
-    subst (IsIdle p.guests) (sym (add-one g)) (at-with (slice_get p.guests g) row.0 (λ r. r.flight ≡ None) row.1 (rests task.left row.0.flight none row.2.flying))
+    subst (IsActorIdle p.guests) (sym (add-one g)) (at-with (slice_get p.guests g) row.0 (λ r. r.flight ≡ None) row.1 (rests task.left row.0.flight none row.2.flying))
 
 pub row-known : (p : Progress) (g : ℕ) (task : Task) → IsTaskIn p g task → g + 1 ≤ length p.guests
 row-known p g task is = let below = below-get p.guests g _ (row-of p g task is).1 in omega arith
@@ -121,14 +121,14 @@ shows-short (Discard span) k n le = omega arith
 put-row : (guests : List Guest) (g : ℕ) (f : Guest → Guest) (row : Guest) (P : Guest → Type 0) → slice_get guests g ≡ Some row → P (f row) → With (slice_get (change g f guests) g) P
 put-row guests g f row P there holds = rw (get-change g f guests, there) holds
 
-left-next : (n : ℕ) (f : Flight) (outcome : Outcome) (left : ℕ) → HasLeft (suc n) f → (is_good outcome ≡ true → left ≡ n) → (is_good outcome ≡ false → left ≡ 0) → HasLeft left (one_further outcome f)
+left-next : (n : ℕ) (f : Flight) (outcome : Outcome) (left : ℕ) → HasPiecesLeft (suc n) f → (is_good outcome ≡ true → left ≡ n) → (is_good outcome ≡ false → left ≡ 0) → HasPiecesLeft left (one_further outcome f)
 left-next n f outcome left is good bad = by_test (is_good outcome) refl
   where
-    on_good : (m : ℕ) → is_good outcome ≡ true → m ≡ n → HasLeft m (one_further outcome f)
+    on_good : (m : ℕ) → is_good outcome ≡ true → m ≡ n → HasPiecesLeft m (one_further outcome f)
     on_good zero e same = inl (let sum = is.1 in omega arith)
     on_good (suc m) e same = (rw e refl, let sum = is.1 in omega arith)
 
-    by_test : (b : Bool) → is_good outcome ≡ b → HasLeft left (one_further outcome f)
+    by_test : (b : Bool) → is_good outcome ≡ b → HasPiecesLeft left (one_further outcome f)
     by_test true e = on_good left e (good e)
     by_test false e = rw (bad e) (inr (rw e refl))
 
@@ -271,7 +271,7 @@ module _ (w v : Face) (g : ℕ) (before after : Task) (is : IsTaskIn w.progress 
         }),
       )
     where
-      all-left : (n : ℕ) → pieces_of op ≡ n → HasLeft n (record { op = op; next = 0; is_stopped = false })
+      all-left : (n : ℕ) → pieces_of op ≡ n → HasPiecesLeft n (record { op = op; next = 0; is_stopped = false })
       all-left zero e = inl (sym e)
       all-left (suc n) e = (refl, omega arith)
 

@@ -22,8 +22,8 @@ use Rattle.qmp_rules.specs.Changes.{all_changed, changed}
 use Rattle.qmp_rules.specs.Edits.{action_edits, added_edits, ask_edits, asked_by_cancel, backup_job, base_edits, commit_edits, commit_job, commit_unsettles, commit_uses, copy_edits, created_change, device_uses, edits_of, filter_edits, filter_row, file_below, file_under, file_used, goes_with_node, is_base, merges, mirror_job, of_row, qcow2_edits, raw_edits, reads_one_of, row_gone, spoiled, stream_edits, stream_job, target_edits, under_top, uses, uses_as, uses_target, with_inline, writable_if}
 use Rattle.qmp_rules.specs.Table.{Table, job_named, node_at, node_named}
 use Rattle.qmp_rules.specs.Asks.{is_file}
-use Rattle.qmp_rules.specs.NodeAsks.{backing_name, is_read_only}
-use Rattle.qmp_rules.specs.Values.{flag_or_false}
+use Rattle.qmp_asks.specs.NodeAsks.{backing_name, is_read_only}
+use Rattle.qmp_asks.specs.Values.{flag_or_false}
 use Rattle.qmp_rules.specs.declared.rows.Asked.TheVariants as asked
 use Rattle.blk_graph.specs.declared.kind.Kind.{Kind}
 use Rattle.blk_graph.specs.declared.kind.Kind.TheVariants as kind

@@ -4,7 +4,7 @@ use Rattle.blk_base.specs.Written.{Written, memory_of}
 use Rattle.blk_history.specs.Line.{line_room, reply_by}
 use Rattle.blk_history.specs.declared.event.Event.{Event}
 use Rattle.blk_history.specs.declared.event.Event.TheVariants.{Admit, Refuse, Piece, Retire, Reply, Reached, Start, Ready, End, Done}
-use Rattle.qblk_core.specs.Output.{AllFit}
+use Rattle.qblk_core.specs.Output.{AllLinesFit}
 use Rattle.qblk_run.specs.Tasks.{HasLine, HaveLines, guests_only}
 use Rattle.qblk_run.specs.Sending.{RepliesFit, NamesFit}
 
@@ -23,7 +23,7 @@ module _ (names : List (List ℕ)) (t n : ℕ) (short : NamesFit n names) where
   room-of (Done zero) texts line = omega arith
   room-of (Done (suc g)) texts line = let name = short g line.named in omega arith
 
-  pub lines-fit : (memory : ℕ) (es : List Event) → ((65536 + 327936) + t) + n ≤ memory → RepliesFit t es → HaveLines names es → AllFit (guests_only names) memory es
+  pub lines-fit : (memory : ℕ) (es : List Event) → ((65536 + 327936) + t) + n ≤ memory → RepliesFit t es → HaveLines names es → AllLinesFit (guests_only names) memory es
   lines-fit memory [] room texts lines = tt
   lines-fit memory (e ∷ es) room texts lines =
       let long = room-of e (λ text is. texts zero e text refl is) lines.0 in
@@ -31,7 +31,7 @@ module _ (names : List (List ℕ)) (t n : ℕ) (short : NamesFit n names) where
 
 pub text-fits : (names : List (List ℕ)) (t n room : ℕ) (es : List Event) (E : Type 0) (r : Result Written E) → NamesFit n names → RepliesFit t es → HaveLines names es
     → ((65536 + 327936) + t) + n ≤ room → IfOk r (λ text. text.bytes ≡ []) → IfOk r (λ text. room ≤ text.spare)
-    → IfOk r (λ text. AllFit (guests_only names) (memory_of text) es)
+    → IfOk r (λ text. AllLinesFit (guests_only names) (memory_of text) es)
 text-fits names t n room es E (Err e) short texts lines fits empty spare = tt
 text-fits names t n room es E (Ok text) short texts lines fits empty spare =
     let none : length text.bytes ≡ 0 = ap length empty in

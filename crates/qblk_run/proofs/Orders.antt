@@ -6,7 +6,7 @@ use Rattle.trace_codec.specs.declared.wish.Wish.{Wish}
 use Rattle.trace_codec.specs.declared.wish.Wish.TheVariants.{Ask}
 use Rattle.trace_codec.specs.Script.{Order}
 use Rattle.blk_history.specs.Fold.{With, change}
-use Rattle.blk_history.specs.Line.{HasName}
+use Rattle.blk_history.specs.Line.{IsActorNamed}
 use Rattle.blk_history.specs.declared.event.Event.{Event}
 use Rattle.blk_history.specs.declared.event.Event.TheVariants.{Admit, Refuse, Piece, Retire, Reply, Reached, Start, Ready, End, Done}
 use Rattle.blk_history.proofs.Folds.{each-push}
@@ -147,7 +147,7 @@ pub lines-push : (guests : List (List ℕ)) (es : List Event) (e : Event) → Ha
 lines-push guests [] e all one = (one, tt)
 lines-push guests (x ∷ es) e all one = (all.0, lines-push guests es e all.1 one)
 
-has-name : (guests : List (List ℕ)) (a : List ℕ) (g : ℕ) (before after : Task) (e : Event) → IsOwnMove a g before after e → g < length guests → HasName (guests_only guests) e
+has-name : (guests : List (List ℕ)) (a : List ℕ) (g : ℕ) (before after : Task) (e : Event) → IsOwnMove a g before after e → g < length guests → IsActorNamed (guests_only guests) e
 has-name guests a g before after (Admit n r op) own known = rw own.0 known
 has-name guests a g before after (Refuse n r op why) own known = rw own.0 known
 has-name guests a g before after (Piece n r k outcome got) own known = rw own.0 known

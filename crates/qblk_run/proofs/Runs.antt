@@ -29,7 +29,7 @@ use Rattle.qblk_inputs.specs.Room.{IsRoomFor, entries_for_all}
 use Rattle.qblk_inputs.specs.Words.{Cast, IsRunOf, Player, guests_of, player_of}
 use Rattle.qblk_inputs.specs.declared.stop.InputStop.{InputStop}
 use Rattle.qblk_inputs.specs.declared.stop.InputStop.TheVariants as stops
-use Rattle.qblk_run.specs.Beginning.{new_task, new_tasks, IsReady}
+use Rattle.qblk_run.specs.Beginning.{new_task, new_tasks, IsRunReady}
 use Rattle.qblk_run.specs.Run.{Setting, Answers, history_room, status_of}
 use Rattle.qblk_run.specs.Session.{IsPlayed, IsGivenUp}
 use Rattle.blk_history.specs.Transcript.{transcript}
@@ -44,7 +44,7 @@ use Rattle.qblk_run.specs.Worlds.{GoesThrough, HasCome, IsUndoneBy}
 -- ---- the beginning
 
 pub play-can : (store : StoreSeen) (guests its names : List (List ℕ)) (script : List Order) (traces : List (List Wish)) (actors : Tasks) (room : Room) (world : Face)
-    → IsReady script traces guests actors its names room → length traces ≡ length guests → length guests ≤ 16 → world ≡ new_world store its room
+    → IsRunReady script traces guests actors its names room → length traces ≡ length guests → length guests ≤ 16 → world ≡ new_world store its room
     → CanGoOn world.progress actors
 play-can store guests its names script traces actors room world ready count few is =
     let size : length its ≡ length traces = ap length ready.guests_are ∙ sym count in
@@ -163,7 +163,7 @@ begins-is store guests its room world same is begins o opening =
     subst (Comes o) (world-is store guests its room world same is) (begins o (rw same opening))
 
 module _ (cast : Cast) (work : Work) (old new : Setting) (room : Room) (guests its names : List (List ℕ)) (actors : Tasks) (world : Face)
-    (ready : IsReady work.script work.traces guests actors its names room) (called : guests_of cast ≡ guests) (count : length work.traces ≡ length guests)
+    (ready : IsRunReady work.script work.traces guests actors its names room) (called : guests_of cast ≡ guests) (count : length work.traces ≡ length guests)
     (is : world ≡ new_world old.store its room) (begins : (o : Opening) → IsOpeningOf old.store its o → Comes o world) where
   same : its ≡ guests_of cast
   same = ready.guests_are ∙ sym called
@@ -192,7 +192,7 @@ module _ (cast : Cast) (work : Work) (old new : Setting) (room : Room) (guests i
 
 -- the lines of a history that was played have their names
 pub lines-here : (store : StoreSeen) (script : List Order) (traces : List (List Wish)) (guests its names : List (List ℕ)) (actors : Tasks) (room : Room) (world : Face) (after : StoreSeen)
-    (log : Recorded) (fault : Option FaultAt) (waiting : Option (ℕ × Waits Written)) → IsReady script traces guests actors its names room → length traces ≡ length guests
+    (log : Recorded) (fault : Option FaultAt) (waiting : Option (ℕ × Waits Written)) → IsRunReady script traces guests actors its names room → length traces ≡ length guests
     → world ≡ new_world store its room → IsPlayed world actors after log fault waiting → HaveLines names log.events
 lines-here store script traces guests its names actors room world after log fault waiting ready count is played =
     let begun : world.progress.log.events ≡ [] = ap (λ (w : Face). w.progress.log.events) is in

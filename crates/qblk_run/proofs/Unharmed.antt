@@ -2,7 +2,7 @@
 use Rattle.std.proofs.Common.{◌≡◌, ℕ, List, [], ◌∷◌, refl, sym, ◌∙◌, ap, subst, arith, Option, Some, None}
 use Rattle.std.specs.Prelude.{All, slice_get}
 use Rattle.std.specs.List.{filter_map}
-use Rattle.blk_base.specs.Counts.{Rose}
+use Rattle.blk_base.specs.Counts.{HasFailedSince, Rose}
 use Rattle.blk_base.specs.declared.fault.FaultFrom.{FaultFrom}
 use Rattle.blk_base.specs.declared.fault.FaultFrom.TheVariants.{Store, Dev, Sink}
 use Rattle.blk_base.specs.declared.fault.Outcome.TheVariants.{Good, Torn, Io, NoSpace}
@@ -76,11 +76,14 @@ none-full o c w (e ∷ h) v through space =
 
 -- ---- no count rises
 
-not-rose : (before now count : ℕ) → HasStood before now → Rose before count → count ≡ now → ⊥
-not-rose before now count stood rose same =
+not-failed : (before now count : ℕ) → HasStood before now → HasFailedSince before count → count ≡ now → ⊥
+not-failed before now count stood failed same =
     let less = stood.0 in
     let still = stood.1 in
     omega arith
+
+not-rose : (before now count : ℕ) → HasStood before now → Rose before count → count ≡ now → ⊥
+not-rose before now count stood rose same = not-failed before now count stood (omega (arith, rose)) same
 
 all-at : {A : Type 0} (P : A → Type 0) (xs : List A) (n : ℕ) (x : A) → All P xs → slice_get xs n ≡ Some x → P x
 all-at P xs n x all is = subst P (is-get xs n x x is) (all n x (below-get xs n x is))
@@ -90,9 +93,9 @@ faultless cast old new Store count none fault = not-rose old.store.faults new.st
 faultless cast old new (Dev dev) count none (work, a, n, stopped, out) =
     let run = stopped.was.run in
     let fails = run.flush.2 in
-    let at = with-some (slice_get a.openings run.flush.0.0) (λ o. (o.returned ≡ Some count) × Rose o.faults count) fails.last in
+    let at = with-some (slice_get a.openings run.flush.0.0) (λ o. (o.returned ≡ Some count) × HasFailedSince o.faults count) fails.last in
     let stood = all-at (λ o. (c : ℕ) → o.returned ≡ Some c → HasStood o.faults c) a.openings run.flush.0.0 at.0 (none.devices a.openings run.openings) at.1 count at.2.0 in
-    not-rose at.0.faults count count stood at.2.1 refl
+    not-failed at.0.faults count count stood at.2.1 refl
 faultless cast old new Sink count none (work, a, n, stopped, rose, same) = not-rose old.sink_faults new.sink_faults count none.sink rose same
 
 pub no-fault : (cast : Cast) (old new : Setting) (status : Status) → Answers cast old new status → NoneHasRisen old new → NamesNoFault status

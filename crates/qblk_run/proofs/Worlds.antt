@@ -14,7 +14,7 @@ use Rattle.qmp_codec.specs.Commands.{Cmd}
 use Rattle.qmp_codec.specs.Lines.{Stop, command_at}
 use Rattle.flat_machine.specs.declared.opening.Opening.{Opening}
 use Rattle.flat_machine.specs.Courses.{Course, course_after, answered_line, onward as course_onward}
-use Rattle.flat_machine.specs.Legal.{IsJudged, IsMet, IsNext, IsNotDone, CanAdmit}
+use Rattle.flat_machine.specs.Legal.{IsNextJudged, IsMet, IsNext, IsNotDone, CanAdmit}
 use Rattle.flat_machine.specs.State.{Guest}
 use Rattle.blk_history.specs.Fold.{With}
 use Rattle.blk_history.specs.Legal.{IsOver}
@@ -28,7 +28,7 @@ use Rattle.world_parts.specs.Face.{Face, seen_state}
 use Rattle.world_commands.specs.Piecing.{IsPieceMade, HasPieceLicence, piece_entry}
 use Rattle.world_parts.specs.Progress.{Progress, HasNext, flight_at, done_at, with_retirement}
 use Rattle.world_parts.specs.Saying.{Given, given_line}
-use Rattle.world_parts.specs.Steps.{onward, after_admission, IsAnswered, IsIdle, after_wait, after_end}
+use Rattle.world_parts.specs.Steps.{onward, after_admission, IsAnswered, IsActorIdle, after_wait, after_end}
 use Rattle.qblk_run.specs.Tasks.{IsGiving}
 use Rattle.qblk_run.specs.Turns.{StaysIn}
 use Rattle.qblk_run.specs.Worlds.{IsEventOf, IsPutOffBy, IsUneventful, IsUndoneBy, GoesThrough, HasCome}
@@ -177,7 +177,7 @@ module _ (o : Opening) (c : Course) (first w v : Face) (before : List Order) (ha
 -- ---- each event
 
 -- a request that is judged has the number of those that are done
-judged-number : (w : Face) (g r : ℕ) (P : Bool → ℕ → Type 0) → IsJudged (seen_state w) g r P → r ≡ done_at w.progress.guests g
+judged-number : (w : Face) (g r : ℕ) (P : Bool → ℕ → Type 0) → IsNextJudged (seen_state w) g r P → r ≡ done_at w.progress.guests g
 judged-number w g r P judged = by_row (slice_get w.progress.guests g) judged.1
   where
     by_row : (x : Option Guest) → With x (λ row. IsNext row r) → r ≡ unwrap_or (option_map (λ row. row.done) x) 0
@@ -228,7 +228,7 @@ module _ (o : Opening) (c : Course) (first w v : Face) (before : List Order) (ha
       come-event o c first w v before has (comes has.comes) (Reached line what) after (record { may = (going, met); adds = rw kept refl; left = kept })
       (answered-left (course_after c w.progress.log.events) line (Watch line what) after (has.left ∙ next))
 
-  pub come-done : (actor : ℕ) → IsNotDone (seen_state w) actor → IsIdle w.progress.guests actor → v ≡ after_end w actor → HasCome o c first v before
+  pub come-done : (actor : ℕ) → IsNotDone (seen_state w) actor → IsActorIdle w.progress.guests actor → v ≡ after_end w actor → HasCome o c first v before
   come-done actor going idle kept =
       come-event o c first w v before has (comes has.comes) (Done actor) before (record { may = (going, idle); adds = rw kept refl; left = kept }) has.left
 

@@ -17,7 +17,7 @@ new_tasks script traces = record {
 }
 
 -- what a run of a script and traces needs beside its store
-pub record IsReady (script : List Order) (traces : List (List Wish)) (guests : List (List ℕ))
+pub record IsRunReady (script : List Order) (traces : List (List Wish)) (guests : List (List ℕ))
     (actors : Tasks) (its names : List (List ℕ)) (room : Room) : Type 0 where
   pub actors_are : actors ≡ new_tasks script traces
   pub guests_are : its ≡ guests

@@ -85,8 +85,8 @@ pub record IsFirstGuest (w : Face) (tasks : List Task) (g : ℕ) (what : Waits (
         → done.is_done ≡ true
 
 -- the first actor that is not done, and what it waits for
-abbrev pub IsFirst : Face → Tasks → ℕ → Waits (List ℕ) → Type 0
-IsFirst w tasks actor what =
+abbrev pub IsFirstUndone : Face → Tasks → ℕ → Waits (List ℕ) → Type 0
+IsFirstUndone w tasks actor what =
     ((actor ≡ 0) × (tasks.script.is_done ≡ false)
     × ScriptWaits (seen_state w) tasks.script.orders what)
     ⊎ ((tasks.script.is_done ≡ true)

@@ -1,6 +1,6 @@
 -- What a run of a script and traces is, seen from outside.
 use Rattle.std.specs.Prelude.{◌≡◌, ◌⊎◌, ℕ, ◌+◌, ◌<◌, ◌≤◌, Bool, true, false, List, [], ◌++◌, length, map, take, slice_get, All, Option, Some, None, IsSome, is_some, option_map}
-use Rattle.blk_base.specs.Counts.{Rose}
+use Rattle.blk_base.specs.Counts.{HasFailedSince, Rose}
 use Rattle.blk_base.specs.Files.{IfTold}
 use Rattle.blk_base.specs.Written.{Written}
 use Rattle.blk_base.specs.declared.fault.DevNo.{DevNo}
@@ -124,7 +124,7 @@ pub record LeavesFiles (a : Account) (fault : Option FaultAt) (files : List File
 -- It failed at this device, and at none before it: the count, which the device was given back with, rose behind the last event.
 pub record FailsToFlush (new : StoreSeen) (a : Account) (dev : DevNo) (count : ℕ) : Type 0 where
   pub last : With (slice_get a.openings dev.0)
-      (λ o. (o.returned ≡ Some count) × Rose o.faults count)
+      (λ o. (o.returned ≡ Some count) × HasFailedSince o.faults count)
   pub rose : With (slice_get a.counts.devices dev.0) (λ before. Rose before count)
   pub first : (n : ℕ) → n < dev.0
       → slice_get (counts_at_last new a).devices n ≡ slice_get a.counts.devices n
@@ -201,8 +201,8 @@ abbrev pub EndsDone : Bool → Work → Account → Type 0
 EndsDone is_told work a = HasEnded a.opening is_told work.script work.traces a.events
 
 -- a run stops in one of these two ways
-abbrev pub HasStopped : Bool → Work → Account → Type 0
-HasStopped is_told work a =
+abbrev pub HasRunStopped : Bool → Work → Account → Type 0
+HasRunStopped is_told work a =
     EndsDone is_told work a
     ⊎ ((actor : ℕ) × (what : Waits (List ℕ)) × EndsStuck is_told work a actor what)
 
@@ -227,7 +227,7 @@ pub record WasRunWhole (cast : Cast) (work : Work) (old new : Setting) (a : Acco
 pub record WasStopped (cast : Cast) (work : Work) (fault : Option FaultAt) (old new : Setting)
     (a : Account) (n : ℕ) : Type 0 where
   pub was : WasRun cast work fault old new a n
-  pub stopped : HasStopped (is_some old.store.files) work a
+  pub stopped : HasRunStopped (is_some old.store.files) work a
 
 -- nothing was written, neither to a file nor to the sink
 pub record NothingWritten (old new : Setting) : Type 0 where

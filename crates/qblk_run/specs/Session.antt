@@ -16,7 +16,7 @@ use Rattle.qblk_run.specs.Run.{seen_waits}
 use Rattle.qblk_run.specs.Tasks.{Tasks}
 use Rattle.qblk_run.specs.Turns.{StaysIn}
 use Rattle.qblk_run.specs.Worlds.{ComesOn}
-use Rattle.qblk_run.specs.Rounds.{Continues, GivesUp, AllRest, AreDone, IsFirst}
+use Rattle.qblk_run.specs.Rounds.{Continues, GivesUp, AllRest, AreDone, IsFirstUndone}
 
 -- the world was closed, and left its store so
 pub record IsEnd (v : Face) (store : StoreSeen) (fault : Option FaultAt) : Type 0 where
@@ -42,7 +42,7 @@ pub record IsPlayed (w : Face) (before : Tasks) (store : StoreSeen) (log : Recor
   pub comes : ComesOn w now before.script.orders after.script.orders
   pub log_is : log ≡ now.progress.log
   pub end : IsEnd now store fault
-  pub named : MatchOption waiting (AreDone after) (λ r. IsFirst now after r.0 (seen_waits r.1))
+  pub named : MatchOption waiting (AreDone after) (λ r. IsFirstUndone now after r.0 (seen_waits r.1))
 
 -- Memory wasn't had for a line: the world was closed as that left it.
 pub record IsGivenUp (w : Face) (before : Tasks) (store : StoreSeen) : Type 0 where

@@ -8,7 +8,7 @@ use Rattle.trace_codec.specs.Script.{Order}
 use Rattle.qmp_rules.specs.Chains.{has_id}
 use Rattle.blk_history.specs.Fold.{With}
 use Rattle.blk_history.specs.Legal.{IsOver}
-use Rattle.blk_history.specs.Line.{HasName, shown_by}
+use Rattle.blk_history.specs.Line.{IsActorNamed, shown_by}
 use Rattle.blk_history.specs.Machine.{Flight}
 use Rattle.blk_history.specs.Names.{RowNames}
 use Rattle.blk_history.specs.declared.event.Event.{Event}
@@ -78,13 +78,13 @@ steps_of_tasks tasks = entries_of_script tasks.script + steps_of_all tasks.guest
 -- ---- guests
 
 -- so many pieces of a request in flight are left
-abbrev pub HasLeft : ℕ → Flight → Type 0
-HasLeft zero f = IsOver f
-HasLeft (suc n) f = (f.is_stopped ≡ false) × (f.next + suc n ≡ pieces_of f.op)
+abbrev pub HasPiecesLeft : ℕ → Flight → Type 0
+HasPiecesLeft zero f = IsOver f
+HasPiecesLeft (suc n) f = (f.is_stopped ≡ false) × (f.next + suc n ≡ pieces_of f.op)
 
 abbrev pub IsFlying : Option ℕ → Option Flight → Type 0
 IsFlying None None = Unit {0}
-IsFlying (Some left) (Some f) = HasLeft left f
+IsFlying (Some left) (Some f) = HasPiecesLeft left f
 IsFlying _ _ = ⊥
 
 abbrev pub in_flight : Option ℕ → ℕ
@@ -148,7 +148,7 @@ guests_only guests = record { guests = guests; jobs = [] }
 
 -- the entry's guest or actor has a name, and it shows at most one block
 pub record HasLine (guests : List (List ℕ)) (e : Event) : Type 0 where
-  pub named : HasName (guests_only guests) e
+  pub named : IsActorNamed (guests_only guests) e
   pub shown : length (shown_by e) ≤ 65536
 
 abbrev pub HaveLines : List (List ℕ) → List Event → Type 0

@@ -41,7 +41,7 @@ pub record Asks (answered : List ℕ) (op_wish : Wish) (before after : Task) : T
   pub is_done : after.is_done ≡ before.is_done
 
 -- the request in flight goes on, and the same is left behind it
-pub record GoesOn (answered : List ℕ) (before after : Task) : Type 0 where
+pub record StaysInFlight (answered : List ℕ) (before after : Task) : Type 0 where
   pub wishes : past_waits answered after.wishes ≡ past_waits answered before.wishes
   pub is_done : after.is_done ≡ before.is_done
 
@@ -56,8 +56,8 @@ abbrev pub IsOwnMove : List ℕ → ℕ → Task → Task → Event → Type 0
 IsOwnMove answered g before after (Admit n r op) = (n ≡ g) × Asks answered (Ask op) before after
 IsOwnMove answered g before after (Refuse n r op why) =
     (n ≡ g) × Asks answered (Ask op) before after
-IsOwnMove answered g before after (Piece n r k outcome got) = (n ≡ g) × GoesOn answered before after
-IsOwnMove answered g before after (Retire n r) = (n ≡ g) × GoesOn answered before after
+IsOwnMove answered g before after (Piece n r k outcome got) = (n ≡ g) × StaysInFlight answered before after
+IsOwnMove answered g before after (Retire n r) = (n ≡ g) × StaysInFlight answered before after
 IsOwnMove answered g before after (Done actor) = (actor ≡ g + 1) × Ends answered before after
 IsOwnMove answered g before after e = ⊥
 

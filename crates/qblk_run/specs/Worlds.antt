@@ -20,10 +20,10 @@ use Rattle.world_parts.specs.Face.{Face, seen_state}
 use Rattle.world_commands.specs.Piecing.{IsPieceMade, HasPieceLicence}
 use Rattle.world_parts.specs.Progress.{flight_at, with_retirement, HasNext}
 use Rattle.world_parts.specs.Saying.{given_line}
-use Rattle.world_parts.specs.Steps.{onward, after_admission, IsAnswered, after_wait, after_end, IsIdle}
+use Rattle.world_parts.specs.Steps.{onward, after_admission, IsAnswered, after_wait, after_end, IsActorIdle}
 
 -- a piece of the guest's request in flight was made, with its cause
-pub record IsPieceOf (w v : Face) (g : ℕ) (outcome : Outcome) : Type 0 where
+pub record IsPieceEvent (w v : Face) (g : ℕ) (outcome : Outcome) : Type 0 where
   pub flight : Flight
   pub there : flight_at w.progress.guests g ≡ Some flight
   pub made : IsPieceMade w v g flight outcome
@@ -40,7 +40,7 @@ IsLeftBy w v (Admit g r op) =
     IsAnswered w g op (Admitted r) × (v ≡ after_admission w g op (Admitted r))
 IsLeftBy w v (Refuse g r op why) =
     IsAnswered w g op (NotAdmitted why) × (v ≡ after_admission w g op (NotAdmitted why))
-IsLeftBy w v (Piece g r k outcome got) = IsPieceOf w v g outcome
+IsLeftBy w v (Piece g r k outcome got) = IsPieceEvent w v g outcome
 IsLeftBy w v (Retire g r) = v ≡ onward w (with_retirement g)
 IsLeftBy w v (Reply line given command text) = IsReplyOf w v line given text
 IsLeftBy w v (Reached line what) = v ≡ after_wait w line what true
@@ -53,7 +53,7 @@ MayCome w (Piece g r k outcome got) = With (flight_at w.progress.guests g) HasNe
 MayCome w (Retire g r) = With (flight_at w.progress.guests g) IsOver
 MayCome w (Reply line given command text) = IsNotDone (seen_state w) 0
 MayCome w (Reached line what) = IsNotDone (seen_state w) 0 × IsMet (seen_state w) what
-MayCome w (Done actor) = IsNotDone (seen_state w) actor × IsIdle w.progress.guests actor
+MayCome w (Done actor) = IsNotDone (seen_state w) actor × IsActorIdle w.progress.guests actor
 MayCome w e = Unit {0}
 
 pub record IsEventOf (w v : Face) (e : Event) : Type 0 where

@@ -13,7 +13,7 @@ ghost use Rattle.world_parts.specs.Face.{Face, seen_state};
 ghost use Rattle.world_commands.specs.Piecing.{IsPieceMade, HasPieceLicence};
 ghost use Rattle.world_parts.specs.Saying.{given_line};
 ghost use Rattle.world_parts.specs.Progress.{IsFree, HasNext, HasRoomFor, flight_at, answered_in, with_retirement};
-ghost use Rattle.world_parts.specs.Steps.{onward, after_admission, IsAnswered, after_wait, after_end, IsIdle};
+ghost use Rattle.world_parts.specs.Steps.{onward, after_admission, IsAnswered, after_wait, after_end, IsActorIdle};
 ghost use Rattle.qblk_run.specs.Turns.{StaysIn};
 
 use blk_base::{NoMemory, Outcome, Store};
@@ -80,7 +80,7 @@ pub(crate) trait Events {
     fn finish(&mut self, actor: u32)
         requires known { actor ≤ length (face self.old).progress.guests }
         requires open { IsNotDone (seen_state (face self.old)) actor }
-        requires idle { IsIdle (face self.old).progress.guests actor }
+        requires idle { IsActorIdle (face self.old).progress.guests actor }
         requires room { 0 < (face self.old).progress.spare.entries }
         ensures kept { face self.new ≡ after_end (face self.old) actor }
         ensures stays { StaysIn (face self.old) (face self.new) }

@@ -1,7 +1,7 @@
 //! What a run begins with.
 ghost use Rattle.std.specs.Prelude.{◌≡◌, map, false, IfOk};
 ghost use Rattle.trace_codec.specs.Script.{seen_order};
-ghost use Rattle.qblk_run.specs.Beginning.{new_task, IsReady};
+ghost use Rattle.qblk_run.specs.Beginning.{new_task, IsRunReady};
 
 use crate::task::{Actors, Script, Task};
 use blk_base::{Names1, NoMemory, Room, Text};
@@ -68,7 +68,7 @@ pub(crate) struct Ready {
 
 /// Takes what a run needs beside its store.
 pub(crate) fn make_ready(alloc: Global, inputs: Inputs) -> Result<Ready, NoMemory>
-    ensures { IfOk result (λ r. IsReady (map seen_order inputs.script.items)
+    ensures { IfOk result (λ r. IsRunReady (map seen_order inputs.script.items)
         (map (λ t. t.items) inputs.traces.items) inputs.guests r.actors r.guests r.names r.room) }
 {
     let Inputs {

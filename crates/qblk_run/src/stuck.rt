@@ -5,7 +5,7 @@ ghost use Rattle.world_parts.specs.Face.{Face, seen_state};
 ghost use Rattle.flat_machine.specs.Blocked.{what_of, ScriptWaits, TraceWaits};
 ghost use Rattle.qblk_run.specs.Run.{seen_waits};
 ghost use Rattle.qblk_run.specs.Tasks.{Rests, ScriptRests};
-ghost use Rattle.qblk_run.specs.Rounds.{GuestsRest, AllRest, AllAreDone, AreDone, IsFirstGuest, IsFirst};
+ghost use Rattle.qblk_run.specs.Rounds.{GuestsRest, AllRest, AllAreDone, AreDone, IsFirstGuest, IsFirstUndone};
 
 use crate::task::{Actors, Script, Task, look};
 use trace_codec::{Await, Order, Waits, Wish};
@@ -82,7 +82,7 @@ fn first_guest(tasks: &[Task]) -> Option<(u32, Waits)>
 pub(crate) fn first_waiting(actors: Actors) -> Option<(u32, Waits)>
     requires few { length actors.guests + 1 < 2 ^ 32 }
     ensures { (w : Face) → AllRest w actors
-        → MatchOption result (AreDone actors) (λ r. IsFirst w actors r.0 (seen_waits r.1)) }
+        → MatchOption result (AreDone actors) (λ r. IsFirstUndone w actors r.0 (seen_waits r.1)) }
 {
     let Actors { script, guests } = actors;
     match script_waits(script) {

@@ -1,7 +1,7 @@
 //! Room for the transcript.
 ghost use Rattle.std.specs.Prelude.{◌≡◌, ◌+◌, ◌<◌, ◌≤◌, ℕ, List, [], length, slice_get, get_or, IfOk, IfSome, Some};
 ghost use Rattle.blk_base.specs.Written.{memory_of};
-ghost use Rattle.qblk_core.specs.Output.{AllFit};
+ghost use Rattle.qblk_core.specs.Output.{AllLinesFit};
 ghost use Rattle.qblk_run.specs.Tasks.{HaveLines, guests_only};
 ghost use Rattle.qblk_run.specs.Sending.{RepliesFit, NamesFit};
 
@@ -49,7 +49,7 @@ pub(crate) fn text_for(alloc: Global, history: &History, names: &Names1) -> Resu
     requires lines { HaveLines names.now history.now.events }
     ensures empty { IfOk result (λ text. text.bytes ≡ []) }
     ensures fits { IfOk result (λ text.
-        AllFit (guests_only names.now) (memory_of text) history.now.events) }
+        AllLinesFit (guests_only names.now) (memory_of text) history.now.events) }
 {
     let Some(room) = room_of(longest_reply(history), longest_name(names)) else {
         return Err(NoMemory);

@@ -3,6 +3,8 @@
 #![tactic(auto)]
 
 #[cfg(test)]
+mod additions;
+#[cfg(test)]
 mod copying;
 #[cfg(test)]
 mod creating;
@@ -22,6 +24,8 @@ mod lines;
 mod managing;
 #[cfg(test)]
 mod marking;
+#[cfg(test)]
+mod members;
 #[cfg(test)]
 mod refused;
 #[cfg(test)]
