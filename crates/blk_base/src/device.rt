@@ -66,7 +66,7 @@ pub trait Device {
         ensures log { GoesOn (log self.old) off (taken result bytes.now) (log self.new) }
         ensures flushed { is_flushed self.new ≡ option_map (λ _. false) (is_flushed self.old) }
 
-        // it is refused for want of space exactly above the capacity, and then untouched
+        // it is refused for want of space exactly above the capacity, and then no byte is written
         ensures fits { OnOk result (off + length bytes.now ≤ capacity self.old) }
         ensures no_space { IfErr result (λ stop. stop.why ≡ Stop.NoSpace →
             (capacity self.old < off + length bytes.now) × (stop.done ≡ 0)

@@ -177,7 +177,8 @@ fn cluster_len(h: &Header, len: u64) -> u64
 ///
 /// The refusal is the first that holds of: the L1 table's offset or size, an L2 table's offset, a host cluster's
 /// offset (`Offset`), a reserved bit in the L1 table, one in an L2 table, a compressed cluster. Of several entries
-/// the first is named. A failed read or want of memory takes the place of what it would have told.
+/// the first is named. A failed read or want of memory takes the place of what it would have told; and since all L2
+/// tables are read before an entry of one is judged, also of what the other L2 tables tell.
 pub fn load_tables<D: Device>(alloc: Global, dev: &mut D, h: &Header) -> Result<Tables, TablesStop>
     requires { CanBeRead h.now (D.size dev.old) }
     ensures told { (file : List ℕ) → D.content dev.old ≡ Some file
