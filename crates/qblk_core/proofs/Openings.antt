@@ -11,6 +11,8 @@ use Rattle.blk_graph.specs.Rule.{KeepsPermissions}
 use Rattle.blk_graph.proofs.Members.{Contains-here, Contains-there}
 use Rattle.q2_format.specs.Sound.{image_refusal}
 use Rattle.q2_format.specs.declared.header.Header.{Header}
+use Rattle.q2_format.specs.declared.header.HeaderStop.TheVariants as headers
+use Rattle.q2_format.specs.declared.header.TheConstants.{MIN_HEADER_LENGTH}
 use Rattle.q2_image.specs.Image.{Known, IsImageOf}
 use Rattle.q2_image.specs.Opening.{Names, HasCause, refusal_of}
 use Rattle.q2_image.specs.declared.stop.ImageStop.{ImageStop}
@@ -29,7 +31,7 @@ use Rattle.qblk_core.specs.Closing.{IsOnlyDevice}
 use Rattle.qblk_core.specs.Face.{machine_on}
 use Rattle.qblk_core.specs.ImageNodes.{file_name, image_name, only_device, with_file, with_raw, asked_image, IsImageNodeOver, AreMadeOf}
 use Rattle.qblk_core.specs.Opened.{IsFileOver, IsOpenedAs, StopsAs, StopsImageNode, IsStopped, stop_by}
-use Rattle.qblk_core.specs.Run.{IsBadBytes}
+use Rattle.qblk_core.specs.Run.{HasLengthFor, IsBadBytes}
 use Rattle.qblk_core.specs.Session.{IsRefusedImage}
 use Rattle.qblk_core.specs.declared.opening.OpenStop.{OpenStop}
 use Rattle.qblk_core.specs.declared.opening.OpenStop.TheVariants.{Refused, Io, NoMemory}
@@ -79,25 +81,33 @@ found-device d old file x over held = first-found d x file (subst (λ (n : Nodes
 
 -- the refusal of a qcow2 image, which is none of a raw one's
 refused-as : (d : DeviceState) (stop : ImageStop) → ((bytes : List ℕ) → d.content ≡ Some bytes → IsBadBytes Qcow2 (Image stop) bytes) → IsSome (refusal_of stop)
-    → IsRefusedImage Qcow2 (Image stop) d
-refused-as d stop named cause = record {
+    → HasLengthFor (Image stop) d.size → IsRefusedImage Qcow2 (Image stop) d
+refused-as d stop named cause length = record {
   bytes = named;
   there = λ bad. absurd (let no : ⊥ = cc bad in no);
-  large = λ bad. absurd (let no : ⊥ = cc bad in no);
+  length = length;
   cause = cause;
 }
 
-named-stop : (d e : DeviceState) (stop : ImageStop) → ((bytes : List ℕ) → d.content ≡ Some bytes → Names (image_refusal bytes) stop) → HasCause d.faults e.faults stop
+not-short : (size : ℕ) → (size < MIN_HEADER_LENGTH → ⊥) → MIN_HEADER_LENGTH ≤ size
+not-short size none = omega arith
+
+-- it is too short for a header exactly where it is refused so
+length-for : (size : ℕ) (stop : ImageStop) → (stop ≡ stops.Header headers.Short) ↔ (size < MIN_HEADER_LENGTH) → HasLengthFor (Image stop) size
+length-for size (stops.Header headers.Short) short = short.0 refl
+length-for size stop short = not-short size (λ less. let is = short.1 less in let no : ⊥ = cc is in no)
+
+named-stop : (d e : DeviceState) (stop : ImageStop) → ((bytes : List ℕ) → d.content ≡ Some bytes → Names (image_refusal bytes) stop) → (stop ≡ stops.Header headers.Short) ↔ (d.size < MIN_HEADER_LENGTH) → HasCause d.faults e.faults stop
     → StopsAs Qcow2 d e (stop_by stop)
-named-stop d e (stops.Header stop) named cause = (refused-as d (stops.Header stop) named refl, cause)
-named-stop d e (stops.Offset offset) named cause = (refused-as d (stops.Offset offset) named refl, cause)
-named-stop d e (stops.Reserved table index) named cause = (refused-as d (stops.Reserved table index) named refl, cause)
-named-stop d e (stops.Compressed cluster) named cause = (refused-as d (stops.Compressed cluster) named refl, cause)
-named-stop d e (stops.Overlap cluster) named cause = (refused-as d (stops.Overlap cluster) named refl, cause)
-named-stop d e (stops.Refcount cluster) named cause = (refused-as d (stops.Refcount cluster) named refl, cause)
-named-stop d e stops.HeaderFull named cause = (refused-as d stops.HeaderFull named refl, cause)
-named-stop d e (stops.Io count) named cause = (refl, cause.0, cause.1)
-named-stop d e stops.NoMemory named cause = cause
+named-stop d e (stops.Header stop) named short cause = (refused-as d (stops.Header stop) named refl (length-for d.size (stops.Header stop) short), cause)
+named-stop d e (stops.Offset offset) named short cause = (refused-as d (stops.Offset offset) named refl (length-for d.size (stops.Offset offset) short), cause)
+named-stop d e (stops.Reserved table index) named short cause = (refused-as d (stops.Reserved table index) named refl (length-for d.size (stops.Reserved table index) short), cause)
+named-stop d e (stops.Compressed cluster) named short cause = (refused-as d (stops.Compressed cluster) named refl (length-for d.size (stops.Compressed cluster) short), cause)
+named-stop d e (stops.Overlap cluster) named short cause = (refused-as d (stops.Overlap cluster) named refl (length-for d.size (stops.Overlap cluster) short), cause)
+named-stop d e (stops.Refcount cluster) named short cause = (refused-as d (stops.Refcount cluster) named refl (length-for d.size (stops.Refcount cluster) short), cause)
+named-stop d e stops.HeaderFull named short cause = (refused-as d stops.HeaderFull named refl (length-for d.size stops.HeaderFull short), cause)
+named-stop d e (stops.Io count) named short cause = (refl, cause.0, cause.1)
+named-stop d e stops.NoMemory named short cause = cause
 
 pub unopened : (d : DeviceState) (old new : Nodes) (file : ℕ) (stop : ImageStop) → IsFileOver d old → IsUnopened old.devices new.devices file stop → HaveRisen old.devices new.devices
     → StopsImageNode Qcow2 old new (stop_by stop)
@@ -117,6 +127,7 @@ unopened d old new file stop over is risen =
         number = ap (λ (x : DeviceState). x.number) same ∙ over.number;
       };
       cause = named-stop d r.0 stop (λ bytes told. is.on.named bytes (ap (λ (x : DeviceState). x.content) before ∙ told))
+          (subst (λ (x : DeviceState). (stop ≡ stops.Header headers.Short) ↔ (x.size < MIN_HEADER_LENGTH)) before is.on.short)
           (subst (λ (x : DeviceState). HasCause d.faults x.faults stop) after (subst (λ (x : DeviceState). HasCause x.faults is.after.faults stop) before is.on.cause));
       kept = r.2;
     }

@@ -1,5 +1,5 @@
 -- The parts of a run put together.
-use Rattle.std.proofs.Common.{◌≡◌, ℕ, true, List, [], ◌∷◌, ◌++◌, refl, sym, ◌∙◌, ap, subst, arith, inl, inr, Option, Some, Ok}
+use Rattle.std.proofs.Common.{◌≡◌, ℕ, ◌≤◌, true, List, [], ◌∷◌, ◌++◌, refl, sym, ◌∙◌, ap, subst, arith, inl, inr, Option, Some, Ok}
 use Rattle.std.specs.Prelude.{IsUtf8, is_some, length}
 use Rattle.blk_base.specs.declared.fault.FaultAt.{FaultAt}
 use Rattle.blk_base.specs.declared.fault.Outcome.{Outcome}
@@ -9,15 +9,19 @@ use Rattle.blk_history.specs.Owned.{asked_by}
 use Rattle.blk_history.specs.Recorded.{Recorded}
 use Rattle.blk_nodes.specs.Contents.{Unfolds}
 use Rattle.blk_nodes.specs.Nodes.{Nodes, DeviceState}
+use Rattle.blk_nodes.specs.Overlays.{IsOpened}
 use Rattle.blk_nodes.specs.Reading.{HasRisen}
+use Rattle.q2_format.specs.declared.header.TheConstants.{MIN_HEADER_LENGTH}
+use Rattle.qblk_core.specs.Format.{HasGoodLength}
 use Rattle.qblk_core.specs.declared.words.Format.{Format}
+use Rattle.qblk_core.specs.declared.words.Format.TheVariants.{Raw, Qcow2}
 use Rattle.qblk_core.specs.Face.{Face, new_guest}
-use Rattle.qblk_core.specs.ImageNodes.{AreMadeOf, HaveOneImage}
+use Rattle.qblk_core.specs.ImageNodes.{with_file, IsImageNodeOver, AreMadeOf, HaveOneImage}
 use Rattle.qblk_core.specs.Requests.{RequestsDone}
 use Rattle.blk_base.specs.Counts.{Rose}
 use Rattle.qblk_core.specs.Closing.{IsOnlyDevice}
 use Rattle.qblk_core.specs.Opened.{IsStopped, IsImageStatus}
-use Rattle.qblk_core.specs.Session.{AreNodesClosed, AreRequestsMade, IsTraceStop, IsRunStop, IsRefusedImage}
+use Rattle.qblk_core.specs.Session.{AreNodesClosed, AreRequestsMade, IsGoodDevice, IsTraceStop, IsRunStop, IsRefusedImage}
 use Rattle.qblk_core.specs.declared.input.TraceRead.{TraceRead}
 use Rattle.qblk_core.specs.declared.opening.OpenStop.{OpenStop}
 use Rattle.qblk_core.specs.declared.opening.OpenStop.TheVariants.{Refused, Io, NoMemory as NoRoom}
@@ -26,7 +30,7 @@ use Rattle.qblk_core.specs.declared.status.Status.{Status}
 use Rattle.qblk_core.specs.declared.status.Status.TheVariants.{Done, Usage, Input, Fault, Stuck, NoMemory}
 use Rattle.qblk_core.proofs.Kept.{comes-start}
 use Rattle.qblk_core.proofs.Made.{made-good, made-devices}
-use Rattle.qblk_core.proofs.OneDevice.{head-same}
+use Rattle.qblk_core.proofs.OneDevice.{first-found, head-same}
 
 -- what an engine shows before its first request
 abbrev pub begun : Nodes → Recorded → Face
@@ -63,6 +67,19 @@ same-device format first d n made given = head-same d n [] (sym (made-devices fo
 count-stands : (format : Format) (first : Nodes) (d n : DeviceState) → AreMadeOf format d first → first.devices ≡ n ∷ [] → n.faults ≡ d.faults
 count-stands format first d n made given = sym (ap (λ (x : DeviceState). x.faults) (same-device format first d n made given))
 
+good-length : (format : Format) (d : DeviceState) (over : Nodes) → IsImageNodeOver format (with_file d) over → HasGoodLength format d.size
+good-length Raw d over is = is.0
+good-length Qcow2 d over is =
+    let opened : IsOpened (d ∷ []) 0 is.0 = is.1 in
+    subst (λ (x : DeviceState). MIN_HEADER_LENGTH ≤ x.size) (first-found d opened.device 0 opened.held) opened.on.long
+
+good-device : (format : Format) (first : Nodes) (d : DeviceState) → AreMadeOf format d first → Unfolds first → ((b : List ℕ) → d.content ≡ Some b → d.size ≡ length b)
+    → IsGoodDevice format d
+good-device format first d made disks sized = record {
+  good = λ bytes told. (made-good format d first bytes made disks told (sized bytes told)).0;
+  length = good-length format d made.over made.image;
+}
+
 -- the trace is refused, on nodes over a good image
 pub trace-stops : (format : Format) (image trace : List ℕ) (read : TraceRead) (first : Nodes) (d n : DeviceState) (status : Status) → AreMadeOf format d first → Unfolds first
     → ((b : List ℕ) → d.content ≡ Some b → d.size ≡ length b) → first.devices ≡ n ∷ [] → IsTraceStop trace read status → IsRunStop format image trace read d n status
@@ -70,7 +87,7 @@ trace-stops format image trace read first d n Done made disks sized given stop =
 trace-stops format image trace read first d n Usage made disks sized given stop = stop
 trace-stops format image trace read first d n (Input name line why) made disks sized given stop = (
   count-stands format first d n made given,
-  inr ((λ bytes told. (made-good format d first bytes made disks told (sized bytes told)).0), stop.0, stop.1),
+  inr (good-device format first d made disks sized, stop.0, stop.1),
 )
 trace-stops format image trace read first d n (Fault from count) made disks sized given stop = absurd stop
 trace-stops format image trace read first d n (Stuck actor waits) made disks sized given stop = stop

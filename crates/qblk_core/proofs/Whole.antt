@@ -29,7 +29,7 @@ use Rattle.qblk_core.proofs.Returned.{open_opening, closed-is}
 use Rattle.blk_nodes.specs.Contents.{disk_of as node_disk}
 use Rattle.blk_nodes.specs.Nodes.{DeviceState}
 use Rattle.blk_nodes.specs.Reading.{HasRisen}
-use Rattle.qblk_core.specs.Format.{disk_of, IsGoodImage}
+use Rattle.qblk_core.specs.Format.{disk_of}
 use Rattle.qblk_core.specs.declared.words.Format.{Format}
 use Rattle.qblk_core.specs.declared.words.Format.TheVariants as formats
 use Rattle.qblk_core.specs.Comes.{HaveLines}
@@ -40,7 +40,7 @@ use Rattle.qblk_core.proofs.Made.{made-one, made-kind, made-devices, image-as, t
 use Rattle.qblk_core.proofs.OneDevice.{head-same, faults-is, capacity-is}
 use Rattle.qblk_core.proofs.OneImage.{told-is}
 use Rattle.qblk_core.specs.Run.{Outside, machine_of, guest_names, closed_opening, IsRunOn, IsOverFile, TellsDisk, IsImageCause, IsTraceCause, IsBackQuietly, IsOpenedQuietlyFor, SpeaksOfInput, HasImage, HasTrace, IsBadTrace, IsBadBytes, IsBadImage, IsRefusedTrace, IsRefusedInput, WasRun, StoreStands, SinkStands, FailsToOpen, FailsToFlush, IsFaulty, Answers}
-use Rattle.qblk_core.specs.Session.{IsTraceRead, IsStoreStop, IsOpenStop, AreRequestsMade, IsRefusedRead, IsRefusedImage, IsRunStop, EndsAs}
+use Rattle.qblk_core.specs.Session.{IsTraceRead, IsStoreStop, IsOpenStop, AreRequestsMade, IsGoodDevice, IsRefusedRead, IsRefusedImage, IsRunStop, EndsAs}
 use Rattle.qblk_core.specs.declared.input.TraceRead.{TraceRead}
 use Rattle.qblk_core.specs.declared.input.TraceRead.TheVariants as reads
 use Rattle.qblk_core.specs.declared.status.InputWhy.{InputWhy}
@@ -374,13 +374,7 @@ read-cause reads.TooLong line cause is = (flaws.TooLong, is.1, is.0)
 quietly-for : (format : Format) (image : List ℕ) (d : DeviceState) (old new : Outside) (cause : InputWhy) → IsRefusedImage format cause d → IsBackQuietly image d old new
     → IsOpenedQuietlyFor cause image old new
 quietly-for format image d old new why.Absent refused opened = absurd (refused.there refl)
-quietly-for format image d old new why.NotUtf8 refused opened = (d, opened)
-quietly-for format image d old new why.TooLong refused opened = (d, opened)
-quietly-for format image d old new why.BadLine refused opened = (d, opened)
-quietly-for format image d old new why.TooMany refused opened = (d, opened)
-quietly-for format image d old new why.TooLarge refused opened = (d, opened, refused.large refl)
-quietly-for format image d old new why.NeedsBacking refused opened = (d, opened)
-quietly-for format image d old new (why.Image stop) refused opened = (d, opened)
+quietly-for format image d old new cause refused opened = (d, opened, refused.length)
 
 -- its device is back, and its count stands
 opened-quietly : (image : List ℕ) (d n : DeviceState) (old new : Outside) → (is_out image old.opened ≡ true → ⊥) → n.faults ≡ d.faults
@@ -391,22 +385,22 @@ opened-quietly image d n old new none stands opened =
 
 speaks-of : (format : Format) (image trace : List ℕ) (read : TraceRead) (d : DeviceState) (name : List ℕ) (line : ℕ) (cause : InputWhy)
     → ((name ≡ image) × (line ≡ 0) × IsRefusedImage format cause d)
-    ⊎ (((bytes : List ℕ) → d.content ≡ Some bytes → IsGoodImage format bytes) × (name ≡ trace) × IsRefusedRead read cause line)
+    ⊎ (IsGoodDevice format d × (name ≡ trace) × IsRefusedRead read cause line)
     → (old new : Outside) → IsBackQuietly image d old new → SpeaksOfInput format image trace old new name line cause
 speaks-of format image trace read d name line cause (inl bad) old new opened =
     inl (bad.0, bad.1, bad.2.cause, quietly-for format image d old new cause bad.2 opened)
-speaks-of format image trace read d name line cause (inr good) old new opened = inr (good.1, read-cause read line cause good.2, (d, opened))
+speaks-of format image trace read d name line cause (inr good) old new opened = inr (good.1, read-cause read line cause good.2, (d, opened, good.0.length))
 
 refused-by : (format : Format) (image trace : List ℕ) (read : TraceRead) (d : DeviceState) (files : List File) (name : List ℕ) (line : ℕ) (cause : InputWhy)
     → ((f : File) × IsToldAs image d files f) → IsTraceRead trace read files
     → ((name ≡ image) × (line ≡ 0) × IsRefusedImage format cause d)
-    ⊎ (((bytes : List ℕ) → d.content ≡ Some bytes → IsGoodImage format bytes) × (name ≡ trace) × IsRefusedRead read cause line)
+    ⊎ (IsGoodDevice format d × (name ≡ trace) × IsRefusedRead read cause line)
     → IsRefusedInput format image trace name line cause files
 refused-by format image trace read d files name line cause told is (inl bad) =
     let refused = bad.2 in
     inl (bad.0, bad.1, bad-image format image cause files told.0 refused.there told.1.file (refused.bytes told.0.bytes told.1.content))
 refused-by format image trace read d files name line cause told is (inr good) =
-    inr (good.1, (told.0, told.1.file, good.0 told.0.bytes told.1.content), refused-read trace read files line cause is good.2)
+    inr (good.1, (told.0, told.1.file, good.0.good told.0.bytes told.1.content), refused-read trace read files line cause is good.2)
 
 -- an image that is given back as it was leaves all files as they were
 pub left : (image : List ℕ) (d n : DeviceState) (files : Option (List File)) → ((bytes : List ℕ) → d.content ≡ Some bytes → d.size ≡ length bytes)

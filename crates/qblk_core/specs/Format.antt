@@ -3,6 +3,7 @@ use Rattle.std.specs.Prelude.{◌≡◌, ℕ, ◌≤◌, ⊤, List, [], length, 
 use Rattle.q2_format.specs.Header.{header_of}
 use Rattle.q2_format.specs.Contents.{image_disk}
 use Rattle.q2_format.specs.Sound.{IsSound}
+use Rattle.q2_format.specs.declared.header.TheConstants.{MIN_HEADER_LENGTH}
 use Rattle.qblk_core.specs.declared.words.Format.{Format}
 use Rattle.qblk_core.specs.declared.words.Format.TheVariants.{Raw, Qcow2}
 
@@ -15,6 +16,11 @@ disk_of Qcow2 bytes = image_disk bytes []
 abbrev pub IsGoodImage : Format → List ℕ → Type 0
 IsGoodImage Raw bytes = length bytes ≤ 274877906944
 IsGoodImage Qcow2 bytes = IsSound bytes × ((header_of bytes).name ≡ None)
+
+-- how long a file may be that can be opened: a raw image isn't too large, and a qcow2 image has a header
+abbrev pub HasGoodLength : Format → ℕ → Type 0
+HasGoodLength Raw size = size ≤ 274877906944
+HasGoodLength Qcow2 size = MIN_HEADER_LENGTH ≤ size
 
 -- what is left of it after a run: a sound image stays sound, and names no backing file
 abbrev pub IsSoundAs : Format → List ℕ → Type 0

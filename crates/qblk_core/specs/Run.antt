@@ -21,8 +21,11 @@ use Rattle.blk_history.specs.Transcript.{transcript}
 use Rattle.blk_history.specs.declared.event.Event.{Event}
 use Rattle.q2_format.specs.Header.{header_of}
 use Rattle.q2_format.specs.Sound.{IsSound, image_refusal}
+use Rattle.q2_format.specs.declared.header.HeaderStop.TheVariants as headers
+use Rattle.q2_format.specs.declared.header.TheConstants.{MIN_HEADER_LENGTH}
 use Rattle.q2_image.specs.Opening.{refusal_of}
-use Rattle.qblk_core.specs.Format.{disk_of, IsGoodImage, IsSoundAs}
+use Rattle.q2_image.specs.declared.stop.ImageStop.TheVariants as images
+use Rattle.qblk_core.specs.Format.{disk_of, HasGoodLength, IsGoodImage, IsSoundAs}
 use Rattle.qblk_core.specs.declared.words.Format.{Format}
 use Rattle.qblk_core.specs.declared.words.Format.TheVariants.{Raw, Qcow2}
 use Rattle.blk_base.specs.declared.fault.Outcome.{Outcome}
@@ -206,6 +209,14 @@ IsImageCause format why = ⊥
 abbrev pub IsTraceCause : InputWhy → ℕ → Type 0
 IsTraceCause why line = (flaw : InputFlaw) × (why ≡ why_of flaw) × IsTraceFlaw flaw line
 
+-- how long an image is that is refused so: too large, too short for a header, or no shorter than that
+abbrev pub HasLengthFor : InputWhy → ℕ → Type 0
+HasLengthFor TooLarge size = 274877906944 < size
+HasLengthFor NeedsBacking size = MIN_HEADER_LENGTH ≤ size
+HasLengthFor (Image (images.Header headers.Short)) size = size < MIN_HEADER_LENGTH
+HasLengthFor (Image stop) size = MIN_HEADER_LENGTH ≤ size
+HasLengthFor why size = ⊤
+
 -- the image's device was opened so and is back, and no call of it failed
 abbrev pub IsBackQuietly : List ℕ → DeviceState → Outside → Outside → Type 0
 IsBackQuietly image device old new =
@@ -214,18 +225,22 @@ IsBackQuietly image device old new =
 abbrev pub IsOpenedQuietly : List ℕ → Outside → Outside → Type 0
 IsOpenedQuietly image old new = (device : DeviceState) × IsBackQuietly image device old new
 
--- So it was where the image is refused, unless it is absent. One that is too large was so long when it was opened.
+-- So it was where the trace is refused, over an image that can be opened.
+abbrev pub IsOpenedWell : Format → List ℕ → Outside → Outside → Type 0
+IsOpenedWell format image old new = (device : DeviceState)
+    × IsBackQuietly image device old new × HasGoodLength format device.size
+
+-- So it was where the image is refused, unless it is absent; and it was as long as the refusal says.
 abbrev pub IsOpenedQuietlyFor : InputWhy → List ℕ → Outside → Outside → Type 0
 IsOpenedQuietlyFor Absent image old new = new.opened ≡ old.opened
-IsOpenedQuietlyFor TooLarge image old new = (device : DeviceState)
-    × IsBackQuietly image device old new × (274877906944 < device.size)
-IsOpenedQuietlyFor why image old new = IsOpenedQuietly image old new
+IsOpenedQuietlyFor why image old new = (device : DeviceState)
+    × IsBackQuietly image device old new × HasLengthFor why device.size
 
 abbrev pub SpeaksOfInput : Format → List ℕ → List ℕ → Outside → Outside → List ℕ → ℕ → InputWhy
     → Type 0
 SpeaksOfInput format image trace old new name line why =
     ((name ≡ image) × (line ≡ 0) × IsImageCause format why × IsOpenedQuietlyFor why image old new)
-    ⊎ ((name ≡ trace) × IsTraceCause why line × IsOpenedQuietly image old new)
+    ⊎ ((name ≡ trace) × IsTraceCause why line × IsOpenedWell format image old new)
 
 -- nothing was written: neither to a file nor to the sink
 pub record NothingWritten (old new : Outside) : Type 0 where

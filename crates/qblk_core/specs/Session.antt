@@ -15,17 +15,17 @@ use Rattle.blk_nodes.specs.Joined.{IsJoined}
 use Rattle.blk_nodes.specs.Nodes.{Nodes, DeviceState}
 use Rattle.qblk_core.specs.Face.{Face, machine_on}
 use Rattle.qblk_core.specs.Comes.{Comes}
-use Rattle.qblk_core.specs.Format.{IsGoodImage}
+use Rattle.qblk_core.specs.Format.{HasGoodLength, IsGoodImage}
 use Rattle.qblk_core.specs.ImageNodes.{AreMadeOf, HaveOneImage}
 use Rattle.blk_pieces.specs.Pieces.{FlushesPart}
 use Rattle.qblk_core.specs.declared.words.Format.{Format}
 use Rattle.qblk_core.specs.declared.words.Format.TheVariants.{Qcow2}
-use Rattle.qblk_core.specs.Run.{machine_of, IsBadTrace, IsBadBytes, IsImageCause}
+use Rattle.qblk_core.specs.Run.{machine_of, HasLengthFor, IsBadTrace, IsBadBytes, IsImageCause}
 use Rattle.qblk_core.specs.Output.{SendsFront}
 use Rattle.qblk_core.specs.declared.input.TraceRead.{TraceRead}
 use Rattle.qblk_core.specs.declared.input.TraceRead.TheVariants as reads
 use Rattle.qblk_core.specs.declared.status.InputWhy.{InputWhy}
-use Rattle.qblk_core.specs.declared.status.InputWhy.TheVariants.{Absent, TooLong, TooLarge}
+use Rattle.qblk_core.specs.declared.status.InputWhy.TheVariants.{Absent, TooLong}
 use Rattle.qblk_core.specs.declared.status.Status.{Status}
 use Rattle.qblk_core.specs.declared.status.Status.TheVariants.{Done, Usage, Input, Fault, Stuck, NoMemory}
 
@@ -115,8 +115,13 @@ IsTraceStop trace read NoMemory = Unit {0}
 pub record IsRefusedImage (format : Format) (why : InputWhy) (device : DeviceState) : Type 0 where
   pub bytes : (bytes : List ℕ) → device.content ≡ Some bytes → IsBadBytes format why bytes
   pub there : why ≢ Absent
-  pub large : why ≡ TooLarge → 274877906944 < device.size
+  pub length : HasLengthFor why device.size
   pub cause : IsImageCause format why
+
+-- an image on a device can be opened, by its length and by the bytes that it tells
+pub record IsGoodDevice (format : Format) (device : DeviceState) : Type 0 where
+  pub good : (bytes : List ℕ) → device.content ≡ Some bytes → IsGoodImage format bytes
+  pub length : HasGoodLength format device.size
 
 -- the image, which is judged before the trace, or the trace is refused; or the image's device failed
 abbrev pub IsRunStop : Format → List ℕ → List ℕ → TraceRead → DeviceState → DeviceState → Status
@@ -126,8 +131,7 @@ IsRunStop format image trace read before now Usage = ⊥
 IsRunStop format image trace read before now (Input name line why) =
     (now.faults ≡ before.faults)
     × (((name.bytes ≡ image) × (line ≡ 0) × IsRefusedImage format why before)
-    ⊎ (((bytes : List ℕ) → before.content ≡ Some bytes → IsGoodImage format bytes)
-    × (name.bytes ≡ trace) × IsRefusedRead read why line))
+    ⊎ (IsGoodDevice format before × (name.bytes ≡ trace) × IsRefusedRead read why line))
 IsRunStop format image trace read before now (Fault from count) =
     (format ≡ Qcow2) × (from ≡ Dev (record { 0 = 0 })) × Rose before.faults count
     × (count ≡ now.faults)
