@@ -12,8 +12,9 @@ use std::marker::Model;
 pub enum Change {
     /// Capabilities are negotiated from now on.
     Negotiate,
-    /// An id that `job-dismiss` lets go.
+    /// The id of a job of the past stays taken, until `job-dismiss` lets it go.
     KeepId(Name),
+    /// It does.
     DropId(Name),
     /// The file holds so many zeros.
     MakeFile {
@@ -69,10 +70,12 @@ pub enum Change {
         number: u32,
         asked: Asked,
     },
+    /// A device is there, and uses the node as its drive.
     AddDevice {
         device: Device,
         node: NodeId,
     },
+    /// The device of this number goes, with its edge.
     RemoveDevice(u32),
     /// The node becomes the backing node of the overlay.
     Attach {
@@ -85,16 +88,20 @@ pub enum Change {
         to: NodeId,
         but: NodeId,
     },
+    /// A bitmap in which nothing is dirty.
     AddBitmap(BitmapRow),
+    /// The bitmap goes.
     RemoveBitmap {
         node: NodeId,
         name: Name,
     },
+    /// The bitmap records writes from now on, or doesn't.
     TurnBitmap {
         node: NodeId,
         name: Name,
         on: bool,
     },
+    /// Nothing is dirty in the bitmap.
     ClearBitmap {
         node: NodeId,
         name: Name,

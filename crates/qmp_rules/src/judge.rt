@@ -24,7 +24,7 @@ use qmp_asks::{Name, asks_of};
 use qmp_codec::{Added, Command, Created};
 use std::alloc::Global;
 
-/// Why nothing is prepared.
+/// Why nothing is prepared: the command is refused, or memory for its changes isn't had. The table is as before.
 #[derive(Drop)]
 pub enum PrepareStop {
     Refused(Refusal),

@@ -6,7 +6,7 @@ use q2_image::ImageStop;
 use qmp_asks::Name;
 use std::alloc::AllocError;
 
-/// What there can be too many of.
+/// What there can be too many of: 64 of each but jobs, of which there are 16.
 #[derive(Clone, Copy)]
 pub enum Crowd {
     Nodes,
@@ -18,19 +18,24 @@ pub enum Crowd {
 /// What is wrong with a file of the store.
 #[derive(Clone, Copy)]
 pub enum FileFault {
+    /// The store has no file of that name.
     Absent,
+    /// A node stands over it already.
     InUse,
+    /// It has more bytes than a node of that driver takes.
     TooLong,
 }
 
-/// Why a command is refused, with what its answer tells. They stand in the order in which they are looked for.
+/// Why a command is refused, with what its answer tells. They stand in the order in which they are looked for: of
+/// several that hold the first is answered, and a refused command has changed nothing. The answer's class is
+/// `GenericError`, where nothing else is said.
 #[derive(Drop)]
 pub enum Refusal {
     /// The line is no JSON object with a text `execute`.
     BadJson,
-    /// No command has this name.
+    /// No command has this name; class `CommandNotFound`.
     UnknownCommand(Name),
-    /// Capabilities are not negotiated, or are so already.
+    /// Capabilities are not negotiated, or are so already; class `CommandNotFound`.
     Negotiation {
         again: bool,
     },
@@ -44,15 +49,16 @@ pub enum Refusal {
     BadValue(Name),
     /// The value of this member is no name.
     BadName(Name),
-    /// Nothing of that name is there.
+    /// Nothing of that name is there. Where `device_del` asks for it the class is `DeviceNotFound`.
     NotFound {
         name: Name,
         is_device: bool,
     },
-    /// There is no job of this id.
+    /// There is no job of this id; class `DeviceNotActive`.
     NotActive(Name),
     /// Something has this name already.
     NameTaken(Name),
+    /// One more would be too many.
     TooMany(Crowd),
     /// The node's driver is none that the command takes.
     Driver(Name),
@@ -69,24 +75,30 @@ pub enum Refusal {
     BackingNeeded(Name),
     /// The node has no flat disk.
     Unsettled(Name),
+    /// The job holds the node.
     JobHolds {
         node: Name,
         job: Name,
     },
+    /// The job uses the bitmap.
     BitmapBusy {
         bitmap: Name,
         job: Name,
     },
+    /// The node isn't writable.
     ReadOnly(Name),
     /// The node is not below the other.
     NotInChain(Name),
+    /// The disks of the two nodes are not of one length.
     SizeDiffers {
         first: Name,
         second: Name,
     },
+    /// The node has a backing node already.
     HasBacking(Name),
     /// The node's image maps a cluster.
     NotEmpty(Name),
+    /// The parent, a node, a device or a job, uses the node.
     InUse {
         node: Name,
         parent: Name,
@@ -102,7 +114,8 @@ pub enum Refusal {
     },
     /// An action says so.
     Aborted,
-    /// A call of a device or the store failed; its count of faults afterwards.
+    /// A call of a device or the store failed; its count of faults afterwards. Of this and `NoSpace` a file that was
+    /// being made or formatted isn't known any more.
     Io {
         from: FaultFrom,
         count: u64,

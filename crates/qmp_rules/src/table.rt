@@ -20,17 +20,21 @@ use qmp_asks::Name;
 use std::alloc::Global;
 use std::marker::Model;
 
-/// Nodes, edges, guests, devices, jobs, bitmaps, and what became of files.
+/// Nodes, edges, guests, devices, jobs, bitmaps, and what became of files: all that the rules judge a command by,
+/// beside what its files tell. Memory for a command's changes is taken before the first of them is made.
 #[derive(Drop)]
 pub struct Names {
     nodes: Vec<NodeRecord>,
     edges: EdgeList,
+    // by their numbers
     guests: Vec<Name>,
     devices: Vec<Device>,
     jobs: Vec<JobRecord>,
+    // how many jobs were ever started
     started: u32,
     bitmaps: Vec<BitmapRow>,
     files: Vec<FileRow>,
+    // ids of jobs of the past that stay taken
     kept: Vec<Name>,
     negotiated: bool,
 }
