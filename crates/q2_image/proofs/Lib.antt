@@ -6,6 +6,7 @@ pub mod Guests
 pub mod Autocleared
 pub mod Merged
 pub mod Order
+pub mod Faults
 pub mod NameRoom
 pub mod HeaderKept
 pub mod HeaderWrites

@@ -5,8 +5,7 @@ use Rattle.q2_format.specs.Sound.{Refusal, is_header_full}
 use Rattle.q2_format.specs.Sound as sound
 use Rattle.q2_format.specs.declared.header.Header.{Header}
 use Rattle.q2_image.specs.declared.stop.ImageStop.{ImageStop}
-use Rattle.q2_image.specs.declared.stop.ImageStop.TheVariants as stops
-use Rattle.q2_image.specs.Opening.{Judges, Names, HasCause, IsNoFault, refusal_of, overlap_stop, uncounted_stop, names_stops}
+use Rattle.q2_image.specs.Opening.{Judges, Names, refusal_of, overlap_stop, uncounted_stop, names_stops}
 use Rattle.q2_image.specs.Seen.{Sightings}
 
 named_head : (o : Option Refusal) (rest : List (Option Refusal)) (named : Option Refusal) → IfSome named (λ n. o ≡ Some n) → IfSome named (λ n. first (o ∷ rest) ≡ Some n)
@@ -57,19 +56,3 @@ judges_at A h uses counts n m result same once judged =
 -- a stop that names no refusal
 pub none_named : (refusal : Option Refusal) (stop : ImageStop) → refusal_of stop ≡ None → Names refusal stop
 none_named refusal stop none = rw none tt
-
--- behind a stop that names no failed call the count stands
-pub no_fault_cause : (before now : ℕ) (stop : ImageStop) → now ≡ before → IsNoFault stop → HasCause before now stop
-no_fault_cause before now (stops.Header s) quiet is = quiet
-no_fault_cause before now (stops.Offset o) quiet is = quiet
-no_fault_cause before now (stops.Reserved t i) quiet is = quiet
-no_fault_cause before now (stops.Compressed c) quiet is = quiet
-no_fault_cause before now (stops.Overlap c) quiet is = quiet
-no_fault_cause before now (stops.Refcount c) quiet is = quiet
-no_fault_cause before now stops.HeaderFull quiet is = quiet
-no_fault_cause before now (stops.Io n) quiet is = absurd is
-no_fault_cause before now stops.NoMemory quiet is = quiet
-
--- a call that stopped behind one that was quiet
-pub cause_later : (before mid now : ℕ) (stop : ImageStop) → mid ≡ before → HasCause mid now stop → HasCause before now stop
-cause_later before mid now stop quiet cause = subst (λ (n : ℕ). HasCause n now stop) quiet cause

@@ -1,5 +1,5 @@
 -- An image that was opened is the file's.
-use Rattle.std.proofs.Common.{◌≡◌, ℕ, ◌≤◌, min, max, List, length, take, Option, None, Result, Ok, Err, IfOk, IfErr, sym, subst, ◌∙◌, arith}
+use Rattle.std.proofs.Common.{◌≡◌, ℕ, ◌≤◌, min, max, List, length, take, Option, None, Result, Ok, Err, IfOk, sym, subst, ◌∙◌, arith}
 use Rattle.std.proofs.lemmas.List.{get_or-take, length-take}
 use Rattle.q2_format.specs.Sizes.{cluster_size}
 use Rattle.q2_format.specs.Header.{header_of}
@@ -12,11 +12,10 @@ use Rattle.q2_refs.specs.Kept as refs
 use Rattle.q2_tables.specs.Kept.{IsTreeOf}
 use Rattle.q2_tables.specs.Kept as tables
 use Rattle.q2_image.specs.declared.stop.ImageStop.{ImageStop}
-use Rattle.q2_image.specs.Opening.{Judges, Names, HasCause, IsNoFault, header_stops, place_stops, names_stops, overlap_stop, uses_in}
+use Rattle.q2_image.specs.Opening.{Judges, Names, header_stops, place_stops, names_stops, overlap_stop, uses_in}
 use Rattle.q2_image.specs.Loading.{table_stops, counts_loaded, HasCounts, IsReadFrom}
 use Rattle.q2_image.specs.Image.{Known, IsImageOf}
 use Rattle.q2_image.proofs.Opened.{header_names, place_names, word_names, overlap_of_image, last_names, is_sound}
-use Rattle.q2_image.proofs.Order.{no_fault_cause}
 
 -- what is so of a file's header, its tables' places and words, up to their last refusals
 pub record IsLoadedFrom (file : List ℕ) (h : Header) (len : ℕ) (r : refs.Kept) (t : tables.Kept) : Type 0 where
@@ -156,7 +155,3 @@ ok_told (Err stop) same is = tt
 pub ok_reach_at : (result : Result Known ImageStop) (n m : ℕ) → n ≡ m → IfOk result (λ image. length image.refs.counts ≡ reach_of image.header n)
     → IfOk result (λ image. length image.refs.counts ≡ reach_of image.header m)
 ok_reach_at result n m same is = let P : ℕ → Type 0 = λ k. IfOk result (λ image. length image.refs.counts ≡ reach_of image.header k) in subst P same is
-
-pub err_cause : (before now : ℕ) (result : Result Known ImageStop) → now ≡ before → IfErr result IsNoFault → IfErr result (HasCause before now)
-err_cause before now (Ok image) quiet is = tt
-err_cause before now (Err stop) quiet is = no_fault_cause before now stop quiet is

@@ -1,7 +1,6 @@
 -- Opening an image: what is refused, and why each answer comes.
 use Rattle.std.specs.Prelude.{◌≡◌, ℕ, ◌+◌, ◌<◌, false, not, ◌==◌, ◌&&◌, nat_lt, length, slice_index, Option, Some, None, Result, Ok, Err, IfSome, List, [], ◌∷◌}
 use Rattle.std.specs.Option.{option_map}
-use Rattle.blk_base.specs.Counts.{Rose}
 use Rattle.q2_format.specs.Sizes.{cluster_size}
 use Rattle.q2_format.specs.Header.{first, refused_where, header_refusal}
 use Rattle.q2_format.specs.Entry.{host_offset, block_offset}
@@ -35,30 +34,25 @@ abbrev pub Judges : {A : Type 0} → Option Refusal → Result A ImageStop → T
 Judges refusal (Ok a) = refusal ≡ None
 Judges refusal (Err stop) = Names refusal stop
 
--- A failed read is answered only where the device's count rose, and names the count; behind every other stop the count
--- stands, so no fault is hidden.
-abbrev pub HasCause : ℕ → ℕ → ImageStop → Type 0
-HasCause before now (HeaderStops stop) = now ≡ before
-HasCause before now (Offset offset) = now ≡ before
-HasCause before now (Reserved table index) = now ≡ before
-HasCause before now (Compressed cluster) = now ≡ before
-HasCause before now (Overlap cluster) = now ≡ before
-HasCause before now (Refcount cluster) = now ≡ before
-HasCause before now HeaderFull = now ≡ before
-HasCause before now (Io count) = Rose before count × (count ≡ now)
-HasCause before now NoMemory = now ≡ before
+-- the fault that a stop tells, and an answer
+abbrev pub fault_in_image : ImageStop → Option ℕ
+fault_in_image (HeaderStops stop) = None
+fault_in_image (Offset offset) = None
+fault_in_image (Reserved table index) = None
+fault_in_image (Compressed cluster) = None
+fault_in_image (Overlap cluster) = None
+fault_in_image (Refcount cluster) = None
+fault_in_image HeaderFull = None
+fault_in_image (Io count) = Some count
+fault_in_image NoMemory = None
+
+abbrev pub fault_of_image : {A : Type 0} → Result A ImageStop → Option ℕ
+fault_of_image (Ok done) = None
+fault_of_image (Err stop) = fault_in_image stop
 
 -- a stop that names no failed call
 abbrev pub IsNoFault : ImageStop → Type 0
-IsNoFault (HeaderStops stop) = Unit {0}
-IsNoFault (Offset offset) = Unit {0}
-IsNoFault (Reserved table index) = Unit {0}
-IsNoFault (Compressed cluster) = Unit {0}
-IsNoFault (Overlap cluster) = Unit {0}
-IsNoFault (Refcount cluster) = Unit {0}
-IsNoFault HeaderFull = Unit {0}
-IsNoFault (Io count) = ⊥
-IsNoFault NoMemory = Unit {0}
+IsNoFault stop = fault_in_image stop ≡ None
 
 -- the header's refusal, as one of an image
 abbrev pub header_stops : List ℕ → ℕ → Option Refusal

@@ -1,13 +1,14 @@
 //! Loading the refcounts of an image, and refusing a cluster that is named and not counted.
 
-ghost use Rattle.std.specs.Prelude.{◌≡◌, ◌≤◌, ◌+◌, ◌*◌, ◌<◌, ◌^◌, ℕ, List, length, Some, None, Option, IfOk, IfErr, IfSome, OnOk};
+ghost use Rattle.std.specs.Prelude.{◌≡◌, ◌≤◌, ◌+◌, ◌*◌, ◌<◌, ◌^◌, ℕ, List, length, Some, None, Option, IfOk, IfErr, IfSome};
+ghost use Rattle.blk_base.specs.Device.{Reads};
 ghost use Rattle.q2_format.specs.Header.{CanBeRead, IsWithinLimits};
 ghost use Rattle.q2_format.specs.Sound.{lowest};
 ghost use Rattle.q2_format.specs.References.{cluster_bound, reach_of};
 ghost use Rattle.q2_format.specs.Tables.{refcount_table};
 ghost use Rattle.q2_refs.specs.Kept.{IsCountsOf};
 ghost use Rattle.q2_image.specs.Seen.{IsSeen, is_uncounted};
-ghost use Rattle.q2_image.specs.Opening.{Judges, HasCause, IsNoFault, place_stops, refusal_of, uncounted_stop};
+ghost use Rattle.q2_image.specs.Opening.{Judges, fault_of_image, IsNoFault, place_stops, refusal_of, uncounted_stop};
 ghost use Rattle.q2_image.specs.Loading.{counts_loaded, reserved_entry, IsTableOf, IsTableRead, IsTableAnswer, HasCounts, TableTells, IsBlockStop};
 
 use crate::header::cluster_size;
@@ -66,14 +67,7 @@ pub(crate) fn load_ref_table<D: Device>(
     ensures stop { IfErr result (λ stop. (file : List ℕ) → D.content dev.old ≡ Some file
         → IfSome (refusal_of stop) (IsBlockStop file header.now (D.size dev.old))) }
     ensures read { IfOk result (IsTableAnswer header.now (D.size dev.old)) }
-    ensures cause { IfErr result (HasCause (D.faults dev.old) (D.faults dev.new)) }
-    ensures quiet { OnOk result (D.faults dev.new ≡ D.faults dev.old) }
-    ensures content { D.content dev.new ≡ D.content dev.old }
-    ensures size { D.size dev.new ≡ D.size dev.old }
-    ensures capacity { D.capacity dev.new ≡ D.capacity dev.old }
-    ensures flushed { D.is_flushed dev.new ≡ D.is_flushed dev.old }
-    ensures log { D.log dev.new ≡ D.log dev.old }
-    ensures faults { D.faults dev.old ≤ D.faults dev.new }
+    ensures device { Reads D.Device (fault_of_image result) dev.old dev.new }
 {
     match load_table(alloc, dev, header) {
         Ok(words) => Ok(RefTable::Read(words)),
@@ -104,14 +98,7 @@ pub(crate) fn load_refcounts<D: Device>(
         (HasCounts header.now (D.size dev.old) (counts_loaded header.now (D.size dev.old))) }
     ensures table { IfOk result (λ refs. refs.table ≡ table.items) }
     ensures stop { IfErr result (λ stop. refusal_of stop ≡ None) }
-    ensures cause { IfErr result (HasCause (D.faults dev.old) (D.faults dev.new)) }
-    ensures quiet { OnOk result (D.faults dev.new ≡ D.faults dev.old) }
-    ensures content { D.content dev.new ≡ D.content dev.old }
-    ensures size { D.size dev.new ≡ D.size dev.old }
-    ensures capacity { D.capacity dev.new ≡ D.capacity dev.old }
-    ensures flushed { D.is_flushed dev.new ≡ D.is_flushed dev.old }
-    ensures log { D.log dev.new ≡ D.log dev.old }
-    ensures faults { D.faults dev.old ≤ D.faults dev.new }
+    ensures device { Reads D.Device (fault_of_image result) dev.old dev.new }
 {
     let len = dev.length();
     let loaded = bound(header, len).max(reach(header, len));

@@ -1,13 +1,14 @@
 //! Reading and judging an image's header.
 
-ghost use Rattle.std.specs.Prelude.{◌≡◌, ◌≤◌, ◌+◌, ◌<◌, ◌^◌, ℕ, Bool, false, List, length, Some, None, Option, Err, IfOk, IfErr, IfSome, OnOk};
+ghost use Rattle.std.specs.Prelude.{◌≡◌, ◌+◌, ◌<◌, ◌^◌, ℕ, Bool, false, List, length, Some, None, Option, Err, IfOk, IfErr, IfSome};
 ghost use Rattle.blk_base.specs.Content.{bytes_at};
+ghost use Rattle.blk_base.specs.Device.{Reads};
 ghost use Rattle.q2_format.specs.Sizes.{cluster_size};
 ghost use Rattle.q2_format.specs.Header.{header_of, header_refusal, IsWithinLimits, CanBeRead};
 ghost use Rattle.q2_format.specs.Sound.{is_misplaced};
 ghost use Rattle.q2_format.specs.declared.header.HeaderStop.TheVariants.{Short};
 ghost use Rattle.q2_format.specs.declared.header.TheConstants.{MIN_HEADER_LENGTH};
-ghost use Rattle.q2_image.specs.Opening.{Judges, HasCause, IsNoFault, refusal_of, header_stops, place_stops};
+ghost use Rattle.q2_image.specs.Opening.{Judges, fault_of_image, IsNoFault, refusal_of, header_stops, place_stops};
 
 use crate::stop::ImageStop;
 use blk_base::{Device, NoMemory};
@@ -30,14 +31,7 @@ fn read_first_cluster<D: Device>(alloc: Global, dev: &mut D) -> Result<Vec<u8>, 
         (λ cluster. (file : List ℕ) → D.content dev.old ≡ Some file
         → cluster.items ≡ bytes_at file 0 65536) }
     ensures stop { IfErr result (λ stop. refusal_of stop ≡ None) }
-    ensures cause { IfErr result (HasCause (D.faults dev.old) (D.faults dev.new)) }
-    ensures quiet { OnOk result (D.faults dev.new ≡ D.faults dev.old) }
-    ensures content { D.content dev.new ≡ D.content dev.old }
-    ensures size { D.size dev.new ≡ D.size dev.old }
-    ensures capacity { D.capacity dev.new ≡ D.capacity dev.old }
-    ensures flushed { D.is_flushed dev.new ≡ D.is_flushed dev.old }
-    ensures log { D.log dev.new ≡ D.log dev.old }
-    ensures faults { D.faults dev.old ≤ D.faults dev.new }
+    ensures device { Reads D.Device (fault_of_image result) dev.old dev.new }
 {
     let mut cluster = cluster_buffer(alloc)?;
     match dev.read_at(0, &mut cluster) {
@@ -58,14 +52,7 @@ pub(crate) fn open_header<D: Device>(alloc: Global, dev: &mut D) -> Result<Heade
     ensures limits { IfOk result (λ h. IsWithinLimits h (D.size dev.old)) }
     ensures readable { IfOk result (λ h. CanBeRead h (D.size dev.old)) }
     ensures short { D.size dev.old < MIN_HEADER_LENGTH → result ≡ Err (ImageStop.Header Short) }
-    ensures cause { IfErr result (HasCause (D.faults dev.old) (D.faults dev.new)) }
-    ensures quiet { OnOk result (D.faults dev.new ≡ D.faults dev.old) }
-    ensures content { D.content dev.new ≡ D.content dev.old }
-    ensures size { D.size dev.new ≡ D.size dev.old }
-    ensures capacity { D.capacity dev.new ≡ D.capacity dev.old }
-    ensures flushed { D.is_flushed dev.new ≡ D.is_flushed dev.old }
-    ensures log { D.log dev.new ≡ D.log dev.old }
-    ensures faults { D.faults dev.old ≤ D.faults dev.new }
+    ensures device { Reads D.Device (fault_of_image result) dev.old dev.new }
 {
     let len = dev.length();
     if len < u64::from(MIN_HEADER_LENGTH) {

@@ -1,12 +1,13 @@
 //! Loading the refcount table and the mapping's tables of an image, and which of their refusals comes first.
 
-ghost use Rattle.std.specs.Prelude.{◌≡◌, ◌≤◌, ℕ, List, Some, None, Option, IfOk, IfErr, OnOk};
+ghost use Rattle.std.specs.Prelude.{◌≡◌, ℕ, List, Some, None, Option, IfOk, IfErr};
+ghost use Rattle.blk_base.specs.Device.{Reads};
 ghost use Rattle.q2_format.specs.Header.{CanBeRead};
 ghost use Rattle.q2_format.specs.Sizes.{cluster_size};
 ghost use Rattle.q2_format.specs.Tables.{active_tree, refcount_table};
 ghost use Rattle.q2_tables.specs.Kept.{IsTreeOf};
 ghost use Rattle.q2_tables.specs.Loading.{IsLoaded};
-ghost use Rattle.q2_image.specs.Opening.{Judges, HasCause, place_stops};
+ghost use Rattle.q2_image.specs.Opening.{Judges, fault_of_image, place_stops};
 ghost use Rattle.q2_image.specs.Loading.{table_stops, reserved_entry, IsTableOf, IsTableRead, IsTableAnswer, TableTells};
 ghost use Rattle.q2_image.specs.Merge.{behind_reserved, merged_stop};
 
@@ -100,14 +101,7 @@ fn load_behind<D: Device>(
         → IsTreeOf (cluster_size header.now.cluster_bits) both.1 (active_tree file header.now)) }
     ensures has_table { IfOk result (λ both. IsTableRead header.now (D.size dev.old) both.0.items) }
     ensures has_tables { IfOk result (λ both. IsLoaded header.now (D.size dev.old) both.1) }
-    ensures cause { IfErr result (HasCause (D.faults dev.old) (D.faults dev.new)) }
-    ensures quiet { OnOk result (D.faults dev.new ≡ D.faults dev.old) }
-    ensures content { D.content dev.new ≡ D.content dev.old }
-    ensures size { D.size dev.new ≡ D.size dev.old }
-    ensures capacity { D.capacity dev.new ≡ D.capacity dev.old }
-    ensures flushed { D.is_flushed dev.new ≡ D.is_flushed dev.old }
-    ensures log { D.log dev.new ≡ D.log dev.old }
-    ensures faults { D.faults dev.old ≤ D.faults dev.new }
+    ensures device { Reads D.Device (fault_of_image result) dev.old dev.new }
 {
     match load_tables(alloc, dev, header) {
         Ok(tables) => match words_of(header, table) {
@@ -137,14 +131,7 @@ pub(crate) fn load<D: Device>(
         → IsTreeOf (cluster_size header.now.cluster_bits) both.1 (active_tree file header.now)) }
     ensures has_table { IfOk result (λ both. IsTableRead header.now (D.size dev.old) both.0.items) }
     ensures has_tables { IfOk result (λ both. IsLoaded header.now (D.size dev.old) both.1) }
-    ensures cause { IfErr result (HasCause (D.faults dev.old) (D.faults dev.new)) }
-    ensures quiet { OnOk result (D.faults dev.new ≡ D.faults dev.old) }
-    ensures content { D.content dev.new ≡ D.content dev.old }
-    ensures size { D.size dev.new ≡ D.size dev.old }
-    ensures capacity { D.capacity dev.new ≡ D.capacity dev.old }
-    ensures flushed { D.is_flushed dev.new ≡ D.is_flushed dev.old }
-    ensures log { D.log dev.new ≡ D.log dev.old }
-    ensures faults { D.faults dev.old ≤ D.faults dev.new }
+    ensures device { Reads D.Device (fault_of_image result) dev.old dev.new }
 {
     match load_ref_table(alloc, dev, header) {
         Ok(table) => load_behind(alloc, dev, header, table),

@@ -5,7 +5,7 @@ ghost use Rattle.std.specs.Option.{option_map};
 ghost use Rattle.q2_format.specs.Header.{IsWithinLimits};
 ghost use Rattle.q2_format.specs.References.{cluster_bound};
 ghost use Rattle.q2_image.specs.Seen.{IsSeen};
-ghost use Rattle.q2_image.specs.Opening.{Judges, HasCause, IsNoFault, ArePlaced, uses_in, overlap_stop};
+ghost use Rattle.q2_image.specs.Opening.{Judges, IsNoFault, ArePlaced, uses_in, overlap_stop};
 
 use crate::header::cluster_size;
 use crate::seen::{Naming, Seen};

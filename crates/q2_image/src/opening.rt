@@ -1,11 +1,12 @@
 //! Opening an image: its header, its tables, and what they name.
 
-ghost use Rattle.std.specs.Prelude.{◌≡◌, ◌^◌, ◌<◌, ◌≤◌, ℕ, List, length, take, Some, None, Err, IfOk, IfErr, OnOk};
+ghost use Rattle.std.specs.Prelude.{◌≡◌, ◌^◌, ◌<◌, ◌≤◌, ℕ, List, length, take, Some, None, Err, IfOk, IfErr};
+ghost use Rattle.blk_base.specs.Device.{Reads};
 ghost use Rattle.q2_format.specs.Header.{CanBeRead, IsWithinLimits, refused_where};
 ghost use Rattle.q2_format.specs.References.{cluster_bound, reach_of};
 ghost use Rattle.q2_format.specs.Sound.{image_refusal, is_header_full, HeaderFull};
 ghost use Rattle.q2_tables.specs.Loading.{IsLoaded};
-ghost use Rattle.q2_image.specs.Opening.{Judges, HasCause, IsNoFault, ArePlaced, uses_in, overlap_stop, names_stops, place_stops};
+ghost use Rattle.q2_image.specs.Opening.{Judges, fault_of_image, IsNoFault, ArePlaced, uses_in, overlap_stop, names_stops, place_stops};
 ghost use Rattle.q2_image.specs.Seen.{IsSeen};
 ghost use Rattle.q2_image.specs.Loading.{counts_loaded, HasCounts, IsTableRead, IsReadFrom};
 ghost use Rattle.q2_image.specs.Image.{IsImageOf, IsOpen};
@@ -142,14 +143,7 @@ fn open_tables<D: Device>(
         (λ image. (file : List ℕ) → D.content dev.old ≡ Some file → IsImageOf file image) }
     ensures reach { IfOk result
         (λ image. length image.refs.counts ≡ reach_of image.header (D.size dev.old)) }
-    ensures cause { IfErr result (HasCause (D.faults dev.old) (D.faults dev.new)) }
-    ensures quiet { OnOk result (D.faults dev.new ≡ D.faults dev.old) }
-    ensures content { D.content dev.new ≡ D.content dev.old }
-    ensures size { D.size dev.new ≡ D.size dev.old }
-    ensures capacity { D.capacity dev.new ≡ D.capacity dev.old }
-    ensures flushed { D.is_flushed dev.new ≡ D.is_flushed dev.old }
-    ensures log { D.log dev.new ≡ D.log dev.old }
-    ensures faults { D.faults dev.old ≤ D.faults dev.new }
+    ensures device { Reads D.Device (fault_of_image result) dev.old dev.new }
 {
     let len = dev.length();
     let seen = name_once(alloc, &header, len, table.as_slice(), &tables)?;
@@ -177,16 +171,7 @@ pub fn open_image<D: Device>(alloc: Global, dev: &mut D) -> Result<Image, ImageS
     ensures open { IfOk result IsOpen }
     // a file that is too short for a header isn't read
     ensures short { D.size dev.old < MIN_HEADER_LENGTH → result ≡ Err (ImageStop.Header Short) }
-
-    // the device
-    ensures cause { IfErr result (HasCause (D.faults dev.old) (D.faults dev.new)) }
-    ensures quiet { OnOk result (D.faults dev.new ≡ D.faults dev.old) }
-    ensures content { D.content dev.new ≡ D.content dev.old }
-    ensures size { D.size dev.new ≡ D.size dev.old }
-    ensures capacity { D.capacity dev.new ≡ D.capacity dev.old }
-    ensures flushed { D.is_flushed dev.new ≡ D.is_flushed dev.old }
-    ensures log { D.log dev.new ≡ D.log dev.old }
-    ensures faults { D.faults dev.old ≤ D.faults dev.new }
+    ensures device { Reads D.Device (fault_of_image result) dev.old dev.new }
 {
     let header = open_header(alloc, dev)?;
     let len = dev.length();

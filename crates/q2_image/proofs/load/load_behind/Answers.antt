@@ -1,10 +1,13 @@
-use Rattle.std.proofs.Common.{ℕ, Option, None, sym, subst}
+use Rattle.std.proofs.Common.{◌≡◌, ℕ, Option, None, sym, ap, subst, ◌∙◌}
+use Rattle.blk_base.specs.Device.{Reads}
 use Rattle.q2_format.specs.Tables.{active_tree, refcount_table}
+use Rattle.q2_tables.specs.Loading.{fault_in_tables}
 use Rattle.q2_image.specs.Loading.{table_stops, reserved_entry, TableTells, IsTableOf, IsTableAnswer}
-use Rattle.q2_image.specs.Opening.{Names}
+use Rattle.q2_image.specs.Opening.{Names, fault_in_image}
 use Rattle.q2_image.specs.Merge.{merged_stop}
 use Rattle.q2_image.specs.declared.counting.RefTable.{RefTable}
 use Rattle.q2_image.specs.declared.stop.ImageStop.{ImageStop}
+use Rattle.q2_image.proofs.Faults.{merged_fault}
 use Rattle.q2_image.proofs.Merged.{judged_ok, judged_reserved, judged_stop}
 use Rattle.q2_image.proofs.load.load_behind.Goals as goal
 
@@ -46,3 +49,9 @@ returns-in-Err-clause-judged g c = λ file told.
     let M : Option ℕ → Type 0 = λ reserved. J (merged_stop h reserved c.in-Err.stop) in
     subst J (sym c.merge.ensures) (subst M (sym c.reserved_in.ensures)
     (judged_stop file h len (reserved_entry c.args.table) (active_tree file h) c.in-Err.stop c.requires.placed (c.requires.told file told).0 (c.in-Err.ensures.told file told)))
+
+pub returns-in-Err-clause-device : goal.returns-in-Err-clause-device
+returns-in-Err-clause-device g c =
+    let same : fault_in_image c.merge.result ≡ fault_in_tables c.in-Err.stop =
+    ap fault_in_image c.merge.ensures ∙ merged_fault c.args.header.now c.reserved_in.result c.in-Err.stop in
+    subst (λ told. Reads g.D.Device told c.args.dev.now c.load_tables.new.dev) (sym same) c.in-Err.ensures.device

@@ -3,7 +3,7 @@ use Rattle.std.proofs.lemmas.Result.{err_from_is_err_and}
 use Rattle.q2_image.specs.Opening.{Names, header_stops, place_stops}
 use Rattle.q2_format.specs.declared.header.HeaderStop.TheVariants.{Short}
 use Rattle.q2_image.specs.declared.stop.ImageStop.TheVariants as stops
-use Rattle.q2_image.proofs.Order.{no_fault_cause}
+use Rattle.q2_image.proofs.Faults.{refused_quietly}
 use Rattle.q2_image.proofs.Whole.{read_from, header_named, place_named, word_named, ok_told, ok_reach_at}
 use Rattle.q2_image.proofs.opening.open_image.Goals as goal
 
@@ -15,43 +15,44 @@ returns-in_err-header-clause-judged g c =
 pub returns-in_err-check_places-clause-judged : goal.returns-in_err-check_places-clause-judged
 returns-in_err-check_places-clause-judged g c =
     let p = err_from_is_err_and c.from_residual-in_err-check_places.result c.from_residual-in_err-check_places.ensures.1 in
-    let len : c.length-len.result ≡ g.D.Device.size c.args.dev.now = c.length-len.ensures ∙ c.in_ok-header.ensures.size in
+    let len : c.length-len.result ≡ g.D.Device.size c.args.dev.now = c.length-len.ensures ∙ c.in_ok-header.ensures.device.reads.size in
     let P : ℕ → Type 0 = λ n. Names (place_stops c.in_ok-header.header n) c.in_err-check_places.field-0.0 in
     rw (p.1, p.2) (λ file told. place_named file c.in_ok-header.header (g.D.Device.size c.args.dev.now) c.in_err-check_places.field-0.0
     (g.met.D.Device.told_size c.args.dev.now file told) (c.in_ok-header.ensures.header file told) (c.in_ok-header.ensures.judged file told)
     (subst P len c.in_err-check_places.ensures.judged))
 
-pub returns-in_err-check_places-clause-cause : goal.returns-in_err-check_places-clause-cause
-returns-in_err-check_places-clause-cause g c =
+pub returns-in_err-check_places-clause-device : goal.returns-in_err-check_places-clause-device
+returns-in_err-check_places-clause-device g c =
     let p = err_from_is_err_and c.from_residual-in_err-check_places.result c.from_residual-in_err-check_places.ensures.1 in
-    rw (p.1, p.2) (no_fault_cause _ _ c.in_err-check_places.field-0.0 c.in_ok-header.ensures.quiet c.in_err-check_places.ensures.no_fault)
+    refused_quietly g.D.Device p.0 c.in_err-check_places.field-0.0 c.from_residual-in_err-check_places.result p.1 p.2 c.args.dev.now c.open_header.new.dev
+    c.in_err-check_places.ensures.no_fault c.in_ok-header.ensures.device
 
 pub open_tables-requires-clause-read : goal.open_tables-requires-clause-read
 open_tables-requires-clause-read g c = λ file told.
-    let loaded : g.D.Device.content c.open_header.new.dev ≡ Some file = sym c.in-Ok.ensures.content ∙ told in
-    let first : g.D.Device.content c.args.dev.now ≡ Some file = sym c.in_ok-header.ensures.content ∙ loaded in
+    let loaded : g.D.Device.content c.open_header.new.dev ≡ Some file = sym c.in-Ok.ensures.device.reads.content ∙ told in
+    let first : g.D.Device.content c.args.dev.now ≡ Some file = sym c.in_ok-header.ensures.device.reads.content ∙ loaded in
     read_from file c.in_ok-header.header (g.D.Device.size c.args.dev.now) (g.D.Device.size c.open_header.new.dev) c.in-Ok.table.items c.in-Ok.tables
-    c.in_ok-header.ensures.size (g.met.D.Device.told_size c.args.dev.now file first) (c.in_ok-header.ensures.header file first) (c.in_ok-header.ensures.judged file first)
+    c.in_ok-header.ensures.device.reads.size (g.met.D.Device.told_size c.args.dev.now file first) (c.in_ok-header.ensures.header file first) (c.in_ok-header.ensures.judged file first)
     (c.in-Ok.ensures.judged file loaded) (c.in-Ok.ensures.table file loaded) (c.in-Ok.ensures.tree file loaded)
 
 pub returns-in-Ok-clause-judged : goal.returns-in-Ok-clause-judged
-returns-in-Ok-clause-judged g c = λ file told. c.open_tables.ensures.judged file (c.in-Ok.ensures.content ∙ c.in_ok-header.ensures.content ∙ told)
+returns-in-Ok-clause-judged g c = λ file told. c.open_tables.ensures.judged file (c.in-Ok.ensures.device.reads.content ∙ c.in_ok-header.ensures.device.reads.content ∙ told)
 
 pub returns-in-Ok-clause-image : goal.returns-in-Ok-clause-image
-returns-in-Ok-clause-image g c = ok_told c.open_tables.result (λ file told. c.in-Ok.ensures.content ∙ c.in_ok-header.ensures.content ∙ told) c.open_tables.ensures.image
+returns-in-Ok-clause-image g c = ok_told c.open_tables.result (λ file told. c.in-Ok.ensures.device.reads.content ∙ c.in_ok-header.ensures.device.reads.content ∙ told) c.open_tables.ensures.image
 
 pub returns-in-Ok-clause-reach : goal.returns-in-Ok-clause-reach
-returns-in-Ok-clause-reach g c = ok_reach_at c.open_tables.result _ _ (c.in-Ok.ensures.size ∙ c.in_ok-header.ensures.size) c.open_tables.ensures.reach
+returns-in-Ok-clause-reach g c = ok_reach_at c.open_tables.result _ _ (c.in-Ok.ensures.device.reads.size ∙ c.in_ok-header.ensures.device.reads.size) c.open_tables.ensures.reach
 
 pub returns-in-Err-clause-judged : goal.returns-in-Err-clause-judged
 returns-in-Err-clause-judged g c = λ file told.
-    let same : g.D.Device.size c.open_header.new.dev ≡ g.D.Device.size c.args.dev.now = c.in_ok-header.ensures.size in
+    let same : g.D.Device.size c.open_header.new.dev ≡ g.D.Device.size c.args.dev.now = c.in_ok-header.ensures.device.reads.size in
     let size : g.D.Device.size c.open_header.new.dev ≡ length file = same ∙ g.met.D.Device.told_size c.args.dev.now file told in
     let H : ℕ → Type 0 = λ n. header_stops file n ≡ None in
     let P : ℕ → Type 0 = λ n. place_stops c.in_ok-header.header n ≡ None in
     word_named file c.in_ok-header.header (g.D.Device.size c.open_header.new.dev) c.in-Err.stop size (c.in_ok-header.ensures.header file told)
     (subst H (sym same) (c.in_ok-header.ensures.judged file told)) (subst P c.length-len.ensures c.in_ok-check_places.ensures.judged)
-    (c.in-Err.ensures.judged file (c.in_ok-header.ensures.content ∙ told))
+    (c.in-Err.ensures.judged file (c.in_ok-header.ensures.device.reads.content ∙ told))
 
 pub returns-in_err-header-clause-short : goal.returns-in_err-header-clause-short
 returns-in_err-header-clause-short g c = λ few.

@@ -1,12 +1,14 @@
-use Rattle.std.proofs.Common.{◌≡◌, ℕ, List, None, refl, sym, subst, ◌∙◌}
+use Rattle.std.proofs.Common.{◌≡◌, ℕ, List, None, sym, subst, ◌∙◌}
 use Rattle.std.proofs.lemmas.Result.{err_from_is_err_and}
+use Rattle.blk_base.proofs.DeviceLemmas.{untouched-same}
 use Rattle.q2_format.specs.References.{cluster_bound}
 use Rattle.q2_image.specs.Loading.{counts_loaded, HasCounts}
 use Rattle.q2_image.specs.Opening.{Names, ArePlaced, uses_in, overlap_stop}
 use Rattle.q2_image.specs.Seen.{IsSeen}
 use Rattle.q2_image.proofs.Opened.{are_placed}
-use Rattle.q2_image.proofs.Order.{no_fault_cause, none_named}
-use Rattle.q2_image.proofs.Whole.{overlap_named, loaded_from, last_judged, ok_image, ok_reach, ok_reach_at, err_cause}
+use Rattle.q2_image.proofs.Faults.{refused_quietly, answered_quietly}
+use Rattle.q2_image.proofs.Order.{none_named}
+use Rattle.q2_image.proofs.Whole.{overlap_named, loaded_from, last_judged, ok_image, ok_reach, ok_reach_at}
 use Rattle.q2_image.proofs.opening.open_tables.Goals as goal
 
 pub name_once-requires-clause-placed : goal.name_once-requires-clause-placed
@@ -39,10 +41,11 @@ returns-in_err-seen-clause-judged g c =
     (let O : List ℕ → Type 0 = λ table. Names (overlap_stop (uses_in c.args.header table c.args.tables.l1 c.args.tables.words) (cluster_bound c.args.header c.length-len.result)) c.in_err-seen.field-0.0 in
     subst O c.as_slice.ensures.value c.in_err-seen.ensures.judged))
 
-pub returns-in_err-seen-clause-cause : goal.returns-in_err-seen-clause-cause
-returns-in_err-seen-clause-cause g c =
+pub returns-in_err-seen-clause-device : goal.returns-in_err-seen-clause-device
+returns-in_err-seen-clause-device g c =
     let p = err_from_is_err_and c.from_residual.result c.from_residual.ensures.1 in
-    rw (p.1, p.2) (no_fault_cause _ _ c.in_err-seen.field-0.0 refl c.in_err-seen.ensures.no_fault)
+    refused_quietly g.D.Device p.0 c.in_err-seen.field-0.0 c.from_residual.result p.1 p.2 c.args.dev.now c.args.dev.now
+    c.in_err-seen.ensures.no_fault (untouched-same g.D.Device c.args.dev.now)
 
 pub returns-in_err-refs-clause-judged : goal.returns-in_err-refs-clause-judged
 returns-in_err-refs-clause-judged g c =
@@ -68,5 +71,5 @@ returns-clause-reach g c =
     ok_reach_at c.finish.result c.length-len.result (g.D.Device.size c.args.dev.now) c.length-len.ensures
     (ok_reach c.args.header c.length-len.result c.in_ok-refs.refs c.args.tables c.finish.result has.reach c.finish.ensures.known)
 
-pub returns-clause-cause : goal.returns-clause-cause
-returns-clause-cause g c = err_cause _ _ c.finish.result c.in_ok-refs.ensures.quiet c.finish.ensures.no_fault
+pub returns-clause-device : goal.returns-clause-device
+returns-clause-device g c = answered_quietly g.D.Device c.finish.result c.args.dev.now c.load_refcounts.new.dev c.finish.ensures.no_fault c.in_ok-refs.ensures.device
