@@ -20,7 +20,7 @@ use Rattle.q2_tables.specs.Kept as tables
 use Rattle.q2_tables.specs.Linking.{link_writes, with_entry}
 use Rattle.q2_image.specs.Image.{Known, entry_in}
 use Rattle.q2_image.specs.Made.{WriteStep, MakesSteps, clear_writes, clear_steps, take_steps, table_steps, host_steps, data_steps, entry_steps, fill_steps, clean_steps, word_for}
-use Rattle.q2_image.specs.Writing.{IsFault, autocleared, counts_once, host_for, table_for, with_host, with_table}
+use Rattle.q2_image.specs.Writing.{TellsFault, autocleared, counts_once, host_for, table_for, with_host, with_table}
 use Rattle.q2_image.proofs.Plans.{IsPut, host_for_it}
 use Rattle.q2_image.proofs.StepsMade.{makes_one, makes_sooner, makes_then}
 
@@ -218,7 +218,7 @@ module _ {D : Type 0} (g : Ghosts D) where
 -- The write of the data, as its caller sees it.
 
 pub one_fault : {D : Type 0} (g : Ghosts D) (ws : List Write) (r : Result (Unit {0}) DevStop) (a b : D) → end_of_writes ws ≤ g.capacity a → Writes g ws (stop_of r) a b
-    → IfErr r (IsFault (g.faults a) (g.faults b))
+    → IfErr r TellsFault
 one_fault g ws (Ok done) a b fits writes = tt
-one_fault g ws (Err (Io count)) a b fits writes = writes.cause
+one_fault g ws (Err (Io count)) a b fits writes = tt
 one_fault g ws (Err NoSpace) a b fits writes = let beyond = writes.cause.0 in absurd (omega (arith, fits, beyond))

@@ -1,13 +1,11 @@
 -- A write into the header's cluster: the tables, the refcounts and the disk stay, and the image is that of the header then.
-use Rattle.std.proofs.Common.{◌≡◌, ◌≢◌, ℕ, ◌+◌, ◌*◌, ◌/◌, ◌%◌, ◌<◌, ◌≤◌, ◌⊎◌, inl, inr, Bool, false, true, not, ◌&&◌, ◌||◌, cond, eqb, ltb, List, [], length, slice_index, Option, Some, None, IfSome, is_some, refl, sym, ap, subst, ◌∙◌, arith}
+use Rattle.std.proofs.Common.{◌≡◌, ◌≢◌, ℕ, ◌+◌, ◌/◌, ◌%◌, ◌<◌, ◌≤◌, ◌⊎◌, inl, inr, Bool, false, true, not, ◌&&◌, ◌||◌, cond, eqb, ltb, List, [], length, slice_index, Option, Some, None, IfSome, is_some, refl, sym, ap, subst, ◌∙◌, arith}
 use Rattle.std.proofs.lemmas.Bool.{cases_eq, eqb-false}
 use Rattle.std.proofs.lemmas.Bool.Decides.{nat_tests}
-use Rattle.std.specs.Option.{option_map}
 use Rattle.blk_base.specs.Content.{with_bytes}
-use Rattle.blk_base.proofs.Contents.{get_or-with_bytes_inside, get_or-with_bytes_outside, length-with_bytes_within}
-use Rattle.q2_format.specs.Bytes.{IsWritten, bytes_at}
+use Rattle.blk_base.proofs.Contents.{get_or-with_bytes_outside, length-with_bytes_within}
 use Rattle.q2_format.specs.Sizes.{cluster_size}
-use Rattle.q2_format.specs.Header.{LiesWithin, header_of, name_of}
+use Rattle.q2_format.specs.Header.{LiesWithin, header_of}
 use Rattle.q2_format.specs.References.{in_run, structure_uses, uses}
 use Rattle.q2_format.specs.Sound.{IsSound, bad_refcount_table, is_header_full, is_misplaced}
 use Rattle.q2_format.specs.Tables.{Tree, active_tree, refcount_table, refcount_of}
@@ -20,15 +18,14 @@ use Rattle.q2_format.proofs.HeaderCluster.{with_naming, first_count, first_table
 use Rattle.q2_format.proofs.Limits.{within_limits}
 use Rattle.q2_format.proofs.NameSound.{StaysSound}
 use Rattle.q2_format.proofs.NameWrites.{IsBeside}
-use Rattle.q2_refs.proofs.Placing.{written_with}
 use Rattle.q2_refs.specs.Kept.{IsCountsOf}
 use Rattle.q2_tables.specs.Kept.{IsTreeOf}
-use Rattle.q2_image.specs.BackingName.{HasSameName, name_in}
+use Rattle.q2_image.specs.BackingName.{HasSameName}
 use Rattle.q2_image.specs.Creating.{text_at}
 use Rattle.q2_image.specs.Image.{Known, IsImageOf, IsOpen, cluster_size_in}
 use Rattle.q2_image.specs.Writing.{IsSameDisk}
 use Rattle.q2_image.proofs.DiskKept.{same_disk}
-use Rattle.q2_image.proofs.HostUses.{host_entry, held_by, size_in}
+use Rattle.q2_image.proofs.HostUses.{host_entry, held_by}
 use Rattle.q2_image.proofs.OwnStops.{same_disk_as}
 use Rattle.q2_image.proofs.OwnWrites.{disk_then}
 

@@ -1,8 +1,7 @@
 -- The last write of a new backing name: with it the header says the name, and the image is as it was but for that.
-use Rattle.std.proofs.Common.{◌≡◌, ◌≢◌, ℕ, ◌+◌, ◌-◌, ◌*◌, ◌/◌, ◌%◌, ◌^◌, ◌<◌, ◌≤◌, ◌⊎◌, inl, inr, Bool, true, false, not, ◌&&◌, ◌||◌, cond, ltb, List, [], ◌∷◌, ◌++◌, length, take, replicate, get_or, slice_index, Option, Some, None, IfSome, is_some, refl, sym, ap, subst, ◌∙◌, arith, length-append, append_assoc}
+use Rattle.std.proofs.Common.{◌≡◌, ℕ, ◌+◌, ◌-◌, ◌/◌, ◌^◌, ◌<◌, ◌≤◌, inl, inr, Bool, true, false, not, ◌&&◌, ◌||◌, cond, ltb, List, [], ◌++◌, length, replicate, get_or, slice_index, Option, Some, None, IfSome, is_some, refl, sym, ap, subst, ◌∙◌, arith, length-append, append_assoc}
 use Rattle.std.proofs.Math.Seq.{get_or-append_right}
-use Rattle.std.proofs.lemmas.Bool.{cases_lt, lt-ltb, le-ltb}
-use Rattle.std.proofs.lemmas.Bool.Decides.{nat_tests}
+use Rattle.std.proofs.lemmas.Bool.{le-ltb}
 use Rattle.std.proofs.lemmas.List.{get_or_append_left, get_or-replicate, length-replicate}
 use Rattle.std.proofs.lemmas.Str.{is_utf8-from_IsUtf8}
 use Rattle.std.specs.Option.{ForSome, option_map, option_map_or}
@@ -10,12 +9,12 @@ use Rattle.std.specs.Str.{IsUtf8, is_utf8}
 use Rattle.byteorder.specs.Endian.{big_bytes}
 use Rattle.byteorder.specs.Numbers.{length-bytes_high_first}
 use Rattle.blk_base.specs.Content.{with_bytes}
-use Rattle.q2_format.specs.Bytes.{number_at, bytes_at, ReadsAlike, IsWritten}
+use Rattle.q2_format.specs.Bytes.{number_at, bytes_at, IsWritten}
 use Rattle.q2_format.specs.Created.{IsNewName}
 use Rattle.q2_format.specs.Header.{LiesWithin, area_end, cluster_bits_of, extension_length, extension_type, header_length_of, header_of, name_of, name_refusal}
-use Rattle.q2_format.specs.Renamed.{ending_place, name_fields, needs_ending, new_name_offset, next_extension, renamed}
+use Rattle.q2_format.specs.Renamed.{ending_place, name_fields, needs_ending, new_name_offset, next_extension}
 use Rattle.q2_format.specs.Sizes.{cluster_size}
-use Rattle.q2_format.specs.Sound.{IsSound, is_header_full}
+use Rattle.q2_format.specs.Sound.{IsSound}
 use Rattle.q2_format.specs.declared.header.Header.{Header}
 use Rattle.q2_format.specs.declared.header.Place.{Place}
 use Rattle.q2_format.proofs.ByPlace.{bytes_at-alike, get_or-bytes_at, length-bytes_at, number_at-alike, number_at-zeros}
@@ -23,7 +22,7 @@ use Rattle.q2_format.proofs.Consistent.{sound_header}
 use Rattle.q2_format.proofs.HeaderCluster.{with_naming}
 use Rattle.q2_format.proofs.Limits.{within_limits}
 use Rattle.q2_format.proofs.NamePlaces.{name_written, no_name_written, offset_within}
-use Rattle.q2_format.proofs.NameSound.{StaysSound, ending_low, last_sound}
+use Rattle.q2_format.proofs.NameSound.{StaysSound, last_sound}
 use Rattle.q2_format.proofs.NameWrites.{walk_of, walk_place}
 use Rattle.q2_format.proofs.RenamedHeader.{name_accepted, no_name_accepted}
 use Rattle.q2_format.proofs.Walks.{forward}
@@ -32,7 +31,7 @@ use Rattle.q2_image.specs.BackingName.{between_in, ending_length, last_bytes, na
 use Rattle.q2_image.specs.Creating.{text_at}
 use Rattle.q2_image.specs.Image.{Known, IsImageOf, IsOpen, cluster_size_in}
 use Rattle.q2_image.specs.Writing.{IsSameDisk}
-use Rattle.q2_image.proofs.HeaderWrites.{open_renaming, renaming, renaming_disk, renaming_image, written_high, written_length, written_outside}
+use Rattle.q2_image.proofs.HeaderWrites.{open_renaming, renaming_disk, renaming_image, written_length, written_outside}
 use Rattle.q2_image.proofs.HostUses.{size_in}
 use Rattle.q2_image.proofs.NameRoom.{room_in}
 use Rattle.q2_image.proofs.NameSteps.{ended_list, header_size}

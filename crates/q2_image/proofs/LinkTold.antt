@@ -22,7 +22,7 @@ use Rattle.q2_tables.specs.Kept as tables
 use Rattle.q2_tables.specs.Linking.{CanLink, FileAfter, entry_at, l1_index, link_end, link_writes, table_len, with_entry}
 use Rattle.std.proofs.lemmas.List.{get_or-set_same, get_or-set_other}
 use Rattle.q2_image.specs.Image.{Known, IsImageOf, IsOpen, cluster_size_in, entry_in}
-use Rattle.q2_image.specs.Writing.{IsDiskWith, IsFault, IsSameDisk, HasEntriesBut, IsSpelled, counts_once, IsSpare, MayName, Shows}
+use Rattle.q2_image.specs.Writing.{IsDiskWith, TellsFault, IsSameDisk, HasEntriesBut, IsSpelled, counts_once, IsSpare, MayName, Shows}
 use Rattle.q2_image.proofs.EntryFrames.{counts_stay}
 use Rattle.q2_image.proofs.EntryWrites.{entry_place, short}
 use Rattle.q2_image.proofs.HostUses.{host_entry, zero_entry, size_in}
@@ -247,9 +247,9 @@ module _ (image : Known) (cluster table single_word : ℕ) (entry : L2Entry) (si
 
 -- a stop of a link, where all that it writes has room
 pub link_fault : {D : Type 0} (g : Ghosts D) (kept : tables.Kept) (cluster word table : ℕ) (r : Result (Unit {0}) DevStop) (a b : D) → link_end kept cluster table ≤ g.capacity a
-    → Writes g (link_writes kept cluster word table) (stop_of r) a b → IfErr r (IsFault (g.faults a) (g.faults b))
+    → Writes g (link_writes kept cluster word table) (stop_of r) a b → IfErr r TellsFault
 link_fault g kept cluster word table (Ok done) a b fits writes = tt
-link_fault g kept cluster word table (Err (Io count)) a b fits writes = writes.cause
+link_fault g kept cluster word table (Err (Io count)) a b fits writes = tt
 link_fault g kept cluster word table (Err NoSpace) a b fits writes =
     let beyond = writes.cause.0 in
     absurd (omega (arith, fits, beyond, end-link_writes kept cluster word table))

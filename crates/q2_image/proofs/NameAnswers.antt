@@ -1,5 +1,5 @@
 -- The answers of the calls by which an image gets another backing name: the list of their writes, and the file that a device tells then.
-use Rattle.std.proofs.Common.{◌≡◌, ℕ, ◌+◌, ◌-◌, ◌<◌, ◌≤◌, inl, inr, List, [], ◌++◌, length, Option, Some, None, Result, Ok, Err, OnOk, OnErr, refl, sym, ap, subst, ◌∙◌, arith, append_assoc, length-append}
+use Rattle.std.proofs.Common.{◌≡◌, ℕ, ◌-◌, ◌<◌, ◌≤◌, inl, inr, List, [], ◌++◌, length, Option, Some, None, Result, Ok, Err, OnOk, OnErr, refl, sym, ap, subst, ◌∙◌, arith, append_assoc, length-append}
 use Rattle.std.proofs.lemmas.List.{append-nil}
 use Rattle.std.specs.Option.{ForSome, option_map}
 use Rattle.std.specs.Str.{IsUtf8}
@@ -17,7 +17,7 @@ use Rattle.q2_refs.proofs.Placing.{told_before}
 use Rattle.q2_image.specs.BackingName.{EndsWithFields, HasSameName, MakesLast, RenamesImage, between_in, early_writes, ending_length, ending_writes, format_writes, last_bytes, last_writes, name_in, rename_end, text_writes, with_format, with_name, StopsWithFields, IsKnownEarly, MakesEarly, MakesFormat, known_at}
 use Rattle.q2_image.specs.Image.{Known, IsImageOf, IsOpen}
 use Rattle.q2_image.specs.Made.{clear_writes}
-use Rattle.q2_image.specs.Writing.{IsFault, IsSameDisk, autocleared, count_of}
+use Rattle.q2_image.specs.Writing.{TellsFault, IsSameDisk, autocleared, count_of}
 use Rattle.q2_image.proofs.HeaderWrites.{KeepsName}
 use Rattle.q2_image.proofs.KnownAt.{at_clear, at_format, at_text, part_length, sooner_made, then_made, with_whole}
 use Rattle.q2_image.proofs.LastWrite.{IsReadyFor, IsRenamed, last_made}
@@ -252,7 +252,7 @@ module _ {D : Type 0} (g : Ghosts D) where
     end_early : end_of_writes ws ≤ g.capacity a
     end_early = omega (arith, fits, early_end image name format n ready new_name)
 
-    pub early_fault : (stop : DevStop) → Writes g ws (Some stop) a b → IsFault (g.faults a) (g.faults b) stop
+    pub early_fault : (stop : DevStop) → Writes g ws (Some stop) a b → TellsFault stop
     early_fault stop writes = writes_fault g ws (Err stop) a b writes end_early
 
     pub early_changes : (stop : DevStop) (left : Known) → MakesEarly g image n name format (Some stop) left a b → RenamesImage g image name format (stopped_as stop) left a b

@@ -31,7 +31,7 @@ use Rattle.q2_refs.proofs.Placing.{told_before}
 use Rattle.q2_image.specs.BackingName.{IsPutBetween, stop_by, with_format_at, EndsWithFields, between_in, early_writes, ending_writes, fields_end, format_writes, last_bytes, last_writes, rename_end, text_writes, with_format, MakesFormat, known_with}
 use Rattle.q2_image.specs.Image.{Known, IsImageOf, IsOpen, cluster_size_in}
 use Rattle.q2_image.specs.Made.{clear_writes}
-use Rattle.q2_image.specs.Writing.{IsFault, autoclear_end, count_of}
+use Rattle.q2_image.specs.Writing.{TellsFault, autoclear_end, count_of}
 use Rattle.q2_image.proofs.LastWrite.{length-name_fields}
 use Rattle.q2_image.proofs.NameRoom.{room_in}
 use Rattle.q2_image.proofs.NameSteps.{format_known, format_part, length-format_bytes, open_format, room_at}
@@ -92,24 +92,22 @@ module _ {D : Type 0} (g : Ghosts D) where
 
   -- Which calls fail, where there is room.
 
-  stop_cause : (ws : List Write) (stop : DevStop) (capacity before now : ℕ) → end_of_writes ws ≤ capacity → StopsBy (Some stop) ws capacity before now → IsFault before now stop
-  stop_cause ws (Io count) capacity before now fits cause = cause
+  stop_cause : (ws : List Write) (stop : DevStop) (capacity before now : ℕ) → end_of_writes ws ≤ capacity → StopsBy (Some stop) ws capacity before now → TellsFault stop
+  stop_cause ws (Io count) capacity before now fits cause = tt
   stop_cause ws NoSpace capacity before now fits cause = let beyond = cause.0 in absurd (omega (arith, beyond, fits))
 
-  pub writes_fault : (ws : List Write) (r : Result (Unit {0}) DevStop) (a b : D) → Writes g ws (stop_of r) a b → end_of_writes ws ≤ g.capacity a → IfErr r (IsFault (g.faults a) (g.faults b))
+  pub writes_fault : (ws : List Write) (r : Result (Unit {0}) DevStop) (a b : D) → Writes g ws (stop_of r) a b → end_of_writes ws ≤ g.capacity a → IfErr r TellsFault
   writes_fault ws (Ok done) a b writes fits = tt
   writes_fault ws (Err stop) a b writes fits = stop_cause ws stop (g.capacity a) (g.faults a) (g.faults b) fits writes.cause
 
   pub fields_fault : (h : Header) (early : List Write) (name : Option (List ℕ)) (r : Result (Unit {0}) DevStop) (a b : D) → EndsWithFields g h early name (stop_of r) a b
-      → 104 ≤ h.ext_end → end_of_writes early ≤ g.capacity a → fields_end h ≤ g.capacity a → IfErr r (IsFault (g.faults a) (g.faults b))
+      → 104 ≤ h.ext_end → end_of_writes early ≤ g.capacity a → fields_end h ≤ g.capacity a → IfErr r TellsFault
   fields_fault h early name (Ok done) a b ends list fits last_fits = tt
   fields_fault h early name (Err stop) a b (inl last) list fits last_fits =
       let end = last_length h last.between name last.whole list in
       let both = end_of_writes-append early (last_writes h last.between name) in
       stop_cause (early ++ last_writes h last.between name) stop (g.capacity a) (g.faults a) (g.faults b) (omega (arith, both, end, fits, last_fits)) last.writes.cause
-  fields_fault h early name (Err (Io count)) a b (inr fails) list fits last_fits =
-      let same : count ≡ fails.count = let is = fails.is in cc in
-      subst (λ (n : ℕ). CountsFault (Some n) (g.faults a) (g.faults b)) (sym same) fails.cause
+  fields_fault h early name (Err (Io count)) a b (inr fails) list fits last_fits = tt
   fields_fault h early name (Err NoSpace) a b (inr fails) list fits last_fits = absurd (let is = fails.is in cc)
 
   -- A stop within the last write leaves the bytes.
@@ -392,14 +390,14 @@ module _ {D : Type 0} (g : Ghosts D) (image : Known) (name : Option (List ℕ)) 
           bytes_from_places file between 20 (λ k below. ap (λ (b : List ℕ). get_or b k 0) read ∙ get_or-bytes_at file 20 n k (omega (arith, below, whole)))
           ∙ ap (λ (m : ℕ). bytes_at file 20 m) (whole ∙ is)
 
-  pub read_failed : {A : Type 0} (early : List Write) (r : Result A DevStop) (stop : DevStop) (a b : D) → r ≡ Err stop → Reads g (count_of r) a b → IfErr r (IsFault (g.faults a) (g.faults b))
+  pub read_failed : {A : Type 0} (early : List Write) (r : Result A DevStop) (stop : DevStop) (a b : D) → r ≡ Err stop → Reads g (count_of r) a b → IfErr r TellsFault
       → EndsWithFields g lh [] name (Some stop) a b
   read_failed early r (Io count) a b is reads cause =
       let R : Option ℕ → Type 0 = λ o. Reads g o a b in
       let here : Reads g (Some count) a b = subst R (ap count_of is) reads in
       inr (record { count = count; is = refl; wrote = only_reads-wrote g a b here.reads; cause = here.cause })
   read_failed {A} early r NoSpace a b is reads cause =
-      let P : Result A DevStop → Type 0 = λ x. IfErr x (IsFault (g.faults a) (g.faults b)) in
+      let P : Result A DevStop → Type 0 = λ x. IfErr x TellsFault in
       absurd (subst P is cause)
 
 -- with such a list the ending extension goes where the next one would begin

@@ -1,19 +1,19 @@
 -- The writes of a new backing name, one after another, and a part of one: what is known of the image then.
-use Rattle.std.proofs.Common.{◌≡◌, ◌≢◌, ℕ, zero, suc, ◌+◌, ◌-◌, ◌*◌, ◌/◌, ◌%◌, ◌<◌, ◌≤◌, ◌⊎◌, inl, inr, min, Bool, true, false, not, ◌&&◌, cond, ltb, List, [], ◌∷◌, ◌++◌, length, take, replicate, get_or, slice_index, Option, Some, None, IfSome, is_some, refl, sym, ap, subst, ◌∙◌, arith, length-append}
-use Rattle.std.proofs.lemmas.Bool.{cases_eq, cases_lt, lt-ltb, le-ltb}
+use Rattle.std.proofs.Common.{◌≡◌, ℕ, ◌+◌, ◌-◌, ◌<◌, ◌≤◌, inl, inr, Bool, true, false, not, ◌&&◌, cond, ltb, List, [], ◌∷◌, ◌++◌, length, take, replicate, slice_index, Option, Some, None, IfSome, refl, sym, ap, subst, ◌∙◌, arith, length-append}
+use Rattle.std.proofs.lemmas.Bool.{cases_lt}
 use Rattle.std.proofs.lemmas.Bool.Decides.{nat_tests}
 use Rattle.std.proofs.lemmas.List.{get_or-take, get_or-replicate, length-replicate, length-take}
 use Rattle.std.proofs.Math.Seq.{take-length}
-use Rattle.std.specs.Option.{ForSome, option_map, option_map_or, option_and_then}
+use Rattle.std.specs.Option.{ForSome, option_map_or, option_and_then}
 use Rattle.byteorder.specs.Endian.{big_bytes}
 use Rattle.byteorder.specs.Numbers.{length-bytes_high_first}
-use Rattle.blk_base.specs.Content.{Write, with_bytes, after_writes}
+use Rattle.blk_base.specs.Content.{with_bytes}
 use Rattle.blk_base.specs.Writes.{write_of, AtEachStop}
 use Rattle.blk_base.proofs.Contents.{get_or-with_bytes_inside, get_or-with_bytes_outside}
 use Rattle.blk_base.proofs.WriteLists.{at_each_stop-none, at_each_stop-one}
-use Rattle.q2_format.specs.Bytes.{number_at, bytes_at, IsWritten}
+use Rattle.q2_format.specs.Bytes.{number_at}
 use Rattle.q2_format.specs.Created.{IsNewName, IsNewFormat}
-use Rattle.q2_format.specs.Header.{LiesWithin, header_of, header_refusal, header_length_of, name_of, area_end, extension_type, extension_length, extension_after, extensions_of}
+use Rattle.q2_format.specs.Header.{LiesWithin, header_of, header_length_of, name_of, area_end, extension_type, extension_length, extension_after}
 use Rattle.q2_format.specs.Renamed.{new_name_offset, format_room, format_bytes, takes_eight, list_area_end, replaced_format, ending_place}
 use Rattle.q2_format.specs.Sizes.{cluster_size}
 use Rattle.q2_format.specs.Sound.{IsSound}
@@ -26,9 +26,9 @@ use Rattle.q2_format.proofs.NameSound.{StaysSound, ending_low, format_sound, lis
 use Rattle.q2_format.proofs.NameWrites.{IsBeside, in_area, walk_of, walk_place}
 use Rattle.q2_format.proofs.Walks.{Walk, HasFormatAt, format_found, forward}
 use Rattle.q2_refs.proofs.Placing.{written_with}
-use Rattle.q2_image.specs.BackingName.{text_writes, format_writes, ending_writes, with_format}
+use Rattle.q2_image.specs.BackingName.{text_writes, ending_writes, with_format}
 use Rattle.q2_image.specs.Image.{Known, IsImageOf, IsOpen, cluster_size_in}
-use Rattle.q2_image.proofs.HeaderWrites.{KeepsName, kept, keeps_name, keeps_then, open_renaming, reformatted, written_outside, written_length}
+use Rattle.q2_image.proofs.HeaderWrites.{KeepsName, kept, keeps_name, open_renaming, reformatted, written_outside, written_length}
 use Rattle.q2_image.proofs.HostUses.{size_in}
 
 -- The text.

@@ -1,41 +1,40 @@
 -- All writes of a new backing name, one behind the other and wherever they stop.
-use Rattle.std.proofs.Common.{◌≡◌, ◌≢◌, ℕ, ◌+◌, ◌-◌, ◌*◌, ◌/◌, ◌%◌, ◌<◌, ◌≤◌, ◌⊎◌, inl, inr, Bool, true, false, ◌&&◌, cond, ltb, List, [], ◌∷◌, ◌++◌, length, take, replicate, get_or, slice_index, Option, Some, None, IfSome, refl, sym, ap, subst, ◌∙◌, arith, length-append}
-use Rattle.std.proofs.lemmas.Bool.{cases_eq, cases_lt, eq-eqb, ne_eqb, lt-ltb, le-ltb}
+use Rattle.std.proofs.Common.{◌≡◌, ℕ, ◌+◌, ◌-◌, ◌%◌, ◌<◌, ◌≤◌, inl, inr, Bool, true, false, ◌&&◌, cond, ltb, List, [], ◌∷◌, ◌++◌, length, take, replicate, slice_index, Option, Some, None, IfSome, refl, sym, ap, subst, ◌∙◌, arith}
+use Rattle.std.proofs.lemmas.Bool.{cases_eq, eq-eqb, ne_eqb}
 use Rattle.std.proofs.lemmas.Bool.Decides.{nat_tests}
 use Rattle.std.proofs.lemmas.List.{get_or-replicate, length-replicate}
 use Rattle.std.proofs.Math.Seq.{take-length}
 use Rattle.std.specs.Option.{ForSome, option_map_or}
 use Rattle.std.specs.Str.{IsUtf8}
 use Rattle.blk_base.specs.Content.{Write, after_writes, with_bytes}
-use Rattle.blk_base.specs.Writes.{write_of, first_bytes, IsCutBy, IsPart, AtEachStop}
+use Rattle.blk_base.specs.Writes.{write_of, IsCutBy, IsPart, AtEachStop}
 use Rattle.blk_base.specs.declared.fault.DevStop.{DevStop}
 use Rattle.blk_base.specs.declared.fault.DevStop.TheVariants.{Io, NoSpace}
 use Rattle.blk_base.proofs.WriteLists.{after_writes-append, at_each_stop-none, at_each_stop-one, at_each_stop-refused, at_each_stop-sector, at_each_stop-then, at_each_stop-weaker, cut-sector, part-split}
-use Rattle.q2_format.specs.Bytes.{number_at, bytes_at}
+use Rattle.q2_format.specs.Bytes.{number_at}
 use Rattle.q2_format.specs.Created.{IsNewName, IsNewFormat}
-use Rattle.q2_format.specs.Header.{LiesWithin, header_of, header_length_of, name_of}
-use Rattle.q2_format.specs.Renamed.{ending_place, format_bytes, format_room, name_fields, needs_ending, new_name_offset, next_extension}
+use Rattle.q2_format.specs.Header.{LiesWithin, header_of, name_of}
+use Rattle.q2_format.specs.Renamed.{ending_place, format_bytes, format_room, new_name_offset}
 use Rattle.q2_format.specs.Sound.{IsSound}
 use Rattle.q2_format.specs.declared.header.Header.{Header}
 use Rattle.q2_format.specs.declared.header.Place.{Place}
 use Rattle.q2_format.proofs.Autoclear.{cleared_header_of}
-use Rattle.q2_format.proofs.ByPlace.{bytes_at-alike, bytes_at-written, length-bytes_at, number_at-alike, number_at-zeros}
+use Rattle.q2_format.proofs.ByPlace.{bytes_at-alike, bytes_at-written, number_at-alike, number_at-zeros}
 use Rattle.q2_format.proofs.Consistent.{sound_header}
 use Rattle.q2_format.proofs.Limits.{within_limits}
 use Rattle.q2_format.proofs.NamePlaces.{offset_within}
-use Rattle.q2_format.proofs.NameSound.{ending_low}
 use Rattle.q2_refs.proofs.Placing.{written_with}
-use Rattle.q2_image.specs.BackingName.{HasSameName, IsOldOrRenamed, between_in, early_writes, ending_length, ending_writes, format_writes, last_bytes, last_writes, name_in, rename_writes, text_writes, with_format, with_name}
+use Rattle.q2_image.specs.BackingName.{HasSameName, IsOldOrRenamed, between_in, early_writes, ending_length, ending_writes, format_writes, last_bytes, last_writes, rename_writes, text_writes, with_format}
 use Rattle.q2_image.specs.Creating.{text_at}
-use Rattle.q2_image.specs.Image.{Known, IsImageOf, IsOpen, cluster_size_in}
+use Rattle.q2_image.specs.Image.{Known, IsImageOf, IsOpen}
 use Rattle.q2_image.specs.Made.{clear_writes}
 use Rattle.q2_image.specs.Writing.{IsSameDisk, autocleared}
 use Rattle.q2_image.proofs.Autocleared.{cleared}
-use Rattle.q2_image.proofs.HeaderWrites.{KeepsName, kept, keeps_then, written_outside}
+use Rattle.q2_image.proofs.HeaderWrites.{KeepsName, kept, keeps_then}
 use Rattle.q2_image.proofs.HostUses.{size_in}
 use Rattle.q2_image.proofs.LastWrite.{EndsBefore, HasText, IsReadyFor, IsRenamed, last_made, last_short, list_place}
 use Rattle.q2_image.proofs.NameRoom.{room_in}
-use Rattle.q2_image.proofs.NameSteps.{IsFormatOf, IsRoomAt, ended_list, ending_stops, format_known, format_of, format_part, length-format_bytes, open_format, room_at, text_part, text_stops}
+use Rattle.q2_image.proofs.NameSteps.{ended_list, ending_stops, format_known, format_of, format_part, length-format_bytes, open_format, room_at, text_part, text_stops}
 use Rattle.q2_image.proofs.OwnStops.{behind_clear}
 use Rattle.q2_image.proofs.OwnTold.{open_cleared}
 use Rattle.q2_image.proofs.OwnWrites.{disk_then}

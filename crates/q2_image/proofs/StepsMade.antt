@@ -12,7 +12,7 @@ use Rattle.blk_base.proofs.DeviceLemmas.{untouched-same, untouched-writes, wrote
 use Rattle.blk_base.proofs.WriteLists.{part-later, part-sooner}
 use Rattle.q2_image.specs.Image.{Known}
 use Rattle.q2_image.specs.Made.{WriteStep, writes_of_steps, known_after, IsStoppedIn, IsKnownBy, MakesSteps, ChangesImage}
-use Rattle.q2_image.specs.Writing.{IsFault, count_of}
+use Rattle.q2_image.specs.Writing.{TellsFault, count_of}
 
 pub writes_of_steps-append : (ss ts : List WriteStep) → writes_of_steps (ss ++ ts) ≡ writes_of_steps ss ++ writes_of_steps ts
 writes_of_steps-append [] ts = refl
@@ -137,17 +137,17 @@ module _ {D : Type 0} (g : Ghosts D) where
   makes_behind image mid left ss ts r a b c first later = makes_then image mid left ss ts (stop_of r) a b c first later
 
   -- a call that has room for all that it writes
-  pub changes_by : {A : Type 0} (image left : Known) (steps : List WriteStep) (r : Result A DevStop) (a b : D) → IfErr r (IsFault (g.faults a) (g.faults b))
+  pub changes_by : {A : Type 0} (image left : Known) (steps : List WriteStep) (r : Result A DevStop) (a b : D) → IfErr r TellsFault
       → MakesSteps g image steps (stop_of r) left a b → ChangesImage g image steps r left a b
   changes_by image left steps (Ok done) a b cause makes = makes
   changes_by image left steps (Err (Io count)) a b cause makes = makes
   changes_by image left steps (Err NoSpace) a b cause makes = absurd cause
 
   -- so its fault is the count then, and without one the count stands
-  pub steps_cause : {A : Type 0} (image left : Known) (steps : List WriteStep) (r : Result A DevStop) (a b : D) → IfErr r (IsFault (g.faults a) (g.faults b))
+  pub steps_cause : {A : Type 0} (image left : Known) (steps : List WriteStep) (r : Result A DevStop) (a b : D) → IfErr r TellsFault
       → MakesSteps g image steps (stop_of r) left a b → CountsFault (count_of r) (g.faults a) (g.faults b)
   steps_cause image left steps (Ok done) a b cause makes = makes.writes.cause.1
-  steps_cause image left steps (Err (Io count)) a b cause makes = cause
+  steps_cause image left steps (Err (Io count)) a b cause makes = makes.writes.cause
   steps_cause image left steps (Err NoSpace) a b cause makes = absurd cause
 
   pub changes_none : (image : Known) (a : D) → (image ≡ image) × Untouched g a a

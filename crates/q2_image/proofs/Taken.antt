@@ -22,7 +22,7 @@ use Rattle.q2_refs.specs.declared.allocating.RefStop.{RefStop}
 use Rattle.q2_refs.proofs.FreeClusters.{first_free_cluster, given_count}
 use Rattle.q2_tables.specs.Kept.{IsTreeOf}
 use Rattle.q2_image.specs.Image.{Known, IsImageOf, IsOpen, cluster_size_in, entry_in}
-use Rattle.q2_image.specs.Writing.{IsFault, IsSameDisk, IsSpare}
+use Rattle.q2_image.specs.Writing.{TellsFault, IsSameDisk, IsSpare}
 use Rattle.q2_image.proofs.HostUses.{host_entry, held_by}
 use Rattle.q2_image.proofs.DiskKept.{HostStays, same_disk}
 
@@ -181,6 +181,6 @@ by_size n size is = rw is (omega arith)
 
 -- a stop of the device, where all that is written has room
 pub taken_fault : {D : Type 0} (g : Ghosts D) (kept : refs.Kept) (stop : DevStop) (a b : D) → end_of_allocation kept (free_cluster kept 0) ≤ g.capacity a
-    → Writes g (allocation_writes kept (free_cluster kept 0)) (Some stop) a b → IsFault (g.faults a) (g.faults b) stop
-taken_fault g kept (Io count) a b fits writes = writes.cause
+    → Writes g (allocation_writes kept (free_cluster kept 0)) (Some stop) a b → TellsFault stop
+taken_fault g kept (Io count) a b fits writes = tt
 taken_fault g kept NoSpace a b fits writes = let beyond = writes.cause.0 in absurd (omega (arith, fits, beyond))

@@ -1,8 +1,9 @@
 -- Writing an image: what changes of its disk, and when there is room for it.
-use Rattle.std.specs.Prelude.{◌≡◌, ◌≢◌, ◌⊎◌, ℕ, ◌+◌, ◌*◌, ◌/◌, ◌%◌, ◌<◌, ◌≤◌, max, ◌==◌, Bool, true, not, ◌&&◌, if◌then◌else◌, List, [], length, slice_index, Option, Some, None, Result, Ok, Err}
+use Rattle.std.specs.Prelude.{◌≡◌, ◌≢◌, ◌⊎◌, ℕ, ◌+◌, ◌*◌, ◌/◌, ◌%◌, ◌<◌, ◌≤◌, max, ◌==◌, Bool, true, not, ◌&&◌, ◌||◌, is_ok, option_map, if◌then◌else◌, List, [], length, slice_index, Option, Some, None, Result, Ok, Err}
 use Rattle.blk_base.specs.Counts.{Rose}
 use Rattle.blk_base.specs.Device.{CountsFault}
 use Rattle.blk_base.specs.Pieces.{Extent}
+use Rattle.blk_base.specs.declared.device.Device.{Ghosts}
 use Rattle.blk_base.specs.declared.device.WriteStop.{WriteStop}
 use Rattle.blk_base.specs.declared.device.Stop.TheVariants as why
 use Rattle.blk_base.specs.declared.fault.DevStop.{DevStop}
@@ -186,10 +187,22 @@ count_of (Ok done) = None
 count_of (Err (Io count)) = Some count
 count_of (Err NoSpace) = None
 
--- a call that has room stops only where the device failed
-abbrev pub IsFault : ℕ → ℕ → DevStop → Type 0
-IsFault before now (Io count) = CountsFault (Some count) before now
-IsFault before now NoSpace = ⊥
+-- a stop that tells a fault, the only one of a call that has room
+abbrev pub TellsFault : DevStop → Type 0
+TellsFault (Io count) = Unit {0}
+TellsFault NoSpace = ⊥
+
+-- What a flush leaves: behind Ok the device is flushed, where it tells that at all, and all else is as before but the
+-- count of faults.
+pub record Flushes {D : Type 0} (g : Ghosts D) (result : Result (Unit {0}) DevStop) (old new : D)
+    : Type 0 where
+  pub flushed : g.is_flushed new ≡ option_map (λ f. is_ok result || f) (g.is_flushed old)
+  pub content : g.content new ≡ g.content old
+  pub log : g.log new ≡ g.log old
+  pub size : g.size new ≡ g.size old
+  pub capacity : g.capacity new ≡ g.capacity old
+  pub faults : g.faults old ≤ g.faults new
+  pub cause : CountsFault (count_of result) (g.faults old) (g.faults new)
 
 -- one image has the header of another, but for the autoclear field
 abbrev pub HasHeaderOf : Known → Known → Type 0

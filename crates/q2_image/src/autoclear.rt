@@ -4,7 +4,7 @@ ghost use Rattle.std.specs.Prelude.{◌≡◌, ◌≤◌, ℕ, List, Some, IfErr
 ghost use Rattle.q2_image.specs.Image.{IsImageOf};
 ghost use Rattle.blk_base.specs.Device.{Writes, stop_of};
 ghost use Rattle.q2_image.specs.Made.{clear_writes};
-ghost use Rattle.q2_image.specs.Writing.{IsFault, IsSameDisk, autoclear_end, autocleared};
+ghost use Rattle.q2_image.specs.Writing.{TellsFault, IsSameDisk, autoclear_end, autocleared};
 
 use crate::image::Image;
 use blk_base::{DevStop, Device};
@@ -24,7 +24,7 @@ impl Image {
         ensures disk { (old new : List ℕ) → D.content dev.old ≡ Some old
             → D.content dev.new ≡ Some new → IsSameDisk old new }
         ensures writes { Writes D.Device (clear_writes self.old) (stop_of result) dev.old dev.new }
-        ensures cause { IfErr result (IsFault (D.faults dev.old) (D.faults dev.new)) }
+        ensures cause { IfErr result TellsFault }
         ensures faults { D.faults dev.old ≤ D.faults dev.new }
         ensures capacity { D.capacity dev.new ≡ D.capacity dev.old }
         ensures told { is_some (D.content dev.new) ≡ is_some (D.content dev.old) }

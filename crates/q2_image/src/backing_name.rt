@@ -12,7 +12,7 @@ ghost use Rattle.q2_format.specs.Created.{IsNewName, IsNewFormat};
 ghost use Rattle.q2_format.specs.Renamed.{format_room, name_fields, needs_ending, next_extension, new_name_offset};
 ghost use Rattle.q2_image.specs.BackingName.{EndsWithFields, IsPutBetween, MakesEarly, MakesFormat, HasSameName, IsOldOrRenamed, RenamesImage, ending_length, ending_writes, fields_end, format_writes, last_bytes, name_in, rename_end, rename_writes, stop_by, text_writes, with_format, with_format_at, with_name};
 ghost use Rattle.q2_image.specs.Image.{IsImageOf, IsOpen};
-ghost use Rattle.q2_image.specs.Writing.{IsFault, IsSameDisk, autoclear_end, autocleared, count_of};
+ghost use Rattle.q2_image.specs.Writing.{TellsFault, IsSameDisk, autoclear_end, autocleared, count_of};
 
 use crate::image::Image;
 use blk_base::{DevStop, Device, Stop, write};
@@ -158,7 +158,7 @@ impl Image {
             (ending_length file self.now.header)) }
         ensures small { IfOk result (λ n. n < 4294967296) }
         ensures reads { Reads D.Device (count_of result) dev.old dev.new }
-        ensures cause { IfErr result (IsFault (D.faults dev.old) (D.faults dev.new)) }
+        ensures cause { IfErr result TellsFault }
     {
         if name.is_none() || !self.header.ended {
             return Ok(0);
@@ -345,7 +345,7 @@ fn read_between<D: Device>(
     ensures whole { length bytes.new ≡ 512 }
     ensures put { OnOk result (IsPutBetween fields.now len (D.content dev.old) bytes.new) }
     ensures reads { Reads D.Device (count_of result) dev.old dev.new }
-    ensures cause { IfErr result (IsFault (D.faults dev.old) (D.faults dev.new)) }
+    ensures cause { IfErr result TellsFault }
 {
     let (front, rest) = bytes.split_at_mut(12);
     front.copy_from_slice(fields);

@@ -1,6 +1,6 @@
 //! The calls that change an image: each looks first whether there is room for all that it writes.
 
-ghost use Rattle.std.specs.Prelude.{◌≡◌, ◌↔◌, ◌⊎◌, ◌+◌, ◌*◌, ◌/◌, ◌%◌, ◌<◌, ◌≤◌, max, ℕ, Bool, true, ◌||◌, List, length, Option, Some, is_some, is_ok, option_map, Err, IfErr, OnOk, OnErr};
+ghost use Rattle.std.specs.Prelude.{◌≡◌, ◌↔◌, ◌⊎◌, ◌+◌, ◌*◌, ◌/◌, ◌%◌, ◌<◌, ◌≤◌, max, ℕ, Bool, true, List, length, Option, Some, is_some, Err, IfErr, OnOk, OnErr};
 ghost use Rattle.blk_base.specs.Counts.{taken};
 ghost use Rattle.blk_base.specs.declared.device.Stop.TheVariants as why;
 ghost use Rattle.blk_base.specs.declared.fault.DevStop.TheVariants.{NoSpace};
@@ -11,7 +11,7 @@ ghost use Rattle.q2_image.specs.Image.{IsImageOf, IsOpen, clusters_in, cluster_s
 ghost use Rattle.q2_image.specs.Reading.{IsHost, IsWithinCluster};
 ghost use Rattle.blk_base.specs.Device.{AtEachStopOf, CountsFault, stop_of};
 ghost use Rattle.q2_image.specs.Made.{ChangesImage, IsOldOrWith, MakesSteps, put_steps, put_writes, zero_steps, zero_writes, own_writes, WroteOwn, UnlessFull, IsOwnPart};
-ghost use Rattle.q2_image.specs.Writing.{IsDiskWith, IsSameDisk, HasEntriesBut, StaysTaken, IsSpelled, AreClusterZeros, PutFits, ZeroFits, needs_host, IsFault, count_of, IsOwnStop, IsFailedOwn, own_place, own_end, autoclear_end, autocleared, ClearsFirst, HasHeaderOf};
+ghost use Rattle.q2_image.specs.Writing.{Flushes, IsDiskWith, IsSameDisk, HasEntriesBut, StaysTaken, IsSpelled, AreClusterZeros, PutFits, ZeroFits, needs_host, TellsFault, count_of, IsOwnStop, IsFailedOwn, own_place, own_end, autoclear_end, autocleared, ClearsFirst, HasHeaderOf};
 
 use crate::image::Image;
 use blk_base::{DevStop, Device, Span, Stop, WriteStop};
@@ -193,15 +193,8 @@ impl Image {
     /// the count of faults.
     pub fn flush<D: Device>(&mut self, dev: &mut D) -> Result<(), DevStop>
         ensures known { self.new ≡ self.old }
-        ensures flushed { D.is_flushed dev.new
-            ≡ option_map (λ f. is_ok result || f) (D.is_flushed dev.old) }
-        ensures cause { IfErr result (IsFault (D.faults dev.old) (D.faults dev.new)) }
-        ensures quiet { OnOk result (D.faults dev.new ≡ D.faults dev.old) }
-        ensures content { D.content dev.new ≡ D.content dev.old }
-        ensures size { D.size dev.new ≡ D.size dev.old }
-        ensures capacity { D.capacity dev.new ≡ D.capacity dev.old }
-        ensures log { D.log dev.new ≡ D.log dev.old }
-        ensures faults { D.faults dev.old ≤ D.faults dev.new }
+        ensures cause { IfErr result TellsFault }
+        ensures device { Flushes D.Device result dev.old dev.new }
     {
         match dev.flush() {
             Ok(()) => Ok(()),
@@ -241,7 +234,7 @@ impl Image {
         ensures kept { OnErr result
             ((old new : List ℕ) → D.content dev.old ≡ Some old → D.content dev.new ≡ Some new
             → IsSameDisk old new) }
-        ensures cause { IfErr result (IsFault (D.faults dev.old) (D.faults dev.new)) }
+        ensures cause { IfErr result TellsFault }
         ensures told { is_some (D.content dev.new) ≡ is_some (D.content dev.old) }
         ensures faults { D.faults dev.old ≤ D.faults dev.new }
         ensures capacity { D.capacity dev.new ≡ D.capacity dev.old }
@@ -273,7 +266,7 @@ impl Image {
         ensures kept { OnErr result
             ((old new : List ℕ) → D.content dev.old ≡ Some old → D.content dev.new ≡ Some new
             → IsSameDisk old new) }
-        ensures cause { IfErr result (IsFault (D.faults dev.old) (D.faults dev.new)) }
+        ensures cause { IfErr result TellsFault }
         ensures told { is_some (D.content dev.new) ≡ is_some (D.content dev.old) }
         ensures faults { D.faults dev.old ≤ D.faults dev.new }
         ensures capacity { D.capacity dev.new ≡ D.capacity dev.old }

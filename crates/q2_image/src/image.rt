@@ -1,6 +1,6 @@
 //! An image that is open: what each guest cluster is mapped to, and reading what is mapped.
 
-ghost use Rattle.std.specs.Prelude.{◌≡◌, ◌↔◌, ◌+◌, ◌*◌, ◌/◌, ◌<◌, ◌≤◌, ℕ, List, length, Some, IsTrue, IfErr, OnOk};
+ghost use Rattle.std.specs.Prelude.{◌≡◌, ◌↔◌, ◌+◌, ◌*◌, ◌/◌, ◌<◌, ℕ, List, length, Some, IsTrue, IfErr, OnOk};
 ghost use Rattle.q2_format.specs.Entry.{l2_entry};
 ghost use Rattle.q2_tables.specs.Entries.{entry_of};
 
@@ -36,7 +36,8 @@ impl Image {
     ghost use Rattle.q2_image.specs.Image.{IsImageOf, clusters_in, cluster_size_in, entry_in};
     ghost use Rattle.q2_image.specs.Guest.{file_entry, guest_bytes};
     ghost use Rattle.q2_image.specs.Reading.{IsHost, IsWithinCluster};
-    ghost use Rattle.q2_image.specs.Writing.{IsFault};
+    ghost use Rattle.blk_base.specs.Device.{Reads};
+    ghost use Rattle.q2_image.specs.Writing.{TellsFault, count_of};
 
     /// The bytes of the disk.
     pub fn size(&self) -> u64
@@ -99,14 +100,8 @@ impl Image {
         ensures read { OnOk result
             ((file backing : List ℕ) → D.content dev.old ≡ Some file → IsImageOf file self.now
             → buf.new ≡ guest_bytes file backing span.start span.len) }
-        ensures cause { IfErr result (IsFault (D.faults dev.old) (D.faults dev.new)) }
-        ensures quiet { OnOk result (D.faults dev.new ≡ D.faults dev.old) }
-        ensures content { D.content dev.new ≡ D.content dev.old }
-        ensures size { D.size dev.new ≡ D.size dev.old }
-        ensures capacity { D.capacity dev.new ≡ D.capacity dev.old }
-        ensures flushed { D.is_flushed dev.new ≡ D.is_flushed dev.old }
-        ensures log { D.log dev.new ≡ D.log dev.old }
-        ensures faults { D.faults dev.old ≤ D.faults dev.new }
+        ensures cause { IfErr result TellsFault }
+        ensures device { Reads D.Device (count_of result) dev.old dev.new }
     {
         let cluster_size = cluster_size(&self.header);
         let Mapping::Host { host } = self.tables.lookup(span.start / cluster_size) else {

@@ -16,7 +16,7 @@ ghost use Rattle.q2_tables.specs.Linking.{CanLink, link_end};
 ghost use Rattle.q2_image.specs.Image.{IsImageOf, IsOpen, clusters_in, cluster_size_in, word_in, entry_in};
 ghost use Rattle.q2_image.specs.Made.{MakesSteps, take_steps, table_steps, host_steps, entry_steps, fill_steps, clean_steps};
 ghost use Rattle.q2_image.specs.Reading.{IsHost, IsWithinCluster};
-ghost use Rattle.q2_image.specs.Writing.{IsDiskWith, IsSameDisk, HasEntriesBut, StaysTaken, IsSpelled, counts_once, IsSpare, HoldsNoGuestByte, MayName, Shows, PutFits, ZeroFits, AreClusterZeros, CanTake, IsFault, HasSameEntries, taken_at, after_take, needs_table, needs_host, idle_host, next_host, table_for, with_table, with_host};
+ghost use Rattle.q2_image.specs.Writing.{IsDiskWith, IsSameDisk, HasEntriesBut, StaysTaken, IsSpelled, counts_once, IsSpare, HoldsNoGuestByte, MayName, Shows, PutFits, ZeroFits, AreClusterZeros, CanTake, TellsFault, HasSameEntries, taken_at, after_take, needs_table, needs_host, idle_host, next_host, table_for, with_table, with_host};
 
 use crate::header::cluster_size;
 use crate::image::Image;
@@ -71,7 +71,7 @@ impl Image {
         ensures image { (file : List ℕ) → D.content dev.new ≡ Some file → IsImageOf file self.new }
         ensures disk { (old new : List ℕ) → D.content dev.old ≡ Some old
             → D.content dev.new ≡ Some new → IsSameDisk old new }
-        ensures cause { IfErr result (IsFault (D.faults dev.old) (D.faults dev.new)) }
+        ensures cause { IfErr result TellsFault }
         ensures told { is_some (D.content dev.new) ≡ is_some (D.content dev.old) }
         ensures faults { D.faults dev.old ≤ D.faults dev.new }
         ensures capacity { D.capacity dev.new ≡ D.capacity dev.old }
@@ -105,7 +105,7 @@ impl Image {
         ensures image { (file : List ℕ) → D.content dev.new ≡ Some file → IsImageOf file self.now }
         ensures disk { (old new : List ℕ) → D.content dev.old ≡ Some old
             → D.content dev.new ≡ Some new → IsSameDisk old new }
-        ensures cause { IfErr result (IsFault (D.faults dev.old) (D.faults dev.new)) }
+        ensures cause { IfErr result TellsFault }
         ensures told { is_some (D.content dev.new) ≡ is_some (D.content dev.old) }
         ensures faults { D.faults dev.old ≤ D.faults dev.new }
         ensures capacity { D.capacity dev.new ≡ D.capacity dev.old }
@@ -152,7 +152,7 @@ impl Image {
         ensures kept { OnErr result
             ((old new : List ℕ) → D.content dev.old ≡ Some old → D.content dev.new ≡ Some new
             → IsSameDisk old new) }
-        ensures cause { IfErr result (IsFault (D.faults dev.old) (D.faults dev.new)) }
+        ensures cause { IfErr result TellsFault }
         ensures told { is_some (D.content dev.new) ≡ is_some (D.content dev.old) }
         ensures faults { D.faults dev.old ≤ D.faults dev.new }
         ensures capacity { D.capacity dev.new ≡ D.capacity dev.old }
@@ -187,7 +187,7 @@ impl Image {
         ensures image { (file : List ℕ) → D.content dev.new ≡ Some file → IsImageOf file self.new }
         ensures disk { (old new : List ℕ) → D.content dev.old ≡ Some old
             → D.content dev.new ≡ Some new → IsSameDisk old new }
-        ensures cause { IfErr result (IsFault (D.faults dev.old) (D.faults dev.new)) }
+        ensures cause { IfErr result TellsFault }
         ensures told { is_some (D.content dev.new) ≡ is_some (D.content dev.old) }
         ensures faults { D.faults dev.old ≤ D.faults dev.new }
         ensures capacity { D.capacity dev.new ≡ D.capacity dev.old }
@@ -223,7 +223,7 @@ impl Image {
         ensures image { (file : List ℕ) → D.content dev.new ≡ Some file → IsImageOf file self.new }
         ensures disk { (old new : List ℕ) → D.content dev.old ≡ Some old
             → D.content dev.new ≡ Some new → IsSameDisk old new }
-        ensures cause { IfErr result (IsFault (D.faults dev.old) (D.faults dev.new)) }
+        ensures cause { IfErr result TellsFault }
         ensures told { is_some (D.content dev.new) ≡ is_some (D.content dev.old) }
         ensures faults { D.faults dev.old ≤ D.faults dev.new }
         ensures capacity { D.capacity dev.new ≡ D.capacity dev.old }
@@ -265,7 +265,7 @@ impl Image {
         ensures kept { OnErr result
             ((old new : List ℕ) → D.content dev.old ≡ Some old → D.content dev.new ≡ Some new
             → IsSameDisk old new) }
-        ensures cause { IfErr result (IsFault (D.faults dev.old) (D.faults dev.new)) }
+        ensures cause { IfErr result TellsFault }
         ensures told { is_some (D.content dev.new) ≡ is_some (D.content dev.old) }
         ensures faults { D.faults dev.old ≤ D.faults dev.new }
         ensures capacity { D.capacity dev.new ≡ D.capacity dev.old }
@@ -298,7 +298,7 @@ impl Image {
         ensures kept { OnErr result
             ((old new : List ℕ) → D.content dev.old ≡ Some old → D.content dev.new ≡ Some new
             → IsSameDisk old new) }
-        ensures cause { IfErr result (IsFault (D.faults dev.old) (D.faults dev.new)) }
+        ensures cause { IfErr result TellsFault }
         ensures told { is_some (D.content dev.new) ≡ is_some (D.content dev.old) }
         ensures faults { D.faults dev.old ≤ D.faults dev.new }
         ensures capacity { D.capacity dev.new ≡ D.capacity dev.old }

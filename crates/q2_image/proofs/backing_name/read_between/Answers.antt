@@ -1,5 +1,5 @@
 -- The fields stand in front of what was read, and zeros behind it.
-use Rattle.std.proofs.Common.{rules, ◌≡◌, ◌+◌, ◌≤◌, ℕ, length, ap, ◌∙◌, arith}
+use Rattle.std.proofs.Common.{rules, ◌≡◌, ◌≤◌, length, ap, ◌∙◌}
 use Rattle.blk_base.specs.Content.{bytes_at}
 use Rattle.q2_image.proofs.NameCalls.{put_between}
 use Rattle.q2_image.proofs.backing_name.read_between.Goals as goal

@@ -1,4 +1,4 @@
-use Rattle.std.proofs.Common.{◌≡◌, ℕ, ◌-◌, List, [], ◌∷◌, ap, ◌∙◌, refl, arith}
+use Rattle.std.proofs.Common.{◌≡◌, ◌-◌, ap, ◌∙◌}
 use Rattle.std.specs.Option.{option_copied}
 use Rattle.q2_format.specs.Bytes.{number_at}
 use Rattle.q2_image.specs.BackingName.{ending_writes}

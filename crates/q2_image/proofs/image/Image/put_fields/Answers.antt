@@ -1,5 +1,5 @@
 -- The fields are written alone, or with what stands behind them and an ending extension.
-use Rattle.std.proofs.Common.{◌≡◌, ◌-◌, ℕ, Bool, true, false, [], Some, None, refl, sym, ap, subst, ◌∙◌, arith}
+use Rattle.std.proofs.Common.{◌≡◌, ◌-◌, ℕ, true, false, [], Some, sym, ap, subst, ◌∙◌}
 use Rattle.std.proofs.lemmas.Result.{err_from_is_err_and}
 use Rattle.blk_base.specs.Device.{stop_of}
 use Rattle.blk_base.specs.declared.fault.DevStop.{DevStop}

@@ -1,5 +1,5 @@
 -- The format's bytes are written whole, or up to some of them.
-use Rattle.std.proofs.Common.{◌≡◌, ◌-◌, ℕ, List, ap, ◌∙◌}
+use Rattle.std.proofs.Common.{◌≡◌, ℕ, List, ap, ◌∙◌}
 use Rattle.q2_format.specs.Renamed.{format_bytes}
 use Rattle.q2_image.proofs.NameCalls.{format_before, format_behind, format_done, format_low, format_stopped, known_before, known_past}
 use Rattle.q2_image.proofs.image.Image.replace_format.Goals as goal

@@ -7,7 +7,7 @@ use Rattle.blk_base.specs.declared.fault.DevStop.TheVariants.{NoSpace}
 use Rattle.q2_format.specs.Created.{IsNewName, IsNewFormat}
 use Rattle.q2_format.proofs.Placed.{copied_fits}
 use Rattle.q2_image.specs.BackingName.{RenamesImage, early_writes, rename_end}
-use Rattle.q2_image.specs.Writing.{IsFault}
+use Rattle.q2_image.specs.Writing.{TellsFault}
 use Rattle.q2_image.proofs.NameAnswers.{behind_read, early_behind_read, early_changes, early_fault, early_told, last_changes, last_disk_is, last_image_is, last_kept, last_named, renames_cause, stopped_as}
 use Rattle.q2_image.proofs.NameStops.{rename_stops}
 use Rattle.q2_image.proofs.image.Image.set_backing_name.Goals as goal
@@ -94,12 +94,11 @@ returns-in_err-write_before_fields-clause-no_space g c =
     let fits : rename_end c.args.self.now name format ≤ g.D.Device.capacity c.args.dev.now = subst (λ (x : ℕ). rename_end c.args.self.now name format ≤ x) c.capacity.ensures (c.if-not-name_fits.ensures.fits.0 refl) in
     let new_name = copied_fits IsNewName c.args.name c.requires.name in
     let new_format = copied_fits IsNewFormat c.args.format c.requires.format in
-    let F : DevStop → Type 0 = IsFault (g.D.Device.faults c.args.dev.now) (g.D.Device.faults c.write_before_fields.new.dev) in
-    let fault = subst F (sym p.2) (early_fault g.D.Device c.args.self.now name format n c.args.dev.now c.write_before_fields.new.dev c.write_before_fields.new.dev c.name_fits.ensures.open new_name new_format fits c.in_ok-length.ensures.length stop first) in
-    (λ is. absurd (not_space (g.D.Device.faults c.args.dev.now) (g.D.Device.faults c.write_before_fields.new.dev) p.0 fault (sym p.1 ∙ is)), λ beyond. absurd (omega (arith, beyond, fits)))
+    let fault = subst TellsFault (sym p.2) (early_fault g.D.Device c.args.self.now name format n c.args.dev.now c.write_before_fields.new.dev c.write_before_fields.new.dev c.name_fits.ensures.open new_name new_format fits c.in_ok-length.ensures.length stop first) in
+    (λ is. absurd (not_space p.0 fault (sym p.1 ∙ is)), λ beyond. absurd (omega (arith, beyond, fits)))
   where
-    not_space : (before now : ℕ) (x : DevStop) → IsFault before now x → stopped_as x ≡ Err NoSpace → ⊥
-    not_space before now x fault is = let same : x ≡ NoSpace = cc in subst (IsFault before now) same fault
+    not_space : (x : DevStop) → TellsFault x → stopped_as x ≡ Err NoSpace → ⊥
+    not_space x fault is = let same : x ≡ NoSpace = cc in subst TellsFault same fault
 
 pub returns-clause-changes : goal.returns-clause-changes
 returns-clause-changes g c =
