@@ -3,6 +3,7 @@ use Rattle.std.proofs.Common.{◌≡◌, ◌⊎◌, ℕ, ◌==◌, Bool, true, f
 use Rattle.std.specs.Prelude.{IfSome}
 use Rattle.std.proofs.lemmas.Bool.{eqb-true}
 use Rattle.std.proofs.lemmas.Option.{same_Some, slice_get_within}
+use Rattle.blk_base.specs.Device.{CountsFault}
 use Rattle.blk_base.specs.Files.{is_out}
 use Rattle.blk_base.specs.declared.fault.DevNo.{DevNo}
 use Rattle.blk_base.specs.declared.fault.FaultAt.{FaultAt}
@@ -10,7 +11,7 @@ use Rattle.blk_base.specs.declared.fault.FaultFrom.{FaultFrom}
 use Rattle.blk_base.specs.declared.fault.FaultFrom.TheVariants.{Store, Dev}
 use Rattle.blk_graph.proofs.Members.{find-Some}
 use Rattle.q2_image.specs.Image.{Known}
-use Rattle.q2_image.specs.Opening.{HasCause}
+use Rattle.q2_image.specs.Opening.{fault_in_image}
 use Rattle.q2_image.specs.declared.stop.ImageStop.{ImageStop}
 use Rattle.q2_image.specs.declared.stop.ImageStop.TheVariants as stop
 use Rattle.blk_nodes.specs.Joined.{IsJoined}
@@ -60,7 +61,7 @@ use Rattle.blk_world.proofs.PieceFits.{same_in}
 -- ---- stops of images
 
 -- a read failed, or the count stands
-caused-or : (before now : ℕ) (cause : ImageStop) → HasCause before now cause → ((n : ℕ) × (cause ≡ stop.Io n)) ⊎ (now ≡ before)
+caused-or : (before now : ℕ) (cause : ImageStop) → CountsFault (fault_in_image cause) before now → ((n : ℕ) × (cause ≡ stop.Io n)) ⊎ (now ≡ before)
 caused-or before now (stop.Io n) caused = inl (n, refl)
 caused-or before now (stop.Header why) caused = inr caused
 caused-or before now (stop.Offset offset) caused = inr caused
@@ -184,8 +185,8 @@ module _ (w : Face) (whole : IsWholeWorld w) (joined : IsJoined w.nodes) (c : Ad
       io-failed : (n : ℕ) → refused.on.cause ≡ stop.Io n → IsLookedOver w c told now out
       io-failed n io =
           let why : refused.why ≡ refusal.Io (Dev first.number) n = refused.on.is ∙ ap (unopened first.number) io in
-          let caused : HasCause first.faults device.faults (stop.Io n) =
-          subst (HasCause first.faults device.faults) io refused.on.on.cause in
+          let caused : CountsFault (Some n) first.faults device.faults =
+          subst (λ (x : ImageStop). CountsFault (fault_in_image x) first.faults device.faults) io refused.on.on.cause in
           inr
           (record {
             from = Dev first.number;
@@ -270,7 +271,8 @@ module _ (w : Face) (whole : IsWholeWorld w) (joined : IsJoined w.nodes) (c : Ad
 
       node-failed : (n : ℕ) → badly.cause ≡ stop.Io n → IsLookedOver w c told now out
       node-failed n io =
-          let caused = subst (HasCause badly.stopped.before.faults badly.stopped.after.faults) io badly.stopped.on.cause in
+          let caused =
+          subst (λ (x : ImageStop). CountsFault (fault_in_image x) badly.stopped.before.faults badly.stopped.after.faults) io badly.stopped.on.cause in
           let same = same-risen w.nodes.devices now.nodes.devices risen in
           let number = (same_in w.nodes.devices now.nodes.devices badly.node badly.stopped.before badly.stopped.after same badly.stopped.held badly.stopped.left).number in
           let at : StoppedAt badly.node w.nodes.devices now.nodes.devices badly.device.number n = record {

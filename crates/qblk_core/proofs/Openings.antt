@@ -1,7 +1,8 @@
 -- The nodes of a run, made step by step, and what stops them.
-use Rattle.std.proofs.Common.{◌≡◌, ◌≢◌, ℕ, ◌<◌, ◌≤◌, Bool, true, false, List, [], ◌∷◌, length, Option, Some, None, Result, Ok, Err, refl, sym, ◌∙◌, ap, subst, inl, inr, arith}
+use Rattle.std.proofs.Common.{◌≡◌, ◌≢◌, ℕ, ◌<◌, ◌≤◌, Bool, true, false, List, [], ◌∷◌, length, Option, Some, None, Result, Ok, Err, refl, sym, ◌∙◌, ap, subst, inl, inr, arith, tt}
 use Rattle.std.specs.Prelude.{◌↔◌, Contains, IsSome, IsOk, IfErr, is_some}
 use Rattle.blk_base.specs.Counts.{Rose}
+use Rattle.blk_base.specs.Device.{CountsFault}
 use Rattle.blk_graph.specs.Graph.{HasName, HasNode, ids}
 use Rattle.blk_graph.specs.declared.edge.Conflict.{Conflict as Pair}
 use Rattle.blk_graph.specs.declared.edge.Edge.{Edge}
@@ -14,7 +15,7 @@ use Rattle.q2_format.specs.declared.header.Header.{Header}
 use Rattle.q2_format.specs.declared.header.HeaderStop.TheVariants as headers
 use Rattle.q2_format.specs.declared.header.TheConstants.{MIN_HEADER_LENGTH}
 use Rattle.q2_image.specs.Image.{Known, IsImageOf}
-use Rattle.q2_image.specs.Opening.{Names, HasCause, refusal_of}
+use Rattle.q2_image.specs.Opening.{Names, fault_in_image, refusal_of}
 use Rattle.q2_image.specs.declared.stop.ImageStop.{ImageStop}
 use Rattle.q2_image.specs.declared.stop.ImageStop.TheVariants as stops
 use Rattle.blk_nodes.specs.Adding.{with_node, with_device, with_below, file_edge, guest_edge, raw_row, IsDenied, IsOverStop}
@@ -92,12 +93,12 @@ refused-as d stop named cause length = record {
 not-short : (size : ℕ) → (size < MIN_HEADER_LENGTH → ⊥) → MIN_HEADER_LENGTH ≤ size
 not-short size none = omega arith
 
--- it is too short for a header exactly where it is refused so
-length-for : (size : ℕ) (stop : ImageStop) → (stop ≡ stops.Header headers.Short) ↔ (size < MIN_HEADER_LENGTH) → HasLengthFor (Image stop) size
-length-for size (stops.Header headers.Short) short = short.0 refl
-length-for size stop short = not-short size (λ less. let is = short.1 less in let no : ⊥ = cc is in no)
+-- one that is too short for a header is refused so
+length-for : (size : ℕ) (stop : ImageStop) → (size < MIN_HEADER_LENGTH → stop ≡ stops.Header headers.Short) → HasLengthFor (Image stop) size
+length-for size (stops.Header headers.Short) short = tt
+length-for size stop short = not-short size (λ less. let is = short less in let no : ⊥ = cc is in no)
 
-named-stop : (d e : DeviceState) (stop : ImageStop) → ((bytes : List ℕ) → d.content ≡ Some bytes → Names (image_refusal bytes) stop) → (stop ≡ stops.Header headers.Short) ↔ (d.size < MIN_HEADER_LENGTH) → HasCause d.faults e.faults stop
+named-stop : (d e : DeviceState) (stop : ImageStop) → ((bytes : List ℕ) → d.content ≡ Some bytes → Names (image_refusal bytes) stop) → (d.size < MIN_HEADER_LENGTH → stop ≡ stops.Header headers.Short) → CountsFault (fault_in_image stop) d.faults e.faults
     → StopsAs Qcow2 d e (stop_by stop)
 named-stop d e (stops.Header stop) named short cause = (refused-as d (stops.Header stop) named refl (length-for d.size (stops.Header stop) short), cause)
 named-stop d e (stops.Offset offset) named short cause = (refused-as d (stops.Offset offset) named refl (length-for d.size (stops.Offset offset) short), cause)
@@ -127,8 +128,8 @@ unopened d old new file stop over is risen =
         number = ap (λ (x : DeviceState). x.number) same ∙ over.number;
       };
       cause = named-stop d r.0 stop (λ bytes told. is.on.named bytes (ap (λ (x : DeviceState). x.content) before ∙ told))
-          (subst (λ (x : DeviceState). (stop ≡ stops.Header headers.Short) ↔ (x.size < MIN_HEADER_LENGTH)) before is.on.short)
-          (subst (λ (x : DeviceState). HasCause d.faults x.faults stop) after (subst (λ (x : DeviceState). HasCause x.faults is.after.faults stop) before is.on.cause));
+          (subst (λ (x : DeviceState). x.size < MIN_HEADER_LENGTH → stop ≡ stops.Header headers.Short) before is.on.short)
+          (subst (λ (x : DeviceState). CountsFault (fault_in_image stop) d.faults x.faults) after (subst (λ (x : DeviceState). CountsFault (fault_in_image stop) x.faults is.after.faults) before is.on.cause));
       kept = r.2;
     }
 

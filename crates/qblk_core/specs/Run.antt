@@ -209,11 +209,12 @@ IsImageCause format why = ⊥
 abbrev pub IsTraceCause : InputWhy → ℕ → Type 0
 IsTraceCause why line = (flaw : InputFlaw) × (why ≡ why_of flaw) × IsTraceFlaw flaw line
 
--- how long an image is that is refused so: too large, too short for a header, or no shorter than that
+-- How long an image is that is refused so: too large, or long enough for a header. One that is refused as short for a header may
+-- also have a header that is longer than it.
 abbrev pub HasLengthFor : InputWhy → ℕ → Type 0
 HasLengthFor TooLarge size = 274877906944 < size
 HasLengthFor NeedsBacking size = MIN_HEADER_LENGTH ≤ size
-HasLengthFor (Image (images.Header headers.Short)) size = size < MIN_HEADER_LENGTH
+HasLengthFor (Image (images.Header headers.Short)) size = ⊤
 HasLengthFor (Image stop) size = MIN_HEADER_LENGTH ≤ size
 HasLengthFor why size = ⊤
 
