@@ -213,7 +213,7 @@ impl Image {
     ) -> Result<(), DevStop>
         requires open { IsOpen self.old }
         requires below { cluster < length self.old.tables.words }
-        requires whole { length bytes.now ≡ 65536 }
+        requires whole { length bytes.now ≡ cluster_size_in self.old }
         requires fits { PutFits self.old cluster (D.capacity dev.old) }
         requires image { (file : List ℕ) → D.content dev.old ≡ Some file → IsImageOf file self.old }
         ensures steps { MakesSteps D.Device self.old (put_steps self.old cluster bytes.now)
@@ -230,7 +230,7 @@ impl Image {
         ensures image { (file : List ℕ) → D.content dev.new ≡ Some file → IsImageOf file self.new }
         ensures disk { OnOk result
             ((old new : List ℕ) → D.content dev.old ≡ Some old → D.content dev.new ≡ Some new
-            → IsDiskWith old new (cluster * 65536) bytes.now) }
+            → IsDiskWith old new (cluster * cluster_size_in self.old) bytes.now) }
         ensures kept { OnErr result
             ((old new : List ℕ) → D.content dev.old ≡ Some old → D.content dev.new ≡ Some new
             → IsSameDisk old new) }
@@ -262,7 +262,8 @@ impl Image {
         ensures image { (file : List ℕ) → D.content dev.new ≡ Some file → IsImageOf file self.new }
         ensures disk { OnOk result
             ((old new zeros : List ℕ) → D.content dev.old ≡ Some old → D.content dev.new ≡ Some new
-            → AreClusterZeros 65536 zeros → IsDiskWith old new (cluster * 65536) zeros) }
+            → AreClusterZeros (cluster_size_in self.old) zeros
+            → IsDiskWith old new (cluster * cluster_size_in self.old) zeros) }
         ensures kept { OnErr result
             ((old new : List ℕ) → D.content dev.old ≡ Some old → D.content dev.new ≡ Some new
             → IsSameDisk old new) }
@@ -284,10 +285,12 @@ impl Image {
         bytes: &[u8],
     ) -> Result<(), WriteStop>
         requires open { IsOpen self.old }
-        requires below { span.start / 65536 < length self.old.tables.words }
-        requires mapped { (host : ℕ) × (entry_in self.old (span.start / 65536) ≡ Host host)
-            × (place ≡ host + span.start % 65536) }
-        requires cluster { span.start % 65536 + length bytes.now ≤ 65536 }
+        requires below { span.start / cluster_size_in self.old < length self.old.tables.words }
+        requires mapped { (host : ℕ)
+            × (entry_in self.old (span.start / cluster_size_in self.old) ≡ Host host)
+            × (place ≡ host + span.start % cluster_size_in self.old) }
+        requires cluster { span.start % cluster_size_in self.old + length bytes.now
+            ≤ cluster_size_in self.old }
         requires header_fits { autoclear_end self.old ≤ D.capacity dev.old }
         requires fits { place + length bytes.now ≤ D.capacity dev.old }
         requires place { place ≡ own_place self.old span }

@@ -62,10 +62,10 @@ impl Image {
         ensures taken { StaysTaken self.old self.new }
         ensures spare { IfOk result
             (λ offset. (file : List ℕ) → D.content dev.new ≡ Some file
-            → IsSpare file (offset / 65536)) }
+            → IsSpare file (offset / cluster_size_in self.old)) }
         ensures fresh { IfOk result
             (λ offset. (file : List ℕ) → D.content dev.old ≡ Some file
-            → refcount_of file (header_of file) (offset / 65536) ≡ 0) }
+            → refcount_of file (header_of file) (offset / cluster_size_in self.old) ≡ 0) }
         ensures spare_stay { (old new : List ℕ) (n : ℕ) → D.content dev.old ≡ Some old
             → D.content dev.new ≡ Some new → IsSpare old n → IsSpare new n }
         ensures image { (file : List ℕ) → D.content dev.new ≡ Some file → IsImageOf file self.new }
@@ -87,19 +87,20 @@ impl Image {
     /// changes nothing that a guest reads.
     fn write_payload<D: Device>(&self, dev: &mut D, host: u64, bytes: &[u8]) -> Result<(), DevStop>
         requires open { IsOpen self.now }
-        requires whole { length bytes.now ≡ 65536 }
-        requires aligned { (file : List ℕ) → D.content dev.old ≡ Some file → host % 65536 ≡ 0 }
+        requires whole { length bytes.now ≡ cluster_size_in self.now }
+        requires aligned { (file : List ℕ) → D.content dev.old ≡ Some file
+            → host % cluster_size_in self.now ≡ 0 }
         requires small { host < 549755813888 }
-        requires fits { host + 65536 ≤ D.capacity dev.old }
+        requires fits { host + cluster_size_in self.now ≤ D.capacity dev.old }
         requires image { (file : List ℕ) → D.content dev.old ≡ Some file → IsImageOf file self.now }
         requires idle { (file : List ℕ) → D.content dev.old ≡ Some file
-            → HoldsNoGuestByte 65536 file self.now host }
+            → HoldsNoGuestByte (cluster_size_in self.now) file self.now host }
         ensures writes { Writes D.Device (write_of host bytes.now ∷ []) (stop_of result) dev.old
             dev.new }
         ensures written { OnOk result
             ((file : List ℕ) → D.content dev.new ≡ Some file
-            → bytes_at file host 65536 ≡ bytes.now) }
-        ensures reaches { OnOk result (host + 65536 ≤ D.size dev.new) }
+            → bytes_at file host (cluster_size_in self.now) ≡ bytes.now) }
+        ensures reaches { OnOk result (host + cluster_size_in self.now ≤ D.size dev.new) }
         ensures spare_stay { (old new : List ℕ) (n : ℕ) → D.content dev.old ≡ Some old
             → D.content dev.new ≡ Some new → IsSpare old n → IsSpare new n }
         ensures image { (file : List ℕ) → D.content dev.new ≡ Some file → IsImageOf file self.now }
@@ -127,14 +128,15 @@ impl Image {
         requires entry { IsWritable (entry_of to) }
         requires reached { host_of (entry_of to)
             < length self.old.refs.counts * cluster_size_in self.old }
-        requires whole { table % 65536 ≡ 0 }
-        requires near { table + 65536 ≤ 549755813888 }
+        requires whole { table % cluster_size_in self.old ≡ 0 }
+        requires near { table + cluster_size_in self.old ≤ 549755813888 }
         requires fits { link_end self.old.tables cluster table ≤ D.capacity dev.old }
         requires image { (file : List ℕ) → D.content dev.old ≡ Some file → IsImageOf file self.old }
         requires spare { (file : List ℕ) → D.content dev.old ≡ Some file → table ≢ 0
-            → IsSpare file (table / 65536) }
+            → IsSpare file (table / cluster_size_in self.old) }
         requires may { (file : List ℕ) → D.content dev.old ≡ Some file
-            → MayName 65536 file self.old cluster table (host_of (entry_of to)) }
+            → MayName (cluster_size_in self.old) file self.old cluster table
+            (host_of (entry_of to)) }
         ensures steps { MakesSteps D.Device self.old
             (entry_steps self.old cluster (entry_of to) table) (stop_of result) self.new dev.old
             dev.new }
@@ -147,8 +149,9 @@ impl Image {
         ensures image { (file : List ℕ) → D.content dev.new ≡ Some file → IsImageOf file self.new }
         ensures disk { OnOk result
             ((old new bytes : List ℕ) → D.content dev.old ≡ Some old → D.content dev.new ≡ Some new
-            → length bytes ≡ 65536 → Shows 65536 old (entry_of to) bytes
-            → IsDiskWith old new (cluster * 65536) bytes) }
+            → length bytes ≡ cluster_size_in self.old
+            → Shows (cluster_size_in self.old) old (entry_of to) bytes
+            → IsDiskWith old new (cluster * cluster_size_in self.old) bytes) }
         ensures kept { OnErr result
             ((old new : List ℕ) → D.content dev.old ≡ Some old → D.content dev.new ≡ Some new
             → IsSameDisk old new) }
@@ -183,7 +186,7 @@ impl Image {
         ensures taken { StaysTaken self.old self.new }
         ensures spare { IfOk result
             (λ table. (file : List ℕ) → D.content dev.new ≡ Some file → table ≢ 0
-            → IsSpare file (table / 65536)) }
+            → IsSpare file (table / cluster_size_in self.old)) }
         ensures image { (file : List ℕ) → D.content dev.new ≡ Some file → IsImageOf file self.new }
         ensures disk { (old new : List ℕ) → D.content dev.old ≡ Some old
             → D.content dev.new ≡ Some new → IsSameDisk old new }
@@ -213,11 +216,12 @@ impl Image {
         ensures taken { StaysTaken self.old self.new }
         ensures spare { IfOk result
             (λ host. needs_host self.old cluster ≡ true → (file : List ℕ)
-            → D.content dev.new ≡ Some file → IsSpare file (host / 65536)) }
+            → D.content dev.new ≡ Some file
+            → IsSpare file (host / cluster_size_in self.old)) }
         ensures fresh { IfOk result
             (λ host. needs_host self.old cluster ≡ true → (file : List ℕ)
             → D.content dev.old ≡ Some file
-            → refcount_of file (header_of file) (host / 65536) ≡ 0) }
+            → refcount_of file (header_of file) (host / cluster_size_in self.old) ≡ 0) }
         ensures spare_stay { (old new : List ℕ) (n : ℕ) → D.content dev.old ≡ Some old
             → D.content dev.new ≡ Some new → IsSpare old n → IsSpare new n }
         ensures image { (file : List ℕ) → D.content dev.new ≡ Some file → IsImageOf file self.new }
@@ -245,7 +249,7 @@ impl Image {
     ) -> Result<(), DevStop>
         requires open { IsOpen self.old }
         requires below { cluster < length self.old.tables.words }
-        requires whole { length bytes.now ≡ 65536 }
+        requires whole { length bytes.now ≡ cluster_size_in self.old }
         requires fits { PutFits self.old cluster (D.capacity dev.old) }
         requires image { (file : List ℕ) → D.content dev.old ≡ Some file → IsImageOf file self.old }
         ensures steps { MakesSteps D.Device self.old (fill_steps self.old cluster bytes.now)
@@ -261,7 +265,7 @@ impl Image {
         ensures image { (file : List ℕ) → D.content dev.new ≡ Some file → IsImageOf file self.new }
         ensures disk { OnOk result
             ((old new : List ℕ) → D.content dev.old ≡ Some old → D.content dev.new ≡ Some new
-            → IsDiskWith old new (cluster * 65536) bytes.now) }
+            → IsDiskWith old new (cluster * cluster_size_in self.old) bytes.now) }
         ensures kept { OnErr result
             ((old new : List ℕ) → D.content dev.old ≡ Some old → D.content dev.new ≡ Some new
             → IsSameDisk old new) }
@@ -294,7 +298,8 @@ impl Image {
         ensures image { (file : List ℕ) → D.content dev.new ≡ Some file → IsImageOf file self.new }
         ensures disk { OnOk result
             ((old new zeros : List ℕ) → D.content dev.old ≡ Some old → D.content dev.new ≡ Some new
-            → AreClusterZeros 65536 zeros → IsDiskWith old new (cluster * 65536) zeros) }
+            → AreClusterZeros (cluster_size_in self.old) zeros
+            → IsDiskWith old new (cluster * cluster_size_in self.old) zeros) }
         ensures kept { OnErr result
             ((old new : List ℕ) → D.content dev.old ≡ Some old → D.content dev.new ≡ Some new
             → IsSameDisk old new) }

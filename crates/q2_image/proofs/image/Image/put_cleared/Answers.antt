@@ -1,9 +1,9 @@
-use Rattle.std.proofs.Common.{ℕ, ◌*◌, List, [], Some, Result, Ok, Err, OnErr, sym, subst}
+use Rattle.std.proofs.Common.{◌≡◌, ℕ, ◌*◌, List, [], Some, Result, Ok, Err, OnErr, sym, ap, subst, ◌∙◌}
 use Rattle.std.proofs.lemmas.Result.{err_from_is_err_and, on_ok_weaker}
 use Rattle.blk_base.specs.declared.fault.DevStop.{DevStop}
-use Rattle.q2_image.specs.Image.{Known}
+use Rattle.q2_image.specs.Image.{Known, cluster_size_in}
 use Rattle.q2_image.specs.Made.{WriteStep, MakesSteps, fill_steps, put_steps}
-use Rattle.q2_image.specs.Writing.{autocleared}
+use Rattle.q2_image.specs.Writing.{IsDiskWith, autocleared}
 use Rattle.q2_image.proofs.Changes.{behind_clear, clear_stopped}
 use Rattle.q2_image.proofs.OwnWrites.{disk_then}
 use Rattle.q2_image.proofs.Taken.{told_too}
@@ -13,11 +13,17 @@ on_err_weaker : {T E P Q : Type 0} (r : Result T E) → (P → Q) → OnErr r P 
 on_err_weaker (Ok t) f h = tt
 on_err_weaker (Err e) f h = f h
 
+pub put_into-requires-clause-whole : goal.put_into-requires-clause-whole
+put_into-requires-clause-whole g c = c.requires.whole ∙ ap cluster_size_in (sym c.in_ok-clear_autoclear.ensures.cleared)
+
 pub returns-clause-disk : goal.returns-clause-disk
-returns-clause-disk g c = on_ok_weaker c.put_into.result (λ made. λ old new told_old told_new.
+returns-clause-disk g c =
+    let same : cluster_size_in c.clear_autoclear.new.self ≡ cluster_size_in c.args.self.now = ap cluster_size_in c.in_ok-clear_autoclear.ensures.cleared in
+    on_ok_weaker c.put_into.result (λ made. λ old new told_old told_new.
     let mid = told_too (g.D.Device.content c.clear_autoclear.new.dev) (g.D.Device.content c.put_into.new.dev) new c.put_into.ensures.told told_new in
-    let at : ℕ = c.args.cluster * 65536 in
-    disk_then old mid.0 new at c.args.bytes.now (c.in_ok-clear_autoclear.ensures.disk old mid.0 told_old mid.1) (made mid.0 new mid.1 told_new)) c.put_into.ensures.disk
+    let at : ℕ = c.args.cluster * cluster_size_in c.args.self.now in
+    let P : ℕ → Type 0 = λ n. IsDiskWith mid.0 new (c.args.cluster * n) c.args.bytes.now in
+    disk_then old mid.0 new at c.args.bytes.now (c.in_ok-clear_autoclear.ensures.disk old mid.0 told_old mid.1) (subst P same (made mid.0 new mid.1 told_new))) c.put_into.ensures.disk
 
 pub returns-clause-kept : goal.returns-clause-kept
 returns-clause-kept g c = on_err_weaker c.put_into.result (λ kept. λ old new told_old told_new.

@@ -1,6 +1,7 @@
 use Rattle.std.proofs.Common.{◌≡◌, ℕ, ◌*◌, ◌/◌, ◌⊎◌, inl, inr, Bool, true, false, [], get_or, Some, Result, Ok, Err, OnErr, refl, sym, ap, subst, ◌∙◌, arith}
 use Rattle.std.proofs.lemmas.Result.{err_from_is_err_and, on_ok_weaker}
 use Rattle.q2_format.specs.Header.{header_of}
+use Rattle.q2_format.specs.declared.header.Header.{Header}
 use Rattle.q2_format.specs.Tables.{refcount_of}
 use Rattle.blk_base.specs.declared.fault.DevStop.{DevStop}
 use Rattle.q2_image.specs.Image.{Known}
@@ -47,8 +48,18 @@ write_payload-requires-clause-open g c =
     } in
     open_second c.args.self.now c.new_table.new.self c.new_host.new.self c.args.cluster c.in_ok-table.table c.in_ok-host.host (g.D.Device.capacity c.args.dev.now) put
 
+pub write_payload-requires-clause-whole : goal.write_payload-requires-clause-whole
+write_payload-requires-clause-whole g c =
+    let bits = c.requires.open.cluster_bits in
+    let first_bits = ap (λ (k : Header). k.cluster_bits) c.in_ok-table.ensures.same.header ∙ bits in
+    let second_bits = ap (λ (k : Header). k.cluster_bits) c.in_ok-host.ensures.same.header ∙ first_bits in
+    rw second_bits (rw bits at c.requires.whole)
+
 pub write_payload-requires-clause-aligned : goal.write_payload-requires-clause-aligned
 write_payload-requires-clause-aligned g c =
+    let bits = c.requires.open.cluster_bits in
+    let first_bits = ap (λ (k : Header). k.cluster_bits) c.in_ok-table.ensures.same.header ∙ bits in
+    let second_bits = ap (λ (k : Header). k.cluster_bits) c.in_ok-host.ensures.same.header ∙ first_bits in
     let put : IsPut c.args.self.now c.new_table.new.self c.new_host.new.self c.args.cluster c.in_ok-table.table c.in_ok-host.host (g.D.Device.capacity c.args.dev.now) = record {
       ready = c.requires.open;
       below = c.requires.below;
@@ -58,13 +69,13 @@ write_payload-requires-clause-aligned g c =
       host_is = c.in_ok-host.ensures.host;
       second_is = c.in_ok-host.ensures.ok;
     } in
-    λ file told. elim (bool_cases (needs_host c.new_table.new.self c.args.cluster)) [
+    rw second_bits (λ file told. elim (bool_cases (needs_host c.new_table.new.self c.args.cluster)) [
       | inl taken ↦ taken_whole c.args.self.now c.new_table.new.self c.new_host.new.self c.args.cluster c.in_ok-table.table c.in_ok-host.host (g.D.Device.capacity c.args.dev.now) put taken
       | inr idle ↦
           let there = idle_host_there c.args.self.now c.new_table.new.self c.new_host.new.self c.args.cluster c.in_ok-table.table c.in_ok-host.host (g.D.Device.capacity c.args.dev.now) put idle in
           (held_by file c.new_host.new.self (c.in_ok-host.ensures.image file told) (open_second c.args.self.now c.new_table.new.self c.new_host.new.self c.args.cluster c.in_ok-table.table c.in_ok-host.host (g.D.Device.capacity c.args.dev.now) put) c.args.cluster c.in_ok-host.host (below_second c.args.self.now c.new_table.new.self c.new_host.new.self c.args.cluster c.in_ok-table.table c.in_ok-host.host (g.D.Device.capacity c.args.dev.now) put)
           (zero_entry (get_or c.new_host.new.self.tables.words c.args.cluster 0) c.in_ok-host.host there.0) (λ none. let some = there.1 in omega (arith, none, some))).whole
-    ]
+    ])
 
 pub write_payload-requires-clause-small : goal.write_payload-requires-clause-small
 write_payload-requires-clause-small g c =
@@ -81,6 +92,9 @@ write_payload-requires-clause-small g c =
 
 pub write_payload-requires-clause-fits : goal.write_payload-requires-clause-fits
 write_payload-requires-clause-fits g c =
+    let bits = c.requires.open.cluster_bits in
+    let first_bits = ap (λ (k : Header). k.cluster_bits) c.in_ok-table.ensures.same.header ∙ bits in
+    let second_bits = ap (λ (k : Header). k.cluster_bits) c.in_ok-host.ensures.same.header ∙ first_bits in
     let put : IsPut c.args.self.now c.new_table.new.self c.new_host.new.self c.args.cluster c.in_ok-table.table c.in_ok-host.host (g.D.Device.capacity c.args.dev.now) = record {
       ready = c.requires.open;
       below = c.requires.below;
@@ -90,10 +104,13 @@ write_payload-requires-clause-fits g c =
       host_is = c.in_ok-host.ensures.host;
       second_is = c.in_ok-host.ensures.ok;
     } in
-    let fits = (host_facts c.args.self.now c.new_table.new.self c.new_host.new.self c.args.cluster c.in_ok-table.table c.in_ok-host.host (g.D.Device.capacity c.args.dev.now) put).fits in omega (arith, fits, c.in_ok-table.ensures.capacity, c.in_ok-host.ensures.capacity)
+    rw second_bits (let fits = (host_facts c.args.self.now c.new_table.new.self c.new_host.new.self c.args.cluster c.in_ok-table.table c.in_ok-host.host (g.D.Device.capacity c.args.dev.now) put).fits in omega (arith, fits, c.in_ok-table.ensures.capacity, c.in_ok-host.ensures.capacity))
 
 pub write_payload-requires-clause-idle : goal.write_payload-requires-clause-idle
 write_payload-requires-clause-idle g c =
+    let bits = c.requires.open.cluster_bits in
+    let first_bits = ap (λ (k : Header). k.cluster_bits) c.in_ok-table.ensures.same.header ∙ bits in
+    let second_bits = ap (λ (k : Header). k.cluster_bits) c.in_ok-host.ensures.same.header ∙ first_bits in
     let put : IsPut c.args.self.now c.new_table.new.self c.new_host.new.self c.args.cluster c.in_ok-table.table c.in_ok-host.host (g.D.Device.capacity c.args.dev.now) = record {
       ready = c.requires.open;
       below = c.requires.below;
@@ -103,10 +120,10 @@ write_payload-requires-clause-idle g c =
       host_is = c.in_ok-host.ensures.host;
       second_is = c.in_ok-host.ensures.ok;
     } in
-    λ file told. elim (bool_cases (needs_host c.new_table.new.self c.args.cluster)) [
-      | inl taken ↦ inl (c.in_ok-host.ensures.spare taken file told)
+    rw second_bits (λ file told. elim (bool_cases (needs_host c.new_table.new.self c.args.cluster)) [
+      | inl taken ↦ inl (rw first_bits at (c.in_ok-host.ensures.spare taken file told))
       | inr idle ↦ let there = idle_host_there c.args.self.now c.new_table.new.self c.new_host.new.self c.args.cluster c.in_ok-table.table c.in_ok-host.host (g.D.Device.capacity c.args.dev.now) put idle in inr (c.args.cluster, below_second c.args.self.now c.new_table.new.self c.new_host.new.self c.args.cluster c.in_ok-table.table c.in_ok-host.host (g.D.Device.capacity c.args.dev.now) put, there.0, there.1)
-    ]
+    ])
 
 pub returns-in_err-write_payload-clause-kept : goal.returns-in_err-write_payload-clause-kept
 returns-in_err-write_payload-clause-kept g c =
@@ -158,6 +175,9 @@ map_cluster-requires-clause-reached g c =
 
 pub map_cluster-requires-clause-whole : goal.map_cluster-requires-clause-whole
 map_cluster-requires-clause-whole g c =
+    let bits = c.requires.open.cluster_bits in
+    let first_bits = ap (λ (k : Header). k.cluster_bits) c.in_ok-table.ensures.same.header ∙ bits in
+    let second_bits = ap (λ (k : Header). k.cluster_bits) c.in_ok-host.ensures.same.header ∙ first_bits in
     let put : IsPut c.args.self.now c.new_table.new.self c.new_host.new.self c.args.cluster c.in_ok-table.table c.in_ok-host.host (g.D.Device.capacity c.args.dev.now) = record {
       ready = c.requires.open;
       below = c.requires.below;
@@ -167,10 +187,13 @@ map_cluster-requires-clause-whole g c =
       host_is = c.in_ok-host.ensures.host;
       second_is = c.in_ok-host.ensures.ok;
     } in
-    (table_facts c.args.self.now c.new_table.new.self c.new_host.new.self c.args.cluster c.in_ok-table.table c.in_ok-host.host (g.D.Device.capacity c.args.dev.now) put).whole
+    rw second_bits ((table_facts c.args.self.now c.new_table.new.self c.new_host.new.self c.args.cluster c.in_ok-table.table c.in_ok-host.host (g.D.Device.capacity c.args.dev.now) put).whole)
 
 pub map_cluster-requires-clause-near : goal.map_cluster-requires-clause-near
 map_cluster-requires-clause-near g c =
+    let bits = c.requires.open.cluster_bits in
+    let first_bits = ap (λ (k : Header). k.cluster_bits) c.in_ok-table.ensures.same.header ∙ bits in
+    let second_bits = ap (λ (k : Header). k.cluster_bits) c.in_ok-host.ensures.same.header ∙ first_bits in
     let put : IsPut c.args.self.now c.new_table.new.self c.new_host.new.self c.args.cluster c.in_ok-table.table c.in_ok-host.host (g.D.Device.capacity c.args.dev.now) = record {
       ready = c.requires.open;
       below = c.requires.below;
@@ -180,17 +203,25 @@ map_cluster-requires-clause-near g c =
       host_is = c.in_ok-host.ensures.host;
       second_is = c.in_ok-host.ensures.ok;
     } in
-    (table_facts c.args.self.now c.new_table.new.self c.new_host.new.self c.args.cluster c.in_ok-table.table c.in_ok-host.host (g.D.Device.capacity c.args.dev.now) put).near
+    rw second_bits ((table_facts c.args.self.now c.new_table.new.self c.new_host.new.self c.args.cluster c.in_ok-table.table c.in_ok-host.host (g.D.Device.capacity c.args.dev.now) put).near)
 
 pub map_cluster-requires-clause-spare : goal.map_cluster-requires-clause-spare
-map_cluster-requires-clause-spare g c = λ file told some.
+map_cluster-requires-clause-spare g c =
+    let bits = c.requires.open.cluster_bits in
+    let first_bits = ap (λ (k : Header). k.cluster_bits) c.in_ok-table.ensures.same.header ∙ bits in
+    let second_bits = ap (λ (k : Header). k.cluster_bits) c.in_ok-host.ensures.same.header ∙ first_bits in
+    rw second_bits (λ file told some.
     let second = told_too (g.D.Device.content c.new_host.new.dev) (g.D.Device.content c.write_payload.new.dev) file c.in_ok-write_payload.ensures.told told in
     let first = told_too (g.D.Device.content c.new_table.new.dev) (g.D.Device.content c.new_host.new.dev) second.0 c.in_ok-host.ensures.told second.1 in
     let n : ℕ = c.in_ok-table.table / 65536 in
-    c.in_ok-write_payload.ensures.spare_stay second.0 file n second.1 told (c.in_ok-host.ensures.spare_stay first.0 second.0 n first.1 second.1 (c.in_ok-table.ensures.spare first.0 first.1 some))
+    c.in_ok-write_payload.ensures.spare_stay second.0 file n second.1 told (c.in_ok-host.ensures.spare_stay first.0 second.0 n first.1 second.1 (rw bits at (c.in_ok-table.ensures.spare first.0 first.1 some))))
 
 pub map_cluster-requires-clause-may : goal.map_cluster-requires-clause-may
-map_cluster-requires-clause-may g c = λ file told.
+map_cluster-requires-clause-may g c =
+    let bits = c.requires.open.cluster_bits in
+    let first_bits = ap (λ (k : Header). k.cluster_bits) c.in_ok-table.ensures.same.header ∙ bits in
+    let second_bits = ap (λ (k : Header). k.cluster_bits) c.in_ok-host.ensures.same.header ∙ first_bits in
+    rw second_bits (λ file told.
     let put : IsPut c.args.self.now c.new_table.new.self c.new_host.new.self c.args.cluster c.in_ok-table.table c.in_ok-host.host (g.D.Device.capacity c.args.dev.now) = record {
       ready = c.requires.open;
       below = c.requires.below;
@@ -205,16 +236,16 @@ map_cluster-requires-clause-may g c = λ file told.
     let size = g.met.D.Device.told_size c.write_payload.new.dev file told in
     elim (bool_cases (needs_host c.new_table.new.self c.args.cluster)) [
       | inl taken ↦ inr (inr (
-        c.in_ok-write_payload.ensures.spare_stay second.0 file (c.in_ok-host.host / 65536) second.1 told (c.in_ok-host.ensures.spare taken second.0 second.1),
+        c.in_ok-write_payload.ensures.spare_stay second.0 file (c.in_ok-host.host / 65536) second.1 told (rw first_bits at (c.in_ok-host.ensures.spare taken second.0 second.1)),
         taken_whole c.args.self.now c.new_table.new.self c.new_host.new.self c.args.cluster c.in_ok-table.table c.in_ok-host.host (g.D.Device.capacity c.args.dev.now) put taken,
-        omega (arith, size, c.in_ok-write_payload.ensures.reaches),
-        λ some same. (c.in_ok-table.ensures.spare first.0 first.1 some).counted
-            (ap (refcount_of first.0 (header_of first.0)) (sym same) ∙ c.in_ok-host.ensures.fresh taken first.0 first.1),
+        let reaches = rw second_bits at c.in_ok-write_payload.ensures.reaches in omega (arith, size, reaches),
+        λ some same. (rw bits at (c.in_ok-table.ensures.spare first.0 first.1 some)).counted
+            (ap (refcount_of first.0 (header_of first.0)) (sym same) ∙ rw first_bits at (c.in_ok-host.ensures.fresh taken first.0 first.1)),
       ))
       | inr idle ↦
           let there = idle_host_there c.args.self.now c.new_table.new.self c.new_host.new.self c.args.cluster c.in_ok-table.table c.in_ok-host.host (g.D.Device.capacity c.args.dev.now) put idle in
           inr (inl (sym (zero_entry (get_or c.new_host.new.self.tables.words c.args.cluster 0) c.in_ok-host.host there.0)))
-    ]
+    ])
 
 pub returns-clause-single : goal.returns-clause-single
 returns-clause-single g c =
@@ -230,15 +261,19 @@ returns-clause-single g c =
     single_after c.args.self.now c.new_table.new.self c.new_host.new.self c.args.cluster c.in_ok-table.table c.in_ok-host.host (g.D.Device.capacity c.args.dev.now) put c.map_cluster.new.self c.map_cluster.result c.map_cluster.ensures.header c.map_cluster.ensures.refs c.map_cluster.ensures.entry c.map_cluster.ensures.spelled
 
 pub returns-clause-disk : goal.returns-clause-disk
-returns-clause-disk g c = on_ok_weaker c.map_cluster.result (λ made. λ old new told_old told_new.
+returns-clause-disk g c =
+    let bits = c.requires.open.cluster_bits in
+    let first_bits = ap (λ (k : Header). k.cluster_bits) c.in_ok-table.ensures.same.header ∙ bits in
+    let second_bits = ap (λ (k : Header). k.cluster_bits) c.in_ok-host.ensures.same.header ∙ first_bits in
+    rw bits (on_ok_weaker c.map_cluster.result (λ made. λ old new told_old told_new.
     let third = told_too (g.D.Device.content c.write_payload.new.dev) (g.D.Device.content c.map_cluster.new.dev) new c.map_cluster.ensures.told told_new in
     let second = told_too (g.D.Device.content c.new_host.new.dev) (g.D.Device.content c.write_payload.new.dev) third.0 c.in_ok-write_payload.ensures.told third.1 in
     let first = told_too (g.D.Device.content c.new_table.new.dev) (g.D.Device.content c.new_host.new.dev) second.0 c.in_ok-host.ensures.told second.1 in
     let at : ℕ = c.args.cluster * 65536 in
-    let last = made third.0 new c.args.bytes.now third.1 told_new c.requires.whole (c.in_ok-write_payload.ensures.written third.0 third.1) in
+    let last = made third.0 new c.args.bytes.now third.1 told_new (rw bits at c.requires.whole) (rw second_bits at (c.in_ok-write_payload.ensures.written third.0 third.1)) in
     disk_then old first.0 new at c.args.bytes.now (c.in_ok-table.ensures.disk old first.0 told_old first.1)
     (disk_then first.0 second.0 new at c.args.bytes.now (c.in_ok-host.ensures.disk first.0 second.0 first.1 second.1)
-    (disk_then second.0 third.0 new at c.args.bytes.now (c.in_ok-write_payload.ensures.disk second.0 third.0 second.1 third.1) last))) c.map_cluster.ensures.disk
+    (disk_then second.0 third.0 new at c.args.bytes.now (c.in_ok-write_payload.ensures.disk second.0 third.0 second.1 third.1) last))) (rw second_bits at c.map_cluster.ensures.disk))
 
 pub returns-clause-kept : goal.returns-clause-kept
 returns-clause-kept g c = on_err_weaker c.map_cluster.result (λ kept. λ old new told_old told_new.

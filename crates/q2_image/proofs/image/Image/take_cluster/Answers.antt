@@ -1,4 +1,4 @@
-use Rattle.std.proofs.Common.{◌≤◌, ℕ, List, length, slice_index_or, None, Some, Option, Err, sym, ap, subst, ◌∙◌}
+use Rattle.std.proofs.Common.{◌≤◌, ℕ, List, length, slice_index_or, None, Some, Option, Err, sym, ap, subst, ◌∙◌, arith}
 use Rattle.blk_base.proofs.DeviceLemmas.{wrote-told}
 use Rattle.blk_base.specs.Device.{Writes}
 use Rattle.blk_base.specs.declared.fault.DevStop.{DevStop}
@@ -9,6 +9,7 @@ use Rattle.q2_format.specs.Tables.{refcount_of}
 use Rattle.q2_refs.specs.Free.{free_cluster, free_clusters}
 use Rattle.q2_image.specs.Image.{Known, IsImageOf}
 use Rattle.q2_image.specs.Made.{MakesSteps, take_steps}
+use Rattle.q2_image.specs.Writing.{IsSpare}
 use Rattle.q2_image.proofs.Changes.{take_made, take_stopped}
 use Rattle.q2_image.proofs.Taken.{told_too, taken_fault, image_taken, spare_stays, disk_taken, open_with_refs, ready_result, fresh_count, by_size}
 use Rattle.q2_image.proofs.image.Image.take_cluster.Goals as goal
@@ -51,11 +52,26 @@ returns-clause-disk g c = λ old new told_old told_new.
     disk_taken old new seen c.allocate.new.self (subst P (sym c.self.view_is) (c.requires.image old told_old)) (c.allocate.ensures.keeps old new told_old told_new) (c.allocate.ensures.step new told_new)
     c.self.invariant (open_with_refs seen c.allocate.new.self c.self.invariant (ready_result c.self.inside.refs c.allocate.new.self c.allocate.result c.allocate.ensures.kept c.allocate.ensures.partly))
 
+pub returns-clause-spare : goal.returns-clause-spare
+returns-clause-spare g c =
+    let bits = ap (λ (k : Known). k.header.cluster_bits) (sym c.self.view_is) ∙ c.self.invariant.cluster_bits in
+    elim c.match-allocate.branch [
+      | in-Ok w ↦ rw (w.result-is, bits) (λ file told.
+          let S : ℕ → Type 0 = IsSpare file in
+          subst S (sym (by_size w.in-Ok.cluster w.cluster_size.result w.cluster_size.ensures.number))
+          (record {
+            unnamed = w.in-Ok.ensures.unused_still file told;
+            counted = λ none. let one = w.in-Ok.ensures.counted file told in omega (arith, one, none);
+          }))
+      | in-Err-Dev w ↦ rw w.result-is tt
+    ]
+
 pub returns-clause-fresh : goal.returns-clause-fresh
 returns-clause-fresh g c =
+    let bits = ap (λ (k : Known). k.header.cluster_bits) (sym c.self.view_is) ∙ c.self.invariant.cluster_bits in
     let seen : Known = record { header = c.self.inside.header; tables = c.self.inside.tables; refs = c.self.inside.refs } in
     elim c.match-allocate.branch [
-      | in-Ok w ↦ rw w.result-is (λ file told.
+      | in-Ok w ↦ rw (w.result-is, bits) (λ file told.
           let P : Known → Type 0 = IsImageOf file in
           let is = subst P (sym c.self.view_is) (c.requires.image file told) in
           ap (refcount_of file (header_of file)) (by_size w.in-Ok.cluster w.cluster_size.result w.cluster_size.ensures.number)

@@ -1,4 +1,4 @@
-use Rattle.std.proofs.Common.{ℕ, ◌/◌, ◌<◌, List, [], ◌∷◌, ◌++◌, inl, inr, length, refl, sym, subst}
+use Rattle.std.proofs.Common.{ℕ, ◌+◌, ◌/◌, ◌%◌, ◌<◌, ◌≤◌, List, [], ◌∷◌, ◌++◌, inl, inr, length, refl, sym, subst}
 use Rattle.blk_base.specs.Content.{Write, with_bytes}
 use Rattle.blk_base.specs.Counts.{taken}
 use Rattle.blk_base.specs.Device.{Wrote}
@@ -14,26 +14,34 @@ use Rattle.q2_image.proofs.image.Image.write_cleared.Goals as goal
 
 pub returns-in-Ok-clause-image : goal.returns-in-Ok-clause-image
 returns-in-Ok-clause-image g c =
+    let bits = c.requires.open.cluster_bits in
+    let words : c.args.span.start / 65536 < length c.args.self.now.tables.words = rw bits at c.requires.below in
+    let mapped : IsOwnPlace c.args.self.now c.args.span.start c.args.place = rw bits at c.requires.mapped in
+    let part : c.args.span.start % 65536 + length c.args.bytes.now ≤ 65536 = rw bits at c.requires.cluster in
     let image : Known = c.clear_autoclear.new.self in
     let ready : IsOpen image = subst IsOpen (sym c.in-Ok.ensures.cleared) (open_cleared c.args.self.now c.requires.open) in
     let B : Known → Type 0 = λ k. c.args.span.start / 65536 < length k.tables.words in
-    let below : B image = subst B (sym c.in-Ok.ensures.cleared) c.requires.below in
+    let below : B image = subst B (sym c.in-Ok.ensures.cleared) words in
     let M : Known → Type 0 = λ k. IsOwnPlace k c.args.span.start c.args.place in
-    let at : M image = subst M (sym c.in-Ok.ensures.cleared) c.requires.mapped in
+    let at : M image = subst M (sym c.in-Ok.ensures.cleared) mapped in
     let bytes : List ℕ = taken c.write_at.result c.args.bytes.now in
-    let within = part_within c.write_at.result c.args.bytes.now c.args.span.start c.requires.cluster in
+    let within = part_within c.write_at.result c.args.bytes.now c.args.span.start part in
     own_told_image (g.D.Device.content c.clear_autoclear.new.dev) (g.D.Device.content c.write_at.new.self) image c.args.span.start c.args.place bytes c.write_at.ensures.written c.in-Ok.ensures.image ready below at within
 
 pub returns-in-Ok-clause-disk : goal.returns-in-Ok-clause-disk
 returns-in-Ok-clause-disk g c = λ old new told_old told_new.
+    let bits = c.requires.open.cluster_bits in
+    let words : c.args.span.start / 65536 < length c.args.self.now.tables.words = rw bits at c.requires.below in
+    let mapped : IsOwnPlace c.args.self.now c.args.span.start c.args.place = rw bits at c.requires.mapped in
+    let part : c.args.span.start % 65536 + length c.args.bytes.now ≤ 65536 = rw bits at c.requires.cluster in
     let image : Known = c.clear_autoclear.new.self in
     let ready : IsOpen image = subst IsOpen (sym c.in-Ok.ensures.cleared) (open_cleared c.args.self.now c.requires.open) in
     let B : Known → Type 0 = λ k. c.args.span.start / 65536 < length k.tables.words in
-    let below : B image = subst B (sym c.in-Ok.ensures.cleared) c.requires.below in
+    let below : B image = subst B (sym c.in-Ok.ensures.cleared) words in
     let M : Known → Type 0 = λ k. IsOwnPlace k c.args.span.start c.args.place in
-    let at : M image = subst M (sym c.in-Ok.ensures.cleared) c.requires.mapped in
+    let at : M image = subst M (sym c.in-Ok.ensures.cleared) mapped in
     let bytes : List ℕ = taken c.write_at.result c.args.bytes.now in
-    let within = part_within c.write_at.result c.args.bytes.now c.args.span.start c.requires.cluster in
+    let within = part_within c.write_at.result c.args.bytes.now c.args.span.start part in
     let mid = told_before (λ b. with_bytes b c.args.place bytes) (g.D.Device.content c.clear_autoclear.new.dev) (g.D.Device.content c.write_at.new.self) new c.write_at.ensures.written told_new in
     disk_then old mid.0 new c.args.span.start bytes (c.in-Ok.ensures.disk old mid.0 told_old mid.1)
     (own_told_disk (g.D.Device.content c.clear_autoclear.new.dev) (g.D.Device.content c.write_at.new.self) image c.args.span.start c.args.place bytes c.write_at.ensures.written c.in-Ok.ensures.image ready below at within mid.0 new mid.1 told_new)

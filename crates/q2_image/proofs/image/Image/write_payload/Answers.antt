@@ -8,26 +8,31 @@ use Rattle.q2_image.proofs.image.Image.write_payload.Goals as goal
 
 pub returns-clause-written : goal.returns-clause-written
 returns-clause-written g c =
-    bytes_written g.D.Device c.args.host c.args.bytes.now c.write.result c.args.dev.now c.write.new.dev c.write.ensures c.requires.whole
+    let bits = c.requires.open.cluster_bits in
+    rw bits (bytes_written g.D.Device c.args.host c.args.bytes.now c.write.result c.args.dev.now c.write.new.dev c.write.ensures (rw bits at c.requires.whole))
 
 pub returns-clause-reaches : goal.returns-clause-reaches
 returns-clause-reaches g c =
-    table_reaches g.D.Device c.args.dev.now c.write.new.dev c.write.result c.args.host 65536 c.args.bytes.now c.write.ensures c.requires.whole (omega arith)
+    let bits = c.requires.open.cluster_bits in
+    rw bits (table_reaches g.D.Device c.args.dev.now c.write.new.dev c.write.result c.args.host 65536 c.args.bytes.now c.write.ensures (rw bits at c.requires.whole) (omega arith))
 
 pub returns-clause-spare_stay : goal.returns-clause-spare_stay
 returns-clause-spare_stay g c =
+    let bits = c.requires.open.cluster_bits in
     spare_written g.D.Device c.args.self.now c.args.host c.args.bytes.now (stop_of c.write.result) c.args.dev.now c.write.new.dev c.write.ensures
-    c.requires.image c.requires.open c.requires.idle c.requires.aligned (omega (arith, c.requires.whole)) c.requires.small
+    c.requires.image c.requires.open (rw bits at c.requires.idle) (rw bits at c.requires.aligned) (let whole = rw bits at c.requires.whole in omega (arith, whole)) c.requires.small
 
 pub returns-clause-image : goal.returns-clause-image
 returns-clause-image g c =
+    let bits = c.requires.open.cluster_bits in
     image_written g.D.Device c.args.self.now c.args.host c.args.bytes.now (stop_of c.write.result) c.args.dev.now c.write.new.dev c.write.ensures
-    c.requires.image c.requires.open c.requires.idle c.requires.aligned (omega (arith, c.requires.whole)) c.requires.small
+    c.requires.image c.requires.open (rw bits at c.requires.idle) (rw bits at c.requires.aligned) (let whole = rw bits at c.requires.whole in omega (arith, whole)) c.requires.small
 
 pub returns-clause-disk : goal.returns-clause-disk
 returns-clause-disk g c =
+    let bits = c.requires.open.cluster_bits in
     disk_written g.D.Device c.args.self.now c.args.host c.args.bytes.now (stop_of c.write.result) c.args.dev.now c.write.new.dev c.write.ensures
-    c.requires.image c.requires.open c.requires.idle c.requires.aligned (omega (arith, c.requires.whole)) c.requires.small
+    c.requires.image c.requires.open (rw bits at c.requires.idle) (rw bits at c.requires.aligned) (let whole = rw bits at c.requires.whole in omega (arith, whole)) c.requires.small
 
 pub returns-clause-cause : goal.returns-clause-cause
 returns-clause-cause g c =

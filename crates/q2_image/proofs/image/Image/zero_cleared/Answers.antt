@@ -1,9 +1,9 @@
-use Rattle.std.proofs.Common.{ℕ, ◌*◌, List, [], Some, Result, Ok, Err, OnErr, sym, subst}
+use Rattle.std.proofs.Common.{◌≡◌, ℕ, ◌*◌, List, [], Some, Result, Ok, Err, OnErr, sym, ap, subst}
 use Rattle.std.proofs.lemmas.Result.{err_from_is_err_and, on_ok_weaker}
 use Rattle.blk_base.specs.declared.fault.DevStop.{DevStop}
-use Rattle.q2_image.specs.Image.{Known}
+use Rattle.q2_image.specs.Image.{Known, cluster_size_in}
 use Rattle.q2_image.specs.Made.{WriteStep, MakesSteps, clean_steps, zero_steps}
-use Rattle.q2_image.specs.Writing.{autocleared}
+use Rattle.q2_image.specs.Writing.{IsDiskWith, AreClusterZeros, autocleared}
 use Rattle.q2_image.proofs.Changes.{behind_clear, clear_stopped}
 use Rattle.q2_image.proofs.OwnWrites.{disk_then}
 use Rattle.q2_image.proofs.Taken.{told_too}
@@ -14,10 +14,13 @@ on_err_weaker (Ok t) f h = tt
 on_err_weaker (Err e) f h = f h
 
 pub returns-clause-disk : goal.returns-clause-disk
-returns-clause-disk g c = on_ok_weaker c.zero_into.result (λ made. λ old new zeros told_old told_new are.
+returns-clause-disk g c =
+    let same : cluster_size_in c.clear_autoclear.new.self ≡ cluster_size_in c.args.self.now = ap cluster_size_in c.in_ok-clear_autoclear.ensures.cleared in
+    on_ok_weaker c.zero_into.result (λ made. λ old new zeros told_old told_new are.
     let mid = told_too (g.D.Device.content c.clear_autoclear.new.dev) (g.D.Device.content c.zero_into.new.dev) new c.zero_into.ensures.told told_new in
-    let at : ℕ = c.args.cluster * 65536 in
-    disk_then old mid.0 new at zeros (c.in_ok-clear_autoclear.ensures.disk old mid.0 told_old mid.1) (made mid.0 new zeros mid.1 told_new are)) c.zero_into.ensures.disk
+    let at : ℕ = c.args.cluster * cluster_size_in c.args.self.now in
+    let P : ℕ → Type 0 = λ n. AreClusterZeros n zeros → IsDiskWith mid.0 new (c.args.cluster * n) zeros in
+    disk_then old mid.0 new at zeros (c.in_ok-clear_autoclear.ensures.disk old mid.0 told_old mid.1) (subst P same (made mid.0 new zeros mid.1 told_new) are)) c.zero_into.ensures.disk
 
 pub returns-clause-kept : goal.returns-clause-kept
 returns-clause-kept g c = on_err_weaker c.zero_into.result (λ kept. λ old new told_old told_new.

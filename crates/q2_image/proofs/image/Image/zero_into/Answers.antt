@@ -2,6 +2,7 @@ use Rattle.std.proofs.Common.{ℕ, ◌*◌, inl, inr, [], get_or, Some, Result, 
 use Rattle.std.proofs.lemmas.Result.{err_from_is_err_and, on_ok_weaker}
 use Rattle.blk_base.specs.declared.fault.DevStop.{DevStop}
 use Rattle.q2_format.specs.Entry.{host_of, l2_entry}
+use Rattle.q2_format.specs.declared.header.Header.{Header}
 use Rattle.q2_tables.specs.Entries.{entry_of}
 use Rattle.q2_tables.specs.Kept as tables
 use Rattle.q2_image.specs.Image.{Known, entry_in}
@@ -19,6 +20,24 @@ on_err_weaker (Err e) f h = f h
 pub map_cluster-requires-clause-can : goal.map_cluster-requires-clause-can
 map_cluster-requires-clause-can g c = (zero_table c.args.self.now c.new_table.new.self c.args.cluster c.in_ok-table.table (g.D.Device.capacity c.args.dev.now) c.requires.open c.requires.below c.requires.fits c.in_ok-table.ensures.table c.in_ok-table.ensures.ok).can
 
+pub map_cluster-requires-clause-whole : goal.map_cluster-requires-clause-whole
+map_cluster-requires-clause-whole g c =
+    let bits = c.requires.open.cluster_bits in
+    let first_bits = ap (λ (k : Header). k.cluster_bits) c.in_ok-table.ensures.same.header ∙ bits in
+    rw first_bits (zero_table c.args.self.now c.new_table.new.self c.args.cluster c.in_ok-table.table (g.D.Device.capacity c.args.dev.now) c.requires.open c.requires.below c.requires.fits c.in_ok-table.ensures.table c.in_ok-table.ensures.ok).whole
+
+pub map_cluster-requires-clause-near : goal.map_cluster-requires-clause-near
+map_cluster-requires-clause-near g c =
+    let bits = c.requires.open.cluster_bits in
+    let first_bits = ap (λ (k : Header). k.cluster_bits) c.in_ok-table.ensures.same.header ∙ bits in
+    rw first_bits (zero_table c.args.self.now c.new_table.new.self c.args.cluster c.in_ok-table.table (g.D.Device.capacity c.args.dev.now) c.requires.open c.requires.below c.requires.fits c.in_ok-table.ensures.table c.in_ok-table.ensures.ok).near
+
+pub map_cluster-requires-clause-spare : goal.map_cluster-requires-clause-spare
+map_cluster-requires-clause-spare g c =
+    let bits = c.requires.open.cluster_bits in
+    let first_bits = ap (λ (k : Header). k.cluster_bits) c.in_ok-table.ensures.same.header ∙ bits in
+    rw first_bits (λ file told some. rw bits at (c.in_ok-table.ensures.spare file told some))
+
 pub map_cluster-requires-clause-entry : goal.map_cluster-requires-clause-entry
 map_cluster-requires-clause-entry g c = (kept_host c.new_table.new.self c.args.cluster c.host_of-host.result (entry_of c.lookup.result) (zero_open c.args.self.now c.new_table.new.self c.args.cluster c.in_ok-table.table (g.D.Device.capacity c.args.dev.now) c.requires.open c.requires.below c.requires.fits c.in_ok-table.ensures.table c.in_ok-table.ensures.ok) (zero_below c.args.self.now c.new_table.new.self c.args.cluster c.in_ok-table.table (g.D.Device.capacity c.args.dev.now) c.requires.open c.requires.below c.requires.fits c.in_ok-table.ensures.table c.in_ok-table.ensures.ok) c.host_of-host.ensures (c.lookup.ensures ∙ ap (λ (k : Known). entry_in k c.args.cluster) c.self.view_is)).offset
 
@@ -33,10 +52,13 @@ returns-clause-others g c = λ q other.
     c.map_cluster.ensures.others q other ∙ ap (λ (t : tables.Kept). get_or t.words q 0) (zero_tables c.args.self.now c.new_table.new.self c.args.cluster c.in_ok-table.table (g.D.Device.capacity c.args.dev.now) c.requires.open c.requires.below c.requires.fits c.in_ok-table.ensures.table c.in_ok-table.ensures.ok)
 
 pub returns-clause-disk : goal.returns-clause-disk
-returns-clause-disk g c = on_ok_weaker c.map_cluster.result (λ made. λ old new zeros told_old told_new are.
+returns-clause-disk g c =
+    let bits = c.requires.open.cluster_bits in
+    let first_bits = ap (λ (k : Header). k.cluster_bits) c.in_ok-table.ensures.same.header ∙ bits in
+    rw bits (on_ok_weaker c.map_cluster.result (λ made. λ old new zeros told_old told_new are.
     let mid = told_too (g.D.Device.content c.new_table.new.dev) (g.D.Device.content c.map_cluster.new.dev) new c.map_cluster.ensures.told told_new in
     let at : ℕ = c.args.cluster * 65536 in
-    disk_then old mid.0 new at zeros (c.in_ok-table.ensures.disk old mid.0 told_old mid.1) (made mid.0 new zeros mid.1 told_new are.whole are.zeros)) c.map_cluster.ensures.disk
+    disk_then old mid.0 new at zeros (c.in_ok-table.ensures.disk old mid.0 told_old mid.1) (made mid.0 new zeros mid.1 told_new are.whole are.zeros)) (rw first_bits at c.map_cluster.ensures.disk))
 
 pub returns-clause-kept : goal.returns-clause-kept
 returns-clause-kept g c = on_err_weaker c.map_cluster.result (λ kept. λ old new told_old told_new.
