@@ -323,6 +323,7 @@ device_risen old new is = record {
   node = ap (λ (d : DeviceState). d.node) is.same;
   number = ap (λ (d : DeviceState). d.number) is.same;
   told = ap (λ (d : DeviceState). is_some d.content) is.same;
+  capacity = ap (λ (d : DeviceState). d.capacity) is.same;
   faults = is.faults;
 }
 

@@ -83,6 +83,7 @@ pub record IsDeviceAfter (old new : DeviceState) : Type 0 where
   pub node : new.node ≡ old.node
   pub number : new.number ≡ old.number
   pub told : is_some new.content ≡ is_some old.content
+  pub capacity : new.capacity ≡ old.capacity
   pub faults : old.faults ≤ new.faults
 
 -- a guest cluster that has an entry keeps one

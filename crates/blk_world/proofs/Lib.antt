@@ -8,7 +8,6 @@ pub mod PiecePaths
 pub mod PieceWriters
 pub mod PieceCopied
 pub mod PieceReady
-pub mod PieceCapacity
 pub mod PieceNodes
 pub mod ImageTold
 pub mod SoundImages

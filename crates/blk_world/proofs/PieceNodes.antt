@@ -15,8 +15,6 @@ use Rattle.blk_history.specs.Fold.{With}
 use Rattle.qmp_rules.specs.Table.{Table, node_at}
 use Rattle.qmp_rules.specs.declared.rows.NodeRecord.{NodeRecord}
 use Rattle.flat_machine.specs.EventLicence.{device_in as device_named}
-use Rattle.blk_nodes.specs.Changing.{IsImageWritten, IsZeroed, LeavesRow}
-use Rattle.blk_nodes.specs.Contents.{IsToldDisk}
 use Rattle.blk_nodes.specs.Copying.{AtSome, LacksRoomIn}
 use Rattle.blk_nodes.specs.Flushing.{base_in, base_of, HasFlushCause, IsFlushAt}
 use Rattle.blk_nodes.specs.Joined.{IsJoined}
@@ -34,7 +32,6 @@ use Rattle.world_commands.specs.Counting.{AreSameDevices}
 use Rattle.blk_pieces.specs.Pieces.{Transfers}
 use Rattle.world_commands.specs.Piecing.{PassesBy, write_passes, read_passes, piece_passes}
 use Rattle.world_commands.proofs.CountLemmas.{same-devices, same-risen, same-only}
-use Rattle.blk_world.proofs.PieceCapacity.{HasItsCapacity, bound_written, bound_zeroed}
 use Rattle.blk_world.proofs.PieceCopied.{ReadWent, Went, into_image}
 
 -- ---- nodes after it
@@ -57,33 +54,26 @@ module _ (old new : Nodes) (joined : IsJoined old) where
       (record { node = wrote.at.wrote.node; number = wrote.at.wrote.number; capacity = wrote.at.wrote.capacity; faults = wrote.at.wrote.faults })
 
   image_devices : (fits : ℕ → Type 0) (own rest : Option ℕ) (node n : ℕ) (outcome : Outcome) (wrote : WritesImage fits own rest old new node n outcome)
-      → HasItsCapacity wrote.before wrote.after → AreSameDevices old.devices new.devices
-  image_devices fits own rest node n outcome wrote capacity = elim wrote.devices [
+      → AreSameDevices old.devices new.devices
+  image_devices fits own rest node n outcome wrote = elim wrote.devices [
     | inl only ↦
         same-only wrote.file old.devices new.devices wrote.before wrote.after joined.once only wrote.held wrote.left
-        (record { node = wrote.device.node; number = wrote.device.number; capacity = capacity; faults = wrote.device.faults })
+        (record { node = wrote.device.node; number = wrote.device.number; capacity = wrote.device.capacity; faults = wrote.device.faults })
     | inr risen ↦ same-risen old.devices new.devices risen
   ]
 
-  write_devices : (node : ℕ) (part : Extent) (bytes : List ℕ) (outcome : Outcome) (row : Row) (d : Driver) → WritesBy d old new node part bytes outcome
-      → LeavesRow (IsImageWritten (IsToldDisk old node) part bytes) d row old new node outcome → AreSameDevices old.devices new.devices
-  write_devices node part bytes outcome row drivers.File wrote left = file_devices node part.start bytes outcome wrote
-  write_devices node part bytes outcome row (drivers.Raw p) wrote left = file_devices node part.start bytes outcome wrote
-  write_devices node part bytes outcome row (drivers.Qcow2 image) wrote left =
-      image_devices _ _ _ node _ outcome wrote
-      (bound_written image left.now wrote.before wrote.after (IsToldDisk old node) part bytes outcome
-      (left.changed wrote.file wrote.before wrote.after wrote.edge wrote.held wrote.left))
-  write_devices node part bytes outcome row drivers.CopyOnRead wrote left = file_devices node part.start bytes outcome wrote
+  write_devices : (node : ℕ) (part : Extent) (bytes : List ℕ) (outcome : Outcome) (d : Driver) → WritesBy d old new node part bytes outcome
+      → AreSameDevices old.devices new.devices
+  write_devices node part bytes outcome drivers.File wrote = file_devices node part.start bytes outcome wrote
+  write_devices node part bytes outcome (drivers.Raw p) wrote = file_devices node part.start bytes outcome wrote
+  write_devices node part bytes outcome (drivers.Qcow2 image) wrote = image_devices _ _ _ node _ outcome wrote
+  write_devices node part bytes outcome drivers.CopyOnRead wrote = file_devices node part.start bytes outcome wrote
 
-  zero_devices : (node : ℕ) (part : Extent) (outcome : Outcome) (row : Row) (d : Driver) → ZerosBy d old new node part outcome
-      → LeavesRow (IsZeroed (IsToldDisk old node) part) d row old new node outcome → AreSameDevices old.devices new.devices
-  zero_devices node part outcome row drivers.File wrote left = file_devices node part.start (replicate part.len 0) outcome wrote
-  zero_devices node part outcome row (drivers.Raw p) wrote left = file_devices node part.start (replicate part.len 0) outcome wrote
-  zero_devices node part outcome row (drivers.Qcow2 image) wrote left =
-      image_devices _ _ _ node _ outcome wrote
-      (bound_zeroed image left.now wrote.before wrote.after (IsToldDisk old node) part outcome
-      (left.changed wrote.file wrote.before wrote.after wrote.edge wrote.held wrote.left))
-  zero_devices node part outcome row drivers.CopyOnRead wrote left = file_devices node part.start (replicate part.len 0) outcome wrote
+  zero_devices : (node : ℕ) (part : Extent) (outcome : Outcome) (d : Driver) → ZerosBy d old new node part outcome → AreSameDevices old.devices new.devices
+  zero_devices node part outcome drivers.File wrote = file_devices node part.start (replicate part.len 0) outcome wrote
+  zero_devices node part outcome (drivers.Raw p) wrote = file_devices node part.start (replicate part.len 0) outcome wrote
+  zero_devices node part outcome (drivers.Qcow2 image) wrote = image_devices _ _ _ node _ outcome wrote
+  zero_devices node part outcome drivers.CopyOnRead wrote = file_devices node part.start (replicate part.len 0) outcome wrote
 
   flush_devices : (file : ℕ) (outcome : Outcome) → IsFlushAt file old.devices new.devices outcome → AreSameDevices old.devices new.devices
   flush_devices file outcome flushed =
@@ -101,12 +91,12 @@ module _ (old new : Nodes) (joined : IsJoined old) where
     read_devices (inr (inl full)) = subst (λ (n : Nodes). AreSameDevices old.devices n.devices) (sym full.room.same) (same-devices old.devices)
     read_devices (inr (inr into)) =
         let wrote = into.maps.wrote in
-        write_devices node part buffer outcome wrote.row wrote.row.driver wrote.wrote wrote.left
+        write_devices node part buffer outcome wrote.row.driver wrote.wrote
 
     devices_after : (op : Op) → Went t op old new drive node part outcome buffer → AreSameDevices old.devices new.devices
     devices_after (Read span) went = read_devices went
-    devices_after (Write span payload) went = write_devices node part (payload_in (Write span payload) part) outcome went.0.row went.0.row.driver went.0.wrote went.0.left
-    devices_after (Zero span) went = zero_devices node part outcome went.0.row went.0.row.driver went.0.wrote went.0.left
+    devices_after (Write span payload) went = write_devices node part (payload_in (Write span payload) part) outcome went.0.row.driver went.0.wrote
+    devices_after (Zero span) went = zero_devices node part outcome went.0.row.driver went.0.wrote
     devices_after Flush went = flush_devices (base_of old node) outcome went.flushed
     devices_after (Discard span) went = absurd went
 

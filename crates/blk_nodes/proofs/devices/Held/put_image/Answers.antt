@@ -50,6 +50,7 @@ returns g c =
           node = refl;
           number = refl;
           told = e.told;
+          capacity = e.capacity;
           faults = e.faults;
         };
         image = e.image;

@@ -16,7 +16,7 @@ returns-in-Ok g c =
     let e = c.in-Ok.ensures in
     rw (sym c.self.view_is) (record {
       wrote = record {
-        device = record { node = refl; number = refl; told = e.told; faults = e.faults };
+        device = record { node = refl; number = refl; told = e.told; capacity = e.capacity; faults = e.faults };
         image = e.image;
         disk = e.disk;
         header = own_header c.args.image.now c.write_own.new.self e.known;
@@ -61,6 +61,7 @@ returns-in-Err g c =
           node = refl;
           number = refl;
           told = e.told;
+          capacity = e.capacity;
           faults = e.faults;
         };
         image = e.image;
