@@ -1,12 +1,16 @@
 -- What the creation of an image in the file of a node leaves and answers.
-use Rattle.std.specs.Prelude.{◌≡◌, ◌⊎◌, ℕ, ◌<◌, ◌≤◌, max, Bool, true, false, if◌then◌else◌, List, length, option_map, Some, Result, Ok, Err, OnOk}
+use Rattle.std.specs.Prelude.{◌≡◌, ◌⊎◌, ℕ, ◌<◌, ◌≤◌, max, Bool, true, false, if◌then◌else◌, List, length, option_map, None, Some, Result, Ok, Err, OnOk}
+use Rattle.blk_base.specs.Content.{Write}
+use Rattle.blk_base.specs.Device.{AtEachStopOf}
 use Rattle.blk_base.specs.declared.fault.DevNo.{DevNo}
+use Rattle.blk_base.specs.declared.fault.DevStop.TheVariants as stops
 use Rattle.q2_format.specs.Created.{Creation, CanBeCreated, created_length, IsCreated}
 use Rattle.q2_format.specs.Sound.{InHeader, image_refusal}
 use Rattle.q2_format.specs.declared.header.HeaderStop.TheVariants.{Magic}
-use Rattle.q2_image.specs.Creating.{ChangesWithin}
+use Rattle.q2_image.specs.Creating.{AreStages, ChangesWithin, IsBeforeOrNone, MakesStages}
 use Rattle.q2_image.specs.declared.create.CreateStop.{CreateStop}
 use Rattle.q2_image.specs.declared.create.CreateStop.TheVariants as image
+use Rattle.blk_nodes.specs.Changing.{seen}
 use Rattle.blk_nodes.specs.Nodes.{DeviceState, device_in}
 use Rattle.blk_nodes.specs.Reading.{OnlyAt, StoppedBy}
 use Rattle.blk_nodes.specs.declared.stop.FormatStop.{FormatStop}
@@ -44,12 +48,27 @@ HasFormatCause old new end (Err (NoSpace dev)) =
     (old.capacity < end) × (dev ≡ old.number) × (new ≡ old)
 HasFormatCause old new end (Err NoMemory) = (end ≤ old.capacity) × (new ≡ old)
 
+-- which writes were made, of the six that make an image
+abbrev pub MakesFormat : Creation → Result (Unit {0}) FormatStop → DeviceState → DeviceState
+    → Type 0
+MakesFormat image (Ok done) before now = MakesStages seen image 0 6 None before now
+MakesFormat image (Err (Io dev count)) before now =
+    MakesStages seen image 0 6 (Some (stops.Io count)) before now
+MakesFormat image (Err stop) before now = now ≡ before
+
+-- wherever its writes stop, the file is as it was or no image, until all are made
+abbrev pub IsNoneAtEachStop : Creation → DeviceState → Type 0
+IsNoneAtEachStop image before = (ws : List Write) → AreStages image 0 ws → length ws ≡ 6
+    → AtEachStopOf seen (IsBeforeOrNone ws) ws before
+
 -- a device in whose file an image is created, or not
 pub record IsFormatOf (old new : DeviceState) (image : Creation)
     (result : Result (Unit {0}) FormatStop) : Type 0 where
   pub node : new.node ≡ old.node
   pub number : new.number ≡ old.number
   pub within : ChangesWithin old.content new.content 0 (created_length image)
+  pub writes : MakesFormat image result old new
+  pub stops : IsNoneAtEachStop image old
   pub holds : (before now : List ℕ) → old.content ≡ Some before → new.content ≡ Some now
       → HoldsAfter image before result now
   pub size : OnOk result (new.size ≡ max old.size (created_length image))
