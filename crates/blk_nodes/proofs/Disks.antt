@@ -7,23 +7,23 @@ use Rattle.blk_graph.specs.declared.edge.Parent.TheVariants.{Node}
 use Rattle.blk_graph.specs.declared.edge.Role.{Role}
 use Rattle.blk_graph.specs.declared.edge.Role.TheVariants.{File as FileRole, Backing}
 use Rattle.blk_nodes.specs.Contents.{told, below, disk_by, disk_in, disk_of, bytes_by, bytes_of, file_node_disk}
-use Rattle.blk_nodes.specs.Nodes.{Nodes, DeviceState, row_at, device_in, file_of, backing_of}
+use Rattle.blk_nodes.specs.Nodes.{Nodes, DeviceState, row_at, device_in, size_by, size_of, file_of, backing_of}
 use Rattle.blk_nodes.specs.Reading.{HaveRisen}
 use Rattle.blk_nodes.specs.declared.row.Driver.{Driver}
 use Rattle.blk_nodes.specs.declared.row.Driver.TheVariants.{File, Raw, Qcow2, CopyOnRead}
 use Rattle.blk_nodes.specs.declared.row.Row.{Row}
 
--- where rows, children and bytes are the same
-module _ (a b : Nodes) (rows : (node : ℕ) → row_at b node ≡ row_at a node) (bytes : (node : ℕ) → bytes_of b node ≡ bytes_of a node)
+-- where sizes, children and bytes are the same
+module _ (a b : Nodes) (sizes : (node : ℕ) → size_of b node ≡ size_of a node) (bytes : (node : ℕ) → bytes_of b node ≡ bytes_of a node)
     (files : (node : ℕ) → file_of b node ≡ file_of a node) (backings : (node : ℕ) → backing_of b node ≡ backing_of a node) where
   file_same : (file : ℕ) → file_node_disk b file ≡ file_node_disk a file
-  file_same file = rw (rows file, bytes file) refl
+  file_same file = rw (sizes file, bytes file) refl
 
   below_same : (f g : ℕ → List ℕ) → ((node : ℕ) → f node ≡ g node) → (node : Option ℕ) → below f node ≡ below g node
   below_same f g each None = refl
   below_same f g each (Some node) = each node
 
-  by_driver : (f g : ℕ → List ℕ) → ((node : ℕ) → f node ≡ g node) → (node : ℕ) (driver : Driver) → disk_by b f node driver ≡ disk_by a g node driver
+  pub by_driver : (f g : ℕ → List ℕ) → ((node : ℕ) → f node ≡ g node) → (node : ℕ) (driver : Driver) → disk_by b f node driver ≡ disk_by a g node driver
   by_driver f g each node File = file_same node
   by_driver f g each node (Raw part) =
       ap (λ (file : Option ℕ). raw_disk part.offset part.size (below (file_node_disk b) file)) (files node)
@@ -35,10 +35,13 @@ module _ (a b : Nodes) (rows : (node : ℕ) → row_at b node ≡ row_at a node)
       ∙ ap (image_disk (below (bytes_of a) (file_of a node))) (below_same f g each (backing_of a node))
   by_driver f g each node CopyOnRead = ap (below f) (files node) ∙ below_same f g each (file_of a node)
 
+-- where rows are the same too
+module _ (a b : Nodes) (rows : (node : ℕ) → row_at b node ≡ row_at a node) (bytes : (node : ℕ) → bytes_of b node ≡ bytes_of a node)
+    (files : (node : ℕ) → file_of b node ≡ file_of a node) (backings : (node : ℕ) → backing_of b node ≡ backing_of a node) where
   by_row : (f g : ℕ → List ℕ) → ((node : ℕ) → f node ≡ g node) → (node : ℕ) (found : Option Row)
       → elim found as (λ _. List ℕ) [ None ↦ [] | Some row ↦ disk_by b f node row.driver ] ≡ elim found as (λ _. List ℕ) [ None ↦ [] | Some row ↦ disk_by a g node row.driver ]
   by_row f g each node None = refl
-  by_row f g each node (Some row) = by_driver f g each node row.driver
+  by_row f g each node (Some row) = by_driver a b (λ n. ap size_by (rows n)) bytes files backings f g each node row.driver
 
   disk_same_in : (turns node : ℕ) → disk_in turns b node ≡ disk_in turns a node
   disk_same_in zero node = refl

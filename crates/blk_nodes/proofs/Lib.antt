@@ -27,3 +27,4 @@ mod Copied
 mod CopiedDisks
 mod MappedDown
 mod Formatted
+mod Jobs

@@ -16,3 +16,4 @@ pub mod Covering
 pub mod Handing
 pub mod Formatting
 pub mod Copying
+pub mod Jobs

@@ -19,5 +19,5 @@ mod zeros;
 
 pub use backing::Backing;
 pub use handing::DevicesLeft;
-pub use nodes::Nodes;
+pub use nodes::{NodeUse, Nodes};
 pub use stop::{AddStop, FormatStop};

@@ -25,6 +25,7 @@ mod ending;
 mod flushing;
 mod formatting;
 mod imaging;
+mod jobs;
 mod looks;
 mod writing;
 
@@ -40,6 +41,7 @@ use crate::stop::AddStop;
 use crate::zeros::Zeros;
 use blk_base::{DevNo, Device, NoMemory, Outcome, Span, Text};
 use blk_graph::{Conflict, Edge, EdgeList, Graph, Kind, MOST_NODES, NodeId, Parent, Role};
+pub use jobs::NodeUse;
 use std::alloc::Global;
 use std::marker::Model;
 

@@ -13,6 +13,8 @@ mod edits;
 #[cfg(test)]
 mod graphs;
 #[cfg(test)]
+mod jobs;
+#[cfg(test)]
 mod limits;
 #[cfg(test)]
 mod mixtures;
