@@ -12,6 +12,7 @@ use Rattle.q2_format.specs.Bytes.{bytes_at}
 use Rattle.q2_format.specs.Created.{Creation, AreZeros, HasCreatedHeader, HasCreatedTable, HasCreatedCounts}
 use Rattle.q2_format.specs.Sound.{InHeader, image_refusal}
 use Rattle.q2_format.specs.declared.header.HeaderStop.TheVariants.{Magic}
+use Rattle.q2_image.specs.declared.header.TheConstants.{CLUSTER}
 use Rattle.q2_format.specs.declared.layout.TheConstants.{CREATED_L1_TABLE, CREATED_REFCOUNT_BLOCK, CREATED_REFCOUNT_TABLE}
 use Rattle.q2_format.specs.declared.header.Place.{Place}
 use Rattle.q2_image.specs.declared.create.CreateStop.{CreateStop}
@@ -69,12 +70,12 @@ call_stop (Err NoMemory) = Some device.NoSpace
 -- the write of a cluster at a place
 pub record IsClusterAt (place : ℕ) (w : Write) : Type 0 where
   pub offset : w.offset ≡ place
-  pub whole : length w.bytes ≡ 65536
+  pub whole : length w.bytes ≡ CLUSTER
 
 -- the write of a part of the header's cluster
 pub record IsOfHeader (new : Creation) (part : List ℕ → Write) (w : Write) : Type 0 where
   pub cluster : List ℕ
-  pub whole : length cluster ≡ 65536
+  pub whole : length cluster ≡ CLUSTER
   pub header : HasCreatedHeader new cluster
   pub is : w ≡ part cluster
 
@@ -82,7 +83,7 @@ pub record IsOfHeader (new : Creation) (part : List ℕ → Write) (w : Write) :
 -- table; the header's cluster behind its first sector; and last that sector.
 abbrev pub IsStage : Creation → ℕ → Write → Type 0
 IsStage new zero w = w ≡ write_of 0 (replicate 512 0)
-IsStage new (suc zero) w = w ≡ write_of CREATED_L1_TABLE (replicate 65536 0)
+IsStage new (suc zero) w = w ≡ write_of CREATED_L1_TABLE (replicate CLUSTER 0)
 IsStage new (suc (suc zero)) w =
     IsClusterAt CREATED_REFCOUNT_BLOCK w × HasCreatedCounts new w.bytes 0
 IsStage new (suc (suc (suc zero))) w =

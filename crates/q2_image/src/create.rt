@@ -16,6 +16,8 @@ ghost use Rattle.blk_base.specs.Content.{Write};
 ghost use Rattle.blk_base.specs.Device.{AtEachStopOf, Writes};
 ghost use Rattle.blk_base.specs.Writes.{write_of};
 ghost use Rattle.q2_image.specs.Creating.{AreStages, CreateAnswers, IsBeforeOrNone, wrote, IsFailedCall, ChangesWithin, LacksHeader, text_at, call_stop, MakesStages, MakesImage};
+ghost use Rattle.q2_format.specs.declared.layout.TheConstants.{CREATED_LENGTH, CREATED_REFCOUNT_TABLE};
+ghost use Rattle.q2_image.specs.declared.header.TheConstants.{CLUSTER};
 ghost use Rattle.q2_image.specs.Guest.{file_entry};
 
 use crate::header::cluster_buffer;
@@ -109,7 +111,7 @@ fn clear(buffer: &mut [u8])
 
 /// The first sector of a cluster's bytes.
 fn first_sector(cluster: &[u8]) -> &[u8]
-    requires { length cluster.now ≡ 65536 }
+    requires { length cluster.now ≡ CLUSTER }
     ensures part { result.now ≡ take 512 cluster.now }
     ensures whole { length result.now ≡ 512 }
     ensures bytes { (i : ℕ) → i < 512 → slice_index result.now i ≡ slice_index cluster.now i }
@@ -119,7 +121,7 @@ fn first_sector(cluster: &[u8]) -> &[u8]
 
 /// What lies behind it.
 fn behind_first_sector(cluster: &[u8]) -> &[u8]
-    requires { length cluster.now ≡ 65536 }
+    requires { length cluster.now ≡ CLUSTER }
     ensures part { result.now ≡ drop 512 cluster.now }
     ensures whole { length result.now ≡ 65024 }
     ensures bytes { (i : ℕ) → slice_index result.now i ≡ slice_index cluster.now (512 + i) }
@@ -129,7 +131,7 @@ fn behind_first_sector(cluster: &[u8]) -> &[u8]
 
 /// Makes the file's first sector zeros.
 fn clear_header<D: Device>(dev: &mut D, buffer: &mut [u8]) -> Result<(), CreateStop>
-    requires whole { length buffer.old ≡ 65536 }
+    requires whole { length buffer.old ≡ CLUSTER }
     requires room { 512 ≤ D.capacity dev.old }
     ensures writes { Writes D.Device (write_of 0 (replicate 512 0) ∷ []) (call_stop result) dev.old
         dev.new }
@@ -150,22 +152,23 @@ fn clear_header<D: Device>(dev: &mut D, buffer: &mut [u8]) -> Result<(), CreateS
 
 /// Writes the L1 table, the refcount block and the refcount table.
 fn write_tables<D: Device>(dev: &mut D, buffer: &mut [u8]) -> Result<(), CreateStop>
-    requires whole { length buffer.old ≡ 65536 }
-    requires room { 262144 ≤ D.capacity dev.old }
+    requires whole { length buffer.old ≡ CLUSTER }
+    requires room { CREATED_LENGTH ≤ D.capacity dev.old }
     ensures writes { (size : ℕ) (name format : Option (List ℕ)) → size ≤ MAX_DISK_SIZE
         → MakesStages D.Device (creation_of size name format) 1 3 (call_stop result) dev.old
         dev.new }
     ensures tables { OnOk result
         ((size : ℕ) (name format : Option (List ℕ)) (file : List ℕ) → size ≤ MAX_DISK_SIZE
         → D.content dev.new ≡ Some file → HasCreatedTables (creation_of size name format) file) }
-    ensures within { ChangesWithin (D.content dev.old) (D.content dev.new) 65536 262144 }
+    ensures within { ChangesWithin (D.content dev.old) (D.content dev.new)
+        CREATED_REFCOUNT_TABLE CREATED_LENGTH }
     ensures cause { IfErr result (IsFailedCall (D.faults dev.old) (D.faults dev.new)) }
     ensures flushed { D.is_flushed dev.new ≡ option_map (λ _. false) (D.is_flushed dev.old) }
     ensures faults { D.faults dev.old ≤ D.faults dev.new }
     ensures capacity { D.capacity dev.new ≡ D.capacity dev.old }
     ensures grows { D.size dev.old ≤ D.size dev.new }
-    ensures bound { D.size dev.new ≤ max (D.size dev.old) 262144 }
-    ensures reaches { OnOk result (262144 ≤ D.size dev.new) }
+    ensures bound { D.size dev.new ≤ max (D.size dev.old) CREATED_LENGTH }
+    ensures reaches { OnOk result (CREATED_LENGTH ≤ D.size dev.new) }
 {
     clear(buffer);
     write(dev, CREATED_L1_TABLE, buffer)?;
@@ -184,8 +187,8 @@ fn put_header<D: Device>(
     format: Option<&str>,
     buffer: &mut [u8],
 ) -> Result<(), CreateStop>
-    requires whole { length buffer.old ≡ 65536 }
-    requires room { 65536 ≤ D.capacity dev.old }
+    requires whole { length buffer.old ≡ CLUSTER }
+    requires room { CLUSTER ≤ D.capacity dev.old }
     requires size { size ≤ MAX_DISK_SIZE }
     requires name { ForSome name (λ name. IsNewName name.now) }
     requires format { ForSome format (λ format. IsNewFormat format.now) }
@@ -197,15 +200,15 @@ fn put_header<D: Device>(
         (creation_of size (option_copied name.entry) (option_copied format.entry)) file) }
     ensures readable { OnOk result
         (CanBeCreated size (option_copied name.entry) (option_copied format.entry)) }
-    ensures within { ChangesWithin (D.content dev.old) (D.content dev.new) 0 65536 }
+    ensures within { ChangesWithin (D.content dev.old) (D.content dev.new) 0 CLUSTER }
     ensures sector { OnErr result
-        (ChangesWithin (D.content dev.old) (D.content dev.new) 512 65536) }
+        (ChangesWithin (D.content dev.old) (D.content dev.new) 512 CLUSTER) }
     ensures cause { IfErr result (IsFailedCall (D.faults dev.old) (D.faults dev.new)) }
     ensures flushed { D.is_flushed dev.new ≡ option_map (λ _. false) (D.is_flushed dev.old) }
     ensures faults { D.faults dev.old ≤ D.faults dev.new }
     ensures capacity { D.capacity dev.new ≡ D.capacity dev.old }
     ensures grows { D.size dev.old ≤ D.size dev.new }
-    ensures bound { D.size dev.new ≤ max (D.size dev.old) 65536 }
+    ensures bound { D.size dev.new ≤ max (D.size dev.old) CLUSTER }
 {
     write_header(size, name, format, buffer);
     write(dev, SECTOR as u64, behind_first_sector(buffer))?;
@@ -222,8 +225,8 @@ fn write_image<D: Device>(
     format: Option<&str>,
     buffer: &mut [u8],
 ) -> Result<(), CreateStop>
-    requires whole { length buffer.old ≡ 65536 }
-    requires room { 262144 ≤ D.capacity dev.old }
+    requires whole { length buffer.old ≡ CLUSTER }
+    requires room { CREATED_LENGTH ≤ D.capacity dev.old }
     requires size { size ≤ MAX_DISK_SIZE }
     requires name { ForSome name (λ name. IsNewName name.now) }
     requires format { ForSome format (λ format. IsNewFormat format.now) }
@@ -237,14 +240,14 @@ fn write_image<D: Device>(
         (CanBeCreated size (option_copied name.entry) (option_copied format.entry)) }
     ensures headless { OnErr result ((D.content dev.new ≡ D.content dev.old)
         ⊎ ((file : List ℕ) → D.content dev.new ≡ Some file → LacksHeader file)) }
-    ensures within { ChangesWithin (D.content dev.old) (D.content dev.new) 0 262144 }
+    ensures within { ChangesWithin (D.content dev.old) (D.content dev.new) 0 CREATED_LENGTH }
     ensures cause { IfErr result (IsFailedCall (D.faults dev.old) (D.faults dev.new)) }
     ensures flushed { D.is_flushed dev.new ≡ option_map (λ _. false) (D.is_flushed dev.old) }
     ensures faults { D.faults dev.old ≤ D.faults dev.new }
     ensures capacity { D.capacity dev.new ≡ D.capacity dev.old }
     ensures grows { D.size dev.old ≤ D.size dev.new }
-    ensures bound { D.size dev.new ≤ max (D.size dev.old) 262144 }
-    ensures reaches { OnOk result (262144 ≤ D.size dev.new) }
+    ensures bound { D.size dev.new ≤ max (D.size dev.old) CREATED_LENGTH }
+    ensures reaches { OnOk result (CREATED_LENGTH ≤ D.size dev.new) }
 {
     clear_header(dev, buffer)?;
     write_tables(dev, buffer)?;

@@ -8,6 +8,7 @@ ghost use Rattle.q2_format.specs.Header.{header_of, header_refusal, IsWithinLimi
 ghost use Rattle.q2_format.specs.Sound.{is_misplaced};
 ghost use Rattle.q2_format.specs.declared.header.HeaderStop.TheVariants.{Short};
 ghost use Rattle.q2_format.specs.declared.header.TheConstants.{MIN_HEADER_LENGTH};
+ghost use Rattle.q2_image.specs.declared.header.TheConstants.{CLUSTER};
 ghost use Rattle.q2_image.specs.Opening.{Judges, fault_of_image, IsNoFault, refusal_of, header_stops, place_stops};
 
 use crate::stop::ImageStop;
@@ -20,7 +21,7 @@ const CLUSTER: usize = 65_536;
 
 /// A buffer for a cluster.
 pub(crate) fn cluster_buffer(alloc: Global) -> Result<Vec<u8>, NoMemory>
-    ensures { IfOk result (λ buffer. length buffer.items ≡ 65536) }
+    ensures { IfOk result (λ buffer. length buffer.items ≡ CLUSTER) }
 {
     Ok(vec![in alloc; 0; CLUSTER]?)
 }
@@ -29,7 +30,7 @@ pub(crate) fn cluster_buffer(alloc: Global) -> Result<Vec<u8>, NoMemory>
 fn read_first_cluster<D: Device>(alloc: Global, dev: &mut D) -> Result<Vec<u8>, ImageStop>
     ensures read { IfOk result
         (λ cluster. (file : List ℕ) → D.content dev.old ≡ Some file
-        → cluster.items ≡ bytes_at file 0 65536) }
+        → cluster.items ≡ bytes_at file 0 CLUSTER) }
     ensures stop { IfErr result (λ stop. refusal_of stop ≡ None) }
     ensures device { Reads D.Device (fault_of_image result) dev.old dev.new }
 {
@@ -69,7 +70,7 @@ pub(crate) fn open_header<D: Device>(alloc: Global, dev: &mut D) -> Result<Heade
 pub(crate) fn cluster_size(header: &Header) -> u64
     requires { header.now.cluster_bits ≡ 16 }
     ensures size { result ≡ cluster_size header.now.cluster_bits }
-    ensures number { result ≡ 65536 }
+    ensures number { result ≡ CLUSTER }
 {
     1 << header.cluster_bits
 }
