@@ -17,12 +17,8 @@ use Rattle.blk_nodes.specs.Nodes.{DeviceState, AreTold, is_of, device_in}
 use Rattle.blk_nodes.specs.Changing.{ImageChange}
 use Rattle.blk_nodes.specs.Writing.{IsDeviceAfter, IsWriteOf, IsWriteAt, IsImageCall, IsImageCallAt, HasImageCause, HasRoomBy, HasRoomAt}
 use Rattle.blk_nodes.specs.Flushing.{IsFlushOf, IsFlushAt}
-use Rattle.q2_format.specs.References.{reach_of}
-use Rattle.q2_format.specs.Sound.{image_refusal}
-use Rattle.q2_format.specs.declared.header.HeaderStop.TheVariants.{Short}
-use Rattle.q2_format.specs.declared.header.TheConstants.{MIN_HEADER_LENGTH}
-use Rattle.q2_image.specs.Image.{Known, IsImageOf, IsOpen}
-use Rattle.q2_image.specs.Opening.{Judges, fault_in_image, fault_of_image}
+use Rattle.q2_image.specs.Image.{Known}
+use Rattle.q2_image.specs.Opening.{fault_in_image}
 use Rattle.q2_image.specs.declared.stop.ImageStop.{ImageStop}
 use Rattle.q2_image.specs.declared.stop.ImageStop.TheVariants as images
 use Rattle.blk_nodes.specs.Overlays.{IsOpenedOn, IsOpened, IsUnopenedOn, IsUnopened, KeptBy}
@@ -239,23 +235,7 @@ flushed_over file devices at d y outcome place flush =
       only = only_at file devices at d y place same;
     }
 
--- the image on a device is opened, or not
-at_least : (n m : ℕ) → (n < m → ⊥) → m ≤ n
-at_least n zero never = omega arith
-at_least zero (suc m) never = absurd (never (omega arith))
-at_least (suc n) (suc m) never = let rest = at_least n m (λ below. never (omega (arith, below))) in omega (arith, rest)
-
-pub opened_on : (d : DeviceState) (result : Result Known ImageStop) → IfOk result IsOpen → IfOk result (λ image. (bytes : List ℕ) → d.content ≡ Some bytes → IsImageOf bytes image)
-    → IfOk result (λ image. length image.refs.counts ≡ reach_of image.header d.size) → (d.size < MIN_HEADER_LENGTH → result ≡ Err (images.Header Short)) → IfOk result (IsOpenedOn d)
-opened_on d (Ok image) ready known reach short = record { opened = ready; known = known; reach = reach; long = at_least d.size 104 (λ few. let is = short few in absurd (cc is)) }
-opened_on d (Err stop) ready known reach short = tt
-
-pub unopened_on : (d y : DeviceState) (result : Result Known ImageStop) → ((bytes : List ℕ) → d.content ≡ Some bytes → Judges (image_refusal bytes) result)
-    → (d.size < MIN_HEADER_LENGTH → result ≡ Err (images.Header Short)) → CountsFault (fault_of_image result) d.faults y.faults → IfErr result (IsUnopenedOn d y)
-unopened_on d y (Ok image) named short cause = tt
-unopened_on d y (Err stop) named short cause = record { named = named; short = λ few. let is = short few in cc is; cause = cause }
-
--- the same of one of the devices
+-- the image on one of the devices was opened, or not
 pub opened_over : {E : Type 0} (file : ℕ) (devices : List DeviceState) (at : ℕ) (d : DeviceState) (result : Result Known E) → position (is_of file) devices ≡ Some at
     → IfOk result (IsOpenedOn (get_or devices at d)) → IfOk result (IsOpened devices file)
 opened_over file devices at d (Ok image) place is = record { device = get_or devices at d; held = at_place file devices at d place; on = is }
